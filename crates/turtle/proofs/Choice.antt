@@ -1,9 +1,10 @@
 -- What slots spell, and which is chosen.
-use Rattle.std.specs.Prelude.{◌≡◌, ◌⊎◌, ℕ, ◌+◌, ◌<◌, ◌≤◌, List, [], ◌∷◌, length, take, drop, Option, Some, None, refl}
+use Rattle.std.specs.Prelude.{◌≡◌, ◌⊎◌, ℕ, ◌+◌, ◌<◌, ◌≤◌, List, [], ◌∷◌, ◌++◌, length, take, drop, Option, Some, None, refl}
 use Rattle.std.proofs.Common.{inl, inr, sym, ◌∙◌, ap, subst, arith}
 use Rattle.std.specs.Int.{from_le_bytes, w32, w64}
 use Rattle.std.proofs.lemmas.Nat.{from_le_bytes-to_le_bytes_8, from_le_bytes-to_le_bytes_4}
 use Rattle.std.proofs.lemmas.List.{drop-drop, take_all}
+use Rattle.std.proofs.Math.Seq.{take-add}
 use Rattle.disk_model.specs.Ranges.{range, range_take}
 use Rattle.turtle.specs.declared.slot.Slot.{Slot}
 use Rattle.turtle.specs.Slots.{slot_image, fields_of, IsSlot, IsSequence, IsShut, HasSlot, StandsAt, IsOutOfForm, HaveOneSequence, IsCorruptAt, IsBelow, IsNewer, Chooses}
@@ -162,3 +163,12 @@ second_corrupt bytes first long stands bad = inr (inr (refl, long, (first, stand
 
 pub one_sequence_corrupt : (bytes : List ℕ) (first second : Option Slot) → 8192 ≤ length bytes → StandsAt bytes 0 first → StandsAt bytes 4096 second → HaveOneSequence first second → IsCorruptAt bytes 4096
 one_sequence_corrupt bytes first second long stands other same = inr (inr (refl, long, (first, stands, inr (second, other, same))))
+
+-- an open slot is these 36 bytes
+pub text_is : (bytes : List ℕ) (at : ℕ) (s : Slot) → HasSlot bytes at s → range bytes at 36 ≡ 165 ∷ slot_image s
+text_is bytes at s has =
+    let back : range bytes (at + 1) 35 ≡ take 35 (drop 1 (drop at bytes)) = ap (λ (l : List ℕ). take 35 l) (sym (drop-drop 1 at bytes ∙ ap (λ k. drop k bytes) (omega arith))) in
+    take-add 1 35 (drop at bytes) ∙ ap (λ (l : List ℕ). l ++ take 35 (drop 1 (drop at bytes))) has.gate ∙ ap (λ (l : List ℕ). 165 ∷ l) (sym back ∙ has.fields)
+
+pub slot_is_text : (bytes : List ℕ) (at : ℕ) (s : Slot) → range bytes at 36 ≡ 165 ∷ slot_image s → IsSlot s → HasSlot bytes at s
+slot_is_text bytes at s same is = record { gate = gate_of bytes (165 ∷ slot_image s) at same; fields = part_of bytes (165 ∷ slot_image s) at 1 35 same (omega arith); is = is }

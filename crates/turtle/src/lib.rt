@@ -17,5 +17,5 @@ mod tests;
 
 pub use choosing::choose;
 pub use installing::install;
-pub use law::one_slot_is_chosen;
+pub use law::{a_slot_is_its_bytes, one_slot_is_chosen};
 pub use slot::Slot;
