@@ -15,6 +15,8 @@ ghost use Rattle.std.specs.Prelude.{
   true,
   false,
   IfOk,
+  IfSome,
+  None,
   IfErr,
   IsOk,
   OnOk,
@@ -39,6 +41,7 @@ ghost use Rattle.block_mgr.specs.Blocks.{
   with_running,
   without_running,
 };
+ghost use Rattle.block_mgr.specs.Open.{AreStored, stored, last_end};
 ghost use Rattle.block_mgr.specs.Places.{IsThere, Spoils};
 ghost use Rattle.block_mgr.specs.Writes.{Wrote, WroteImage, Written, IsAddress};
 
@@ -46,6 +49,7 @@ use crate::Addr;
 use crate::block::Block;
 use crate::fill::fill;
 use crate::insert::insert_at;
+use crate::open::{end_of, give_gaps, lay};
 use crate::read::read_block;
 use crate::search::starting_before;
 use crate::store::store;
@@ -99,6 +103,32 @@ impl Blocks {
             is_synced: false,
             is_held: false,
         }
+    }
+
+    /// The blocks of a device of this length that is opened: those at the addresses, which the live
+    /// tree and the last completed checkpoint have. Units between them are free. `None` comes
+    /// exactly where a block cannot stand at an address, or where the addresses do not ascend, one
+    /// block behind the other, within the device.
+    pub fn open(alloc: Global, addrs: &[Addr], len: u64) -> Result<Option<Self>, NoMemory>
+        ensures blocks { IfOk result (λ o. IfSome o (λ s. s.blocks ≡ map stored addrs.now)) }
+        ensures end { IfOk result (λ o. IfSome o (λ s. s.space.end ≡ last_end 8192 (map stored addrs.now))) }
+        ensures fresh { IfOk result (λ o. IfSome o (λ s. (s.is_synced ≡ false) × (s.is_held ≡ false))) }
+        ensures stored { IfOk result (λ o. IfSome o (λ s. AreStored addrs.now len)) }
+        ensures none { IfOk result (λ o. o ≡ None → AreStored addrs.now len → ⊥) }
+    {
+        let blocks = match lay(alloc, addrs, len)? {
+            Some(blocks) => blocks,
+            None => return Ok(None),
+        };
+        let mut space = Extents::new(alloc, end_of(&blocks, len));
+        give_gaps(&mut space, &blocks)?;
+        space.reserve(blocks.len())?;
+        Ok(Some(Blocks {
+            blocks,
+            space,
+            is_synced: false,
+            is_held: false,
+        }))
     }
 
     /// The offset up to which the device is in use. Each unit before it and behind the slots is

@@ -12,6 +12,8 @@ mod block;
 mod blocks;
 mod fill;
 mod insert;
+mod open;
+mod place;
 mod read;
 mod search;
 mod store;

@@ -6,6 +6,7 @@ ghost use Rattle.disk_model.specs.Crash.{Looked};
 ghost use Rattle.block_mgr.specs.Places.{IsPlace, IsThere, Spoils};
 
 use crate::Addr;
+use crate::place::is_place;
 use block_sum::sum;
 use disk_model::Disk;
 use std::alloc::Global;
@@ -50,15 +51,4 @@ pub fn read_block<D: Disk>(alloc: Global, disk: &mut D, addr: Addr) -> Result<Ve
         });
     }
     Ok(bytes)
-}
-
-// Whether a block can stand at an address.
-fn is_place(addr: Addr) -> bool
-    ensures { IsTrue result ↔ IsPlace addr }
-{
-    8192 <= addr.offset
-        && addr.offset % 4096 == 0
-        && 4096 <= addr.size
-        && addr.size % 4096 == 0
-        && addr.size <= 1_048_576
 }

@@ -37,3 +37,32 @@ fn a_block_is_read_as_it_was_written(rt: HostRuntime) {
     );
     assert_eq!(rt; disk.faults(), 0);
 }
+
+#[test]
+fn a_gap_of_an_opened_device_is_taken_first(rt: HostRuntime) {
+    let mut content = Vec::new(rt.alloc());
+    content.resize(16384, 0).expect(&rt, "there is memory");
+    let made = MemDisk::new(rt.alloc(), content, 16384, Vec::new(rt.alloc()));
+    let mut disk = made.expect(&rt, "there is memory");
+    let addrs = [Addr {
+        offset: 12288,
+        size: 4096,
+        sum: 0,
+    }];
+    let opened = Blocks::open(rt.alloc(), &addrs, 16384).expect(&rt, "there is memory");
+    let mut blocks = opened.expect(&rt, "a block can stand there");
+    assert_eq!(rt; blocks.end(), 16384);
+    let addr = blocks
+        .write(rt.alloc(), &mut disk, &[1])
+        .expect(&rt, "it fits");
+    assert!(rt;
+        addr == Addr {
+            offset: 8192,
+            size: 4096,
+            sum: 1
+        }
+    );
+    let full = blocks.write(rt.alloc(), &mut disk, &[1]);
+    assert!(rt; matches!(full, Err(refusal) if refusal == Refusal::NoSpace));
+    assert!(rt; matches!(Blocks::open(rt.alloc(), &addrs, 16383), Ok(None)));
+}
