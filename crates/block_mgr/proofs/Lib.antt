@@ -1,0 +1,6 @@
+pub mod FreeLemmas
+pub mod LaidLemmas
+pub mod OpenLemmas
+pub mod PlaceLemmas
+pub mod SweepLemmas
+pub mod WriteLemmas
