@@ -1,3 +1,3 @@
 pub mod Fields
 pub mod Combine
-pub mod Padding
+pub mod Images
