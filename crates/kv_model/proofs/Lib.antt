@@ -3,7 +3,6 @@ pub mod Agrees
 pub mod Stores
 pub mod Covering
 pub mod Ordering
-pub mod Pins
 pub mod Capturing
 pub mod Living
 pub mod Lists
@@ -20,3 +19,5 @@ pub mod Writing
 pub mod Releasing
 pub mod Committing
 pub mod EveryEvent
+pub mod Pins
+pub mod Droppables

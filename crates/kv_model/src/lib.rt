@@ -11,6 +11,6 @@ mod lines;
 mod machine;
 
 pub use agreement::rollback_keeps_agreement;
-pub use droppable::covers_are_admitted;
+pub use droppable::{covers_are_admitted, covers_go_on, droppables_are_never_picked, pin_does_not_fall};
 pub use lines::lines_descend;
 pub use machine::events_keep_valid;
