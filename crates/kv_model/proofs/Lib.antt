@@ -1,6 +1,6 @@
 pub mod Newest
 pub mod Agrees
-pub mod Stores
+pub mod FrameAndHistory
 pub mod Covering
 pub mod Ordering
 pub mod Capturing
@@ -8,7 +8,7 @@ pub mod Living
 pub mod Lists
 pub mod WorkedRows
 pub mod Finishing
-pub mod Standing
+pub mod StoreSteps
 pub mod Releases
 pub mod Snapshots
 pub mod Growing
@@ -21,3 +21,4 @@ pub mod Committing
 pub mod EveryEvent
 pub mod Pins
 pub mod Droppables
+pub mod StoreLists

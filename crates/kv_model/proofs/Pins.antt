@@ -1,15 +1,14 @@
 -- The pin does not fall, and a version that covers goes on to cover, at every event that may come.
-use Rattle.std.proofs.Common.{◌≡◌, ◌≢◌, ◌⊎◌, ◌<◌, ◌≤◌, ◌+◌, ℕ, refl, ap, sym, ◌∙◌, Bool, true, false, ◌&&◌, List, [], ◌∷◌, ◌++◌, length, inl, inr, subst, arith, zero, suc, min}
-use Rattle.std.specs.Prelude.{Option, Some, None, fold, nat_le, nat_lt, ◌==◌, max, slice_index_or, slice_set, option_map, option_and_then, if◌then◌else◌}
+use Rattle.std.proofs.Common.{◌≡◌, ◌≢◌, ◌⊎◌, ◌≤◌, ◌+◌, ℕ, refl, ap, sym, ◌∙◌, Bool, true, ◌&&◌, List, [], ◌∷◌, ◌++◌, length, inl, inr, subst, arith, zero, suc, min}
+use Rattle.std.specs.Prelude.{Option, Some, None, fold, nat_le, nat_lt, ◌==◌, slice_index_or, slice_set, option_map, option_and_then, if◌then◌else◌}
 use Rattle.std.specs.List.{list_all, filter_map}
 use Rattle.std.proofs.lemmas.Bool.{cases_Bool, and_parts, and_from, or_right, le-leb, leb-true, eqb-false}
 use Rattle.item.specs.declared.Change.{Change}
 use Rattle.stamp.specs.declared.Name.{Name}
 use Rattle.stamp.specs.declared.Version.{Version}
 use Rattle.kv_model.specs.Holds.{Member}
-use Rattle.kv_model.specs.Ordered.{IsOrderly}
 use Rattle.kv_model.specs.History.{Entry, Create, Commit, Prepare, Resolve, Undo, Rts, Write, line, released, releases, committed, ends}
-use Rattle.kv_model.specs.Machine.{Machine, Transaction, Phase, Running, Failed, Prepared, Resolving, Leaving, Checkpoint, Event, transaction_of, with_transaction, without_transaction, after, of_some, begun, in_phase, written, prepared, decided, left, finished, appended, stamped, name_of, OpenSession, BeginAt, DrawId, AcceptWrite, RefuseWrite, PrepareAt, CommitAt, StartLeaving, EndTransaction, PlaceCursor, CreateTable, SetStamps, RollbackToStable, CheckpointStart, CheckpointFinish, CheckpointDrop, GoDown, Nothing}
+use Rattle.kv_model.specs.Machine.{Machine, Transaction, Phase, Running, Failed, Prepared, Resolving, Leaving, Checkpoint, Event, transaction_of, after, of_some, begun, in_phase, written, prepared, decided, left, finished, appended, stamped, name_of, OpenSession, BeginAt, DrawId, AcceptWrite, RefuseWrite, PrepareAt, CommitAt, StartLeaving, EndTransaction, PlaceCursor, CreateTable, SetStamps, RollbackToStable, CheckpointStart, CheckpointFinish, CheckpointDrop, GoDown, Nothing}
 use Rattle.kv_model.specs.Droppable.{covers, pin, read_stamps, seen_by}
 use Rattle.kv_model.specs.Allowed.{Allowed}
 use Rattle.kv_model.specs.Valid.{Valid}
@@ -31,9 +30,9 @@ below-fold : (x b : ℕ) (sessions : List (Option Transaction)) → x ≤ b → 
 below-fold x b [] low each = low
 below-fold x b (None ∷ later) low each = below-fold x b later low (λ s t e. each (suc s) t e)
 below-fold x b (Some u ∷ later) low each = elim (cases_Bool (u.read == 0)) [
-    inl z ↦ rw z (below-fold x b later low (λ s t e. each (suc s) t e))
+  | inl z ↦ rw z (below-fold x b later low (λ s t e. each (suc s) t e))
   | inr n ↦ rw n (below-fold x (min b u.read) later (let here = each 0 u refl (eqb-false u.read 0 n) in omega arith) (λ s t e. each (suc s) t e))
-  ]
+]
 
 all-from : {A : Type 0} (p : Option A → Bool) (xs : List (Option A)) → p None ≡ true → ((s : ℕ) (x : A) → slice_index_or xs s None ≡ Some x → p (Some x) ≡ true) → list_all p xs ≡ true
 all-from p [] none each = refl
@@ -83,11 +82,11 @@ covers-parts m v is =
 pub parts-cover : (m : Machine) (v : Version Change) → Covering m v → covers m v ≡ true
 parts-cover m v parts = and_from (nat_le v.window.durable (pin m)) (list_all (seen_by m v.window.name) m.sessions && in_checkpoint m v.window.name) (le-leb v.window.durable (pin m) parts.low)
     (and_from (list_all (seen_by m v.window.name) m.sessions) (in_checkpoint m v.window.name)
-      (all-from (seen_by m v.window.name) m.sessions refl parts.seen)
-      (by-run m.checkpoint refl)) where
-  by-run : (o : Option Checkpoint) → m.checkpoint ≡ o → of_some true (λ (c : Checkpoint). committed m.history c.prefix v.window.name) o ≡ true
-  by-run None is = refl
-  by-run (Some c) is = parts.captured c is
+    (all-from (seen_by m v.window.name) m.sessions refl parts.seen)
+    (by-run m.checkpoint refl)) where
+      by-run : (o : Option Checkpoint) → m.checkpoint ≡ o → of_some true (λ (c : Checkpoint). committed m.history c.prefix v.window.name) o ≡ true
+      by-run None is = refl
+      by-run (Some c) is = parts.captured c is
 
 -- ---- what an event leaves of them
 
@@ -108,9 +107,9 @@ low-evolves m next stamp e low = record {
   oldest = let a = e.oldest in let b = low.oldest in omega arith;
   recorded = λ c runs. elim (e.checkpoint c runs) [ inl old ↦ low.recorded c old | inr new ↦ let a = new.1 in let b = low.oldest in omega arith ];
   reads = λ s u there some. elim (e.seats s u there) [
-      inl old ↦ let same = old.2 in let a = low.reads s old.0 old.1 (λ z. some (same ∙ z)) in omega arith
+    | inl old ↦ let same = old.2 in let a = low.reads s old.0 old.1 (λ z. some (same ∙ z)) in omega arith
     | inr new ↦ elim new.1 [ inl none ↦ absurd (some none) | inr late ↦ let a = low.oldest in omega arith ]
-    ];
+  ];
 }
 
 pub pin-evolves : (m next : Machine) → Evolves m next → pin m ≤ pin next
@@ -121,13 +120,13 @@ pub covers-evolves : (m next : Machine) (v : Version Change) → Evolves m next 
 covers-evolves m next v e out in_it is = let parts = covers-parts m v is in parts-cover next v (record {
   low = let a = pin-evolves m next e in let b = parts.low in omega arith;
   seen = λ s u there. elim (e.seats s u there) [
-      inl old ↦ subst (λ n. released next.history n v.window.name ≡ true) (sym old.3) (e.released old.0.start v.window.name (parts.seen s old.0 old.1))
+    | inl old ↦ subst (λ n. released next.history n v.window.name ≡ true) (sym old.3) (e.released old.0.start v.window.name (parts.seen s old.0 old.1))
     | inr new ↦ subst (λ n. released next.history n v.window.name ≡ true) (sym new.0) (e.released (length m.history) v.window.name out)
-    ];
+  ];
   captured = λ c runs. elim (e.checkpoint c runs) [
-      inl old ↦ e.committed c.prefix v.window.name (parts.captured c old)
+    | inl old ↦ e.committed c.prefix v.window.name (parts.captured c old)
     | inr new ↦ subst (λ n. committed next.history n v.window.name ≡ true) (sym new.0) (e.committed (length m.history) v.window.name in_it)
-    ];
+  ];
 })
 
 -- ---- each event
@@ -158,15 +157,15 @@ moves m next o c r e s = record { oldest = (omega arith); released = r; committe
 -- one seat's transaction changes its id, writes and phase alone
 kin-seat : (m : Machine) (s : ℕ) (t u : Transaction) → transaction_of m s ≡ Some t → u.read ≡ t.read → u.start ≡ t.start → (r : ℕ) (x : Transaction) → slice_index_or (slice_set m.sessions s (Some u)) r None ≡ Some x → IsOldOrNew m r x
 kin-seat m s t u there read start r x at = elim (seat-cases m.sessions s (Some u) r x (seat-inside m.sessions s t there) at) [
-    inl here ↦ let same : u ≡ x = (let e = here.1 in cc) in inl (t, subst (λ i. transaction_of m i ≡ Some t) (sym here.0) there, subst (λ (z : Transaction). z.read ≡ t.read) same read, subst (λ (z : Transaction). z.start ≡ t.start) same start)
+  | inl here ↦ let same : u ≡ x = (let e = here.1 in cc) in inl (t, subst (λ i. transaction_of m i ≡ Some t) (sym here.0) there, subst (λ (z : Transaction). z.read ≡ t.read) same read, subst (λ (z : Transaction). z.start ≡ t.start) same start)
   | inr other ↦ same-seat m r x other.1
-  ]
+]
 
 gone-seat : (m : Machine) (s : ℕ) (t : Transaction) → transaction_of m s ≡ Some t → (r : ℕ) (x : Transaction) → slice_index_or (slice_set m.sessions s None) r None ≡ Some x → IsOldOrNew m r x
 gone-seat m s t there r x at = elim (seat-cases m.sessions s None r x (seat-inside m.sessions s t there) at) [
-    inl here ↦ let none : None ≡ Some x = here.1 in absurd (cc)
+  | inl here ↦ let none : None ≡ Some x = here.1 in absurd (cc)
   | inr other ↦ same-seat m r x other.1
-  ]
+]
 
 stays : (m : Machine) → Evolves m m
 stays m = moves m m refl refl (λ n x e. e) (λ n x e. e) (same-seat m)
@@ -215,9 +214,9 @@ if-there m s f each = by-seat (transaction_of m s) refl where
 pub evolves-after : (m : Machine) (event : Event) → Allowed m event → Evolves m (after m event)
 evolves-after m OpenSession may = moves m (after m OpenSession) refl refl (λ n x e. e) (λ n x e. e) (λ s u at. same-seat m s u (sym (append-none m.sessions s) ∙ at))
 evolves-after m (BeginAt s read) may = moves m (after m (BeginAt s read)) refl refl (λ n x e. e) (λ n x e. e) (λ r u at. elim (seat-cases m.sessions s (Some (begun m read)) r u may.0 at) [
-    inl here ↦ let same : begun m read ≡ u = (let e = here.1 in cc) in inr (sym (ap (λ (z : Transaction). z.start) same), subst (λ (z : Transaction). (z.read ≡ 0) ⊎ (m.oldest ≤ z.read)) same may.2)
+  | inl here ↦ let same : begun m read ≡ u = (let e = here.1 in cc) in inr (sym (ap (λ (z : Transaction). z.start) same), subst (λ (z : Transaction). (z.read ≡ 0) ⊎ (m.oldest ≤ z.read)) same may.2)
   | inr other ↦ same-seat m r u other.1
-  ])
+])
 evolves-after m (DrawId s) may = changed m s (m.next + 1) (λ t. record t { id = m.next }) (λ t. refl) (λ t. refl) may.0 may.1
 evolves-after m (AcceptWrite s table key change) may = changed m s m.next (written table key change) (λ t. refl) (λ t. refl) may.0 may.1
 evolves-after m (RefuseWrite s) may = changed m s m.next (in_phase Failed) (λ t. refl) (λ t. refl) may.0 may.1
@@ -230,13 +229,16 @@ evolves-after m (PlaceCursor s cursor position) may = moves m (after m (PlaceCur
 evolves-after m (CreateTable table) may = moves m (after m (CreateTable table)) refl refl (released-more (Create table) m.history) (committed-more (Create table) m.history) (same-seat m)
 evolves-after m (SetStamps oldest stable) may = record { oldest = (omega arith); released = λ n x e. e; committed = λ n x e. e; seats = same-seat m; checkpoint = λ c runs. inl runs }
 evolves-after m RollbackToStable may = elim (cases_Bool (m.stable == 0)) [
-    inl unset ↦ subst (λ b. Evolves m (record m { history = if b then m.history else Rts m.stable ∷ m.history; rollbacks = m.rollbacks + 1 })) (sym unset)
+  | inl unset ↦ subst (λ b. Evolves m (record m { history = if b then m.history else Rts m.stable ∷ m.history; rollbacks = m.rollbacks + 1 })) (sym unset)
       (moves m (record m { rollbacks = m.rollbacks + 1 }) refl refl (λ n x e. e) (λ n x e. e) (same-seat m))
   | inr is ↦ subst (λ b. Evolves m (record m { history = if b then m.history else Rts m.stable ∷ m.history; rollbacks = m.rollbacks + 1 })) (sym is)
       (moves m (record m { history = Rts m.stable ∷ m.history; rollbacks = m.rollbacks + 1 }) refl refl (released-more (Rts m.stable) m.history) (committed-more (Rts m.stable) m.history) (same-seat m))
-  ]
+]
 evolves-after m CheckpointStart may = record {
-  oldest = (omega arith); released = λ n x e. e; committed = λ n x e. e; seats = same-seat m;
+  oldest = (omega arith);
+  released = λ n x e. e;
+  committed = λ n x e. e;
+  seats = same-seat m;
   checkpoint = λ c runs. let same : start ≡ c = cc in inr (sym (ap (λ (k : Checkpoint). k.prefix) same), sym (ap (λ (k : Checkpoint). k.oldest) same));
 } where
   start : Checkpoint
@@ -245,7 +247,7 @@ evolves-after m CheckpointFinish may = by-run m.checkpoint refl where
   by-run : (o : Option Checkpoint) → m.checkpoint ≡ o → Evolves m (of_some m (finished m) m.checkpoint)
   by-run None is = subst (λ o. Evolves m (of_some m (finished m) o)) (sym is) (stays m)
   by-run (Some c) is = subst (λ o. Evolves m (of_some m (finished m) o)) (sym is)
-    (record { oldest = (omega arith); released = λ n x e. e; committed = λ n x e. e; seats = same-seat m; checkpoint = λ k runs. let none : None ≡ Some k = runs in absurd (cc) })
+      (record { oldest = (omega arith); released = λ n x e. e; committed = λ n x e. e; seats = same-seat m; checkpoint = λ k runs. let none : None ≡ Some k = runs in absurd (cc) })
 evolves-after m CheckpointDrop may = record { oldest = (omega arith); released = λ n x e. e; committed = λ n x e. e; seats = same-seat m; checkpoint = λ k runs. let none : None ≡ Some k = runs in absurd (cc) }
 evolves-after m (GoDown fault) may = moves m (after m (GoDown fault)) refl refl (λ n x e. e) (λ n x e. e) (same-seat m)
 evolves-after m Nothing may = stays m
