@@ -18,3 +18,4 @@ pub mod MachineLaws
 pub mod StoreLaws
 pub mod CaptureLaws
 pub mod Plain
+pub mod Regular

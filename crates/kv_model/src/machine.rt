@@ -1,6 +1,11 @@
 //! Laws of the machine.
 
-ghost use Rattle.kv_model.specs.MachineLaws.{EventsKeepValid};
+ghost use Rattle.kv_model.specs.MachineLaws.{EventsKeepValid, StartsAreValid};
+
+/// The machine that an opening makes of a regular content is valid.
+pub fn starts_are_valid()
+    ensures { StartsAreValid }
+{}
 
 /// Every event that may come leaves a valid machine.
 pub fn events_keep_valid()
