@@ -25,3 +25,4 @@ pub mod StoreLists
 pub mod PlainLooks
 pub mod Sorting
 pub mod Opening
+pub mod Deciding

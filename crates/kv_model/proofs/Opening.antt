@@ -1,10 +1,10 @@
 -- The machine that an opening makes is valid.
-use Rattle.std.proofs.Common.{◌≡◌, ◌⊎◌, ◌<◌, ◌≤◌, ◌+◌, ℕ, refl, ap, sym, ◌∙◌, Bool, true, false, ◌&&◌, ◌||◌, List, [], ◌∷◌, ◌++◌, length, inl, inr, subst, arith, map}
+use Rattle.std.proofs.Common.{◌≡◌, ◌⊎◌, ◌<◌, ◌≤◌, ◌+◌, ℕ, refl, ap, sym, ◌∙◌, Bool, true, false, ◌&&◌, List, [], ◌∷◌, ◌++◌, length, inl, inr, subst, arith, map}
 use Rattle.std.specs.Prelude.{Option, Some, None, filter, not, nat_lt, ◌==◌, bytes_eq, slice_index_or}
 use Rattle.std.specs.List.{list_any}
 use Rattle.std.specs.declared.cmp.Ordering.{Ordering}
 use Rattle.std.specs.declared.cmp.Ordering.TheVariants.{Less, Equal, Greater}
-use Rattle.std.specs.Ordering.{nat_cmp, on, then_cmp, ordering_then, is_lt}
+use Rattle.std.specs.Ordering.{nat_cmp, ordering_then, is_lt}
 use Rattle.std.specs.Cmp.Lexicographic.{slice_cmp, lists_total}
 use Rattle.std.specs.Cmp.{IsTotalOrder, then_total, on_total}
 use Rattle.std.proofs.lemmas.Cmp.{nat_cmp_total}
@@ -16,15 +16,15 @@ use Rattle.stamp.specs.declared.Name.{Name}
 use Rattle.stamp.specs.declared.Version.{Version}
 use Rattle.kv_model.specs.Holds.{Member, Descends}
 use Rattle.kv_model.specs.Ordered.{NameBelow, Under, Follows, IsNewTable, IsOrderly}
-use Rattle.kv_model.specs.History.{Entry, Create, Commit, Table, Placed, Write, line, of_key, history_of, commit_of, write_of, version_of, is_at, writes_at, released, releases, name_eq, tables, has_table, is_stable}
-use Rattle.kv_model.specs.Machine.{Machine, Transaction, Checkpoint}
+use Rattle.kv_model.specs.History.{Entry, Create, Table, Placed, Write, of_key, history_of, commit_of, write_of, is_at, writes_at, released, name_eq, tables, has_table, is_stable}
+use Rattle.kv_model.specs.Machine.{Transaction}
 use Rattle.kv_model.specs.Content.{Content, base, start, kept, kept_cells, is_kept_version, is_again, sees_name, sees_id, descending, placed_cmp, placed_lt, table_lt}
 use Rattle.kv_model.specs.Regular.{AllApart, SameNumber, SameKey, SameVersion, IsRegular, IsVersionOf}
-use Rattle.kv_model.specs.Valid.{Valid, IsDrawn, ValidCheckpoint}
+use Rattle.kv_model.specs.Valid.{Valid}
 use Rattle.kv_model.proofs.Finishing.{line-base, tables-base, name_eq-refl, member-append}
 use Rattle.std.specs.Option.{option_to_list}
 use Rattle.kv_model.proofs.Releases.{released-whole, released-older, released-cases, released-mono, name_eq-same}
-use Rattle.kv_model.proofs.Capturing.{member-out, member-into}
+use Rattle.kv_model.proofs.Capturing.{member-out}
 use Rattle.kv_model.proofs.OwnWrites.{at-parts}
 use Rattle.kv_model.proofs.Sorting.{Lt, Sorts, member-descending, descending-member, descending-descends, total-self, total-sorts}
 

@@ -19,3 +19,4 @@ pub mod StoreLaws
 pub mod CaptureLaws
 pub mod Plain
 pub mod Regular
+pub mod DecisionLaws
