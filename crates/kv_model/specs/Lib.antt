@@ -14,3 +14,9 @@ pub mod Valid
 pub mod LineLaws
 pub mod AgreementLaws
 pub mod DroppableLaws
+pub mod MachineLaws
+pub mod StoreLaws
+pub mod CaptureLaws
+pub mod Plain
+pub mod Regular
+pub mod DecisionLaws
