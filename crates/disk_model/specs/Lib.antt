@@ -1,0 +1,5 @@
+pub mod Crash
+pub mod Disk
+pub mod Images
+pub mod Laws
+pub mod Ranges
