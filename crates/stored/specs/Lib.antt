@@ -1,0 +1,9 @@
+pub mod Blocks
+pub mod Slots
+pub mod Links
+pub mod Tree
+pub mod TableTree
+pub mod HistoryTree
+pub mod Records
+pub mod Stored
+pub mod Opens

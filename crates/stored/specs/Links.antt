@@ -1,0 +1,56 @@
+-- What leads to a page: where the page stands, and what is said of the versions below it.
+use Rattle.std.specs.Prelude.{◌≡◌, ℕ, ◌<◌, ◌^◌, max, Bool, ◌&&◌, ◌||◌, ◌==◌, nat_lt, List, [], ◌∷◌, ◌++◌, if◌then◌else◌}
+use Rattle.std.specs.Int.{w32, w64}
+use Rattle.stamp.specs.declared.name.Name.{Name}
+use Rattle.le_codec.specs.Fields.{le}
+use Rattle.stored.specs.Blocks.{Addr}
+
+-- a place, the greatest name of any version below it, and the greatest durable stamp
+pub record Link : Type 0 where
+  pub place : Addr
+  pub greatest : Name
+  pub durable : ℕ
+
+-- the 40 bytes of a link
+abbrev pub link_text : Link → List ℕ
+link_text l = le w64 l.place.offset ++ le w32 l.place.size ++ le w32 l.place.sum ++ le w64 l.greatest.run ++ le w64 l.greatest.id ++ le w64 l.durable
+
+pub record LinkFits (l : Link) : Type 0 where
+  pub offset : l.place.offset < 2 ^ 64
+  pub size : l.place.size < 2 ^ 32
+  pub sum : l.place.sum < 2 ^ 32
+  pub run : l.greatest.run < 2 ^ 64
+  pub id : l.greatest.id < 2 ^ 64
+  pub durable : l.durable < 2 ^ 64
+
+-- no name
+abbrev pub no_name : Name
+no_name = record { run = 0; id = 0 }
+
+-- what leads to one empty leaf that is not stored: six zeros
+abbrev pub nowhere : Link
+nowhere = record { place = record { offset = 0; size = 0; sum = 0 }; greatest = no_name; durable = 0 }
+
+-- no block begins at 0
+abbrev pub is_nowhere : Addr → Bool
+is_nowhere a = a.offset == 0
+
+-- names by their run, then by their id
+abbrev pub name_lt : Name → Name → Bool
+name_lt x y = nat_lt x.run y.run || ((x.run == y.run) && nat_lt x.id y.id)
+
+abbrev pub later : Name → Name → Name
+later x y = if name_lt x y then y else x
+
+abbrev pub greatest_in : List Name → Name
+greatest_in [] = no_name
+greatest_in (x ∷ xs) = later x (greatest_in xs)
+
+abbrev pub most_in : List ℕ → ℕ
+most_in [] = 0
+most_in (x ∷ xs) = max x (most_in xs)
+
+-- the link says the greatest of these names, and the greatest of these durable stamps
+pub record SaysOf (l : Link) (names : List Name) (durables : List ℕ) : Type 0 where
+  pub greatest : l.greatest ≡ greatest_in names
+  pub durable : l.durable ≡ most_in durables
