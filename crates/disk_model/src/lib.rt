@@ -12,6 +12,8 @@ mod content;
 mod disk;
 mod image;
 mod mem;
+#[cfg(test)]
+mod tests;
 
 pub use call::Call;
 pub use disk::{Disk, Home, Unattached};
