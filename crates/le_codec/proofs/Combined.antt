@@ -37,6 +37,23 @@ as_field {A = A} {B = B} to back {s = s} {f = f} {Fits = Fits} there here field 
     again : (b : B) (rest : List ℕ) → Fits (back b) → as_at to f (s (back b) ++ rest) ≡ Some (b, rest)
     again b rest h = rw (field.again (back b) rest h, here b) refl
 
+-- the same seen as another type, where only what fits can be seen
+pub seen_field : {A B : Type 0} (to : A → B) (back : B → A) (Good : B → Type 0) {s : A → List ℕ} {f : List ℕ → Option (A × List ℕ)} {Fits : A → Type 0}
+    → ((a : A) → Fits a → (back (to a) ≡ a) × Good (to a)) → ((b : B) → Good b → (to (back b) ≡ b) × Fits (back b)) → IsField s f Fits → IsField (λ (b : B). s (back b)) (as_at to f) Good
+unfolding as_at
+seen_field {A = A} {B = B} to back Good {s = s} {f = f} {Fits = Fits} there here field = record { takes = take; again = again }
+  where
+    take : (bytes : List ℕ) (b : B) (rest : List ℕ) → IsBytes bytes → as_at to f bytes ≡ Some (b, rest) → Takes bytes (s (back b)) rest × Good b
+    take bytes b rest fits e =
+        let a = bind_some (f bytes) (λ a. Some (to a.0, a.1)) (b, rest) e in
+        let p = field.takes bytes a.0.0 a.0.1 fits a.1 in
+        let q = there a.0.0 p.1 in
+        let r : Takes bytes (s (back (to a.0.0))) a.0.1 = subst (λ (x : A). Takes bytes (s x) a.0.1) (sym q.0) p.0 in
+        subst (λ (y : B × List ℕ). Takes bytes (s (back y.0)) y.1 × Good y.0) (some_is (to a.0.0, a.0.1) (b, rest) a.2) (r, q.1)
+
+    again : (b : B) (rest : List ℕ) → Good b → as_at to f (s (back b) ++ rest) ≡ Some (b, rest)
+    again b rest h = let g = here b h in rw (field.again (back b) rest g.1, g.0) refl
+
 many_take : {A : Type 0} (s : A → List ℕ) (f : List ℕ → Option (A × List ℕ)) (Fits : A → Type 0) (field : IsField s f Fits) (n : ℕ) (bytes : List ℕ) (x : List A × List ℕ) → IsBytes bytes → many_at f n bytes ≡ Some x → Takes bytes (flat_map s x.0) x.1 × (length x.0 ≡ n) × AllByRecursion Fits x.0
 unfolding many_at
 many_take {A = A} s f Fits field zero bytes x fits e =

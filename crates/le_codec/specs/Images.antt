@@ -1,7 +1,8 @@
--- What every block of a device has: a header, an image, and zeros that fill it up; and its sum.
-use Rattle.std.specs.Prelude.{ℕ, ◌+◌, ◌-◌, ◌*◌, ◌/◌, ◌%◌, ◌^◌, List, [], ◌∷◌, ◌++◌, length, replicate}
+-- What every block of a device has: a header, an image, and zeros that fill it up.
+use Rattle.std.specs.Prelude.{ℕ, ◌+◌, ◌-◌, ◌*◌, ◌/◌, ◌^◌, ◌<◌, List, ◌++◌, length, replicate, Option}
 use Rattle.std.specs.Int.{w8, w16, w32, w64}
-use Rattle.le_codec.specs.Fields.{le}
+use Rattle.le_codec.specs.Fields.{le, number_at}
+use Rattle.le_codec.specs.Combine.{then_at, as_at}
 
 -- the 16 bytes that begin every image: its kind, format 1, how many things it has, its length, and its level
 abbrev pub header : ℕ → ℕ → ℕ → ℕ → List ℕ
@@ -23,11 +24,31 @@ block_size used = (used + 4095) / 4096 * 4096
 abbrev pub block_of : List ℕ → List ℕ
 block_of image = padded image (block_size (length image))
 
--- the bytes, each times its place, counted from one
-abbrev pub sum_from : ℕ → List ℕ → ℕ
-sum_from i [] = 0
-sum_from i (b ∷ bytes) = (i + 1) * b + sum_from (i + 1) bytes
+-- ---- reading a header
 
--- the sum of a block
-abbrev pub sum_of : List ℕ → ℕ
-sum_of bytes = sum_from 0 bytes % 2 ^ 32
+-- what the 16 bytes say
+pub record Head : Type 0 where
+  pub kind : ℕ
+  pub format : ℕ
+  pub count : ℕ
+  pub used : ℕ
+  pub level : ℕ
+
+abbrev pub head_text : Head → List ℕ
+head_text h = le w8 h.kind ++ le w8 h.format ++ le w16 h.count ++ le w32 h.used ++ le w64 h.level
+
+pub record HeadFits (h : Head) : Type 0 where
+  pub kind : h.kind < 2 ^ 8
+  pub format : h.format < 2 ^ 8
+  pub count : h.count < 2 ^ 16
+  pub used : h.used < 2 ^ 32
+  pub level : h.level < 2 ^ 64
+
+abbrev pub HeadParts : Type 0
+HeadParts = ℕ × (ℕ × (ℕ × (ℕ × ℕ)))
+
+abbrev pub head_of : HeadParts → Head
+head_of p = record { kind = p.0; format = p.1.0; count = p.1.1.0; used = p.1.1.1.0; level = p.1.1.1.1 }
+
+unfoldable pub head_at : List ℕ → Option (Head × List ℕ)
+head_at = as_at head_of (then_at (number_at w8) (λ kind. then_at (number_at w8) (λ format. then_at (number_at w16) (λ count. then_at (number_at w32) (λ used. number_at w64)))))

@@ -1,13 +1,11 @@
 -- Tables and a history without rows, which are stored nowhere: they have no blocks.
-use Rattle.std.proofs.Common.{◌≡◌, ℕ, zero, suc, ◌≤◌, List, [], ◌∷◌, ◌++◌, length, refl, sym, ap, ◌∙◌, arith, inl}
+use Rattle.std.proofs.Common.{◌≡◌, List, [], ◌∷◌, refl, ap, ◌∙◌, arith, inl}
 use Rattle.std.specs.List.{AllByRecursion}
-use Rattle.kv_model.specs.History.{Placed}
-use Rattle.stored.specs.Blocks.{Block}
-use Rattle.stored.specs.Links.{Link, nowhere, SaysOf}
-use Rattle.stored.specs.Tree.{Tree, IsTree}
-use Rattle.stored.specs.TableTree.{Entry, table_kind, TableTree, root_entry, Bears}
-use Rattle.stored.specs.HistoryTree.{HistoryEntry, HistoryTree, history_kind, history_root_entry, HistoryBears}
-use Rattle.stored.specs.Records.{Root, TableRoot, Record}
+use Rattle.stored.specs.Links.{nowhere, SaysOf}
+use Rattle.stored.specs.Tree.{IsTree}
+use Rattle.stored.specs.TableTree.{table_kind, TableTree, root_entry}
+use Rattle.stored.specs.HistoryTree.{HistoryTree, history_kind, history_root_entry}
+use Rattle.stored.specs.Records.{Root, TableRoot}
 use Rattle.stored.specs.Stored.{Stored, AreTrees, tables_blocks, history_blocks, stored_blocks, record_block, cells_in}
 
 -- the root of an empty tree

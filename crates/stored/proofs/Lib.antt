@@ -1,1 +1,6 @@
 pub mod EmptyTrees
+pub mod Fields
+pub mod Frame
+pub mod OneTree
+pub mod Exact
+pub mod Device

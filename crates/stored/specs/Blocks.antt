@@ -1,7 +1,8 @@
--- Blocks of a device: where they stand, and their bytes. (What fills up a block, and its sum: `Rattle.le_codec.specs.Images`.)
+-- Blocks of a device: where they stand, and their bytes. (What fills up a block: `padded` of `le_codec`. Its sum: `sum_of` of `block_sum`.)
 use Rattle.std.specs.Prelude.{◌≡◌, ◌⊎◌, ℕ, ◌+◌, ◌%◌, ◌^◌, ◌≤◌, List, [], ◌∷◌, length}
 use Rattle.std.specs.List.{AllByRecursion}
-use Rattle.le_codec.specs.Images.{padded, block_size, sum_of}
+use Rattle.block_sum.specs.Sum.{sum_of}
+use Rattle.le_codec.specs.Images.{padded, block_size}
 use Rattle.disk_model.specs.Ranges.{range}
 
 -- where a block stands, its size in bytes, and the sum of its bytes

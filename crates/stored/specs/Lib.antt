@@ -7,3 +7,4 @@ pub mod HistoryTree
 pub mod Records
 pub mod Stored
 pub mod Opens
+pub mod Reading

@@ -1,0 +1,10 @@
+pub mod Newest
+pub mod Agrees
+pub mod Stores
+pub mod Covering
+pub mod Ordering
+pub mod Pins
+pub mod Capturing
+pub mod Living
+pub mod Lists
+pub mod WorkedRows

@@ -1,0 +1,16 @@
+pub mod Holds
+pub mod History
+pub mod Ordered
+pub mod Machine
+pub mod Droppable
+pub mod Reads
+pub mod Refusals
+pub mod Decisions
+pub mod Content
+pub mod Pending
+pub mod Captures
+pub mod Allowed
+pub mod Valid
+pub mod LineLaws
+pub mod AgreementLaws
+pub mod DroppableLaws

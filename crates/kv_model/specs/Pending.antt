@@ -1,0 +1,68 @@
+-- What a chain, a cell and the history hold of one key, in each phase of the transaction whose update stands on top.
+use Rattle.std.specs.Prelude.{◌≡◌, ◌⊎◌, ◌<◌, ℕ, List, [], ◌∷◌, ◌++◌, map, Option, Some}
+use Rattle.item.specs.declared.Change.{Change}
+use Rattle.stamp.specs.declared.Name.{Name}
+use Rattle.stamp.specs.declared.Version.{Version}
+use Rattle.kv_model.specs.Holds.{Member, Stores}
+use Rattle.kv_model.specs.Captures.{UpTo}
+use Rattle.kv_model.specs.Ordered.{Older}
+use Rattle.kv_model.specs.History.{line, Write}
+use Rattle.kv_model.specs.Machine.{Machine, Transaction, Phase, Prepared, Resolving, transaction_of, name_of}
+use Rattle.kv_model.specs.Droppable.{covers}
+use Rattle.kv_model.specs.Reads.{own_write, OthersEnding, Wrote, IsEnding}
+
+-- prepared is 0 where the update is not marked
+pub record Update : Type 0 where
+  pub version : Version Change
+  pub prepared : ℕ
+
+abbrev pub settled : Version Change → Update
+settled v = record { version = v; prepared = 0 }
+
+-- the mark means something once the transaction is prepared
+abbrev pub MarkStands : Phase → Update → Type 0
+MarkStands (Prepared stamp) u = u.prepared ≡ stamp
+MarkStands Resolving u = 0 < u.prepared
+MarkStands _ u = Unit {0}
+
+-- the versions below the update: all that stand, but for the update's own one where it is resolved and not stamped yet
+abbrev pub BelowStands : Phase → Name → List (Version Change) → List (Version Change) → Type 0
+BelowStands Resolving name stands below = (stands ≡ below) ⊎ ((v : Version Change) × (v.window.name ≡ name) × (stands ≡ v ∷ below))
+BelowStands _ name stands below = stands ≡ below
+
+-- the update is the write of this transaction, and of the others that wrote the key each is ending
+pub record IsTop (m : Machine) (table : ℕ) (key : List ℕ) (u : Update) (below : List (Version Change)) : Type 0 where
+  pub session : ℕ
+  pub transaction : Transaction
+  pub write : Write
+  pub there : transaction_of m session ≡ Some transaction
+  pub own : own_write transaction table key ≡ Some write
+  pub name : u.version.window.name ≡ name_of m transaction
+  pub change : u.version.change ≡ write.change
+  pub mark : MarkStands transaction.phase u
+  pub rest : BelowStands transaction.phase (name_of m transaction) (line m.history table key) below
+  pub alone : OthersEnding m session table key
+
+-- no transaction holds an update of the key, but one that is ending
+abbrev pub NoneHolds : Machine → ℕ → List ℕ → Type 0
+NoneHolds m table key = (s : ℕ) (t : Transaction) → Wrote m s table key t → IsEnding t.phase
+
+-- top: the update of a transaction that has not ended, or none; below: the versions under it
+abbrev pub TopStands : Machine → ℕ → List ℕ → List Update → List (Version Change) → Type 0
+TopStands m table key [] below = (line m.history table key ≡ below) × NoneHolds m table key
+TopStands m table key (u ∷ []) below = IsTop m table key u below
+TopStands m table key (u ∷ (v ∷ rest)) below = ⊥
+
+abbrev pub InFrame : List (Version Change) → Option (Version Change) → Version Change → Type 0
+InFrame held cell v = Member v held ⊎ (cell ≡ Some v)
+
+-- one key: chain and cell are the frame's, records the history's; below is what top leaves of the line
+pub record KeyStands (m : Machine) (table : ℕ) (key : List ℕ) (chain : List Update) (cell : Option (Version Change)) (InHistory : Version Change → Type 0) : Type 0 where
+  pub top : List Update
+  pub held : List (Version Change)
+  pub below : List (Version Change)
+  pub chained : chain ≡ top ++ map settled held
+  pub topped : TopStands m table key top below
+  pub stores : Stores Older (covers m) below (InFrame held cell) InHistory
+  -- each record has a version of an ended transaction at or above it in the frame
+  pub layered : (v : Version Change) → InHistory v → (w : Version Change) × InFrame held cell w × UpTo Older v w

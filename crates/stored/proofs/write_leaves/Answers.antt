@@ -1,0 +1,8 @@
+use Rattle.stored.proofs.Device.{torn_on, torn_blank}
+use Rattle.stored.proofs.write_leaves.Goals as goal
+
+pub returns-clause-stored : goal.returns-clause-stored
+returns-clause-stored c = torn_on
+
+pub returns-clause-blank : goal.returns-clause-blank
+returns-clause-blank c = torn_blank
