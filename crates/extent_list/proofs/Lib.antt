@@ -1,0 +1,4 @@
+pub mod CutLemmas
+pub mod HoldLemmas
+pub mod JoinLemmas
+pub mod RunLemmas
