@@ -8,3 +8,15 @@ pub mod Capturing
 pub mod Living
 pub mod Lists
 pub mod WorkedRows
+pub mod Finishing
+pub mod Standing
+pub mod Releases
+pub mod Snapshots
+pub mod Growing
+pub mod Seats
+pub mod OwnWrites
+pub mod Beginning
+pub mod Writing
+pub mod Releasing
+pub mod Committing
+pub mod EveryEvent

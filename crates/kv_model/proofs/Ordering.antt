@@ -10,7 +10,7 @@ use Rattle.stamp.specs.declared.Name.{Name}
 use Rattle.stamp.specs.declared.Version.{Version}
 use Rattle.kv_model.specs.Holds.{Member, Descends}
 use Rattle.kv_model.specs.History.{Entry, Create, Commit, Prepare, Resolve, Undo, Rts, Write, Placed, line, standing, placed_of, version_of, is_at, is_by, writes_at}
-use Rattle.kv_model.specs.Ordered.{Older, Under, Follows, IsOrderly}
+use Rattle.kv_model.specs.Ordered.{Older, Follows, IsOrderly}
 use Rattle.kv_model.proofs.Agrees.{line-rts}
 
 descends-filter : {A : Type 0} (Below : A → A → Type 0) (f : A → Bool) (l : List A) → Descends Below l → Descends Below (filter f l)
@@ -41,21 +41,26 @@ line-writes name writes older table key =
     ∙ ap (λ l. l ++ line older table key) (placed-at name table key writes))
 
 -- the versions of a commit above the older ones
-above-writes : (name : Name) (older : List Entry) (table : ℕ) (key : List ℕ) (writes : List Write) → Follows name writes older → Descends Older (line older table key)
-    → Descends Older (map (version_of name) (filter (writes_at table key) writes) ++ line older table key)
-above-writes name older table key writes follows d = go (follows.single table key).0 (follows.single table key).1 (follows.above table key) where
+pub above-writes : (Below : Version Change → Version Change → Type 0) (name : Name) (older : List Entry) (table : ℕ) (key : List ℕ) (writes : List Write) → Follows name writes older
+    → ((w : Write) → Member w (filter (writes_at table key) writes) → (v : Version Change) → Member v (line older table key) → Below v (version_of name w))
+    → Descends Below (line older table key) → Descends Below (map (version_of name) (filter (writes_at table key) writes) ++ line older table key)
+above-writes Below name older table key writes follows over d = go (follows.single table key).0 (follows.single table key).1 over where
   go : (found : Option Write) → filter (writes_at table key) writes ≡ option_to_list found
-      → ((w : Write) → Member w (filter (writes_at table key) writes) → (v : Version Change) → Member v (line older table key) → Under name older v)
-      → Descends Older (map (version_of name) (filter (writes_at table key) writes) ++ line older table key)
-  go None is above = rw is d
-  go (Some w) is above = rw is ((λ v there. (above w (subst (λ l. Member w l) (sym is) (inl refl)) v there).below), d)
+      → ((w : Write) → Member w (filter (writes_at table key) writes) → (v : Version Change) → Member v (line older table key) → Below v (version_of name w))
+      → Descends Below (map (version_of name) (filter (writes_at table key) writes) ++ line older table key)
+  go None is over = rw is d
+  go (Some w) is over = rw is ((λ v there. over w (subst (λ l. Member w l) (sym is) (inl refl)) v there), d)
+
+above-older : (name : Name) (older : List Entry) (table : ℕ) (key : List ℕ) (writes : List Write) → Follows name writes older → Descends Older (line older table key)
+    → Descends Older (map (version_of name) (filter (writes_at table key) writes) ++ line older table key)
+above-older name older table key writes follows d = above-writes Older name older table key writes follows (λ w of v there. (follows.above table key w of v there).below) d
 
 -- the law
 pub line-descends : (history : List Entry) → IsOrderly history → (table : ℕ) (key : List ℕ) → Descends Older (line history table key)
 line-descends [] orderly table key = tt
 line-descends (Create t ∷ older) orderly table key = line-descends older orderly.1 table key
-line-descends (Commit name writes ∷ older) orderly table key = rw (line-writes name writes older table key) (above-writes name older table key writes orderly.0 (line-descends older orderly.1 table key))
+line-descends (Commit name writes ∷ older) orderly table key = rw (line-writes name writes older table key) (above-older name older table key writes orderly.0 (line-descends older orderly.1 table key))
 line-descends (Prepare name stamp ∷ older) orderly table key = line-descends older orderly table key
-line-descends (Resolve name writes ∷ older) orderly table key = rw (line-writes name writes older table key) (above-writes name older table key writes orderly.0.0 (line-descends older orderly.1 table key))
+line-descends (Resolve name writes ∷ older) orderly table key = rw (line-writes name writes older table key) (above-older name older table key writes orderly.0.0 (line-descends older orderly.1 table key))
 line-descends (Undo name ∷ older) orderly table key = line-descends older orderly table key
 line-descends (Rts s ∷ older) orderly table key = rw (line-rts s older table key) (descends-filter Older (is_by s) (line older table key) (line-descends older orderly table key))

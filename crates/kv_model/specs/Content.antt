@@ -1,12 +1,12 @@
 -- What a device holds, and the history and the machine that an opening makes of it.
-use Rattle.std.specs.Prelude.{◌≡◌, ◌⊎◌, ℕ, ◌+◌, Bool, true, not, ◌&&◌, ◌||◌, ◌==◌, nat_lt, List, [], ◌∷◌, ◌++◌, map, filter, None, if◌then◌else◌}
+use Rattle.std.specs.Prelude.{◌≡◌, ◌⊎◌, ℕ, ◌+◌, Bool, true, not, ◌&&◌, ◌||◌, ◌==◌, nat_lt, List, [], ◌∷◌, ◌++◌, filter, None, if◌then◌else◌}
 use Rattle.std.specs.List.{list_any}
 use Rattle.std.specs.declared.cmp.Ordering.{Ordering}
 use Rattle.std.specs.Ordering.{nat_cmp, on, then_cmp, is_lt}
 use Rattle.std.specs.Cmp.Lexicographic.{slice_cmp}
 use Rattle.stamp.specs.declared.Name.{Name}
 use Rattle.kv_model.specs.Holds.{Member}
-use Rattle.kv_model.specs.History.{Entry, Create, Table, Placed, commit_of, is_at, is_stable, name_eq, has_table, Agree}
+use Rattle.kv_model.specs.History.{Entry, Table, Placed, history_of, is_at, is_stable, name_eq, has_table, Agree}
 use Rattle.kv_model.specs.Ordered.{Older}
 use Rattle.kv_model.specs.Machine.{Machine, Completed}
 
@@ -83,7 +83,7 @@ table_lt t u = nat_lt t.number u.number
 
 -- the content as a history: the tables by number, then one commit for each kept version, ascending by name, then table number, then key
 abbrev pub base : Content → List Entry
-base c = map commit_of (descending placed_lt (kept c)) ++ map Create (descending table_lt c.tables)
+base c = history_of (descending table_lt c.tables) (descending placed_lt (kept c))
 
 -- the machine that an opening makes
 abbrev pub start : Content → Machine

@@ -64,9 +64,13 @@ is_at table key p = (p.table == table) && bytes_eq p.key key
 abbrev pub writes_at : ℕ → List ℕ → Write → Bool
 writes_at table key w = (w.table == table) && bytes_eq w.key key
 
+-- the versions of one key among those placed
+abbrev pub of_key : ℕ → List ℕ → List Placed → List (Version Change)
+of_key table key placed = map {A = Placed} (λ p. p.version) (filter (is_at table key) placed)
+
 -- the versions of one key that stand, newest first
 abbrev pub line : List Entry → ℕ → List ℕ → List (Version Change)
-line history table key = map (λ p. p.version) (filter (is_at table key) (standing history))
+line history table key = of_key table key (standing history)
 
 -- the tables, newest first
 abbrev pub tables : List Entry → List Table
@@ -134,10 +138,13 @@ commit_of p = Commit p.version.window.name (write_of p ∷ [])
 abbrev pub is_stable : ℕ → Version Change → Bool
 is_stable stable v = (stable == 0) || is_by stable v
 
+-- tables, and above them one commit for each version
+abbrev pub history_of : List Table → List Placed → List Entry
+history_of known placed = map commit_of placed ++ map Create known
+
 -- what a checkpoint of the first n entries keeps at this stable stamp
 abbrev pub cut : List Entry → ℕ → ℕ → List Entry
-cut history n stable =
-    map commit_of (filter (λ p. is_stable stable p.version) (standing (first n history))) ++ map Create (tables (first n history))
+cut history n stable = history_of (tables (first n history)) (filter (λ p. is_stable stable p.version) (standing (first n history)))
 
 -- down to the newest that passes, or all
 abbrev pub down_to : {A : Type 0} → (A → Bool) → List A → List A

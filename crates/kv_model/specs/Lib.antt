@@ -14,3 +14,4 @@ pub mod Valid
 pub mod LineLaws
 pub mod AgreementLaws
 pub mod DroppableLaws
+pub mod MachineLaws

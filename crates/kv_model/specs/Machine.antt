@@ -92,8 +92,11 @@ without_transaction m session = record m { sessions = slice_set m.sessions sessi
 abbrev pub changing : Machine → ℕ → (Transaction → Transaction) → Machine
 changing m session change = with_transaction m session (option_map change (transaction_of m session))
 
+abbrev pub name_in : ℕ → Transaction → Name
+name_in run t = record { run = run; id = t.id }
+
 abbrev pub name_of : Machine → Transaction → Name
-name_of m t = record { run = m.run; id = t.id }
+name_of m t = name_in m.run t
 
 -- the own writes with one more, in place of an earlier one of its key
 abbrev pub joined : Write → List Write → List Write

@@ -8,7 +8,9 @@
 mod agreement;
 mod droppable;
 mod lines;
+mod machine;
 
 pub use agreement::rollback_keeps_agreement;
 pub use droppable::covers_are_admitted;
 pub use lines::lines_descend;
+pub use machine::events_keep_valid;
