@@ -1,15 +1,14 @@
 pub mod Newest
 pub mod Agrees
-pub mod Stores
+pub mod FrameAndHistory
 pub mod Covering
 pub mod Ordering
-pub mod Pins
 pub mod Capturing
 pub mod Living
 pub mod Lists
 pub mod WorkedRows
 pub mod Finishing
-pub mod Standing
+pub mod StoreSteps
 pub mod Releases
 pub mod Snapshots
 pub mod Growing
@@ -20,3 +19,6 @@ pub mod Writing
 pub mod Releasing
 pub mod Committing
 pub mod EveryEvent
+pub mod Pins
+pub mod Droppables
+pub mod StoreLists

@@ -15,3 +15,5 @@ pub mod LineLaws
 pub mod AgreementLaws
 pub mod DroppableLaws
 pub mod MachineLaws
+pub mod StoreLaws
+pub mod CaptureLaws

@@ -6,11 +6,24 @@
 #![tactic(auto)]
 
 mod agreement;
+mod captures;
 mod droppable;
 mod lines;
 mod machine;
+mod stores;
 
-pub use agreement::rollback_keeps_agreement;
-pub use droppable::covers_are_admitted;
+pub use agreement::{
+    agreement_orders, agreement_reads, agreement_refuses, rollback_keeps_agreement,
+};
+pub use captures::{
+    a_finish_agrees, a_finish_is_layered, captures_hold, cleanings_store, entries_keep_captures,
+    histories_keep_captures, openings_store,
+};
+pub use droppable::{
+    covers_are_admitted, covers_go_on, droppables_are_never_picked, pin_does_not_fall,
+};
 pub use lines::lines_descend;
 pub use machine::events_keep_valid;
+pub use stores::{
+    captures_keep_stores, evictions_keep_stores, rollbacks_keep_stores, stores_answer,
+};

@@ -13,7 +13,7 @@ use Rattle.kv_model.proofs.Newest.{find-member, find-none, find-newest}
 use Rattle.kv_model.proofs.Ordering.{line-writes}
 use Rattle.kv_model.proofs.Capturing.{descends-filter}
 use Rattle.kv_model.proofs.Living.{stores-moves, layered-moves}
-use Rattle.kv_model.proofs.Stores.{stores-filter}
+use Rattle.kv_model.proofs.FrameAndHistory.{stores-filter}
 use Rattle.kv_model.proofs.Finishing.{committed-start, member-append, named-so}
 
 picks-held : {A : Type 0} (Below : A → A → Type 0) (Frame : A → Type 0) (live : A → Bool) (c : Option A) → Picks Below Frame live c → (x : A) → In c x → Frame x × (live x ≡ true)
