@@ -1,0 +1,4 @@
+pub mod LaidLemmas
+pub mod PlaceLemmas
+pub mod SweepLemmas
+pub mod WriteLemmas

@@ -1,0 +1,232 @@
+// The blocks in use, and the free units between them.
+ghost use Rattle.std.specs.Prelude.{
+  ◌≡◌,
+  ◌⊎◌,
+  ◌+◌,
+  ◌*◌,
+  ◌/◌,
+  ◌≤◌,
+  ◌<◌,
+  ◌^◌,
+  ℕ,
+  List,
+  [],
+  length,
+  true,
+  false,
+  IfOk,
+  IfErr,
+  IsOk,
+  OnOk,
+  IsTrue,
+};
+ghost use Rattle.std.specs.List.{filter};
+ghost use Rattle.std.specs.Prelude.{map};
+ghost use Rattle.failure.specs.Counts.{Rose};
+ghost use Rattle.disk_model.specs.Crash.{LeavesOnly, Each, Looked, Apart};
+ghost use Rattle.disk_model.specs.Ranges.{range};
+ghost use Rattle.extent_list.specs.Space.{Taken, HasNoRoom, IsWhole};
+ghost use Rattle.block_mgr.specs.Blocks.{
+  Books,
+  AreUnits,
+  Has,
+  Added,
+  placed,
+  freed,
+  is_used,
+  with_live,
+  with_running,
+  without_running,
+};
+ghost use Rattle.block_mgr.specs.Places.{IsThere, Spoils};
+ghost use Rattle.block_mgr.specs.Writes.{Wrote, WroteImage, Written, IsAddress};
+
+use crate::Addr;
+use crate::block::Block;
+use crate::fill::fill;
+use crate::insert::insert_at;
+use crate::read::read_block;
+use crate::search::starting_before;
+use crate::store::store;
+use crate::sweep::{complete, has_use, let_go, sweep, take_live};
+use crate::take::take_place;
+use block_sum::sum;
+use disk_model::Disk;
+use extent_list::Extents;
+use failure::NoMemory;
+use std::alloc::Global;
+use std::marker::Model;
+use wt_code::Refusal;
+
+/// The blocks in use on a device, and its free units. Contracts see it as `Books`. A block is in
+/// use while the live tree, the running checkpoint or the last completed one has it; a checkpoint
+/// that runs has each block that the live tree had when it began or has got since.
+#[derive(Drop)]
+pub struct Blocks {
+    // By offset.
+    blocks: Vec<Block>,
+    space: Extents,
+    is_synced: bool,
+    is_held: bool,
+}
+
+impl Model for Blocks {
+    ghost Value = { Books };
+
+    ghost view = { λ s.
+        record {
+          blocks = s.blocks.items;
+          space = s.space;
+          is_synced = s.is_synced;
+          is_held = s.is_held;
+        } };
+
+    ghost invariant = { λ s. AreUnits s.blocks.items s.space × (length s.blocks.items ≤ s.space.room) };
+}
+
+impl Blocks {
+    /// A device with no block, that was not synced yet. Takes no memory.
+    pub fn new(alloc: Global) -> Self
+        ensures blocks { result.blocks ≡ [] }
+        ensures end { result.space.end ≡ 8192 }
+        ensures synced { result.is_synced ≡ false }
+        ensures held { result.is_held ≡ false }
+    {
+        Blocks {
+            blocks: Vec::new(alloc),
+            space: Extents::new(alloc, 8192),
+            is_synced: false,
+            is_held: false,
+        }
+    }
+
+    /// The offset up to which the device is in use. Each unit before it and behind the slots is
+    /// free or in one block.
+    pub fn end(&self) -> u64
+        ensures end { result ≡ self.now.space.end }
+        ensures units { AreUnits self.now.blocks self.now.space }
+    {
+        self.space.end()
+    }
+
+    // Places a block, and counts it to the live tree and to a checkpoint that runs.
+    fn place(&mut self, size: u32, capacity: u64) -> Result<u64, Refusal>
+        requires some { 1 ≤ size }
+        requires whole { IsWhole size }
+        ensures taken { IfOk result (Taken self.old.space self.new.space size capacity) }
+        ensures added { IfOk result (λ at. Added self.old.blocks self.new.blocks (placed at size self.old.is_held)) }
+        ensures apart { IfOk result (λ at. (i n : ℕ) → Has self.old.blocks i n → Apart at size i n) }
+        ensures bounds { IfOk result (λ at. (8192 ≤ at) × IsWhole at × (at ≤ self.old.space.end) × (at + size ≤ self.new.space.end)) }
+        ensures later { self.old.space.end ≤ self.new.space.end }
+        ensures err { IfErr result (λ r. ((r ≡ Refusal.NoMemory) ⊎ ((r ≡ Refusal.NoSpace) × HasNoRoom self.old.space size capacity)) × (self.new.blocks ≡ self.old.blocks) × (self.new.space.runs ≡ self.old.space.runs) × (self.new.space.end ≡ self.old.space.end)) }
+        ensures synced { self.new.is_synced ≡ self.old.is_synced }
+        ensures held { self.new.is_held ≡ self.old.is_held }
+    {
+        self.blocks.reserve(1)?;
+        self.space.reserve(self.blocks.len() + 1)?;
+        let at = take_place(&mut self.space, size as u64, capacity)?;
+        let i = starting_before(&self.blocks, at);
+        let block = Block {
+            offset: at,
+            size,
+            is_live: true,
+            is_running: self.is_held,
+            is_last: false,
+        };
+        insert_at(&mut self.blocks, i, block);
+        Ok(at)
+    }
+
+    /// Writes an image as a new block of the live tree, and of a checkpoint that runs: into free
+    /// units, or else at the end. It touches no block in use, at any moment of a crash. `NoSpace`
+    /// comes exactly where no free extent has room and the end would move past the capacity.
+    /// After a disk fault the block counts as in use.
+    pub fn write<D: Disk>(
+        &mut self,
+        alloc: Global,
+        disk: &mut D,
+        image: &[u8],
+    ) -> Result<Addr, Refusal>
+        requires some { 1 ≤ length image.now }
+        requires most { length image.now ≤ 2 ^ 20 }
+        requires ready { IsTrue (D.honest disk.old) → self.old.space.end ≤ length (D.seen disk.old) }
+        ensures leaves { LeavesOnly D.moment D.left_since disk.old disk.new (Wrote self.old.blocks self.old.is_synced (D.seen disk.old) (D.may_leave disk.old)) }
+        ensures images { OnOk result (Each (D.may_leave disk.new) (WroteImage self.old.blocks self.old.is_synced (D.seen disk.old) (D.may_leave disk.old))) }
+        ensures written { IsTrue (D.honest disk.old) → IfOk result (Written self.old.blocks (D.seen disk.old) (D.seen disk.new) image.now) }
+        ensures address { IfOk result (IsAddress image.now) }
+        ensures taken { IfOk result (λ a. Taken self.old.space self.new.space a.size (D.capacity disk.old) a.offset) }
+        ensures added { IfOk result (λ a. Added self.old.blocks self.new.blocks (placed a.offset a.size self.old.is_held)) }
+        ensures ready { IsTrue (D.honest disk.old) → OnOk result (self.new.space.end ≤ length (D.seen disk.new)) }
+        ensures synced { OnOk result (self.new.is_synced ≡ true) }
+        ensures held { self.new.is_held ≡ self.old.is_held }
+        ensures err { IfErr result (λ r. ((r ≡ Refusal.DiskFault) × Rose (D.faults disk.old) (D.faults disk.new)) ⊎ (((r ≡ Refusal.NoMemory) ⊎ ((r ≡ Refusal.NoSpace) × HasNoRoom self.old.space ((length image.now + 4095) / 4096 * 4096) (D.capacity disk.old))) × (disk.new ≡ disk.old) × (self.new.blocks ≡ self.old.blocks) × (self.new.space.runs ≡ self.old.space.runs) × (self.new.space.end ≡ self.old.space.end) × (self.new.is_synced ≡ self.old.is_synced))) }
+        ensures later { D.faults disk.old ≤ D.faults disk.new }
+        ensures same { D.honest disk.new ≡ D.honest disk.old }
+        ensures capacity { D.capacity disk.new ≡ D.capacity disk.old }
+    {
+        let bytes = fill(alloc, image)?;
+        let size = bytes.len() as u32;
+        let at = self.place(size, disk.capacity())?;
+        store(disk, self.is_synced, at, &bytes)?;
+        self.is_synced = true;
+        Ok(Addr {
+            offset: at,
+            size,
+            sum: sum(&bytes),
+        })
+    }
+
+    /// The bytes of the block at an address, as `read_block` gives them.
+    pub fn read<D: Disk>(&self, alloc: Global, disk: &mut D, addr: Addr) -> Result<Vec<u8>, Refusal>
+        ensures bytes { IsTrue (D.honest disk.old) → IfOk result (λ v. IsThere (D.seen disk.old) addr × (v.items ≡ range (D.seen disk.old) addr.offset addr.size)) }
+        ensures corrupt { IsTrue (D.honest disk.old) → (offset want found : ℕ) → IfErr result (λ r. r ≡ Refusal.Corrupt offset want found → (offset ≡ addr.offset) × (want ≡ addr.sum) × Spoils (D.seen disk.old) addr found) }
+        ensures err { IfErr result (λ r. (r ≡ Refusal.NoMemory) ⊎ ((r ≡ Refusal.DiskFault) × Rose (D.faults disk.old) (D.faults disk.new)) ⊎ ((found : ℕ) × (r ≡ Refusal.Corrupt addr.offset addr.sum found))) }
+        ensures looked { Looked D.honest D.seen D.may_leave D.capacity D.faults D.moment D.left_since disk.old disk.new }
+    {
+        read_block(alloc, disk, addr)
+    }
+
+    /// A checkpoint begins to run: it has the blocks that the live tree has now, and those that
+    /// are written until it ends. Takes no memory.
+    pub fn ckpt_hold(&mut self) -> Result<(), NoMemory>
+        ensures sure { IsOk result }
+        ensures blocks { self.new.blocks ≡ map with_live self.old.blocks }
+        ensures end { self.new.space.end ≡ self.old.space.end }
+        ensures synced { self.new.is_synced ≡ self.old.is_synced }
+        ensures held { self.new.is_held ≡ true }
+    {
+        take_live(&mut self.blocks);
+        self.is_held = true;
+        Ok(())
+    }
+
+    /// The running checkpoint is the last completed one now. The units of blocks that neither it
+    /// nor the live tree has are free. Takes no memory.
+    pub fn ckpt_done(&mut self) -> Result<(), NoMemory>
+        ensures sure { IsOk result }
+        ensures blocks { self.new.blocks ≡ filter is_used (map with_running self.old.blocks) }
+        ensures end { self.new.space.end ≡ self.old.space.end }
+        ensures synced { self.new.is_synced ≡ self.old.is_synced }
+        ensures held { self.new.is_held ≡ false }
+    {
+        complete(&mut self.blocks);
+        sweep(&mut self.blocks, &mut self.space);
+        self.is_held = false;
+        Ok(())
+    }
+
+    /// The running checkpoint is given up. The units of blocks that neither the live tree nor the
+    /// last completed checkpoint has are free. Takes no memory.
+    pub fn ckpt_drop(&mut self) -> Result<(), NoMemory>
+        ensures sure { IsOk result }
+        ensures blocks { self.new.blocks ≡ filter is_used (map without_running self.old.blocks) }
+        ensures end { self.new.space.end ≡ self.old.space.end }
+        ensures synced { self.new.is_synced ≡ self.old.is_synced }
+        ensures held { self.new.is_held ≡ false }
+    {
+        let_go(&mut self.blocks);
+        sweep(&mut self.blocks, &mut self.space);
+        self.is_held = false;
+        Ok(())
+    }
+}

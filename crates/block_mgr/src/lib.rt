@@ -1,0 +1,26 @@
+//! Where blocks stand on a device: which units are in use, by the live tree, the running
+//! checkpoint and the last completed one, and which are free.
+//!
+//! Promises that each unit between the slots and the end is free or in exactly one block, that a
+//! write touches no block in use, at any moment of a crash, and that a read gives a block only
+//! where its sum is that of its address. Leaves to the caller what the blocks hold, and when a
+//! block is no longer needed.
+#![tactic(auto)]
+
+mod addr;
+mod block;
+mod blocks;
+mod fill;
+mod insert;
+mod read;
+mod search;
+mod store;
+mod sweep;
+mod take;
+#[cfg(test)]
+mod tests;
+
+pub use addr::Addr;
+pub use blocks::Blocks;
+pub use failure::NoMemory;
+pub use read::read_block;
