@@ -28,17 +28,17 @@ length-framed kind count level text = length-append (header kind count (16 + len
 abbrev pub head_with : ℕ → ℕ → ℕ → ℕ → Head
 head_with kind count used level = record { kind = kind; format = 1; count = count; used = used; level = level }
 
--- two images of a kind and a level that are filled up to the same bytes have the same count and text
-pub same_framed : (kind level c d : ℕ) (x y : List ℕ) (size other : ℕ) → kind < 2 ^ 8 → level < 2 ^ 64 → c < 2 ^ 16 → d < 2 ^ 16 → 16 + length x < 2 ^ 32 → 16 + length y < 2 ^ 32
-    → padded (framed kind c level x) size ≡ padded (framed kind d level y) other → (c ≡ d) × (x ≡ y)
-same_framed kind level c d x y size other hk hl hc hd hx hy same =
-    let a = head_with kind c (16 + length x) level in
-    let b = head_with kind d (16 + length y) level in
-    let p = x ++ replicate (size - length (framed kind c level x)) 0 in
-    let q = y ++ replicate (other - length (framed kind d level y)) 0 in
-    let texts : head_text a ++ p ≡ head_text b ++ q = sym (append_assoc (head_text a) x (replicate (size - length (framed kind c level x)) 0)) ∙ same ∙ append_assoc (head_text b) y (replicate (other - length (framed kind d level y)) 0) in
-    let both = one_value head_field a b p q (record { kind = hk; format = omega arith; count = hc; used = hx; level = hl }) (record { kind = hk; format = omega arith; count = hd; used = hy; level = hl }) texts in
+-- two images of a kind that are filled up to the same bytes have the same count, level and text
+pub same_framed : (kind j k c d : ℕ) (x y : List ℕ) (size other : ℕ) → kind < 2 ^ 8 → j < 2 ^ 64 → k < 2 ^ 64 → c < 2 ^ 16 → d < 2 ^ 16 → 16 + length x < 2 ^ 32 → 16 + length y < 2 ^ 32
+    → padded (framed kind c j x) size ≡ padded (framed kind d k y) other → (c ≡ d) × (j ≡ k) × (x ≡ y)
+same_framed kind j k c d x y size other hk hj hl hc hd hx hy same =
+    let a = head_with kind c (16 + length x) j in
+    let b = head_with kind d (16 + length y) k in
+    let ends : List ℕ = replicate (size - length (framed kind c j x)) 0 in
+    let others : List ℕ = replicate (other - length (framed kind d k y)) 0 in
+    let texts : head_text a ++ (x ++ ends) ≡ head_text b ++ (y ++ others) = sym (append_assoc (head_text a) x ends) ∙ same ∙ append_assoc (head_text b) y others in
+    let both = one_value head_field a b (x ++ ends) (y ++ others) (record { kind = hk; format = omega arith; count = hc; used = hx; level = hj }) (record { kind = hk; format = omega arith; count = hd; used = hy; level = hl }) texts in
     let long : length y ≡ length x = omega (arith, ap (λ (h : Head). h.used) both.0) in
-    let front : take (length x) p ≡ x = take_at x (replicate (size - length (framed kind c level x)) 0) (length x) refl in
-    let back : take (length x) q ≡ y = take_at y (replicate (other - length (framed kind d level y)) 0) (length x) long in
-    (ap (λ (h : Head). h.count) both.0, sym front ∙ ap (λ (l : List ℕ). take (length x) l) both.1 ∙ back)
+    let front : take (length x) (x ++ ends) ≡ x = take_at x ends (length x) refl in
+    let back : take (length x) (y ++ others) ≡ y = take_at y others (length x) long in
+    (ap (λ (h : Head). h.count) both.0, ap (λ (h : Head). h.level) both.0, sym front ∙ ap (λ (l : List ℕ). take (length x) l) both.1 ∙ back)

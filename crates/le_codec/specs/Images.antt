@@ -1,7 +1,8 @@
 -- What every block of a device has: a header, an image, and zeros that fill it up.
-use Rattle.std.specs.Prelude.{ℕ, ◌+◌, ◌-◌, ◌*◌, ◌/◌, ◌^◌, ◌<◌, List, ◌++◌, length, replicate, Option}
+use Rattle.std.specs.Prelude.{◌≡◌, ℕ, ◌+◌, ◌-◌, ◌*◌, ◌/◌, ◌^◌, ◌<◌, Bool, ◌&&◌, ◌==◌, nat_le, List, ◌++◌, length, replicate, Option, Some, None, if◌then◌else◌}
+use Rattle.std.specs.List.{list_all}
 use Rattle.std.specs.Int.{w8, w16, w32, w64}
-use Rattle.le_codec.specs.Fields.{le, number_at}
+use Rattle.le_codec.specs.Fields.{◌>>=◌, le, number_at, slice_at}
 use Rattle.le_codec.specs.Combine.{then_at, as_at}
 
 -- the 16 bytes that begin every image: its kind, format 1, how many things it has, its length, and its level
@@ -23,6 +24,13 @@ block_size used = (used + 4095) / 4096 * 4096
 -- the bytes of an image's block
 abbrev pub block_of : List ℕ → List ℕ
 block_of image = padded image (block_size (length image))
+
+-- a block has an image of this kind, with this count, level and text
+pub record HoldsImage (kind : ℕ) (block : List ℕ) (count level : ℕ) (text : List ℕ) : Type 0 where
+  pub spelled : block ≡ block_of (framed kind count level text)
+  pub count_fits : count < 2 ^ 16
+  pub level_fits : level < 2 ^ 64
+  pub text_fits : 16 + length text < 2 ^ 32
 
 -- ---- reading a header
 
@@ -52,3 +60,23 @@ head_of p = record { kind = p.0; format = p.1.0; count = p.1.1.0; used = p.1.1.1
 
 unfoldable pub head_at : List ℕ → Option (Head × List ℕ)
 head_at = as_at head_of (then_at (number_at w8) (λ kind. then_at (number_at w8) (λ format. then_at (number_at w16) (λ count. then_at (number_at w32) (λ used. number_at w64)))))
+
+-- ---- reading an image from its block
+
+abbrev pub is_zero : ℕ → Bool
+is_zero b = b == 0
+
+-- the header is of this kind, and its length is that of the block
+abbrev pub head_fits : ℕ → ℕ → Head → Bool
+head_fits kind size h = (h.kind == kind) && (h.format == 1) && nat_le 16 h.used && (block_size h.used == size)
+
+-- the count, the level and the text of an image of this kind
+abbrev pub Framed : Type 0
+Framed = ℕ × (ℕ × List ℕ)
+
+unfoldable pub image_at : ℕ → List ℕ → Option Framed
+image_at kind block = do
+  head ← head_at block
+  fits ← (if head_fits kind (length block) head.0 then Some head.0 else None)
+  text ← slice_at (fits.used - 16) head.1
+  if list_all is_zero text.1 then Some (fits.count, (fits.level, text.0)) else None

@@ -1,3 +1,4 @@
 pub mod Fields
 pub mod Combine
 pub mod Images
+pub mod Views

@@ -4,16 +4,19 @@
 //! `Writer` grows one byte string. `specs/Fields` has the fields and what it means that a field
 //! has one spelling (`IsField`); `specs/Combine` makes fields of fields, and `proofs/Combined`
 //! and `proofs/Chains` give their laws (`then_field`, `many_field`, `as_field`, `try_field`,
-//! `chain_field`). Limits on what is read, and what it means, are left to each format.
+//! `chain_field`). Every block of a device has an image with a header of its own (`specs/Images`):
+//! `open_image` finds it in the block and `write_header` begins one. Limits on what is read, and what it means, are left to each format.
 #![tactic(auto)]
 
 ghost use Rattle.std.specs.Prelude.{◌≡◌, ◌<◌, ◌^◌, ℕ, List, length};
 ghost use Rattle.std.specs.Int.{w8, w16, w32, w64};
 ghost use Rattle.le_codec.specs.Fields.{IsField, le, number_at, slice_at, itself};
 
+mod image;
 mod reader;
 mod writer;
 
+pub use image::{Image, open_image, write_header};
 pub use reader::Reader;
 pub use writer::Writer;
 

@@ -13,8 +13,8 @@ use Rattle.le_codec.specs.Combine.{try_at, Chained}
 use Rattle.le_codec.proofs.Laws.{byte_field, field16, field32, field64, slice_field, some_is, bind_some}
 use Rattle.le_codec.proofs.Combined.{then_field, as_field, again_field, try_field}
 use Rattle.le_codec.proofs.Chains.{chain_field}
-use Rattle.row_page.specs.Rows.{Row, Raw, raw_text, window_text, tail_of, cell_under, code_of, value_of, IsNumber, WindowFits, RowFits, comes_after}
-use Rattle.row_page.specs.Reading.{Numbers, window_of, window_at, Parts, raw_of, raw_at, change_of, is_number, window_fits, row_fits, row_under, row_at, rows_at}
+use Rattle.row_page.specs.Rows.{Row, Raw, raw_text, window_text, tail_of, cell_under, code_of, value_of, IsNumber, WindowFits, RowFits, comes_after, key_of}
+use Rattle.row_page.specs.Reading.{Numbers, window_of, window_at, Parts, raw_of, raw_at, change_of, is_number, window_fits, row_fits, row_under, cell_at, row_at, rows_at}
 
 -- ---- a cell before anything is asked of it
 
@@ -130,7 +130,8 @@ row_here front most r small h =
     let z : window_fits r.1.window ≡ true = window_is r.1.window h.window in
     (rw (h.begins, change_again r.1.change, x, y, z) refl, record { key = omega (arith, h.key, small, length-drop (length front) r.0); code = code_small r.1.change; value = omega (arith, h.value); window = wide r.1.window h.window })
 
-pub row_field : (front : List ℕ) (most : ℕ) → most < 2 ^ 16 → IsField (cell_under front) (try_at (row_under front most) raw_at) (RowFits front most)
+pub row_field : (front : List ℕ) (most : ℕ) → most < 2 ^ 16 → IsField (cell_under front) (cell_at front most) (RowFits front most)
+unfolding cell_at
 row_field front most small = try_field (row_under front most) (tail_of front) (RowFits front most) (row_there front most) (λ r h. row_here front most r small h) raw_field
 
 -- ---- rows, one after the other
@@ -154,9 +155,5 @@ pub row_after_field : (front : List ℕ) (most : ℕ) → most < 2 ^ 16 → (bef
 unfolding row_at
 row_after_field front most small before = try_field (λ (r : Row). cond (comes_after before r.0) (Some r) None) same_row (After front most before) (after_there front most before) (after_here front most before) (row_field front most small)
 
-abbrev pub key_of : Row → Option (List ℕ)
-key_of r = Some r.0
-
 pub rows_field : (front : List ℕ) (most : ℕ) → most < 2 ^ 16 → (count : ℕ) (before : Option (List ℕ)) → IsField (flat_map (cell_under front)) (rows_at front most count before) (λ (rows : List Row). (length rows ≡ count) × Chained (After front most) key_of before rows)
-unfolding rows_at
 rows_field front most small count before = chain_field key_of (row_after_field front most small) count before

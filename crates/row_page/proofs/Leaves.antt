@@ -1,14 +1,16 @@
 -- The rows of a leaf have one spelling, also where zeros fill it up.
-use Rattle.std.proofs.Common.{◌≡◌, ℕ, ◌+◌, ◌*◌, ◌≤◌, List, [], ◌∷◌, ◌++◌, length, Option, Some, None, refl, sym, ap, ◌∙◌, arith}
+use Rattle.std.proofs.Common.{◌≡◌, ℕ, zero, suc, ◌+◌, ◌*◌, ◌<◌, ◌≤◌, List, [], ◌∷◌, ◌++◌, length, take, get_or, Option, Some, None, refl, sym, ap, subst, ◌∙◌, arith}
 use Rattle.std.specs.List.{AllByRecursion}
-use Rattle.std.proofs.lemmas.List.{length-append}
+use Rattle.std.proofs.lemmas.List.{length-append, append-nil, take_more}
+use Rattle.std.proofs.lemmas.List.Concat.{flat_map-append}
+use Rattle.std.proofs.lemmas.List.Folds.{length-flat_map-take}
 use Rattle.le_codec.specs.Combine.{Chained}
 use Rattle.le_codec.specs.Images.{padded, block_size}
 use Rattle.le_codec.proofs.Laws.{length_8, length_16, length_32, length_64}
 use Rattle.le_codec.proofs.Combined.{one_value}
 use Rattle.le_codec.proofs.Heads.{length-framed, same_framed}
-use Rattle.row_page.specs.Rows.{Row, Raw, raw_text, cell, cells, key_most, value_of, RowFits, Ascends, AreRows, image, IsPage}
-use Rattle.row_page.proofs.Fields.{After, key_of, rows_field}
+use Rattle.row_page.specs.Rows.{Row, Raw, raw_text, cell, cells, key_most, value_of, RowFits, key_of, Ascends, AreRows, image, IsPage}
+use Rattle.row_page.proofs.Fields.{After, rows_field}
 
 pub length-raw : (x : Raw) → length (raw_text x) ≡ 39 + length x.key + length x.value
 length-raw x = simp (length-append, length_8, length_16, length_32, length_64) (omega arith)
@@ -31,10 +33,27 @@ chained before (r ∷ rows) fit ascend = ((fit.0, ascend.0), chained (Some r.0) 
 -- two leaves that are filled up to the same bytes have the same rows
 pub leaf_exact : (size other : ℕ) (p q : List Row) → AreRows p → AreRows q → padded (image p) size ≡ padded (image q) other → p ≡ q
 leaf_exact size other p q hp hq same =
-    let both = same_framed 1 0 (length p) (length q) (cells p) (cells q) size other (omega arith) (omega arith) (omega (arith, count_upto p, hp.size)) (omega (arith, count_upto q, hq.size)) (omega (arith, hp.size)) (omega (arith, hq.size)) same in
-    let texts : cells p ++ [] ≡ cells q ++ [] = ap (λ (l : List ℕ). l ++ []) both.1 in
+    let both = same_framed 1 0 0 (length p) (length q) (cells p) (cells q) size other (omega arith) (omega arith) (omega arith) (omega (arith, count_upto p, hp.size)) (omega (arith, count_upto q, hq.size)) (omega (arith, hp.size)) (omega (arith, hq.size)) same in
+    let texts : cells p ++ [] ≡ cells q ++ [] = ap (λ (l : List ℕ). l ++ []) both.2 in
     (one_value (rows_field [] key_most (omega arith) (length p) None) p q [] [] (refl, chained None p hp.fit hp.ascend) (sym both.0, chained None q hq.fit hq.ascend) texts).0
 
 -- the bytes of a block are those of one leaf
 pub one_page : (bytes : List ℕ) (p q : List Row) → IsPage bytes p → IsPage bytes q → p ≡ q
 one_page bytes p q hp hq = leaf_exact (block_size (length (image p))) (block_size (length (image q))) p q hp.admitted hq.admitted (sym hp.spelled ∙ hq.spelled)
+
+-- ---- writing
+
+-- the bytes up to a row, and with it
+pub cells_more : (rows : List Row) (i : ℕ) (r : Row) → i < length rows → r ≡ get_or rows i r → cells (take (i + 1) rows) ≡ cells (take i rows) ++ cell r
+cells_more rows i r lt is =
+    let upto : take (i + 1) rows ≡ take i rows ++ r ∷ [] = take_more rows i r lt ∙ ap (λ (x : Row). take i rows ++ x ∷ []) (sym is) in
+    ap cells upto ∙ flat_map-append cell (take i rows) (r ∷ []) ∙ ap (λ (b : List ℕ). cells (take i rows) ++ b) (append-nil (cell r))
+
+pub cells_upto : (rows : List Row) (i : ℕ) (r : Row) → i < length rows → r ≡ get_or rows i r → length (cells (take i rows)) + length (cell r) ≤ length (cells rows)
+cells_upto rows i r lt is = subst (λ (x : Row). length (cells (take i rows)) + length (cell x) ≤ length (cells rows)) (sym is) (length-flat_map-take cell rows i r lt)
+
+-- each row fits
+pub fit_at : (rows : List Row) (i : ℕ) (r : Row) → AllByRecursion (λ (r : Row). RowFits [] key_most r) rows → i < length rows → r ≡ get_or rows i r → RowFits [] key_most r
+fit_at [] i r all lt is = absurd (omega (arith, lt))
+fit_at (x ∷ rows) zero r all lt is = subst (λ (y : Row). RowFits [] key_most y) (sym is) all.0
+fit_at (x ∷ rows) (suc i) r all lt is = fit_at rows i r all.1 (omega (arith, lt)) is

@@ -1,2 +1,4 @@
 pub mod Fields
 pub mod Leaves
+pub mod Steps
+pub mod Grammar

@@ -1,12 +1,12 @@
 -- Reading a leaf from left to right.
-use Rattle.std.specs.Prelude.{ℕ, zero, suc, ◌^◌, Bool, ◌&&◌, nat_le, nat_lt, List, [], ◌∷◌, ◌++◌, length, Option, Some, None, if◌then◌else◌}
+use Rattle.std.specs.Prelude.{ℕ, zero, suc, ◌^◌, Bool, ◌&&◌, ◌==◌, nat_le, nat_lt, List, [], ◌∷◌, ◌++◌, length, Option, Some, None, if◌then◌else◌}
 use Rattle.std.specs.Int.{w8, w16, w32, w64}
 use Rattle.item.specs.declared.change.Change.{Change}
 use Rattle.item.specs.declared.change.Change.TheVariants.{Put, Remove}
 use Rattle.stamp.specs.declared.version.Window.{Window}
 use Rattle.le_codec.specs.Fields.{◌>>=◌, number_at, slice_at}
 use Rattle.le_codec.specs.Combine.{then_at, as_at, try_at, chain_at}
-use Rattle.row_page.specs.Rows.{Row, Raw, value_of, comes_after}
+use Rattle.row_page.specs.Rows.{Row, Raw, value_of, comes_after, key_of, key_most}
 
 abbrev pub Numbers : Type 0
 Numbers = ℕ × (ℕ × (ℕ × ℕ))
@@ -50,9 +50,33 @@ row_under front most x = do
   change ← change_of x.code x.value
   if row_fits most (front ++ x.key, record { window = x.window; change = change }) then Some (front ++ x.key, record { window = x.window; change = change }) else None
 
+-- a cell below a front
+unfoldable pub cell_at : List ℕ → ℕ → List ℕ → Option (Row × List ℕ)
+cell_at front most = try_at (row_under front most) raw_at
+
+-- a cell below a front that comes after a key
 unfoldable pub row_at : List ℕ → ℕ → Option (List ℕ) → List ℕ → Option (Row × List ℕ)
-row_at front most before = try_at (λ (r : Row). if comes_after before r.0 then Some r else None) (try_at (row_under front most) raw_at)
+row_at front most before = try_at (λ (r : Row). if comes_after before r.0 then Some r else None) (cell_at front most)
 
 -- so many rows of a page, after one before
-unfoldable pub rows_at : List ℕ → ℕ → ℕ → Option (List ℕ) → List ℕ → Option (List Row × List ℕ)
-rows_at front most count before = chain_at (row_at front most) (λ (r : Row). Some r.0) count before
+abbrev pub rows_at : List ℕ → ℕ → ℕ → Option (List ℕ) → List ℕ → Option (List Row × List ℕ)
+rows_at front most count before bytes = chain_at (row_at front most) key_of count before bytes
+
+-- ---- a leaf
+
+-- so many rows of a leaf, and what is left
+abbrev pub read_rows : ℕ → List ℕ → Option (List Row × List ℕ)
+read_rows count text = rows_at [] key_most count None text
+
+abbrev pub rows_of : Option (List Row × List ℕ) → List Row
+rows_of None = []
+rows_of (Some x) = x.0
+
+abbrev pub rows_in : ℕ → List ℕ → List Row
+rows_in count text = rows_of (read_rows count text)
+
+-- the rows of a leaf whose image has this count, level and text
+abbrev pub leaf_at : ℕ → ℕ → List ℕ → Option (List Row)
+leaf_at count level text = do
+  rows ← read_rows count text
+  if (level == 0) && (length rows.1 == 0) && nat_le (length text) 32752 then Some rows.0 else None

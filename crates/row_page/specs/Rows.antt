@@ -81,6 +81,9 @@ abbrev pub comes_after : Option (List ℕ) → List ℕ → Bool
 comes_after None key = true
 comes_after (Some before) key = is_below before key
 
+abbrev pub key_of : Row → Option (List ℕ)
+key_of r = Some r.0
+
 -- the keys ascend strictly
 abbrev pub Ascends : Option (List ℕ) → List Row → Type 0
 Ascends before [] = Unit {0}

@@ -64,21 +64,21 @@ entry_spelled e h = record { key = omega (arith, h.key); link = h.link }
 
 inner_exact : (level size : ℕ) (p q : List Entry) → AreEntries level p → AreEntries level q → padded (inner_image level p) size ≡ padded (inner_image level q) size → p ≡ q
 inner_exact level size p q hp hq same =
-    let both = same_framed 2 level (length p) (length q) (flat_map entry_text p) (flat_map entry_text q) size size (omega arith) (omega (arith, hp.high)) (omega (arith, entries_upto p, hp.size)) (omega (arith, entries_upto q, hq.size)) (omega (arith, hp.size)) (omega (arith, hq.size)) same in
-    same_list entry_field p q (all_more EntryFits EntrySpelled entry_spelled p hp.fit) (all_more EntryFits EntrySpelled entry_spelled q hq.fit) both.0 both.1
+    let both = same_framed 2 level level (length p) (length q) (flat_map entry_text p) (flat_map entry_text q) size size (omega arith) (omega (arith, hp.high)) (omega (arith, hp.high)) (omega (arith, entries_upto p, hp.size)) (omega (arith, entries_upto q, hq.size)) (omega (arith, hp.size)) (omega (arith, hq.size)) same in
+    same_list entry_field p q (all_more EntryFits EntrySpelled entry_spelled p hp.fit) (all_more EntryFits EntrySpelled entry_spelled q hq.fit) both.0 both.2
 
 history_entry_spelled : (e : HistoryEntry) → HistoryEntryFits e → HistoryEntrySpelled e
 history_entry_spelled e h = record { table = h.table; key = omega (arith, h.key); commit = h.commit; run = omega (arith, h.name.run.1); id = omega (arith, h.name.id.1); link = h.link }
 
 history_inner_exact : (level size : ℕ) (p q : List HistoryEntry) → AreHistoryEntries level p → AreHistoryEntries level q → padded (history_inner_image level p) size ≡ padded (history_inner_image level q) size → p ≡ q
 history_inner_exact level size p q hp hq same =
-    let both = same_framed 4 level (length p) (length q) (flat_map history_entry_text p) (flat_map history_entry_text q) size size (omega arith) (omega (arith, hp.high)) (omega (arith, history_entries_upto p, hp.size)) (omega (arith, history_entries_upto q, hq.size)) (omega (arith, hp.size)) (omega (arith, hq.size)) same in
-    same_list history_entry_field p q (all_more HistoryEntryFits HistoryEntrySpelled history_entry_spelled p hp.fit) (all_more HistoryEntryFits HistoryEntrySpelled history_entry_spelled q hq.fit) both.0 both.1
+    let both = same_framed 4 level level (length p) (length q) (flat_map history_entry_text p) (flat_map history_entry_text q) size size (omega arith) (omega (arith, hp.high)) (omega (arith, hp.high)) (omega (arith, history_entries_upto p, hp.size)) (omega (arith, history_entries_upto q, hq.size)) (omega (arith, hp.size)) (omega (arith, hq.size)) same in
+    same_list history_entry_field p q (all_more HistoryEntryFits HistoryEntrySpelled history_entry_spelled p hp.fit) (all_more HistoryEntryFits HistoryEntrySpelled history_entry_spelled q hq.fit) both.0 both.2
 
 history_leaf_exact : (size : ℕ) (p q : List Placed) → AreRecords p → AreRecords q → padded (history_image p) size ≡ padded (history_image q) size → p ≡ q
 history_leaf_exact size p q hp hq same =
-    let both = same_framed 3 0 (length p) (length q) (flat_map record_text p) (flat_map record_text q) size size (omega arith) (omega arith) (omega (arith, records_upto p, hp.size)) (omega (arith, records_upto q, hq.size)) (omega (arith, hp.size)) (omega (arith, hq.size)) same in
-    same_list placed_field p q hp.fit hq.fit both.0 both.1
+    let both = same_framed 3 0 0 (length p) (length q) (flat_map record_text p) (flat_map record_text q) size size (omega arith) (omega arith) (omega arith) (omega (arith, records_upto p, hp.size)) (omega (arith, records_upto q, hq.size)) (omega (arith, hp.size)) (omega (arith, hq.size)) same in
+    same_list placed_field p q hp.fit hq.fit both.0 both.2
 
 -- ---- trees
 
@@ -156,6 +156,6 @@ record_most r h =
 
 pub record_exact : (size other : ℕ) (p q : Record) → IsRecord p → IsRecord q → padded (record_image p) size ≡ padded (record_image q) other → p ≡ q
 record_exact size other p q hp hq same =
-    let both = same_framed 5 0 (length p.tables) (length q.tables) (record_body p) (record_body q) size other (omega arith) (omega arith) (omega (arith, hp.count)) (omega (arith, hq.count)) (omega (arith, record_most p hp)) (omega (arith, record_most q hq)) same in
+    let both = same_framed 5 0 0 (length p.tables) (length q.tables) (record_body p) (record_body q) size other (omega arith) (omega arith) (omega arith) (omega (arith, hp.count)) (omega (arith, hq.count)) (omega (arith, record_most p hp)) (omega (arith, record_most q hq)) same in
     let spelled : RecordSpelled (length p.tables) q = subst (λ (n : ℕ). RecordSpelled n q) (sym both.0) (record_spelled q hq) in
-    (one_value (record_field (length p.tables)) p q [] [] (record_spelled p hp) spelled (ap (λ (l : List ℕ). l ++ []) both.1)).0
+    (one_value (record_field (length p.tables)) p q [] [] (record_spelled p hp) spelled (ap (λ (l : List ℕ). l ++ []) both.2)).0

@@ -8,7 +8,7 @@ use Rattle.le_codec.specs.Combine.{then_at, many_at, as_at, try_at}
 use Rattle.kv_model.specs.History.{Placed}
 use Rattle.kv_model.specs.Content.{Snapshot}
 use Rattle.row_page.specs.Rows.{Row, key_most}
-use Rattle.row_page.specs.Reading.{raw_at, row_under}
+use Rattle.row_page.specs.Reading.{cell_at}
 use Rattle.stored.specs.Links.{Link}
 use Rattle.stored.specs.TableTree.{Entry}
 use Rattle.stored.specs.HistoryTree.{HistoryEntry}
@@ -56,7 +56,7 @@ abbrev pub placed_of : PlacedParts → Placed
 placed_of p = record { table = p.0; key = p.1.0; version = p.1.1 }
 
 unfoldable pub placed_at : List ℕ → Option (Placed × List ℕ)
-placed_at = as_at placed_of (then_at (number_at w32) (λ table. try_at (row_under [] key_most) raw_at))
+placed_at = as_at placed_of (then_at (number_at w32) (λ table. cell_at [] key_most))
 
 -- ---- the record of a checkpoint
 

@@ -1,0 +1,29 @@
+-- What the types of a leaf stand for, and where a key stands in a list of rows.
+use Rattle.std.specs.Prelude.{◌≡◌, ℕ, ◌≤◌, IsTrue, length, take, drop, slice_get, List, Option, Some, None, option_map}
+use Rattle.std.specs.List.{AllByRecursion}
+use Rattle.item.specs.declared.change.Change.{Change}
+use Rattle.item.specs.declared.change.Change.TheVariants.{Put, Remove}
+use Rattle.row_page.specs.declared.page.Cell.{Cell}
+use Rattle.row_page.specs.declared.page.Parts.{Parts}
+use Rattle.row_page.specs.Rows.{Row, Raw, is_below}
+
+-- a value that was written, or a removal
+abbrev pub change_from : Option (List ℕ) → Change
+change_from (Some value) = Put value
+change_from None = Remove
+
+abbrev pub row_seen : Cell → Row
+row_seen c = (c.key.now, record { window = c.window; change = change_from (option_map (λ v. v.now) c.change) })
+
+abbrev pub raw_seen : Parts → Raw
+raw_seen p = record { key = p.key.now; code = p.code; window = p.window; value = p.value.now }
+
+-- the i-th row has the key
+abbrev pub HasKeyAt : List Row → List ℕ → ℕ → Type 0
+HasKeyAt rows key i = (r : Row) × (slice_get rows i ≡ Some r) × (r.0 ≡ key)
+
+-- the key is above the first i rows, and below the others
+pub record Splits (rows : List Row) (key : List ℕ) (i : ℕ) : Type 0 where
+  pub within : i ≤ length rows
+  pub below : AllByRecursion (λ (r : Row). IsTrue (is_below r.0 key)) (take i rows)
+  pub above : AllByRecursion (λ (r : Row). IsTrue (is_below key r.0)) (drop i rows)
