@@ -22,3 +22,4 @@ pub mod EveryEvent
 pub mod Pins
 pub mod Droppables
 pub mod StoreLists
+pub mod PlainLooks

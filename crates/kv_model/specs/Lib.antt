@@ -17,3 +17,4 @@ pub mod DroppableLaws
 pub mod MachineLaws
 pub mod StoreLaws
 pub mod CaptureLaws
+pub mod Plain

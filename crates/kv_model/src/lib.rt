@@ -10,6 +10,7 @@ mod captures;
 mod droppable;
 mod lines;
 mod machine;
+pub mod plain;
 mod stores;
 
 pub use agreement::{

@@ -1,0 +1,46 @@
+//! Histories as plain data.
+
+use item::{Change, Formats, Item};
+use stamp::Name;
+
+/// A table: its number, from 1 upwards, its name and its formats.
+#[derive(Drop)]
+pub struct Table {
+    pub number: u32,
+    pub name: Item,
+    pub formats: Formats,
+}
+
+/// One key's change by a transaction, with its own stamps, 0 for none.
+#[derive(Drop)]
+pub struct Write {
+    pub table: u32,
+    pub key: Item,
+    pub change: Change,
+    pub commit: u64,
+    pub durable: u64,
+}
+
+/// An entry of a history.
+#[derive(Drop)]
+pub enum Entry {
+    /// A new table.
+    Create(Table),
+    /// The commit of a transaction that was not prepared.
+    Commit(Name, Vec<Write>),
+    /// A prepare, with its stamp.
+    Prepare(Name, u64),
+    /// The commit of a prepared transaction.
+    Resolve(Name, Vec<Write>),
+    /// The rollback of a prepared transaction.
+    Undo(Name),
+    /// A rollback to this stable stamp.
+    Rts(u64),
+}
+
+/// A version that was found: its transaction's name, and the write.
+#[derive(Clone, Copy)]
+pub struct Found<'a> {
+    pub name: Name,
+    pub write: &'a Write,
+}
