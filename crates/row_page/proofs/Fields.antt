@@ -9,7 +9,7 @@ use Rattle.item.specs.declared.change.Change.{Change}
 use Rattle.item.specs.declared.change.Change.TheVariants.{Put, Remove}
 use Rattle.stamp.specs.declared.version.Window.{Window}
 use Rattle.le_codec.specs.Fields.{IsField}
-use Rattle.le_codec.specs.Combine.{try_at, Chained}
+use Rattle.le_codec.specs.Combine.{Chained}
 use Rattle.le_codec.proofs.Laws.{byte_field, field16, field32, field64, slice_field, some_is, bind_some}
 use Rattle.le_codec.proofs.Combined.{then_field, as_field, again_field, try_field}
 use Rattle.le_codec.proofs.Chains.{chain_field}

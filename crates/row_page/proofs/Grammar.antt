@@ -1,18 +1,18 @@
 -- A leaf that is read from its block is in the grammar, and what is in the grammar is read.
-use Rattle.std.proofs.Common.{◌≡◌, ℕ, ◌+◌, ◌*◌, ◌^◌, ◌<◌, ◌≤◌, Bool, true, false, cond, List, [], ◌∷◌, ◌++◌, length, Option, Some, None, refl, sym, ap, subst, ◌∙◌, arith, IsTrue}
+use Rattle.std.proofs.Common.{◌≡◌, ℕ, ◌≤◌, Bool, true, false, cond, List, [], ◌∷◌, ◌++◌, length, Option, Some, None, refl, sym, ap, subst, ◌∙◌, arith}
 use Rattle.std.specs.Prelude.{◌&&◌, ◌==◌, nat_le, IfSome, IfNone}
-use Rattle.std.specs.List.{flat_map, AllByRecursion}
+use Rattle.std.specs.List.{AllByRecursion}
 use Rattle.std.proofs.lemmas.Bool.{eqb-true, leb-true, le-leb}
 use Rattle.std.proofs.lemmas.Option.{cond_some}
 use Rattle.std.proofs.lemmas.List.{append-nil, nil_from_length}
-use Rattle.le_codec.specs.Fields.{◌>>=◌, IsBytes}
+use Rattle.le_codec.specs.Fields.{IsBytes}
 use Rattle.le_codec.specs.Combine.{Chained}
 use Rattle.le_codec.specs.Images.{framed, block_of, block_size, HoldsImage}
 use Rattle.le_codec.proofs.Opened.{text_bytes}
-use Rattle.le_codec.proofs.Laws.{bind_some, some_is}
+use Rattle.le_codec.proofs.Laws.{bind_some}
 use Rattle.le_codec.proofs.Heads.{same_framed}
 use Rattle.row_page.specs.Rows.{Row, cells, key_most, RowFits, key_of, Ascends, AreRows, image, IsPage}
-use Rattle.row_page.specs.Reading.{rows_at, read_rows, leaf_at}
+use Rattle.row_page.specs.Reading.{read_rows, leaf_at}
 use Rattle.row_page.proofs.Fields.{After, rows_field}
 use Rattle.row_page.proofs.Leaves.{chained, count_upto}
 

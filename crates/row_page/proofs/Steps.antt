@@ -1,5 +1,5 @@
 -- Reading the rows of a leaf one after the other, as a loop does.
-use Rattle.std.proofs.Common.{◌≡◌, ℕ, zero, suc, ◌-◌, ◌+◌, ◌≤◌, ◌<◌, Bool, true, false, cond, List, [], ◌∷◌, ◌++◌, length, drop, take, Option, Some, None, refl, sym, ap, subst, ◌∙◌, arith, IsTrue}
+use Rattle.std.proofs.Common.{◌≡◌, ℕ, zero, suc, ◌-◌, ◌+◌, ◌≤◌, ◌<◌, true, cond, List, [], ◌∷◌, ◌++◌, length, drop, take, Option, Some, None, refl, sym, ap, subst, ◌∙◌, arith, IsTrue}
 use Rattle.std.specs.Prelude.{slice_get, IsSome}
 use Rattle.std.specs.List.{AllByRecursion}
 use Rattle.std.specs.Ordering.{nat_cmp, is_lt, is_eq, ordering_reverse}
@@ -17,8 +17,8 @@ use Rattle.le_codec.proofs.Laws.{bind_some, some_is}
 use Rattle.le_codec.proofs.Chains.{parted}
 use Rattle.row_page.specs.declared.page.Cell.{Cell}
 use Rattle.row_page.specs.Rows.{Row, is_below, comes_after, key_of, key_most}
-use Rattle.row_page.specs.Reading.{cell_at, row_at, rows_at, read_rows, rows_of, rows_in}
-use Rattle.row_page.specs.Views.{row_seen, HasKeyAt, Splits}
+use Rattle.row_page.specs.Reading.{cell_at, row_at, rows_at, rows_of}
+use Rattle.row_page.specs.Views.{row_seen, Splits}
 
 nothing_some : {A : Type 0} {x : A} → None ≡ Some x → ⊥
 nothing_some e = absurd cc

@@ -1,9 +1,9 @@
-use Rattle.std.proofs.Common.{◌≡◌, ◌-◌, ◌+◌, ◌<◌, ℕ, List, [], ◌∷◌, length, None, Some, drop, sym, ap, ◌∙◌, subst, arith}
+use Rattle.std.proofs.Common.{◌≡◌, ℕ, [], None, Some, ap, ◌∙◌, subst, arith}
 use Rattle.std.specs.Prelude.{slice_get}
 use Rattle.row_page.specs.Rows.{Row, key_most}
-use Rattle.row_page.specs.Reading.{cell_at, rows_at, rows_in}
+use Rattle.row_page.specs.Reading.{cell_at, rows_in}
 use Rattle.row_page.specs.Views.{row_seen}
-use Rattle.row_page.proofs.Steps.{Steps, steps_at, drop_next, gives_some, gives_view, count_is}
+use Rattle.row_page.proofs.Steps.{steps_at, drop_next, gives_some, gives_view, count_is}
 use Rattle.row_page.proofs.page.nth.Goals as goal
 
 pub loop-preserved : goal.loop-preserved

@@ -1,4 +1,4 @@
-use Rattle.std.proofs.Common.{◌≡◌, ◌-◌, ℕ, List, [], Option, Some, None, drop}
+use Rattle.std.proofs.Common.{◌≡◌, ◌-◌, ℕ, List, [], Option, Some, drop}
 use Rattle.row_page.specs.Rows.{key_most}
 use Rattle.row_page.specs.Reading.{rows_at, rows_in}
 use Rattle.row_page.proofs.page.nth.Given as goal

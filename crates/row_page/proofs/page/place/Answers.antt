@@ -1,8 +1,7 @@
-use Rattle.std.proofs.Common.{◌≡◌, ◌-◌, ◌+◌, ◌<◌, ◌≤◌, ℕ, List, [], ◌∷◌, length, None, Some, Option, drop, take, sym, ap, ◌∙◌, subst, arith}
-use Rattle.std.specs.Ordering.{is_lt, nat_cmp}
-use Rattle.std.specs.Cmp.Lexicographic.{slice_cmp}
+use Rattle.std.proofs.Common.{◌≡◌, ℕ, [], None, Some, sym, ap, ◌∙◌, subst, arith}
+use Rattle.std.specs.Ordering.{is_lt}
 use Rattle.row_page.specs.Rows.{Row, is_below, key_most}
-use Rattle.row_page.specs.Reading.{cell_at, rows_at, rows_in}
+use Rattle.row_page.specs.Reading.{cell_at, rows_in}
 use Rattle.row_page.specs.Views.{row_seen, Splits}
 use Rattle.row_page.proofs.Steps.{steps_at, gives_some, count_is, at_cell, below_next, splits_here, splits_end, greater_is, equal_is}
 use Rattle.row_page.proofs.page.place.Goals as goal

@@ -1,4 +1,4 @@
-use Rattle.std.proofs.Common.{◌≡◌, ◌-◌, ℕ, List, [], Option, Some, None, drop, take, IsTrue}
+use Rattle.std.proofs.Common.{◌≡◌, ◌-◌, ℕ, List, [], Option, Some, drop, take, IsTrue}
 use Rattle.std.specs.List.{AllByRecursion}
 use Rattle.row_page.specs.Rows.{Row, is_below, key_most}
 use Rattle.row_page.specs.Reading.{rows_at, rows_in}

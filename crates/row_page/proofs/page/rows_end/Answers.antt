@@ -1,8 +1,7 @@
-use Rattle.std.proofs.Common.{◌≡◌, ◌-◌, List, ◌++◌, ◌∷◌, [], Option, Some, None, refl, ap, ◌∙◌, sym, arith}
+use Rattle.std.proofs.Common.{◌≡◌, ◌-◌, List, ◌++◌, ◌∷◌, [], None, ap, ◌∙◌, arith}
 use Rattle.std.specs.Prelude.{option_map, ℕ}
-use Rattle.le_codec.specs.Combine.{with_front}
 use Rattle.le_codec.proofs.Chains.{goes_on, ends, is_done}
-use Rattle.row_page.specs.Rows.{Row, key_of, key_most}
+use Rattle.row_page.specs.Rows.{key_of, key_most}
 use Rattle.row_page.specs.Reading.{row_at, rows_at, read_rows}
 use Rattle.row_page.specs.Views.{row_seen}
 use Rattle.row_page.proofs.Steps.{read_is, front_none}

@@ -1,9 +1,9 @@
-use Rattle.std.proofs.Common.{◌≡◌, ◌+◌, ◌<◌, ◌≤◌, ◌^◌, ◌++◌, ℕ, List, length, take, ap, sym, ◌∙◌, append_assoc, arith}
+use Rattle.std.proofs.Common.{◌+◌, ◌++◌, ℕ, List, length, ap, sym, ◌∙◌, arith}
 use Rattle.std.proofs.lemmas.Grind.{common_steps}
 use Rattle.std.proofs.lemmas.List.{append-nil}
 use Rattle.le_codec.specs.Images.{header}
-use Rattle.row_page.specs.Rows.{cells, cell, image}
-use Rattle.row_page.proofs.Leaves.{cells_more, length-image, count_upto, fit_at}
+use Rattle.row_page.specs.Rows.{cells}
+use Rattle.row_page.proofs.Leaves.{cells_more, length-image, count_upto}
 use Rattle.row_page.proofs.write.encode.Goals as goal
 
 pub size_of-used-requires : goal.size_of-used-requires

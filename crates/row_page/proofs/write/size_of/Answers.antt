@@ -1,6 +1,6 @@
-use Rattle.std.proofs.Common.{◌≡◌, ◌+◌, ◌<◌, ◌≤◌, ◌^◌, length, take, ap, sym, ◌∙◌, arith}
+use Rattle.std.proofs.Common.{◌+◌, length, take, ap, ◌∙◌, arith}
 use Rattle.std.proofs.lemmas.List.{length-append, take_all}
-use Rattle.row_page.specs.Rows.{cells, cell, image}
+use Rattle.row_page.specs.Rows.{cells, cell}
 use Rattle.row_page.proofs.Leaves.{cells_more, cells_upto, length-cell, length-image}
 use Rattle.row_page.proofs.write.size_of.Goals as goal
 

@@ -1,4 +1,4 @@
-use Rattle.std.proofs.Common.{◌≡◌, length, None, [], ap, sym, ◌∙◌}
+use Rattle.std.proofs.Common.{length, None, [], ap, sym, ◌∙◌}
 use Rattle.row_page.specs.Reading.{rows_in}
 use Rattle.row_page.proofs.Steps.{count_is}
 use Rattle.row_page.proofs.page.Page.len.Goals as goal
