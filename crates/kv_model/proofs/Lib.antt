@@ -23,3 +23,6 @@ pub mod Pins
 pub mod Droppables
 pub mod StoreLists
 pub mod PlainLooks
+pub mod Sorting
+pub mod Opening
+pub mod Deciding

@@ -18,3 +18,5 @@ pub mod MachineLaws
 pub mod StoreLaws
 pub mod CaptureLaws
 pub mod Plain
+pub mod Regular
+pub mod DecisionLaws

@@ -51,67 +51,35 @@ mod tests {
     }
 
     #[test]
-    fn a_read_stamp_chooses_the_version(rt: HostRuntime) -> Result<(), AllocError> {
+    fn a_snapshot_and_a_read_stamp_choose_the_version(rt: HostRuntime) -> Result<(), AllocError> {
         let a = item(&rt, "a")?;
         let mut history = Vec::new(rt.alloc());
-        history.push(Entry::Commit(name(2), write(&rt, "y", 20, 20)?))?;
+        history.push(Entry::Resolve(name(2), write(&rt, "y", 20, 35)?))?;
+        history.push(Entry::Prepare(name(2), 20))?;
         history.push(Entry::Commit(name(1), write(&rt, "x", 10, 10)?))?;
-        for (read, want) in [
-            (9, None),
-            (10, Some(b'x')),
-            (19, Some(b'x')),
-            (20, Some(b'y')),
-            (0, Some(b'y')),
-        ] {
-            assert_eq!(rt; reads(&history, 2, read, &a), want, "at {read}");
-        }
-        Ok(())
-    }
-
-    #[test]
-    fn a_snapshot_does_not_see_a_later_commit(rt: HostRuntime) -> Result<(), AllocError> {
-        let a = item(&rt, "a")?;
-        let mut history = Vec::new(rt.alloc());
-        history.push(Entry::Commit(name(2), write(&rt, "2", 0, 0)?))?;
-        history.push(Entry::Commit(name(1), write(&rt, "1", 0, 0)?))?;
-        for (n, want) in [(0, None), (1, Some(b'1')), (2, Some(b'2'))] {
-            assert_eq!(rt; reads(&history, n, 0, &a), want, "after {n}");
-        }
-        Ok(())
-    }
-
-    #[test]
-    fn a_prepared_transaction_is_released_where_it_is_prepared(
-        rt: HostRuntime,
-    ) -> Result<(), AllocError> {
-        let a = item(&rt, "a")?;
-        let mut history = Vec::new(rt.alloc());
-        history.push(Entry::Resolve(name(2), write(&rt, "2", 30, 35)?))?;
-        history.push(Entry::Prepare(name(2), 30))?;
-        history.push(Entry::Commit(name(1), write(&rt, "1", 0, 0)?))?;
         for (n, read, want) in [
-            (1, 0, Some(b'1')),
-            (2, 0, Some(b'2')),
-            (2, 29, Some(b'1')),
-            (3, 30, Some(b'2')),
+            (0, 0, None),
+            (1, 0, Some(b'x')),
+            (2, 0, Some(b'y')),
+            (3, 9, None),
+            (3, 10, Some(b'x')),
+            (3, 19, Some(b'x')),
+            (3, 20, Some(b'y')),
         ] {
             assert_eq!(rt; reads(&history, n, read, &a), want, "after {n} at {read}");
         }
-        assert_eq!(rt; durable_of(&history, 1, &a), 35);
         Ok(())
     }
 
     #[test]
-    fn a_rollback_to_stable_brings_the_older_version_back(
-        rt: HostRuntime,
-    ) -> Result<(), AllocError> {
+    fn a_rollback_to_stable_goes_by_the_durable_stamp(rt: HostRuntime) -> Result<(), AllocError> {
         let a = item(&rt, "a")?;
         let mut history = Vec::new(rt.alloc());
-        history.push(Entry::Rts(10))?;
-        history.push(Entry::Commit(name(2), write(&rt, "y", 20, 20)?))?;
+        history.push(Entry::Rts(20))?;
+        history.push(Entry::Resolve(name(2), write(&rt, "y", 20, 35)?))?;
+        history.push(Entry::Prepare(name(2), 20))?;
         history.push(Entry::Commit(name(1), write(&rt, "x", 10, 10)?))?;
-        assert_eq!(rt; reads(&history, 3, 0, &a), Some(b'x'));
-        assert_eq!(rt; durable_of(&history, 1, &a), 10);
+        assert_eq!(rt; reads(&history, 4, 0, &a), Some(b'x'));
         Ok(())
     }
 }
