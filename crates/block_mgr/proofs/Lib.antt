@@ -1,3 +1,4 @@
+pub mod FreeLemmas
 pub mod LaidLemmas
 pub mod PlaceLemmas
 pub mod SweepLemmas

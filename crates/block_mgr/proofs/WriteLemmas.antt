@@ -1,5 +1,5 @@
 -- What the write of a block leaves of the blocks in use.
-use Rattle.std.specs.Prelude.{◌≡◌, ◌⊎◌, ℕ, ◌+◌, ◌≤◌, ◌<◌, List, length, Bool, true, false, refl}
+use Rattle.std.specs.Prelude.{◌≡◌, ℕ, ◌≤◌, List, length, Bool}
 use Rattle.std.proofs.Common.{inl, inr, sym, ◌∙◌, ap, subst, arith}
 use Rattle.disk_model.specs.Disk.{put, Torn}
 use Rattle.disk_model.specs.Ranges.{range, range_put_same, length_put}
@@ -7,9 +7,8 @@ use Rattle.disk_model.specs.Laws.{torn_put}
 use Rattle.disk_model.specs.Crash.{Apart, Keeps}
 use Rattle.disk_model.proofs.Crash.{keeps_torn}
 use Rattle.block_mgr.specs.declared.block.Block.{Block}
-use Rattle.block_mgr.specs.declared.addr.Addr.{Addr}
 use Rattle.block_mgr.specs.Blocks.{Has}
-use Rattle.block_mgr.specs.Writes.{Base, FromBase, Stored, WroteImage, Wrote, Written, filled}
+use Rattle.block_mgr.specs.Writes.{FromBase, Stored, WroteImage, Wrote, Written, filled}
 
 module _ (blocks : List Block) (at n : ℕ) (behind : 8192 ≤ at) (apart : (i m : ℕ) → Has blocks i m → Apart at n i m) where
   torn_keeps : (d c : List ℕ) → Torn at n d c → Keeps (Has blocks) d c

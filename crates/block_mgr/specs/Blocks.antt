@@ -1,5 +1,5 @@
 -- The blocks in use and the free units between them. Offsets and sizes are in bytes.
-use Rattle.std.specs.Prelude.{◌≡◌, ◌⊎◌, ℕ, ◌+◌, ◌<◌, ◌≤◌, Bool, ◌||◌, List, [], ◌∷◌, ◌++◌, length, take, drop, IsTrue, All, map, true, false, not, if◌then◌else◌, ◌==◌}
+use Rattle.std.specs.Prelude.{◌≡◌, ◌⊎◌, ℕ, ◌+◌, ◌<◌, ◌≤◌, Bool, ◌||◌, List, [], ◌∷◌, ◌++◌, length, take, drop, IsTrue, All, true, false, not, if◌then◌else◌, ◌==◌}
 use Rattle.extent_list.specs.Space.{Space, Free, IsWhole}
 use Rattle.block_mgr.specs.declared.block.Block.{Block}
 

@@ -30,6 +30,7 @@ ghost use Rattle.block_mgr.specs.Blocks.{
   Books,
   AreUnits,
   Has,
+  HasLive,
   Added,
   placed,
   freed,
@@ -48,7 +49,7 @@ use crate::insert::insert_at;
 use crate::read::read_block;
 use crate::search::starting_before;
 use crate::store::store;
-use crate::sweep::{complete, has_use, let_go, sweep, take_live};
+use crate::sweep::{complete, give_block, has_use, let_go, sweep, take_live};
 use crate::take::take_place;
 use block_sum::sum;
 use disk_model::Disk;
@@ -184,6 +185,30 @@ impl Blocks {
         ensures looked { Looked D.honest D.seen D.may_leave D.capacity D.faults D.moment D.left_since disk.old disk.new }
     {
         read_block(alloc, disk, addr)
+    }
+
+    /// The live tree lets go of a block. Its units are free where no checkpoint has it. Takes no
+    /// memory. `O(log n)` in the number of blocks to find it.
+    pub fn free(&mut self, addr: Addr) -> Result<(), NoMemory>
+        requires { HasLive self.old.blocks addr.offset addr.size }
+        ensures sure { IsOk result }
+        ensures blocks { self.new.blocks ≡ freed addr.offset self.old.blocks }
+        ensures end { self.new.space.end ≡ self.old.space.end }
+        ensures synced { self.new.is_synced ≡ self.old.is_synced }
+        ensures held { self.new.is_held ≡ self.old.is_held }
+    {
+        let i = starting_before(&self.blocks, addr.offset);
+        let block = Block {
+            is_live: false,
+            ..self.blocks[i]
+        };
+        if has_use(&block) {
+            self.blocks[i] = block;
+        } else {
+            self.blocks.remove(i);
+            give_block(&mut self.space, block);
+        }
+        Ok(())
     }
 
     /// A checkpoint begins to run: it has the blocks that the live tree has now, and those that

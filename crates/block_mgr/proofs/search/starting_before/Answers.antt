@@ -1,4 +1,4 @@
-use Rattle.std.proofs.Common.{◌+◌, ◌-◌, ◌/◌, ◌≤◌, ◌<◌, ℕ, arith, false}
+use Rattle.std.proofs.Common.{◌+◌, ◌-◌, ◌/◌, arith, false}
 use Rattle.block_mgr.proofs.LaidLemmas.{starts_by, starts_after}
 use Rattle.block_mgr.proofs.search.starting_before.Goals as goal
 

@@ -1,10 +1,9 @@
-use Rattle.std.proofs.Common.{◌≡◌, ◌⊎◌, ◌+◌, ◌≤◌, ◌<◌, ◌++◌, [], ◌∷◌, ℕ, List, false, length, take, get_or, sym, ap, subst, arith, inl, inr, ◌∙◌, length-append}
+use Rattle.std.proofs.Common.{◌⊎◌, ◌+◌, ◌++◌, [], ◌∷◌, ℕ, List, false, length, take, get_or, sym, ap, subst, arith, inl, inr, ◌∙◌, length-append}
 use Rattle.std.specs.List.{filter}
-use Rattle.std.proofs.lemmas.Bool.{not-true, not-false}
 use Rattle.std.proofs.lemmas.List.{take_all, length-take}
 use Rattle.extent_list.specs.Space.{Space, Free, Gave}
 use Rattle.block_mgr.specs.declared.block.Block.{Block}
-use Rattle.block_mgr.specs.Blocks.{AreUnits, Covers, is_used, is_idle}
+use Rattle.block_mgr.specs.Blocks.{Covers, is_idle}
 use Rattle.block_mgr.proofs.LaidLemmas.{covers_front, covers_back, covers_parts}
 use Rattle.block_mgr.proofs.SweepLemmas.{covers_filter, filter_short, filter_counts, here_some, here_low, here_high, here_whole, here_covers, here_apart, idle_more, idle_same}
 use Rattle.block_mgr.proofs.sweep.give_idle.Goals.{then-not-has_use, else-not-has_use}

@@ -1,6 +1,5 @@
-use Rattle.std.proofs.Common.{◌≡◌, ◌+◌, ◌<◌, ℕ, List, length, take, drop, map, set, get_or, sym, ap, subst, arith, ◌∙◌}
+use Rattle.std.proofs.Common.{arith, ◌∙◌}
 use Rattle.std.proofs.lemmas.List.{length-set}
-use Rattle.block_mgr.specs.declared.block.Block.{Block}
 use Rattle.block_mgr.specs.Blocks.{without_running}
 use Rattle.block_mgr.proofs.SweepLemmas.{mapped_more, mapped_rest}
 use Rattle.block_mgr.proofs.sweep.let_go.Goals as goal

@@ -1,9 +1,8 @@
-use Rattle.std.proofs.Common.{◌≡◌, ◌+◌, ◌≤◌, ◌<◌, ◌++◌, ◌∷◌, ℕ, List, length, take, drop, sym, ap, subst, arith, ◌∙◌, length-append}
+use Rattle.std.proofs.Common.{◌≡◌, ◌+◌, ◌++◌, ◌∷◌, List, length, take, drop, sym, ap, subst, arith, ◌∙◌, length-append}
 use Rattle.std.proofs.lemmas.List.{length-take, length-drop}
-use Rattle.extent_list.specs.Space.{Space}
 use Rattle.block_mgr.specs.declared.block.Block.{Block}
 use Rattle.block_mgr.specs.Blocks.{Books, AreUnits, Has, placed}
-use Rattle.block_mgr.specs.Search.{AreLaid, SplitsAt}
+use Rattle.block_mgr.specs.Search.{SplitsAt}
 use Rattle.block_mgr.proofs.LaidLemmas.{apart_from}
 use Rattle.block_mgr.proofs.PlaceLemmas.{Fresh, fresh_taken, units_like, units_placed}
 use Rattle.block_mgr.proofs.blocks.Blocks.place.Goals as goal

@@ -1,4 +1,4 @@
-use Rattle.std.proofs.Common.{◌≡◌, ◌+◌, ◌≤◌, ap, sym, ◌∙◌, subst, arith, List, ℕ, Bool, length}
+use Rattle.std.proofs.Common.{◌≡◌, ap, sym, ◌∙◌, subst, arith, ℕ, Bool, length}
 use Rattle.disk_model.proofs.Crash.{widened}
 use Rattle.block_mgr.specs.Blocks.{Books}
 use Rattle.block_mgr.specs.Writes.{Stored, FromBase}
