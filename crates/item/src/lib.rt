@@ -4,9 +4,11 @@
 #![tactic(auto)]
 
 mod change;
+mod escapes;
 mod formats;
 mod item;
 
 pub use change::Change;
+pub use escapes::{escape, escapes_read_back, unescape};
 pub use formats::{Format, Formats};
 pub use item::Item;
