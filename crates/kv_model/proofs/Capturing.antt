@@ -12,7 +12,7 @@ up-trans Below trans x y z (inl e) second = subst (λ v. UpTo Below v z) (sym e)
 up-trans Below trans x y z (inr b) (inl e) = inr (subst (λ v. Below x v) e b)
 up-trans Below trans x y z (inr b) (inr c) = inr (trans x y z b c)
 
--- (a) the capture: from what stands at the event that makes the images
+-- the capture: from what stands at the event that makes the images
 pub captured-from : {A : Type 0} (Below : A → A → Type 0) (covers ended live past seen low : A → Bool) (l : List A) (Frame History : A → Type 0) (cell : Option A) (Moved : A → Type 0)
     → IsOrder Below → ((x y z : A) → Below x y → Below y z → Below x z) → Descends Below l
     → Stores Below covers l Frame History
@@ -67,7 +67,7 @@ captured-from {A} Below covers ended live past seen low l Frame History cell Mov
   over x there sees (Some g) e = let m = find-member seen l g e in
       at-newest g m.0 m.1 (λ w at t. find-newest Below seen l g d e w at t) x (find-newest Below seen l g d e x there sees)
 
--- (b) a commit after the start adds a version that the checkpoint does not see
+-- a commit after the start adds a version that the checkpoint does not see
 pub captured-commit : {A : Type 0} (Below : A → A → Type 0) (seen low : A → Bool) (l : List A) (cell : Option A) (History : A → Type 0) (v : A)
     → seen v ≡ false → Captured Below seen low l cell History → Captured Below seen low (v ∷ l) cell History
 captured-commit {A} Below seen low l cell History v unseen c = record {
@@ -83,7 +83,7 @@ captured-commit {A} Below seen low l cell History v unseen c = record {
   ];
 }
 
--- (b) evictions add versions of the line and a sweep takes out covered ones, also both at once
+-- evictions add versions of the line and a sweep takes out covered ones, also both at once
 pub captured-history : {A : Type 0} (Below : A → A → Type 0) (covers seen low : A → Bool) (l : List A) (cell : Option A) (History History' : A → Type 0)
     → ((x : A) → covers x ≡ true → (seen x ≡ true) × (low x ≡ true))
     → ((x : A) → History' x → Member x l)
@@ -168,7 +168,7 @@ descends-filter Below f (x ∷ xs) d = elim (cases_Bool (f x)) [
   | inr isnt ↦ rw isnt (descends-filter Below f xs d.1)
 ]
 
--- (c) at the finish: what is kept of image and history agrees with what is kept of the line
+-- at the finish: what is kept of image and history agrees with what is kept of the line
 pub captured-agrees : {A : Type 0} (Below : A → A → Type 0) (seen low stable : A → Bool) (l content : List A) (cell : Option A) (History : A → Type 0)
     → IsOrder Below → Descends Below l → Descends Below content → ((x : A) → low x ≡ true → stable x ≡ true)
     → IsKeyContent (both seen stable) cell History content

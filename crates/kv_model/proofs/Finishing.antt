@@ -41,7 +41,7 @@ append-nil : {A : Type 0} (l : List A) → l ++ [] ≡ l
 append-nil [] = refl
 append-nil (x ∷ xs) = ap (λ l. x ∷ l) (append-nil xs)
 
-standing-base : (known : List Table) (kept : List Placed) → standing (history_of known kept) ≡ kept
+pub standing-base : (known : List Table) (kept : List Placed) → standing (history_of known kept) ≡ kept
 standing-base known kept = standing-commits kept (map Create known) ∙ (ap (λ l. kept ++ l) (standing-creates known) ∙ append-nil kept)
 
 pub line-base : (known : List Table) (kept : List Placed) (table : ℕ) (key : List ℕ) → line (history_of known kept) table key ≡ of_key table key kept

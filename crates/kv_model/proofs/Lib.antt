@@ -5,7 +5,7 @@ pub mod Covering
 pub mod Ordering
 pub mod Capturing
 pub mod Living
-pub mod Lists
+pub mod ReconciledLists
 pub mod WorkedRows
 pub mod Finishing
 pub mod StoreSteps
@@ -23,6 +23,7 @@ pub mod Pins
 pub mod Droppables
 pub mod StoreLists
 pub mod PlainLooks
+pub mod PlainStanding
 pub mod Sorting
 pub mod Opening
 pub mod Deciding

@@ -51,7 +51,7 @@ le-min d a b = elim (cases_Bool (nat_le d b)) [
   false-le : (x : ℕ) → (d ≤ x → ⊥) → nat_le d x ≡ false
   false-le x never = elim (cases_Bool (nat_le d x)) [ inl is ↦ absurd (never (leb-true d x is)) | inr isnt ↦ isnt ]
 
-within-lower : (bound : Option ℕ) (stamp : ℕ) (v : Version Change) → is_within (Some (lower bound stamp)) v ≡ is_by stamp v && is_within bound v
+pub within-lower : (bound : Option ℕ) (stamp : ℕ) (v : Version Change) → is_within (Some (lower bound stamp)) v ≡ is_by stamp v && is_within bound v
 within-lower None stamp v = elim (cases_Bool (is_by stamp v)) [ inl is ↦ rw is refl | inr isnt ↦ rw isnt refl ]
 within-lower (Some bound) stamp v = le-min v.window.durable bound stamp
 

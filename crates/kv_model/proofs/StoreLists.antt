@@ -16,7 +16,7 @@ use Rattle.kv_model.specs.AgreementLaws.{AgreementReads, AgreementRefuses, Agree
 use Rattle.kv_model.proofs.Newest.{find-member, find-none, find-newest}
 use Rattle.kv_model.proofs.FrameAndHistory.{frame-finds, history-finds}
 use Rattle.kv_model.proofs.Covering.{covers-admitted}
-use Rattle.kv_model.proofs.Lists.{reconciled-lists}
+use Rattle.kv_model.proofs.ReconciledLists.{reconciled-lists}
 use Rattle.kv_model.proofs.StoreSteps.{evict-stands, capture-stands, rts-stands, key-captured-entry}
 use Rattle.kv_model.proofs.Capturing.{captured-from, captured-history, captured-layered}
 use Rattle.kv_model.proofs.Living.{opened-stands, cleaned-stands, stores-covers}

@@ -1,13 +1,14 @@
 -- What the plain data stand for.
-use Rattle.std.specs.Prelude.{ℕ, Bool, true, ◌&&◌, List, map, find, Option, Some, None, option_map, min, if◌then◌else◌}
+use Rattle.std.specs.Prelude.{ℕ, Bool, true, ◌&&◌, List, [], map, filter, find, Option, Some, None, option_map, min, if◌then◌else◌}
 use Rattle.item.specs.declared.Change.{Change}
 use Rattle.stamp.specs.declared.Name.{Name}
 use Rattle.stamp.specs.declared.Version.{Version}
-use Rattle.kv_model.specs.History.{Table, Write, Entry, Create, Commit, Prepare, Resolve, Undo, Rts, version_of, is_by, line, released, reads_at, writes_at}
+use Rattle.kv_model.specs.History.{Table, Write, Placed, Entry, Create, Commit, Prepare, Resolve, Undo, Rts, version_of, placed_of, standing, is_by, line, released, reads_at, writes_at}
 use Rattle.kv_model.specs.declared.plain.history.Table.{Table as PlainTable}
 use Rattle.kv_model.specs.declared.plain.history.Write.{Write as PlainWrite}
 use Rattle.kv_model.specs.declared.plain.history.Entry.{Entry as PlainEntry}
 use Rattle.kv_model.specs.declared.plain.history.Entry.TheVariants as plain
+use Rattle.kv_model.specs.declared.plain.history.Placed.{Placed as PlainPlaced}
 use Rattle.kv_model.specs.declared.plain.history.Found.{Found}
 
 abbrev pub table_in : PlainTable → Table
@@ -71,3 +72,16 @@ newest_of all _ n read table key bound = None
 abbrev pub bound_under : Entry → Option ℕ → Option ℕ
 bound_under (Rts stable) bound = Some (lower bound stable)
 bound_under _ bound = bound
+
+abbrev pub placed_in : PlainPlaced → Placed
+placed_in p = record { table = p.table; key = p.key; version = p.version }
+
+-- the versions that stand and are durable at the bound
+abbrev pub standing_by : List Entry → Option ℕ → List Placed
+standing_by history bound = filter (λ p. is_within bound p.version) (standing history)
+
+-- those of one entry
+abbrev pub standing_of : Entry → Option ℕ → List Placed
+standing_of (Commit name writes) bound = filter (λ p. is_within bound p.version) (map (placed_of name) writes)
+standing_of (Resolve name writes) bound = filter (λ p. is_within bound p.version) (map (placed_of name) writes)
+standing_of _ bound = []

@@ -2,9 +2,11 @@
 
 mod history;
 mod looks;
+mod standing;
 
-pub use history::{Entry, Found, Table, Write};
+pub use history::{Entry, Found, Placed, Table, Write};
 pub use looks::{durable_of, is_admitted, is_released, newest, newest_admitted, value};
+pub use standing::{cut_standing, first_entries, standing_at};
 
 #[cfg(test)]
 mod tests {

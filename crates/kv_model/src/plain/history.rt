@@ -1,7 +1,7 @@
 //! Histories as plain data.
 
 use item::{Change, Formats, Item};
-use stamp::Name;
+use stamp::{Name, Version};
 
 /// A table: its number, from 1 upwards, its name and its formats.
 #[derive(Drop)]
@@ -36,6 +36,14 @@ pub enum Entry {
     Undo(Name),
     /// A rollback to this stable stamp.
     Rts(u64),
+}
+
+/// A version of a key of a table.
+#[derive(Drop)]
+pub struct Placed {
+    pub table: u32,
+    pub key: Item,
+    pub version: Version<Change>,
 }
 
 /// A version that was found: its transaction's name, and the write.

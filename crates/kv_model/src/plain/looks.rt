@@ -53,7 +53,7 @@ fn is_write_of(write: &Write, table: u32, key: &Item) -> bool
     write.table == table && write.key.same(key)
 }
 
-fn is_left(bound: Option<u64>, write: &Write) -> bool
+pub(crate) fn is_left(bound: Option<u64>, write: &Write) -> bool
     ensures { (name : Name) → result ≡ is_within bound (version_of name (write_in write.now)) }
 {
     match bound {
@@ -130,7 +130,7 @@ fn find_in_entry<'a>(
     }
 }
 
-fn bound_below(entry: &Entry, bound: Option<u64>) -> Option<u64>
+pub(crate) fn bound_below(entry: &Entry, bound: Option<u64>) -> Option<u64>
     ensures { result ≡ bound_under (entry_in entry.now) bound }
 {
     match entry {
