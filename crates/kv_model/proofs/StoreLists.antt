@@ -1,18 +1,18 @@
 -- The laws of stores and captures, over lists of versions.
-use Rattle.std.proofs.Common.{◌≡◌, refl, ap, sym, ◌∙◌, Bool, true, ◌&&◌, List, [], ◌∷◌, inl, inr, subst, arith}
+use Rattle.std.proofs.Common.{ℕ, ◌≡◌, refl, ap, sym, ◌∙◌, Bool, true, ◌&&◌, List, [], ◌∷◌, inl, inr, subst, arith}
 use Rattle.std.proofs.lemmas.Bool.{cases_Bool, and_parts, and_from}
-use Rattle.std.specs.Prelude.{find, Option, Some, None}
+use Rattle.std.specs.Prelude.{length, find, Option, Some, None}
 use Rattle.item.specs.declared.Change.{Change}
 use Rattle.stamp.specs.declared.Name.{Name}
 use Rattle.stamp.specs.declared.Version.{Version}
-use Rattle.kv_model.specs.Holds.{Stores}
+use Rattle.kv_model.specs.Holds.{Member, Stores}
 use Rattle.kv_model.specs.Ordered.{Older, NameBelow, IsOrderly}
-use Rattle.kv_model.specs.History.{Entry, admits, line, down_to, is_by}
+use Rattle.kv_model.specs.History.{Entry, admits, line, reads_at, released, down_to, is_by}
 use Rattle.kv_model.specs.Droppable.{covers}
 use Rattle.kv_model.specs.Refusals.{newest_durable}
 use Rattle.kv_model.specs.StoreLaws.{StoresAnswer, EvictionKeepsStores, CaptureKeepsStores, RollbackKeepsStores, Held, or_else}
 use Rattle.kv_model.specs.CaptureLaws.{CaptureHolds, EntriesKeepCaptures, HistoriesKeepCaptures, FinishAgrees, FinishIsLayered, OpeningStores, CleaningStores}
-use Rattle.kv_model.specs.AgreementLaws.{AgreementReads, AgreementRefuses, AgreementOrders, head_of}
+use Rattle.kv_model.specs.AgreementLaws.{AgreementReads, AgreementHeads, AgreementRefuses, AgreementOrders, may_now, head_of}
 use Rattle.kv_model.proofs.Newest.{find-member, find-none, find-newest}
 use Rattle.kv_model.proofs.FrameAndHistory.{frame-finds, history-finds}
 use Rattle.kv_model.proofs.Covering.{covers-admitted}
@@ -115,9 +115,24 @@ head-core : (p : Version Change → Bool) (l : List (Version Change)) → head_o
 head-core p [] = refl
 head-core p (v ∷ older) = elim (cases_Bool (p v)) [ inl is ↦ rw is refl | inr isnt ↦ rw isnt refl ]
 
-pub agreement-refuses : AgreementRefuses
-agreement-refuses history other oldest agree table key =
+pub agreement-heads : AgreementHeads
+agreement-heads history other oldest agree table key =
     sym (head-core (is_by oldest) (line history table key)) ∙ (ap head_of (agree.cores table key) ∙ head-core (is_by oldest) (line other table key))
+
+-- of a version that was released the read stamp alone decides
+abbrev reads_head : ℕ → Option (Version Change) → Bool
+reads_head read None = true
+reads_head read (Some v) = reads_at read v.window.commit
+
+may-head : (history : List Entry) (read : ℕ) (l : List (Version Change)) → ((v : Version Change) → Member v l → released history (length history) v.window.name ≡ true) → may_now history read l ≡ reads_head read (head_of l)
+may-head history read [] out = refl
+may-head history read (v ∷ older) out = rw (out v (inl refl)) refl
+
+pub agreement-refuses : AgreementRefuses
+agreement-refuses history other oldest read one two agree table key =
+    may-head history read (line history table key) (line-released history one table key)
+    ∙ (ap (reads_head read) (agreement-heads history other oldest agree table key)
+    ∙ sym (may-head other read (line other table key) (line-released other two table key)))
 
 durable-core : (p : Version Change → Bool) (l : List (Version Change)) → newest_durable (down_to p l) ≡ newest_durable l
 durable-core p [] = refl

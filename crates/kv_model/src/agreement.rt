@@ -1,6 +1,6 @@
 //! Laws of agreement from oldest on.
 
-ghost use Rattle.kv_model.specs.AgreementLaws.{RollbackKeepsAgreement, AgreementReads, AgreementRefuses, AgreementOrders};
+ghost use Rattle.kv_model.specs.AgreementLaws.{RollbackKeepsAgreement, AgreementReads, AgreementHeads, AgreementRefuses, AgreementOrders};
 
 /// Histories that agree go on to agree after a rollback to a stable stamp not before oldest.
 pub fn rollback_keeps_agreement()
@@ -12,7 +12,12 @@ pub fn agreement_reads()
     ensures { AgreementReads }
 {}
 
-/// Each key's newest version is the same in both, so writes are refused alike.
+/// Each key's newest version is the same in both.
+pub fn agreement_heads()
+    ensures { AgreementHeads }
+{}
+
+/// So a write of who begins now is refused alike.
 pub fn agreement_refuses()
     ensures { AgreementRefuses }
 {}

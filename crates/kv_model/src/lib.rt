@@ -14,7 +14,7 @@ pub mod plain;
 mod stores;
 
 pub use agreement::{
-    agreement_orders, agreement_reads, agreement_refuses, rollback_keeps_agreement,
+    agreement_heads, agreement_orders, agreement_reads, agreement_refuses, rollback_keeps_agreement,
 };
 pub use captures::{
     a_finish_agrees, a_finish_is_layered, captures_hold, cleanings_store, entries_keep_captures,
