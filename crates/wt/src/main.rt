@@ -1,0 +1,69 @@
+//! The program `wt`: the commands of `wt_tool` on the file of a store and the standard streams.
+//!
+//! It promises that each call of the file and of a stream that fails is counted. What a command
+//! means, what it writes and its status are `wt_tool`'s; what the file holds is the system's.
+#![tactic(auto)]
+
+mod disk;
+mod streams;
+
+use disk::FileDisk;
+use std::env;
+use std::io::ErrorKind;
+use std::process::ExitCode;
+use streams::{Reading, Writing};
+use wt_io::write_all;
+use wt_tool::wt_main;
+
+/// What is written for words that are no command.
+const USAGE: &[u8] = b"usage: wt [-h home] command ..\n";
+
+/// The status for words that are no command.
+const STATUS_FAULTY: u8 = 1;
+
+/// The status for want of memory.
+const STATUS_NO_MEMORY: u8 = 12;
+
+/// Why there are no words to go on with.
+#[derive(Clone, Copy)]
+enum NoWords {
+    /// One is not UTF-8.
+    NotText,
+    /// There was not enough memory.
+    NoMemory,
+}
+
+// The arguments after the program's name.
+fn words_of(rt: &HostRuntime) -> Result<Vec<String>, NoWords> {
+    let args = match env::args(rt) {
+        Ok(args) => args,
+        Err(e) if e.kind() == ErrorKind::OutOfMemory => return Err(NoWords::NoMemory),
+        Err(_) => return Err(NoWords::NotText),
+    };
+    let mut words = Vec::new(rt.alloc());
+    for word in args.skip(1) {
+        if words.push(word).is_err() {
+            return Err(NoWords::NoMemory);
+        }
+    }
+    Ok(words)
+}
+
+fn main(rt: HostRuntime) -> ExitCode {
+    let alloc = rt.alloc();
+    let mut input = Reading::new(rt.stdin());
+    let mut out = Writing::new(rt.stdout());
+    let mut err = Writing::new(rt.stderr());
+    match words_of(&rt) {
+        Ok(words) => {
+            let disk = FileDisk::new(rt);
+            let ended = wt_main(&rt, alloc, &words, &mut input, &mut out, &mut err, disk);
+            ExitCode::from(ended.status)
+        }
+        Err(NoWords::NotText) => {
+            let _ = write_all(&mut err, USAGE);
+            ExitCode::from(STATUS_FAULTY)
+        }
+        Err(NoWords::NoMemory) => ExitCode::from(STATUS_NO_MEMORY),
+    }
+}

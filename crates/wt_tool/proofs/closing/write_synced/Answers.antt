@@ -1,0 +1,15 @@
+use Rattle.disk_model.proofs.Crash.{started, goes_on}
+use Rattle.disk_model.specs.Laws.{torn_none}
+use Rattle.wt_tool.proofs.closing.write_synced.Goals as goal
+
+pub returns-in-Err-clause-leaves : goal.returns-in-Err-clause-leaves
+returns-in-Err-clause-leaves g c =
+    goes_on g.D.Disk.moment g.D.Disk.left_since _ _ _ _ _ (started g.D.Disk.moment g.D.Disk.left_since c.args.disk.now _ (λ d left. (d, g.met.D.Disk.only_now _ d left, torn_none _ _ d))) c.write_at.ensures.time (λ d left. c.write_at.ensures.crash d left)
+
+pub returns-in-Ok-sync-clause-leaves : goal.returns-in-Ok-sync-clause-leaves
+returns-in-Ok-sync-clause-leaves g c =
+    goes_on g.D.Disk.moment g.D.Disk.left_since _ _ _ _ _ (goes_on g.D.Disk.moment g.D.Disk.left_since _ _ _ _ _ (started g.D.Disk.moment g.D.Disk.left_since c.args.disk.now _ (λ d left. (d, g.met.D.Disk.only_now _ d left, torn_none _ _ d))) c.write_at.ensures.time (λ d left. c.write_at.ensures.crash d left)) c.sync.ensures.time (λ d left. c.write_at.ensures.crash d (c.sync.ensures.crash d left))
+
+pub returns-in-Err-sync-clause-leaves : goal.returns-in-Err-sync-clause-leaves
+returns-in-Err-sync-clause-leaves g c =
+    goes_on g.D.Disk.moment g.D.Disk.left_since _ _ _ _ _ (goes_on g.D.Disk.moment g.D.Disk.left_since _ _ _ _ _ (started g.D.Disk.moment g.D.Disk.left_since c.args.disk.now _ (λ d left. (d, g.met.D.Disk.only_now _ d left, torn_none _ _ d))) c.write_at.ensures.time (λ d left. c.write_at.ensures.crash d left)) c.sync.ensures.time (λ d left. c.write_at.ensures.crash d (c.sync.ensures.crash d left))
