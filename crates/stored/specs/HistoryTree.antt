@@ -78,7 +78,7 @@ pub record HistoryEntry : Type 0 where
   pub least : Mark
   pub link : Link
 
--- 66 bytes and the key
+-- 70 bytes and the key
 abbrev pub history_entry_text : HistoryEntry → List ℕ
 history_entry_text e = le w32 e.least.table ++ le w16 (length e.least.key) ++ le w64 e.least.commit ++ le w64 e.least.name.run ++ le w64 e.least.name.id ++ link_text e.link ++ e.least.key
 

@@ -133,6 +133,14 @@ fn bad_words_change_nothing(rt: HostRuntime) {
         1,
         "22 name\n",
     );
+    let disk = run(
+        &rt,
+        rt.alloc(),
+        disk,
+        &["create", "table:a\u{7}"],
+        1,
+        "22 name\n",
+    );
     let disk = run(&rt, rt.alloc(), disk, &["create", ""], 1, "22 name\n");
     let disk = run(
         &rt,
@@ -145,4 +153,16 @@ fn bad_words_change_nothing(rt: HostRuntime) {
     let bytes = disk.bytes();
     assert!(&rt; bytes.len() == 8192);
     assert!(&rt; bytes.iter().all(|b| *b == 0));
+}
+
+#[test]
+fn a_name_has_128_bytes_at_most(rt: HostRuntime) {
+    let most =
+        "nnnnnnnnnnnnnnnnnnnnnnnnnnnnnnnnnnnnnnnnnnnnnnnnnnnnnnnnnnnnnnnnnnnnnnnnnnnnnnnnnnnnnnnnnnnnnnnnnnnnnnnnnnnnnnnnnnnnnnnnnnnnnnnn";
+    let more =
+        "nnnnnnnnnnnnnnnnnnnnnnnnnnnnnnnnnnnnnnnnnnnnnnnnnnnnnnnnnnnnnnnnnnnnnnnnnnnnnnnnnnnnnnnnnnnnnnnnnnnnnnnnnnnnnnnnnnnnnnnnnnnnnnnnn";
+    let disk = new_device(&rt, rt.alloc());
+    let disk = run(&rt, rt.alloc(), disk, &["create", more], 1, "22 name\n");
+    let disk = run(&rt, rt.alloc(), disk, &["create", most], 0, "");
+    assert!(&rt; disk.bytes().len() == 12288);
 }
