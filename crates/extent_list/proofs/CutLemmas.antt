@@ -144,3 +144,10 @@ module _ (es : List Run) (n i end : ℕ) (some : 1 ≤ n) (sorted : Sorted 8192 
 
   pub less_took : n < e.len → TookRun es (take i es ++ record { at = e.at + n; len = e.len - n } ∷ drop (suc i) es) e.at n
   less_took less = subst (λ (l : List Run). TookRun l (take i es ++ record { at = e.at + n; len = e.len - n } ∷ drop (suc i) es) e.at n) (sym split) (took_less e (drop (suc i) es) n some long (take i es) end less split_sorted first.short)
+
+  -- the run's start is the lowest place for so many bytes
+  pub lowest_place : Fits es e.at n × ((a : ℕ) → Fits es a n → e.at ≤ a)
+  lowest_place = elim (cases_lt n e.len) [
+    | inl less ↦ ((less_took less).fits, (less_took less).lowest)
+    | inr most ↦ ((gone_took (omega (arith, most, long))).fits, (gone_took (omega (arith, most, long))).lowest)
+  ]

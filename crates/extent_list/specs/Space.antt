@@ -43,6 +43,13 @@ IsHeld space at n = (b : ℕ) → at ≤ b → b < at + n → IsFree space b →
 abbrev pub NothingFits : List Run → ℕ → Type 0
 NothingFits es n = (at : ℕ) → Fits es at n → ⊥
 
+-- where the next bytes of this size go: the lowest free range, or the end, where there is none and
+-- the capacity allows it
+abbrev pub IsSpot : Space → ℕ → ℕ → ℕ → Type 0
+IsSpot space n capacity at =
+    (Fits space.runs at n × ((a : ℕ) → Fits space.runs a n → at ≤ a))
+    ⊎ (NothingFits space.runs n × (at ≡ space.end) × (space.end + n ≤ capacity))
+
 -- the lowest free range of this size is taken, and no other byte
 pub record TookRun (old new : List Run) (at n : ℕ) : Type 0 where
   pub fits : Fits old at n

@@ -25,6 +25,7 @@ ghost use Rattle.extent_list.specs.Space.{
   IsWhole,
   IsFree,
   IsHeld,
+  IsSpot,
   Taken,
   HasNoRoom,
   IsPlace,
@@ -106,12 +107,30 @@ impl Extents {
         if let Some(i) = first_fit(&self.runs, size) {
             return Ok(Some(cut_front(&mut self.runs, i, size)));
         }
-        if capacity < self.end || capacity - self.end < size {
+        if !has_end(self.end, size, capacity) {
             return Ok(None);
         }
         let at = self.end;
         self.end += size;
         Ok(Some(at))
+    }
+
+    /// Where `take` would take `size` bytes; `None` exactly where it would give `None`. `O(n)` in
+    /// the number of extents.
+    pub fn find(&self, size: u64, capacity: u64) -> Option<u64>
+        requires some { 1 ≤ size }
+        requires whole { IsWhole size }
+        ensures spot { IfSome result (IsSpot self.now size capacity) }
+        ensures place { IfSome result (λ at. (8192 ≤ at) × (at ≤ self.now.end) × IsWhole at) }
+        ensures full { result ≡ None → HasNoRoom self.now size capacity }
+    {
+        if let Some(i) = first_fit(&self.runs, size) {
+            return Some(self.runs[i].at);
+        }
+        if !has_end(self.end, size, capacity) {
+            return None;
+        }
+        Some(self.end)
     }
 
     /// Makes `size` bytes from `at` on free. They lie before the end, and none of them is free.
@@ -159,4 +178,11 @@ impl Extents {
     {
         Ok(self.runs.reserve(more)?)
     }
+}
+
+// Whether the end can move on by this many bytes.
+fn has_end(end: u64, size: u64, capacity: u64) -> bool
+    ensures { IsTrue result ↔ (end + size ≤ capacity) }
+{
+    end <= capacity && size <= capacity - end
 }

@@ -80,8 +80,9 @@ fn takes_as_told(extents: &mut Extents, size: u64, want: Option<u64>) -> bool
     requires some { 1 ≤ size }
     requires whole { IsWhole size }
 {
+    let spot = extents.find(size, 64 * UNIT);
     match extents.take(size, 64 * UNIT) {
-        Ok(found) => found == want,
+        Ok(taken) => taken == want && spot == want,
         Err(_) => false,
     }
 }

@@ -1,16 +1,16 @@
-use Rattle.std.proofs.Common.{◌+◌, ◌<◌, ◌≤◌, List, All, ap, subst, refl, arith, inr}
+use Rattle.std.proofs.Common.{◌+◌, ◌<◌, ◌≤◌, List, All, ap, subst, refl, arith, inl, inr}
 use Rattle.extent_list.specs.declared.run.Run.{Run}
 use Rattle.extent_list.specs.Space.{Space, NothingFits}
 use Rattle.extent_list.proofs.CutLemmas.{none_fits, sorted_later}
-use Rattle.extent_list.proofs.extents.Extents.take.Goals.{then-capacity-self-via-then-capacity-self, then-capacity-self-via-else-capacity-self+then-capacity-self-2}
+use Rattle.std.proofs.lemmas.Bool.{both_ways, cases_lt}
 use Rattle.extent_list.proofs.extents.Extents.take.Goals as goal
 
-pub returns-then-capacity-self-clause-full : goal.returns-then-capacity-self-clause-full
-returns-then-capacity-self-clause-full c none =
+pub returns-then-not-has_end-clause-full : goal.returns-then-not-has_end-clause-full
+returns-then-not-has_end-clause-full c none =
     let es = c.self.inside.runs.items in
     let short : All (λ (e : Run). e.len < c.args.size) es = subst (λ (l : List Run). All (λ (e : Run). e.len < c.args.size) l) c.deref.ensures.value (c.in_default.ensures.none refl) in
     let nothing : NothingFits c.args.self.now.runs c.args.size = subst (λ (s : Space). NothingFits s.runs c.args.size) c.self.view_is (none_fits c.self.inside.end c.args.size es c.self.invariant.0 c.requires.some short) in
-    let past : c.args.capacity < c.self.inside.end + c.args.size = elim c.then-capacity-self.branch [ then-capacity-self-via-then-capacity-self w ↦ omega (arith, w.if-capacity-self.true) | then-capacity-self-via-else-capacity-self+then-capacity-self-2 w ↦ omega (arith, w.if-capacity-self.false, w.if-capacity-self-2.true) ] in
+    let past : c.args.capacity < c.self.inside.end + c.args.size = elim (cases_lt c.args.capacity (c.self.inside.end + c.args.size)) [ inl past ↦ past | inr le ↦ absurd (both_ways c.has_end.result c.if-not-has_end.true (c.has_end.ensures.1 le)) ] in
     ((nothing, subst (λ (s : Space). c.args.capacity < s.end + c.args.size) c.self.view_is past), refl)
 
 pub invariant_of-self-2 : goal.invariant_of-self-2
@@ -27,4 +27,4 @@ returns-clause-taken c =
     let es = c.self.inside.runs.items in
     let short : All (λ (e : Run). e.len < c.args.size) es = subst (λ (l : List Run). All (λ (e : Run). e.len < c.args.size) l) c.deref.ensures.value (c.in_default.ensures.none refl) in
     let nothing : NothingFits c.args.self.now.runs c.args.size = subst (λ (s : Space). NothingFits s.runs c.args.size) c.self.view_is (none_fits c.self.inside.end c.args.size es c.self.invariant.0 c.requires.some short) in
-    inr (nothing, ap (λ (s : Space). s.end) c.self.view_is, ap (λ (s : Space). s.end + c.args.size) c.self.view_is, ap (λ (s : Space). s.runs) c.self.view_is, subst (λ (s : Space). s.end + c.args.size ≤ c.args.capacity) c.self.view_is (omega (arith, c.if-capacity-self.false, c.if-capacity-self-2.false)))
+    inr (nothing, ap (λ (s : Space). s.end) c.self.view_is, ap (λ (s : Space). s.end + c.args.size) c.self.view_is, ap (λ (s : Space). s.runs) c.self.view_is, subst (λ (s : Space). s.end + c.args.size ≤ c.args.capacity) c.self.view_is (c.has_end.ensures.0 c.if-not-has_end.false))
