@@ -1,5 +1,5 @@
 -- A block that the live tree lets go of.
-use Rattle.std.specs.Prelude.{◌≡◌, ℕ, zero, suc, ◌+◌, ◌<◌, ◌≤◌, true, false, List, [], ◌∷◌, ◌++◌, All, refl, length, take, drop, get_or, set, ◌==◌}
+use Rattle.std.specs.Prelude.{◌≡◌, ℕ, zero, suc, ◌+◌, ◌<◌, ◌≤◌, true, false, List, [], ◌∷◌, ◌++◌, All, refl, length, take, drop, get_or, set, ◌==◌, IsTrue}
 use Rattle.std.proofs.Common.{inl, inr, sym, ◌∙◌, ap, subst, arith}
 use Rattle.std.proofs.lemmas.Bool.{cond-true, cond-false, eq-eqb, ne_eqb}
 use Rattle.std.proofs.lemmas.List.Elements.{All-head, All-tail, All-cons}
@@ -20,18 +20,19 @@ pub record Found (xs : List Block) (at n i : ℕ) : Type 0 where
   pub within : i < length xs
   pub at_is : (d : Block) → (get_or xs i d).offset ≡ at
   pub size_is : (d : Block) → (get_or xs i d).size ≡ n
+  pub live_is : (d : Block) → IsTrue (get_or xs i d).is_live
 
 pub found : (low end : ℕ) (xs : List Block) (at n i : ℕ) → Laid low xs end → HasLive xs at n → All (λ x. x.offset < at) (take i xs) → All (λ x. at ≤ x.offset) (drop i xs) → Found xs at n i
 found low end [] at n i is has before behind = absurd has
 found low end (x ∷ xs) at n zero is has before behind = elim has [
-  | inl here ↦ record { within = omega arith; at_is = λ d. here.1; size_is = λ d. here.2 }
+  | inl here ↦ record { within = omega arith; at_is = λ d. here.1; size_is = λ d. here.2; live_is = λ d. here.0 }
   | inr there ↦ absurd (omega (arith, is.1, All-head (λ (y : Block). at ≤ y.offset) x xs behind, live_low (x.offset + x.size) end xs at n is.2 there))
 ]
 found low end (x ∷ xs) at n (suc i) is has before behind = elim has [
   | inl here ↦ absurd (omega (arith, here.1, All-head (λ (y : Block). y.offset < at) x (take i xs) before))
   | inr there ↦
       let next = found (x.offset + x.size) end xs at n i is.2 there (All-tail (λ (y : Block). y.offset < at) x (take i xs) before) behind in
-      record { within = omega (arith, next.within); at_is = next.at_is; size_is = next.size_is }
+      record { within = omega (arith, next.within); at_is = next.at_is; size_is = next.size_is; live_is = next.live_is }
 ]
 
 pub freed_is : (front : List Block) (x : Block) (rest : List Block) (at : ℕ) → All (λ y. y.offset < at) front → x.offset ≡ at → freed at (front ++ x ∷ rest) ≡ front ++ kept (record x { is_live = false }) rest

@@ -120,3 +120,7 @@ starts_after xs i at end d within laid le =
     let stands = in_place (take i xs) (get_or xs i d) (drop (i + 1) xs) 8192 end whole in
     let behind = All-weaker (λ (x : Block). (get_or xs i d).offset + (get_or xs i d).size ≤ x.offset) (λ (x : Block). at ≤ x.offset) (λ x more. omega (arith, more, le)) (drop (i + 1) xs) (starts_behind ((get_or xs i d).offset + (get_or xs i d).size) end (drop (i + 1) xs) stands.behind) in
     subst (λ (l : List Block). All (λ x. at ≤ x.offset) l) (sym (split_at xs i (i + 1) d within refl)) (All-cons (λ (x : Block). at ≤ x.offset) (get_or xs i d) (drop (i + 1) xs) le behind)
+
+pub has_within : (low end : ℕ) (xs : List Block) (i n : ℕ) → Laid low xs end → Has xs i n → i + n ≤ end
+has_within low end [] i n is has = absurd has
+has_within low end (x ∷ xs) i n is has = elim has [ inl here ↦ omega (arith, here.0, here.1, laid_low (x.offset + x.size) end xs is.2) | inr there ↦ has_within (x.offset + x.size) end xs i n is.2 there ]

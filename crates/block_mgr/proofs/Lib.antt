@@ -1,5 +1,6 @@
 pub mod FreeLemmas
 pub mod LaidLemmas
+pub mod LiveLemmas
 pub mod OpenLemmas
 pub mod PlaceLemmas
 pub mod SweepLemmas

@@ -1,14 +1,16 @@
 -- A new block among those in use.
-use Rattle.std.specs.Prelude.{◌≡◌, ◌⊎◌, ℕ, ◌+◌, ◌<◌, ◌≤◌, List, [], ◌∷◌, ◌++◌, All, take, drop}
-use Rattle.std.proofs.Common.{inl, inr, sym, subst, arith}
-use Rattle.std.proofs.lemmas.Bool.{cases_lt}
+use Rattle.std.specs.Prelude.{◌≡◌, ◌⊎◌, ℕ, ◌+◌, ◌-◌, ◌<◌, ◌≤◌, List, [], ◌∷◌, ◌++◌, All, take, drop, refl, IsOk, IfOk, IfSome}
+use Rattle.std.proofs.Common.{inl, inr, sym, subst, arith, ◌∙◌, Result, Ok, Err, Option, Some, None}
+use Rattle.disk_model.specs.Crash.{Apart}
+use Rattle.std.proofs.lemmas.Bool.{cases_lt, false≢true}
 use Rattle.std.proofs.lemmas.List.{take-append-drop}
 use Rattle.std.proofs.lemmas.List.Elements.{All-head, All-tail, All-nil, All-cons, All-append, All-take, All-drop}
-use Rattle.extent_list.specs.Space.{Space, Free, IsWhole, Taken}
+use Rattle.extent_list.specs.Space.{Space, Free, IsWhole, Fits, NothingFits, IsSpot, Taken, HasNoRoom}
 use Rattle.block_mgr.specs.declared.block.Block.{Block}
-use Rattle.block_mgr.specs.Blocks.{Covers, Laid, AreUnits}
+use Rattle.block_mgr.specs.Blocks.{Books, Covers, Has, Laid, AreUnits}
+use Rattle.le_codec.specs.Images.{block_size}
 use Rattle.block_mgr.specs.Search.{SplitsAt}
-use Rattle.block_mgr.proofs.LaidLemmas.{covers_high, covers_front, covers_back, covers_parts, laid_behind, laid_from, laid_put}
+use Rattle.block_mgr.proofs.LaidLemmas.{apart_from, covers_high, covers_front, covers_back, covers_parts, laid_behind, laid_from, laid_put}
 
 pub units_like : (blocks : List Block) (old new : Space) → AreUnits blocks old → new.runs ≡ old.runs → new.end ≡ old.end → AreUnits blocks new
 units_like blocks old new units runs end = record {
@@ -119,3 +121,51 @@ module _ (blocks : List Block) (old new : Space) (m : Block) (i : ℕ) (units : 
     within = λ b free. ((units.within b (fresh.left b free).0).0, omega (arith, fresh.later, (units.within b (fresh.left b free).0).1));
     whole = All-append (λ (x : Block). IsWhole x.offset × IsWhole x.size) (take i blocks) (m ∷ drop i blocks) (All-take (λ (x : Block). IsWhole x.offset × IsWhole x.size) i blocks units.whole) (All-cons (λ (x : Block). IsWhole x.offset × IsWhole x.size) m (drop i blocks) (whole_at, whole_size) (All-drop (λ (x : Block). IsWhole x.offset × IsWhole x.size) i blocks units.whole));
   }
+
+-- a place that was found meets no block
+pub apart_spot : (blocks : List Block) (space : Space) (n capacity at : ℕ) → AreUnits blocks space → 1 ≤ n → IsSpot space n capacity at → (i m : ℕ) → Has blocks i m → Apart at n i m
+apart_spot blocks space n capacity at units some spot = apart_from 8192 space.end blocks at n units.laid some (λ b le lt covers. free b le lt covers)
+  where
+    free : (b : ℕ) → at ≤ b → b < at + n → Covers blocks b → ⊥
+    free b le lt covers = elim spot [ inl run ↦ units.held b covers (run.0 b le lt) | inr end ↦ absurd (omega (arith, end.1, le, covers_high 8192 space.end b blocks units.laid covers)) ]
+
+-- where there is a place, there is room
+pub spot_room : (space : Space) (n capacity at : ℕ) → IsSpot space n capacity at → HasNoRoom space n capacity → ⊥
+spot_room space n capacity at spot full = elim spot [ inl run ↦ full.0 at run.0 | inr end ↦ absurd (omega (arith, full.1, end.2)) ]
+
+-- the next take is at the place that was found
+taken_at : (old new : Space) (n capacity at other : ℕ) → IsSpot old n capacity at → Taken old new n capacity other → Taken old new n capacity at
+taken_at old new n capacity at other spot taken = subst (λ (k : ℕ). Taken old new n capacity k) same taken
+  where
+    same : other ≡ at
+    same = elim spot [
+      | inl run ↦ elim taken [ inl took ↦ omega (arith, took.0.lowest at run.0, run.1 other took.0.fits) | inr past ↦ absurd (past.0 at run.0) ]
+      | inr end ↦ elim taken [ inl took ↦ absurd (end.0 other took.0.fits) | inr past ↦ past.1 ∙ sym end.1 ]
+    ]
+
+pub took_spot : {E : Type 0} (r : Result (Option ℕ) E) (old new : Space) (n capacity at : ℕ) → IsOk r → IfOk r (λ o. IfSome o (Taken old new n capacity)) → IfOk r (λ o. o ≡ None → HasNoRoom old n capacity × (new ≡ old)) → IsSpot old n capacity at → Taken old new n capacity at
+took_spot (Ok (Some other)) old new n capacity at sure taken full spot = taken_at old new n capacity at other spot taken
+took_spot (Ok None) old new n capacity at sure taken full spot = absurd (spot_room old n capacity at spot (full refl).0)
+took_spot (Err e) old new n capacity at sure taken full spot = absurd (false≢true sure)
+
+pub taken_within : (blocks : List Block) (old new : Space) (n capacity at : ℕ) → AreUnits blocks old → 1 ≤ n → Taken old new n capacity at → at + n ≤ new.end
+taken_within blocks old new n capacity at units some taken = elim taken [
+  | inl run ↦ omega (arith, run.1, some, (units.within (at + (n - 1)) (run.0.fits (at + (n - 1)) (omega arith) (omega (arith, some)))).1)
+  | inr end ↦ omega (arith, end.1, end.2)
+]
+
+pub spot_like : (old new : Space) (n capacity at : ℕ) → new.runs ≡ old.runs → new.end ≡ old.end → IsSpot new n capacity at → IsSpot old n capacity at
+spot_like old new n capacity at runs end spot = elim spot [
+  | inl run ↦ inl (subst (λ l. Fits l at n × ((a : ℕ) → Fits l a n → at ≤ a)) runs run)
+  | inr last ↦ inr (subst (λ l. NothingFits l n) runs last.0, omega (arith, last.1, end), omega (arith, last.2, end))
+]
+
+-- what a place that was found is to the books as they are seen
+pub found_spot : (inside old : Books) (found : Space) (n capacity at : ℕ) → inside ≡ old → found.runs ≡ inside.space.runs → found.end ≡ inside.space.end → IsSpot found n capacity at → IsSpot old.space n capacity at
+found_spot inside old found n capacity at is runs end spot = subst (λ (s : Books). IsSpot s.space n capacity at) is (spot_like inside.space found n capacity at runs end spot)
+
+pub found_apart : (inside old : Books) (found : Space) (n capacity at : ℕ) → inside ≡ old → found.runs ≡ inside.space.runs → found.end ≡ inside.space.end → IsSpot found n capacity at → AreUnits inside.blocks inside.space → 1 ≤ n → (i m : ℕ) → Has old.blocks i m → Apart at n i m
+found_apart inside old found n capacity at is runs end spot units some = subst (λ (s : Books). (i m : ℕ) → Has s.blocks i m → Apart at n i m) is (apart_spot inside.blocks inside.space n capacity at units some (spot_like inside.space found n capacity at runs end spot))
+
+pub block_some : (n : ℕ) → 1 ≤ n → 1 ≤ block_size n
+block_some n some = omega arith

@@ -1,5 +1,6 @@
 -- What the write of a block leaves.
-use Rattle.std.specs.Prelude.{◌≡◌, ◌⊎◌, ℕ, Bool, true, false, List, ◌++◌, length, replicate, ◌+◌, ◌-◌, ◌*◌, ◌/◌, ◌≤◌}
+use Rattle.std.specs.Prelude.{◌≡◌, ◌⊎◌, ℕ, Bool, true, false, List, length, ◌+◌, ◌≤◌}
+use Rattle.le_codec.specs.Images.{block_of, block_size}
 use Rattle.block_sum.specs.Sum.{sum_of}
 use Rattle.disk_model.specs.Disk.{Torn}
 use Rattle.disk_model.specs.Ranges.{range}
@@ -8,10 +9,6 @@ use Rattle.block_mgr.specs.declared.block.Block.{Block}
 use Rattle.block_mgr.specs.declared.addr.Addr.{Addr}
 use Rattle.block_mgr.specs.Blocks.{Has}
 use Rattle.block_mgr.specs.Places.{IsPlace}
-
--- an image, and zero bytes up to the next multiple of a unit
-abbrev pub filled : List ℕ → List ℕ
-filled image = image ++ replicate ((length image + 4095) / 4096 * 4096 - length image) 0
 
 -- what a write may begin with: an image from before, or, where a sync comes first, what is read
 abbrev pub Base : Bool → List ℕ → (List ℕ → Type 0) → List ℕ → Type 0
@@ -34,12 +31,12 @@ Wrote blocks is_synced seen images c = images c ⊎ WroteImage blocks is_synced 
 
 -- the block stands where the address says, and what stood in the blocks in use is as it was
 pub record Written (blocks : List Block) (old new image : List ℕ) (addr : Addr) : Type 0 where
-  pub is : range new addr.offset addr.size ≡ filled image
+  pub is : range new addr.offset addr.size ≡ block_of image
   pub within : addr.offset + addr.size ≤ length new
   pub keeps : Keeps (Has blocks) old new
 
 -- the address of an image: a place, the image's size in whole units, and the sum of its block
 pub record IsAddress (image : List ℕ) (addr : Addr) : Type 0 where
   pub place : IsPlace addr
-  pub size : addr.size ≡ (length image + 4095) / 4096 * 4096
-  pub sum : addr.sum ≡ sum_of (filled image)
+  pub size : addr.size ≡ block_size (length image)
+  pub sum : addr.sum ≡ sum_of (block_of image)

@@ -2,11 +2,8 @@
 ghost use Rattle.std.specs.Prelude.{
   ◌≡◌,
   ◌⊎◌,
-  ◌+◌,
-  ◌*◌,
-  ◌/◌,
+  ◌↔◌,
   ◌≤◌,
-  ◌<◌,
   ◌^◌,
   ℕ,
   List,
@@ -20,14 +17,16 @@ ghost use Rattle.std.specs.Prelude.{
   IfErr,
   IsOk,
   OnOk,
+  OnErr,
   IsTrue,
 };
 ghost use Rattle.std.specs.List.{filter};
 ghost use Rattle.std.specs.Prelude.{map};
 ghost use Rattle.failure.specs.Counts.{Rose};
-ghost use Rattle.disk_model.specs.Crash.{LeavesOnly, Each, Looked, Apart};
+ghost use Rattle.disk_model.specs.Crash.{LeavesOnly, Each, Alike, Looked};
 ghost use Rattle.disk_model.specs.Ranges.{range};
-ghost use Rattle.extent_list.specs.Space.{Taken, HasNoRoom, IsWhole};
+ghost use Rattle.extent_list.specs.Space.{Taken, HasNoRoom};
+ghost use Rattle.le_codec.specs.Images.{block_size};
 ghost use Rattle.block_mgr.specs.Blocks.{
   Books,
   AreUnits,
@@ -48,13 +47,12 @@ ghost use Rattle.block_mgr.specs.Writes.{Wrote, WroteImage, Written, IsAddress};
 use crate::Addr;
 use crate::block::Block;
 use crate::fill::fill;
-use crate::insert::insert_at;
 use crate::open::{end_of, give_gaps, lay};
 use crate::read::read_block;
-use crate::search::starting_before;
+use crate::search::{is_live_at, starting_before};
 use crate::store::store;
 use crate::sweep::{complete, give_block, has_use, let_go, sweep, take_live};
-use crate::take::take_place;
+use crate::take::{add_block, find_place};
 use block_sum::sum;
 use disk_model::Disk;
 use extent_list::Extents;
@@ -140,38 +138,11 @@ impl Blocks {
         self.space.end()
     }
 
-    // Places a block, and counts it to the live tree and to a checkpoint that runs.
-    fn place(&mut self, size: u32, capacity: u64) -> Result<u64, Refusal>
-        requires some { 1 ≤ size }
-        requires whole { IsWhole size }
-        ensures taken { IfOk result (Taken self.old.space self.new.space size capacity) }
-        ensures added { IfOk result (λ at. Added self.old.blocks self.new.blocks (placed at size self.old.is_held)) }
-        ensures apart { IfOk result (λ at. (i n : ℕ) → Has self.old.blocks i n → Apart at size i n) }
-        ensures bounds { IfOk result (λ at. (8192 ≤ at) × IsWhole at × (at ≤ self.old.space.end) × (at + size ≤ self.new.space.end)) }
-        ensures later { self.old.space.end ≤ self.new.space.end }
-        ensures err { IfErr result (λ r. ((r ≡ Refusal.NoMemory) ⊎ ((r ≡ Refusal.NoSpace) × HasNoRoom self.old.space size capacity)) × (self.new.blocks ≡ self.old.blocks) × (self.new.space.runs ≡ self.old.space.runs) × (self.new.space.end ≡ self.old.space.end)) }
-        ensures synced { self.new.is_synced ≡ self.old.is_synced }
-        ensures held { self.new.is_held ≡ self.old.is_held }
-    {
-        self.blocks.reserve(1)?;
-        self.space.reserve(self.blocks.len() + 1)?;
-        let at = take_place(&mut self.space, size as u64, capacity)?;
-        let i = starting_before(&self.blocks, at);
-        let block = Block {
-            offset: at,
-            size,
-            is_live: true,
-            is_running: self.is_held,
-            is_last: false,
-        };
-        insert_at(&mut self.blocks, i, block);
-        Ok(at)
-    }
-
     /// Writes an image as a new block of the live tree, and of a checkpoint that runs: into free
     /// units, or else at the end. It touches no block in use, at any moment of a crash. `NoSpace`
     /// comes exactly where no free extent has room and the end would move past the capacity.
-    /// After a disk fault the block counts as in use.
+    /// After a refusal the blocks and the free units are as they were, also after a disk fault,
+    /// which may leave any part of the block on the disk.
     pub fn write<D: Disk>(
         &mut self,
         alloc: Global,
@@ -182,6 +153,10 @@ impl Blocks {
         requires most { length image.now ≤ 2 ^ 20 }
         requires ready { IsTrue (D.honest disk.old) → self.old.space.end ≤ length (D.seen disk.old) }
         ensures leaves { LeavesOnly D.moment D.left_since disk.old disk.new (Wrote self.old.blocks self.old.is_synced (D.seen disk.old) (D.may_leave disk.old)) }
+
+        // Where each image has the slots and the blocks in use as they are read, so has each that a
+        // crash since the call began might have left.
+        ensures in_use { IsTrue (D.honest disk.old) → Each (D.may_leave disk.old) (Alike (Has self.old.blocks) (D.seen disk.old)) → LeavesOnly D.moment D.left_since disk.old disk.new (Alike (Has self.old.blocks) (D.seen disk.old)) }
         ensures images { OnOk result (Each (D.may_leave disk.new) (WroteImage self.old.blocks self.old.is_synced (D.seen disk.old) (D.may_leave disk.old))) }
         ensures written { IsTrue (D.honest disk.old) → IfOk result (Written self.old.blocks (D.seen disk.old) (D.seen disk.new) image.now) }
         ensures address { IfOk result (IsAddress image.now) }
@@ -190,16 +165,31 @@ impl Blocks {
         ensures ready { IsTrue (D.honest disk.old) → OnOk result (self.new.space.end ≤ length (D.seen disk.new)) }
         ensures synced { OnOk result (self.new.is_synced ≡ true) }
         ensures held { self.new.is_held ≡ self.old.is_held }
-        ensures err { IfErr result (λ r. ((r ≡ Refusal.DiskFault) × Rose (D.faults disk.old) (D.faults disk.new)) ⊎ (((r ≡ Refusal.NoMemory) ⊎ ((r ≡ Refusal.NoSpace) × HasNoRoom self.old.space ((length image.now + 4095) / 4096 * 4096) (D.capacity disk.old))) × (disk.new ≡ disk.old) × (self.new.blocks ≡ self.old.blocks) × (self.new.space.runs ≡ self.old.space.runs) × (self.new.space.end ≡ self.old.space.end) × (self.new.is_synced ≡ self.old.is_synced))) }
+        ensures same_blocks { OnErr result (self.new.blocks ≡ self.old.blocks) }
+        ensures same_space { OnErr result ((self.new.space.runs ≡ self.old.space.runs) × (self.new.space.end ≡ self.old.space.end)) }
+        ensures same_sync { OnErr result (self.new.is_synced ≡ self.old.is_synced) }
+        ensures err { IfErr result (λ r. ((r ≡ Refusal.NoMemory) × (disk.new ≡ disk.old)) ⊎ ((r ≡ Refusal.NoSpace) × (disk.new ≡ disk.old) × HasNoRoom self.old.space (block_size (length image.now)) (D.capacity disk.old)) ⊎ ((r ≡ Refusal.DiskFault) × Rose (D.faults disk.old) (D.faults disk.new))) }
+        ensures full { HasNoRoom self.old.space (block_size (length image.now)) (D.capacity disk.old) → IfErr result (λ r. (r ≡ Refusal.NoMemory) ⊎ (r ≡ Refusal.NoSpace)) }
         ensures later { D.faults disk.old ≤ D.faults disk.new }
         ensures same { D.honest disk.new ≡ D.honest disk.old }
         ensures capacity { D.capacity disk.new ≡ D.capacity disk.old }
     {
         let bytes = fill(alloc, image)?;
         let size = bytes.len() as u32;
-        let at = self.place(size, disk.capacity())?;
+        self.blocks.reserve(1)?;
+        self.space.reserve(self.blocks.len() + 1)?;
+        let capacity = disk.capacity();
+        let at = find_place(&self.space, size, capacity)?;
         store(disk, self.is_synced, at, &bytes)?;
         self.is_synced = true;
+        let block = Block {
+            offset: at,
+            size,
+            is_live: true,
+            is_running: self.is_held,
+            is_last: false,
+        };
+        add_block(&mut self.blocks, &mut self.space, block, capacity);
         Ok(Addr {
             offset: at,
             size,
@@ -215,6 +205,18 @@ impl Blocks {
         ensures looked { Looked D.honest D.seen D.may_leave D.capacity D.faults D.moment D.left_since disk.old disk.new }
     {
         read_block(alloc, disk, addr)
+    }
+
+    /// Whether the live tree has a block of this place and size: what `free` asks for.
+    /// `O(log n)` in the number of blocks.
+    pub fn is_live(&self, addr: Addr) -> bool
+        ensures { IsTrue result ↔ HasLive self.now.blocks addr.offset addr.size }
+    {
+        let i = starting_before(&self.blocks, addr.offset);
+        if i == self.blocks.len() {
+            return false;
+        }
+        is_live_at(self.blocks[i], addr)
     }
 
     /// The live tree lets go of a block. Its units are free where no checkpoint has it. Takes no

@@ -1,6 +1,8 @@
 // A search through the blocks in use.
+ghost use Rattle.std.specs.Prelude.{◌≡◌, ◌↔◌, IsTrue};
 ghost use Rattle.block_mgr.specs.Search.{AreLaid, SplitsAt};
 
+use crate::Addr;
 use crate::block::Block;
 
 // How many blocks start before an offset, by halving.
@@ -19,4 +21,11 @@ pub(crate) fn starting_before(blocks: &[Block], at: u64) -> usize
         }
     }
     low
+}
+
+// Whether the live tree has the block, and it is the one of this place and size.
+pub(crate) fn is_live_at(block: Block, addr: Addr) -> bool
+    ensures { IsTrue result ↔ (IsTrue block.is_live × (block.offset ≡ addr.offset) × (block.size ≡ addr.size)) }
+{
+    block.is_live && block.offset == addr.offset && block.size == addr.size
 }
