@@ -3,3 +3,4 @@ pub mod Disk
 pub mod Images
 pub mod Laws
 pub mod Ranges
+pub mod Steps

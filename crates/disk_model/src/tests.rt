@@ -1,7 +1,7 @@
 // What no clause says of a disk in memory: that calls succeed, and that each kind of image is
 // reached.
 
-use crate::{Disk, Home, MemDisk, Unattached};
+use crate::{Disk, Home, MemDisk, Unattached, write_synced};
 use std::alloc::Global;
 use std::process::Abort;
 
@@ -97,4 +97,22 @@ fn a_failing_call_counts_a_fault_and_leaves_the_content(rt: HostRuntime) {
     assert!(rt; disk.bytes().len() == 4);
     assert!(rt; disk.read(1, &mut buffer).is_ok());
     assert!(rt; buffer == *b"bc");
+}
+
+#[test]
+fn a_synced_write_stays(rt: HostRuntime) {
+    for pick in 0..8 {
+        let mut disk = disk_of(&rt, rt.alloc(), b"abcd", &[]);
+        assert!(rt; 4 <= disk.bytes().len());
+        assert!(rt; write_synced(&mut disk, 4, b"EF").is_ok());
+        assert!(rt; leaves(&rt, disk, pick, b"abcdEF"), "at {pick}");
+    }
+    // The write fails, or the sync behind it.
+    for failing in 0..2 {
+        let mut disk = disk_of(&rt, rt.alloc(), b"abcd", &[failing]);
+        assert!(rt; 4 <= disk.bytes().len());
+        assert!(rt; write_synced(&mut disk, 4, b"EF").is_err());
+        assert_eq!(rt; disk.faults(), 1, "at {failing}");
+        assert!(rt; leaves(&rt, disk, 2, b"abcdE"), "at {failing}");
+    }
 }
