@@ -121,11 +121,7 @@ fn write_synced<D: Disk>(disk: &mut D, at: u64, bytes: &[u8]) -> Result<(), Refu
     ensures same { D.honest disk.new ≡ D.honest disk.old }
     ensures room { D.capacity disk.new ≡ D.capacity disk.old }
 {
-    match disk.write_at(at, bytes) {
-        Ok(()) => {}
-        Err(_) => return Err(Refusal::DiskFault),
-    }
-    match disk.sync() {
+    match disk_model::write_synced(disk, at, bytes) {
         Ok(()) => Ok(()),
         Err(_) => Err(Refusal::DiskFault),
     }
