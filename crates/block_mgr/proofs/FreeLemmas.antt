@@ -11,7 +11,7 @@ use Rattle.std.proofs.lemmas.List.{set_split}
 use Rattle.block_mgr.proofs.LaidLemmas.{covers_low, covers_front, covers_back, covers_parts, laid_sooner, laid_low, in_place, head_low, parts_at}
 
 -- a live block of laid blocks starts where they may
-live_low : (low end : ℕ) (xs : List Block) (at n : ℕ) → Laid low xs end → HasLive xs at n → low ≤ at
+pub live_low : (low end : ℕ) (xs : List Block) (at n : ℕ) → Laid low xs end → HasLive xs at n → low ≤ at
 live_low low end [] at n is has = absurd has
 live_low low end (x ∷ xs) at n is has = elim has [ inl here ↦ omega (arith, is.0, here.1) | inr there ↦ omega (arith, is.0, is.1, live_low (x.offset + x.size) end xs at n is.2 there) ]
 

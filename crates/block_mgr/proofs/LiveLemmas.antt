@@ -1,15 +1,15 @@
 -- Blocks that the live tree still has.
-use Rattle.std.specs.Prelude.{◌≡◌, ◌⊎◌, ℕ, ◌||◌, ◌==◌, Bool, true, List, [], ◌∷◌, ◌++◌, All, refl, map, take, drop, get_or, length, suc, zero, ◌<◌, IsTrue}
+use Rattle.std.specs.Prelude.{◌≡◌, ◌⊎◌, ℕ, ◌+◌, ◌||◌, ◌==◌, Bool, true, List, [], ◌∷◌, ◌++◌, All, refl, map, take, drop, get_or, length, suc, zero, ◌<◌, IsTrue}
 use Rattle.std.specs.List.{filter}
 use Rattle.std.proofs.Common.{inl, inr, sym, ◌∙◌, subst, arith}
-use Rattle.std.proofs.lemmas.Bool.{cond_both, false≢true, eqb-true}
+use Rattle.std.proofs.lemmas.Bool.{cond_both, false≢true, eqb-true, eqb-false}
 use Rattle.std.proofs.lemmas.List.{take-append-drop}
 use Rattle.std.proofs.lemmas.List.Elements.{All-nil, All-cons, All-weaker}
 use Rattle.block_mgr.specs.declared.addr.Addr.{Addr}
 use Rattle.block_mgr.specs.declared.block.Block.{Block}
-use Rattle.block_mgr.specs.Blocks.{HasLive, AreUnits, Added, placed, kept, freed, is_used, with_live, with_running, without_running}
+use Rattle.block_mgr.specs.Blocks.{HasLive, Laid, AreUnits, Added, placed, kept, freed, is_used, with_live, with_running, without_running}
 use Rattle.block_mgr.specs.Search.{SplitsAt}
-use Rattle.block_mgr.proofs.FreeLemmas.{off, spot}
+use Rattle.block_mgr.proofs.FreeLemmas.{off, spot, live_low}
 use Rattle.extent_list.specs.Space.{Space}
 use Rattle.block_mgr.specs.Open.{stored}
 
@@ -95,3 +95,15 @@ module _ (blocks : List Block) (space : Space) (at n i : ℕ) (units : AreUnits 
   is_that x is has =
       let found = spot blocks space at n i units has splits in
       (subst (λ (y : Block). IsTrue y.is_live) (sym is) (found.live_is x), subst (λ (y : Block). y.offset ≡ at) (sym is) (found.at_is x), subst (λ (y : Block). y.size ≡ n) (sym is) (found.size_is x))
+
+-- a block that was freed is live no longer
+pub live_gone : (low end : ℕ) (xs : List Block) (at n : ℕ) → Laid low xs end → HasLive (freed at xs) at n → ⊥
+live_gone low end [] at n is has = has
+live_gone low end (x ∷ xs) at n is has =
+    cond_both (x.offset == at) (kept (off x) xs) (x ∷ freed at xs) (λ (l : List Block). HasLive l at n → ⊥)
+    (λ so. cond_both (is_used (off x)) (off x ∷ xs) xs (λ (l : List Block). HasLive l at n → ⊥) (λ used still. elim still [ inl here ↦ false≢true here.0 | inr there ↦ behind so there ]) (λ idle still. behind so still))
+    (λ not_so still. elim still [ inl here ↦ eqb-false x.offset at not_so here.1 | inr there ↦ live_gone (x.offset + x.size) end xs at n is.2 there ])
+    has
+  where
+    behind : (x.offset == at) ≡ true → HasLive xs at n → ⊥
+    behind so there = omega (arith, eqb-true x.offset at so, is.1, live_low (x.offset + x.size) end xs at n is.2 there)

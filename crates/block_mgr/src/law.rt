@@ -3,6 +3,7 @@ ghost use Rattle.std.specs.Prelude.{◌≡◌, List, ℕ, Bool, All, map};
 ghost use Rattle.std.specs.List.{filter};
 ghost use Rattle.block_mgr.specs.Blocks.{
   HasLive,
+  Laid,
   Added,
   placed,
   freed,
@@ -26,4 +27,9 @@ pub fn a_block_stays_live()
     ensures still_held { (blocks : List Block) (at n : ℕ) → HasLive blocks at n → HasLive (map with_live blocks) at n }
     ensures still_done { (blocks : List Block) (at n : ℕ) → HasLive blocks at n → HasLive (filter is_used (map with_running blocks)) at n }
     ensures still_dropped { (blocks : List Block) (at n : ℕ) → HasLive blocks at n → HasLive (filter is_used (map without_running blocks)) at n }
+{}
+
+/// A block that was freed is live no longer, so it is freed once.
+pub fn a_freed_block_is_gone()
+    ensures { (blocks : List Block) (at n end : ℕ) → Laid 8192 blocks end → HasLive (freed at blocks) at n → ⊥ }
 {}

@@ -30,5 +30,5 @@ mod tests;
 pub use addr::Addr;
 pub use blocks::Blocks;
 pub use failure::NoMemory;
-pub use law::a_block_stays_live;
+pub use law::{a_block_stays_live, a_freed_block_is_gone};
 pub use read::read_block;
