@@ -1,5 +1,6 @@
 // A writer as a sink. What it has taken is not told.
-ghost use Rattle.std.specs.Prelude.{◌≡◌, ◌<◌, ◌≤◌, length, None, IfSome};
+ghost use Rattle.std.specs.Prelude.{◌≡◌, ◌<◌, ◌≤◌, length, take, None, IfNone, IfSome};
+ghost use Rattle.std.specs.Io.KnownBytes.{Appends, Keeps};
 
 use failure::{Failed, count_failure};
 use std::io::{ErrorKind, Write};
@@ -30,6 +31,7 @@ impl<W: Write + Drop> StdSink<W> {
 fn write_some<W: Write>(inner: &mut W, piece: &[u8]) -> Option<usize>
     ensures some { IfSome result (λ n. 0 < length piece.now → 0 < n) }
     ensures bound { IfSome result (λ n. n ≤ length piece.now) }
+    ensures bytes { IfSome result (λ n. Appends (W.contents inner.old) (W.contents inner.new) (take n piece.now)) }
 {
     for _ in 0..u64::MAX {
         match inner.write(piece) {

@@ -1,5 +1,6 @@
 // A reader as a source. What it has left is not told.
-ghost use Rattle.std.specs.Prelude.{◌≡◌, ◌≤◌, length, None, IfSome};
+ghost use Rattle.std.specs.Prelude.{◌≡◌, ◌<◌, ◌≤◌, length, take, None, IfNone, IfSome};
+ghost use Rattle.std.specs.Io.KnownBytes.{Consumes, IsAtEnd, Keeps};
 
 use failure::{Failed, count_failure};
 use std::io::{ErrorKind, Read};
@@ -27,6 +28,9 @@ impl<R: Read + Drop> StdSource<R> {
 // Reads once, and again where a signal interrupts it. None is a failure.
 fn read_some<R: Read>(inner: &mut R, buffer: &mut [u8]) -> Option<usize>
     ensures bound { IfSome result (λ n. n ≤ length buffer.new) }
+    ensures bytes { IfSome result (λ n. Consumes (R.remaining inner.old) (R.remaining inner.new) (take n buffer.new)) }
+    ensures end { IfSome result (λ n. n ≡ 0 → 0 < length buffer.new → IsAtEnd (R.remaining inner.new)) }
+    ensures failed { IfNone result (Keeps (R.remaining inner.old) (R.remaining inner.new)) }
 {
     for _ in 0..u64::MAX {
         match inner.read(buffer) {
