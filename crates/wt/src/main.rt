@@ -1,18 +1,15 @@
 //! The program `wt`: the commands of `wt_tool` on the file of a store and the standard streams.
 //!
-//! It promises that each call of the file and of a stream that fails is counted. What a command
-//! means, what it writes and its status are `wt_tool`'s; what the file holds is the system's.
+//! It promises nothing of its own. What a command means, what it writes and its status are
+//! `wt_tool`'s; that failed calls are counted is `disk_file`'s and `wt_std_io`'s.
 #![tactic(auto)]
 
-mod disk;
-mod streams;
-
-use disk::FileDisk;
+use disk_file::FileDisk;
 use std::env;
 use std::io::ErrorKind;
 use std::process::ExitCode;
-use streams::{Reading, Writing};
 use wt_io::write_all;
+use wt_std_io::{StdSink, StdSource};
 use wt_tool::wt_main;
 
 /// What is written for words that are no command.
@@ -51,9 +48,9 @@ fn words_of(rt: &HostRuntime) -> Result<Vec<String>, NoWords> {
 
 fn main(rt: HostRuntime) -> ExitCode {
     let alloc = rt.alloc();
-    let mut input = Reading::new(rt.stdin());
-    let mut out = Writing::new(rt.stdout());
-    let mut err = Writing::new(rt.stderr());
+    let mut input = StdSource::new(rt.stdin());
+    let mut out = StdSink::new(rt.stdout());
+    let mut err = StdSink::new(rt.stderr());
     match words_of(&rt) {
         Ok(words) => {
             let disk = FileDisk::new(rt);

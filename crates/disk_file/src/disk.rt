@@ -3,11 +3,12 @@ ghost use Rattle.std.specs.Prelude.{◌≡◌, [], ◌^◌, false};
 ghost use Rattle.std.proofs.lemmas.Bool.{false≢true};
 ghost use Rattle.failure.specs.Counts.{HasCause};
 
+use crate::place::opened;
 use disk_model::{Disk, Failed, Home, Unattached};
 use failure::count_failure;
 use std::alloc::Global;
-use std::fs;
-use std::io::{self, ErrorKind};
+use std::fs::File;
+use std::io::ErrorKind;
 use std::os::unix::fs::FileExt;
 
 /// How many bytes the file may hold.
@@ -16,23 +17,27 @@ const CAPACITY: u64 = 1 << 62; // bytes
 /// The last offset that a system call takes.
 const MAX_OFFSET: u64 = (1 << 63) - 1; // bytes
 
-/// How long a new file is. Its bytes are zero.
-const NEW_LEN: u64 = 8_192; // bytes
-
-/// The file `rows.wtd` in a folder, which `attach` names. Before that each call fails.
+/// The file `rows.wtd` in the folder that `attach` names. Before that each call fails.
 ///
-/// Nothing is promised of what the file holds, so `honest` is false. Each call that fails is
-/// counted. A read or a write that a signal interrupts is tried again.
+/// Nothing is promised of what the file holds, so it is not `honest`. Each call that fails is
+/// counted. A read and a write go on where the system did a part, or a signal interrupted it.
+///
+/// A missing file is made as 8,192 zero bytes, synced, under the name `rows.wtd.P.N` (P the number
+/// of this process, N the first from 0 on for which no file has the name), and then renamed. A
+/// program that is stopped in between leaves that name behind, and no other trace. The file is
+/// locked until the disk is dropped: `attach` of a second program answers `Failed`.
 #[derive(Drop)]
 pub struct FileDisk {
     rt: HostRuntime,
-    file: Option<fs::File>,
+    file: Option<File>,
     faults: u64,
 }
 
 impl FileDisk {
-    /// A disk with no place yet.
-    pub fn new(rt: HostRuntime) -> Self {
+    /// A disk with no place yet, which has not failed.
+    pub fn new(rt: HostRuntime) -> Self
+        ensures { ⟦<FileDisk as Disk>⟧.faults result ≡ 0 }
+    {
         FileDisk {
             rt,
             file: None,
@@ -52,11 +57,11 @@ fn counted(is_done: bool, faults: &mut u64) -> Result<(), Failed>
     }
 }
 
-fn read_all(file: &fs::File, at: u64, buffer: &mut [u8]) -> bool {
+fn read_all(file: &File, at: u64, buffer: &mut [u8]) -> bool {
     at <= MAX_OFFSET && file.read_exact_at(buffer, at).is_ok()
 }
 
-fn write_all(file: &fs::File, at: u64, bytes: &[u8]) -> bool {
+fn write_all(file: &File, at: u64, bytes: &[u8]) -> bool {
     at <= MAX_OFFSET && file.write_all_at(bytes, at).is_ok()
 }
 
@@ -126,46 +131,19 @@ impl Disk for FileDisk {
 }
 
 impl Home for FileDisk {
-    /// Opens `rows.wtd` in the folder, and makes it first where the folder has none. The name
-    /// `rows.wtd.new` is the store's own: a file that a crash left under it is written over.
-    fn attach(&mut self, _alloc: Global, home: &str) -> Result<(), Unattached> {
-        let Ok(path) = format!(in self.rt.alloc(); "{home}/rows.wtd") else {
-            return Err(Unattached::NoMemory);
-        };
-        let Ok(other) = format!(in self.rt.alloc(); "{home}/rows.wtd.new") else {
-            return Err(Unattached::NoMemory);
-        };
-        match opened(&self.rt, home, path.as_str(), other.as_str()) {
+    /// Opens `rows.wtd` in the folder, and makes it first where the folder has none. The folder has
+    /// to be there, and is one that can be read.
+    fn attach(&mut self, alloc: Global, home: &str) -> Result<(), Unattached> {
+        match opened(&self.rt, alloc, home) {
             Ok(file) => {
                 self.file = Some(file);
                 Ok(())
             }
+            Err(e) if e.kind() == ErrorKind::OutOfMemory => Err(Unattached::NoMemory),
             Err(_) => {
                 count_failure(&mut self.faults);
                 Err(Unattached::Failed)
             }
         }
     }
-}
-
-// Opens the file at `path`, and makes it first where nothing stands under that name. Any other
-// failure to look is an error, so that a file which cannot be seen is not replaced.
-fn opened(rt: &HostRuntime, home: &str, path: &str, other: &str) -> io::Result<fs::File> {
-    match fs::symlink_metadata(rt, path) {
-        Ok(_) => {}
-        Err(e) if e.kind() == ErrorKind::NotFound => make(rt, home, path, other)?,
-        Err(e) => return Err(e),
-    }
-    fs::OpenOptions::new().read(true).write(true).open(rt, path)
-}
-
-// Makes a new file whole and synced under another name, and only then gives it its own, so that a
-// crash leaves nothing half made at `path`. The folder is synced after it, so that the name stays.
-fn make(rt: &HostRuntime, home: &str, path: &str, other: &str) -> io::Result<()> {
-    let file = fs::create(rt, other)?;
-    file.set_len(NEW_LEN)?;
-    file.sync_all()?;
-    fs::rename(rt, other, path)?;
-    let folder = fs::open(rt, home)?;
-    folder.sync_all()
 }

@@ -1,0 +1,327 @@
+-- The command of words that do not begin with a hyphen, or stand behind `--`.
+use Rattle.std.proofs.Common.{◌≡◌, ◌∙◌, ◌++◌, ◌<◌, ap, ap₂, refl, Bool, true, false, List, [], ◌∷◌, Option, Some, None, length, codes, arith}
+use Rattle.std.specs.Prelude.{fold, option_and_then, option_map}
+use Rattle.clap.specs.Kinds.{Kinds, or_else}
+use Rattle.clap.specs.Walk.{Row, Text, finished, nothing_held, settled_rows, stop_after, walk_from, walked}
+use Rattle.clap.specs.Faults.{built_fault, level_fault, turn_fault, walk_fault}
+use Rattle.clap.specs.Simple.{Shape, argument_words, built, built_leaf, entered, inherited, names_of, rows_at}
+use Rattle.clap.proofs.OnLiterals.{clap_on_literals}
+use Rattle.wt_line.specs.App.{create_app, read_app, top_app, write_app, wt_app}
+use Rattle.wt_line.specs.Line.{as_command, command_of, create, matched_command, pairs_of, read, where_none, write}
+use Rattle.wt_line.specs.Plain.{IsPlain, ArePlain, EachWord}
+use Rattle.wt_line.proofs.WalkedWords.{Enters, Leads, TakesItems, all_pass, at_items, end_fault, entered_below, fault_below, in_range, level_passes, unfaulted_to_items, walked_to_items}
+
+-- ---- from a subcommand to the command
+
+no_name : (words : List Text) → argument_words wt_app words ≡ words
+unfolding wt_app
+no_name words = refl
+
+entered_by : (name : Text) (s : Shape) (words : List Text) → Enters (built wt_app) name s
+    → level_fault s [] nothing_held words false [] ≡ []
+    → matched_command (name ∷ words) ≡ as_command (rows_at s words)
+unfolding matched_command
+entered_by name s words enters passes =
+    ap₂ (λ (ks : Kinds) (o : Option (Text × List Row)). where_none ks (option_and_then as_command o))
+    (ap (built_fault (built wt_app) nothing_held) (no_name (name ∷ words)) ∙ fault_below (built wt_app) name s words enters ∙ passes)
+    (ap (λ (ws : List Text). entered (built wt_app) (stop_after (built wt_app).top.rules (names_of (built wt_app)) ws)) (no_name (name ∷ words))
+    ∙ entered_below (built wt_app) name s words enters)
+
+-- a subcommand whose words end in items
+items_read : (name : Text) (s : Shape) (trails : Bool) (P : Text → Type 0) (lead : List Text) (rows : List Row) (first : Text) (rest : List Text)
+    → Enters (built wt_app) name s → Leads s trails lead rows first → TakesItems s trails P → EachWord P rest
+    → end_fault s (at_items trails rows (first ∷ rest)).held ≡ []
+    → matched_command (name ∷ lead ++ rest) ≡ as_command (s.name, finished s.rules (at_items trails rows (first ∷ rest)).held)
+items_read name s trails P lead rows first rest enters leads takes fit ends =
+    let walks = walked_to_items s trails P lead rows first rest leads takes fit in
+    entered_by name s (lead ++ rest) enters
+    (level_passes s (lead ++ rest) (at_items trails rows (first ∷ rest)) walks (unfaulted_to_items s trails P lead rows first rest leads takes fit) ends)
+    ∙ ap (λ w. as_command (s.name, finished s.rules w.held)) walks
+
+-- any word
+abbrev IsWord : Text → Type 0
+IsWord word = Unit {0}
+
+are_words : (words : List Text) → EachWord IsWord words
+are_words [] = tt
+are_words (w ∷ ws) = (tt, are_words ws)
+
+-- the row of the table
+abbrev table_rows : Shape → List Row → Text → List Row
+table_rows s rows uri = settled_rows s.rules (Some (codes "uri", uri ∷ [])) rows
+
+-- ---- read
+
+abbrev read_shape : Shape
+read_shape = built_leaf (inherited top_app.top read_app.top)
+
+read_enters : Enters (built wt_app) (codes "read") read_shape
+unfolding wt_app clap_on_literals
+read_enters = record {
+  met = refl;
+  unfaulted = refl;
+  found = refl;
+  settles = refl;
+  defaults = refl;
+  checks = refl;
+}
+
+read_more : (rows : List Row) (vals : List Text) (word : Text) → IsPlain word
+    → walked read_shape.rules [] (at_items false rows vals) word ≡ at_items false rows (vals ++ word ∷ [])
+unfolding clap_on_literals
+read_more rows vals [] h = refl
+read_more rows vals (x ∷ xs) h = simp h
+
+read_unfaulted : (rows : List Row) (vals : List Text) (word : Text) → IsPlain word
+    → turn_fault read_shape [] (at_items false rows vals) word ≡ []
+unfolding clap_on_literals
+read_unfaulted rows vals [] h = refl
+read_unfaulted rows vals (x ∷ xs) h = simp h
+
+read_takes : TakesItems read_shape false IsPlain
+read_takes = record { more = read_more; unfaulted = read_unfaulted }
+
+read_walks : (uri key : Text) → IsPlain uri → IsPlain key
+    → fold (walked read_shape.rules []) (walk_from nothing_held) (uri ∷ key ∷ []) ≡ at_items false (table_rows read_shape [] uri) (key ∷ [])
+unfolding clap_on_literals
+read_walks [] [] h g = refl
+read_walks [] (x ∷ xs) h g = simp g
+read_walks (x ∷ xs) [] h g = simp h
+read_walks (x ∷ xs) (y ∷ ys) h g = simp (h, g)
+
+read_lead_unfaulted : (uri key : Text) → IsPlain uri → IsPlain key → walk_fault read_shape [] (walk_from nothing_held) (uri ∷ key ∷ []) ≡ []
+unfolding clap_on_literals
+read_lead_unfaulted [] [] h g = refl
+read_lead_unfaulted [] (x ∷ xs) h g = simp g
+read_lead_unfaulted (x ∷ xs) [] h g = simp h
+read_lead_unfaulted (x ∷ xs) (y ∷ ys) h g = simp (h, g)
+
+read_ends : (uri key : Text) (rest : List Text) → length (key ∷ rest) < 18446744073709551616
+    → end_fault read_shape (at_items false (table_rows read_shape [] uri) (key ∷ rest)).held ≡ []
+unfolding clap_on_literals
+read_ends uri key rest fits =
+    let some : 0 < length (key ∷ rest) = omega arith in
+    ap (λ (ks : Kinds). or_else ks []) (ap₂ or_else (in_range (length (key ∷ rest)) some fits) (all_pass rest))
+
+pub read_plain : (uri key : Text) (rest : List Text) → ArePlain (uri ∷ key ∷ rest) → length (key ∷ rest) < 18446744073709551616
+    → command_of (codes "read" ∷ uri ∷ key ∷ rest) ≡ Some (read uri (key ∷ rest))
+read_plain uri key rest plain fits =
+    items_read (codes "read") read_shape false IsPlain (uri ∷ key ∷ []) (table_rows read_shape [] uri) key rest read_enters
+    (record { walks = read_walks uri key plain.0 plain.1.0; unfaulted = read_lead_unfaulted uri key plain.0 plain.1.0 })
+    read_takes plain.1.1 (read_ends uri key rest fits)
+    ∙ refl
+
+-- behind `--` any word is one item more
+
+read_trails : TakesItems read_shape true IsWord
+unfolding walked clap_on_literals
+read_trails = record {
+  more = λ rows vals word h. refl;
+  unfaulted = λ rows vals word h. refl;
+}
+
+read_behind_walks : (uri key : Text) → IsPlain uri
+    → fold (walked read_shape.rules []) (walk_from nothing_held) (uri ∷ codes "--" ∷ key ∷ []) ≡ at_items true (table_rows read_shape [] uri) (key ∷ [])
+unfolding clap_on_literals
+read_behind_walks [] key h = refl
+read_behind_walks (x ∷ xs) key h = simp h
+
+read_behind_unfaulted : (uri key : Text) → IsPlain uri → walk_fault read_shape [] (walk_from nothing_held) (uri ∷ codes "--" ∷ key ∷ []) ≡ []
+unfolding clap_on_literals
+read_behind_unfaulted [] key h = refl
+read_behind_unfaulted (x ∷ xs) key h = simp h
+
+pub read_behind : (uri key : Text) (rest : List Text) → IsPlain uri → length (key ∷ rest) < 18446744073709551616
+    → command_of (codes "read" ∷ uri ∷ codes "--" ∷ key ∷ rest) ≡ Some (read uri (key ∷ rest))
+read_behind uri key rest plain fits =
+    items_read (codes "read") read_shape true IsWord (uri ∷ codes "--" ∷ key ∷ []) (table_rows read_shape [] uri) key rest read_enters
+    (record { walks = read_behind_walks uri key plain; unfaulted = read_behind_unfaulted uri key plain }) read_trails (are_words rest) (read_ends uri key rest fits)
+    ∙ refl
+
+-- ---- write
+
+abbrev write_shape : Shape
+write_shape = built_leaf (inherited top_app.top write_app.top)
+
+write_enters : Enters (built wt_app) (codes "write") write_shape
+unfolding wt_app clap_on_literals
+write_enters = record {
+  met = refl;
+  unfaulted = refl;
+  found = refl;
+  settles = refl;
+  defaults = refl;
+  checks = refl;
+}
+
+write_more : (rows : List Row) (vals : List Text) (word : Text) → IsPlain word
+    → walked write_shape.rules [] (at_items false rows vals) word ≡ at_items false rows (vals ++ word ∷ [])
+unfolding clap_on_literals
+write_more rows vals [] h = refl
+write_more rows vals (x ∷ xs) h = simp h
+
+write_unfaulted : (rows : List Row) (vals : List Text) (word : Text) → IsPlain word
+    → turn_fault write_shape [] (at_items false rows vals) word ≡ []
+unfolding clap_on_literals
+write_unfaulted rows vals [] h = refl
+write_unfaulted rows vals (x ∷ xs) h = simp h
+
+write_takes : TakesItems write_shape false IsPlain
+write_takes = record { more = write_more; unfaulted = write_unfaulted }
+
+write_walks : (uri key : Text) → IsPlain uri → IsPlain key
+    → fold (walked write_shape.rules []) (walk_from nothing_held) (uri ∷ key ∷ []) ≡ at_items false (table_rows write_shape [] uri) (key ∷ [])
+unfolding clap_on_literals
+write_walks [] [] h g = refl
+write_walks [] (x ∷ xs) h g = simp g
+write_walks (x ∷ xs) [] h g = simp h
+write_walks (x ∷ xs) (y ∷ ys) h g = simp (h, g)
+
+write_lead_unfaulted : (uri key : Text) → IsPlain uri → IsPlain key → walk_fault write_shape [] (walk_from nothing_held) (uri ∷ key ∷ []) ≡ []
+unfolding clap_on_literals
+write_lead_unfaulted [] [] h g = refl
+write_lead_unfaulted [] (x ∷ xs) h g = simp g
+write_lead_unfaulted (x ∷ xs) [] h g = simp h
+write_lead_unfaulted (x ∷ xs) (y ∷ ys) h g = simp (h, g)
+
+write_ends : (uri key : Text) (rest : List Text) → length (key ∷ rest) < 18446744073709551616
+    → end_fault write_shape (at_items false (table_rows write_shape [] uri) (key ∷ rest)).held ≡ []
+unfolding clap_on_literals
+write_ends uri key rest fits =
+    let some : 0 < length (key ∷ rest) = omega arith in
+    ap (λ (ks : Kinds). or_else ks []) (ap₂ or_else (in_range (length (key ∷ rest)) some fits) (all_pass rest))
+
+pub write_plain : (uri key : Text) (rest : List Text) → ArePlain (uri ∷ key ∷ rest) → length (key ∷ rest) < 18446744073709551616
+    → command_of (codes "write" ∷ uri ∷ key ∷ rest) ≡ option_map (write false uri) (pairs_of (key ∷ rest))
+write_plain uri key rest plain fits =
+    items_read (codes "write") write_shape false IsPlain (uri ∷ key ∷ []) (table_rows write_shape [] uri) key rest write_enters
+    (record { walks = write_walks uri key plain.0 plain.1.0; unfaulted = write_lead_unfaulted uri key plain.0 plain.1.0 })
+    write_takes plain.1.1 (write_ends uri key rest fits)
+    ∙ refl
+
+-- behind `--` any word is one item more
+
+write_trails : TakesItems write_shape true IsWord
+unfolding walked clap_on_literals
+write_trails = record {
+  more = λ rows vals word h. refl;
+  unfaulted = λ rows vals word h. refl;
+}
+
+write_behind_walks : (uri key : Text) → IsPlain uri
+    → fold (walked write_shape.rules []) (walk_from nothing_held) (uri ∷ codes "--" ∷ key ∷ []) ≡ at_items true (table_rows write_shape [] uri) (key ∷ [])
+unfolding clap_on_literals
+write_behind_walks [] key h = refl
+write_behind_walks (x ∷ xs) key h = simp h
+
+write_behind_unfaulted : (uri key : Text) → IsPlain uri → walk_fault write_shape [] (walk_from nothing_held) (uri ∷ codes "--" ∷ key ∷ []) ≡ []
+unfolding clap_on_literals
+write_behind_unfaulted [] key h = refl
+write_behind_unfaulted (x ∷ xs) key h = simp h
+
+pub write_behind : (uri key : Text) (rest : List Text) → IsPlain uri → length (key ∷ rest) < 18446744073709551616
+    → command_of (codes "write" ∷ uri ∷ codes "--" ∷ key ∷ rest) ≡ option_map (write false uri) (pairs_of (key ∷ rest))
+write_behind uri key rest plain fits =
+    items_read (codes "write") write_shape true IsWord (uri ∷ codes "--" ∷ key ∷ []) (table_rows write_shape [] uri) key rest write_enters
+    (record { walks = write_behind_walks uri key plain; unfaulted = write_behind_unfaulted uri key plain }) write_trails (are_words rest) (write_ends uri key rest fits)
+    ∙ refl
+
+-- ---- write -o
+
+-- the row of the flag
+abbrev flag_rows : List Row
+flag_rows = settled_rows write_shape.rules (Some (codes "overwrite", [])) []
+
+flag_walks : (uri key : Text) → IsPlain uri → IsPlain key
+    → fold (walked write_shape.rules []) (walk_from nothing_held) (codes "-o" ∷ uri ∷ key ∷ []) ≡ at_items false (table_rows write_shape flag_rows uri) (key ∷ [])
+unfolding clap_on_literals
+flag_walks [] [] h g = refl
+flag_walks [] (x ∷ xs) h g = simp g
+flag_walks (x ∷ xs) [] h g = simp h
+flag_walks (x ∷ xs) (y ∷ ys) h g = simp (h, g)
+
+flag_lead_unfaulted : (uri key : Text) → IsPlain uri → IsPlain key → walk_fault write_shape [] (walk_from nothing_held) (codes "-o" ∷ uri ∷ key ∷ []) ≡ []
+unfolding clap_on_literals
+flag_lead_unfaulted [] [] h g = refl
+flag_lead_unfaulted [] (x ∷ xs) h g = simp g
+flag_lead_unfaulted (x ∷ xs) [] h g = simp h
+flag_lead_unfaulted (x ∷ xs) (y ∷ ys) h g = simp (h, g)
+
+flag_ends : (uri key : Text) (rest : List Text) → length (key ∷ rest) < 18446744073709551616
+    → end_fault write_shape (at_items false (table_rows write_shape flag_rows uri) (key ∷ rest)).held ≡ []
+unfolding clap_on_literals
+flag_ends uri key rest fits =
+    let some : 0 < length (key ∷ rest) = omega arith in
+    ap (λ (ks : Kinds). or_else ks []) (ap₂ or_else (in_range (length (key ∷ rest)) some fits) (all_pass rest))
+
+pub overwrite_plain : (uri key : Text) (rest : List Text) → ArePlain (uri ∷ key ∷ rest) → length (key ∷ rest) < 18446744073709551616
+    → command_of (codes "write" ∷ codes "-o" ∷ uri ∷ key ∷ rest) ≡ option_map (write true uri) (pairs_of (key ∷ rest))
+overwrite_plain uri key rest plain fits =
+    items_read (codes "write") write_shape false IsPlain (codes "-o" ∷ uri ∷ key ∷ []) (table_rows write_shape flag_rows uri) key rest write_enters
+    (record { walks = flag_walks uri key plain.0 plain.1.0; unfaulted = flag_lead_unfaulted uri key plain.0 plain.1.0 })
+    write_takes plain.1.1 (flag_ends uri key rest fits)
+    ∙ refl
+
+-- ---- create
+
+abbrev create_shape : Shape
+create_shape = built_leaf (inherited top_app.top create_app.top)
+
+create_enters : Enters (built wt_app) (codes "create") create_shape
+unfolding wt_app clap_on_literals
+create_enters = record {
+  met = refl;
+  unfaulted = refl;
+  found = refl;
+  settles = refl;
+  defaults = refl;
+  checks = refl;
+}
+
+create_passes : (uri : Text) → IsPlain uri → level_fault create_shape [] nothing_held (uri ∷ []) false [] ≡ []
+unfolding clap_on_literals
+create_passes [] h = refl
+create_passes (x ∷ xs) h = simp h
+
+create_read : (uri : Text) → IsPlain uri → as_command (rows_at create_shape (uri ∷ [])) ≡ Some (create None uri)
+unfolding clap_on_literals
+create_read [] h = refl
+create_read (x ∷ xs) h = simp h
+
+pub create_plain : (uri : Text) → IsPlain uri → command_of (codes "create" ∷ uri ∷ []) ≡ Some (create None uri)
+create_plain uri plain =
+    entered_by (codes "create") create_shape (uri ∷ []) create_enters (create_passes uri plain) ∙ create_read uri plain
+
+configured_passes : (config uri : Text) → IsPlain config → IsPlain uri
+    → level_fault create_shape [] nothing_held (codes "-c" ∷ config ∷ uri ∷ []) false [] ≡ []
+unfolding clap_on_literals
+configured_passes [] [] h g = refl
+configured_passes [] (y ∷ ys) h g = simp g
+configured_passes (x ∷ xs) [] h g = simp h
+configured_passes (x ∷ xs) (y ∷ ys) h g = simp (h, g)
+
+configured_read : (config uri : Text) → IsPlain config → IsPlain uri
+    → as_command (rows_at create_shape (codes "-c" ∷ config ∷ uri ∷ [])) ≡ Some (create (Some config) uri)
+unfolding clap_on_literals
+configured_read [] [] h g = refl
+configured_read [] (y ∷ ys) h g = simp g
+configured_read (x ∷ xs) [] h g = simp h
+configured_read (x ∷ xs) (y ∷ ys) h g = simp (h, g)
+
+pub create_configured : (config uri : Text) → IsPlain config → IsPlain uri
+    → command_of (codes "create" ∷ codes "-c" ∷ config ∷ uri ∷ []) ≡ Some (create (Some config) uri)
+create_configured config uri h g =
+    entered_by (codes "create") create_shape (codes "-c" ∷ config ∷ uri ∷ []) create_enters (configured_passes config uri h g)
+    ∙ configured_read config uri h g
+
+behind_passes : (uri : Text) → level_fault create_shape [] nothing_held (codes "--" ∷ uri ∷ []) false [] ≡ []
+unfolding clap_on_literals
+behind_passes uri = refl
+
+behind_read : (uri : Text) → as_command (rows_at create_shape (codes "--" ∷ uri ∷ [])) ≡ Some (create None uri)
+unfolding clap_on_literals
+behind_read uri = refl
+
+pub create_behind : (uri : Text) → command_of (codes "create" ∷ codes "--" ∷ uri ∷ []) ≡ Some (create None uri)
+create_behind uri =
+    entered_by (codes "create") create_shape (codes "--" ∷ uri ∷ []) create_enters (behind_passes uri) ∙ behind_read uri

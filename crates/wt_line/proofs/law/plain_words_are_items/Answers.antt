@@ -1,0 +1,17 @@
+use Rattle.wt_line.proofs.PlainWords.{create_plain, create_configured, overwrite_plain, read_plain, write_plain}
+use Rattle.wt_line.proofs.law.plain_words_are_items.Goals as goal
+
+pub returns-clause-create : goal.returns-clause-create
+returns-clause-create c = create_plain
+
+pub returns-clause-configured : goal.returns-clause-configured
+returns-clause-configured c = create_configured
+
+pub returns-clause-write : goal.returns-clause-write
+returns-clause-write c = write_plain
+
+pub returns-clause-overwrite : goal.returns-clause-overwrite
+returns-clause-overwrite c = overwrite_plain
+
+pub returns-clause-read : goal.returns-clause-read
+returns-clause-read c = read_plain

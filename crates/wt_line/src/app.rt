@@ -1,0 +1,78 @@
+// What `clap` is told of the commands.
+ghost use Rattle.std.specs.Prelude.{◌≡◌, IfOk, codes, false};
+ghost use Rattle.clap.specs.Words.{app_of, rule_of};
+ghost use Rattle.clap.specs.declared.builder.command.Command.TheViews.{out-Command};
+ghost use Rattle.wt_line.specs.App.{create_app, read_app, top_app, write_app, wt_app, config_rule, overwrite_rule, items_rule, uri_rule};
+
+use clap::{Arg, ArgAction, Command};
+use std::alloc::{AllocError, Global};
+
+// The program: one of the commands.
+pub(crate) fn app<'a>(alloc: Global) -> Result<Command<'a>, AllocError>
+    ensures { IfOk result (λ c. app_of c ≡ wt_app) }
+{
+    let create = create(alloc)?;
+    let write = write(alloc)?;
+    let read = read(alloc)?;
+    top(alloc)
+        .subcommand(create)?
+        .subcommand(write)?
+        .subcommand(read)
+}
+
+fn top<'a>(alloc: Global) -> Command<'a>
+    ensures { app_of result ≡ top_app }
+{
+    Command::new(alloc, "wt")
+        .no_binary_name(true)
+        .subcommand_required(true)
+}
+
+// The table that a command speaks of.
+fn uri<'a>(alloc: Global) -> Arg<'a>
+    ensures rule { rule_of result ≡ uri_rule }
+    ensures local { result.global ≡ false }
+{
+    Arg::new(alloc, "uri").required(true)
+}
+
+// The words behind the table: one or more.
+fn items<'a>(alloc: Global) -> Arg<'a>
+    ensures rule { rule_of result ≡ items_rule }
+    ensures local { result.global ≡ false }
+{
+    Arg::new(alloc, "items").required(true).num_args(1..)
+}
+
+// create [-c config] uri
+fn create<'a>(alloc: Global) -> Result<Command<'a>, AllocError>
+    ensures app { IfOk result (λ c. app_of c ≡ create_app) }
+    ensures local { IfOk result (λ c. (out-Command c).has_globals ≡ false) }
+{
+    let config = Arg::new(alloc, "config").short('c');
+    Command::new(alloc, "create").arg(config)?.arg(uri(alloc))
+}
+
+// write [-o] uri key value ..
+fn write<'a>(alloc: Global) -> Result<Command<'a>, AllocError>
+    ensures app { IfOk result (λ c. app_of c ≡ write_app) }
+    ensures local { IfOk result (λ c. (out-Command c).has_globals ≡ false) }
+{
+    let overwrite = Arg::new(alloc, "overwrite")
+        .short('o')
+        .action(ArgAction::SetTrue);
+    Command::new(alloc, "write")
+        .arg(overwrite)?
+        .arg(uri(alloc))?
+        .arg(items(alloc))
+}
+
+// read uri key ..
+fn read<'a>(alloc: Global) -> Result<Command<'a>, AllocError>
+    ensures app { IfOk result (λ c. app_of c ≡ read_app) }
+    ensures local { IfOk result (λ c. (out-Command c).has_globals ≡ false) }
+{
+    Command::new(alloc, "read")
+        .arg(uri(alloc))?
+        .arg(items(alloc))
+}
