@@ -1,0 +1,4 @@
+pub mod IdLemmas
+pub mod TableLemmas
+pub mod LookLemmas
+pub mod Standing
