@@ -1,14 +1,15 @@
 -- A table that stands for the sessions of a machine goes on to stand for them, over its calls and over all other events.
-use Rattle.std.specs.Prelude.{◌≡◌, ◌⊎◌, ◌<◌, ℕ, true, false, length, Option, Some}
+use Rattle.std.specs.Prelude.{◌≡◌, ◌⊎◌, ◌<◌, ℕ, true, false, length, Option, Some, option_map}
 use Rattle.stamp.specs.declared.Name.{Name}
-use Rattle.kv_model.specs.Machine.{Machine, Event, OpenSession, BeginAt, DrawId, AcceptWrite, RefuseWrite, PrepareAt, CommitAt, StartLeaving, EndTransaction, PlaceCursor, CreateTable, SetStamps, RollbackToStable, CheckpointStart, CheckpointFinish, CheckpointDrop, GoDown, Nothing, after}
+use Rattle.kv_model.specs.Machine.{Machine, Checkpoint, Event, OpenSession, BeginAt, DrawId, AcceptWrite, RefuseWrite, PrepareAt, CommitAt, StartLeaving, EndTransaction, PlaceCursor, CreateTable, SetStamps, RollbackToStable, CheckpointStart, CheckpointFinish, CheckpointDrop, GoDown, Nothing, after}
 use Rattle.kv_model.specs.Allowed.{Allowed}
 use Rattle.kv_model.specs.Valid.{Valid}
+use Rattle.kv_model.specs.Droppable.{pin}
 use Rattle.snapshot.specs.Sight.{Sight, is_seen}
 use Rattle.txn_table.specs.declared.kept.Kept.{Kept}
 use Rattle.txn_table.specs.declared.phase.Phase.TheVariants.{Idle, Running, Failed, Prepared, Resolving, Leaving}
 use Rattle.txn_table.specs.Seated.{is_idle}
-use Rattle.txn_table.specs.Tabled.{Table, seat_of, phase_of, one_more, begun, drawn, registered, in_phase, released_in, ended}
+use Rattle.txn_table.specs.Tabled.{Table, seat_of, phase_of, one_more, begun, drawn, registered, in_phase, released_in, ended, floor_of, pin_of}
 use Rattle.txn_table.specs.Stands.{TableStands}
 
 -- an event that changes no session's phase, id, snapshot or read stamp
@@ -44,7 +45,19 @@ pub record CallsStand (t : Table) (m : Machine) : Type 0 where
 abbrev pub CallsGoOn : Type 0
 CallsGoOn = (t : Table) (m : Machine) → Valid m → TableStands t m → CallsStand t m
 
--- an active snapshot sees each name below the floor; so does the checkpoint's, where it is of this run
-pub record FloorIsSeen (t : Table) (checkpoint : Option Sight) (x : Name) : Type 0 where
+-- a name that is below another
+abbrev pub IsUnder : Name → Name → Type 0
+IsUnder x floor = (x.run < floor.run) ⊎ ((x.run ≡ floor.run) × (x.id < floor.id))
+
+-- the snapshot of each session that has a transaction sees the name; so does the checkpoint's
+pub record IsSeenByAll (t : Table) (checkpoint : Option Sight) (x : Name) : Type 0 where
   pub sessions : (s : ℕ) → is_idle (phase_of t s) ≡ false → is_seen (seat_of t s).sight x ≡ true
   pub checkpoints : (c : Sight) → checkpoint ≡ Some c → c.run ≡ t.run → is_seen c x ≡ true
+
+-- each name below the floor is seen by all
+abbrev pub FloorsAreSeen : Type 0
+FloorsAreSeen = (t : Table) (m : Machine) (checkpoint : Option Sight) (x : Name) → TableStands t m → IsUnder x (floor_of t checkpoint) → IsSeenByAll t checkpoint x
+
+-- the pin stamp is the machine's
+abbrev pub PinsAreTheMachines : Type 0
+PinsAreTheMachines = (t : Table) (m : Machine) → TableStands t m → pin_of t m.oldest (option_map (λ (c : Checkpoint). c.oldest) m.checkpoint) ≡ pin m
