@@ -1,0 +1,30 @@
+//! Snapshots: which transactions a reader sees, by the ids that were running when it began.
+//!
+//! A snapshot stands for the first entries of a history: of the names that matter it sees those
+//! that were released in them (`sights_see_first`), and goes on to do so at every event
+//! (`sights_go_on`). A name matters where it was released or is of a transaction that has not
+//! ended. Promises the rule of run, `min`, `max` and list exactly, and takes memory for its list
+//! only when it is made. Leaves to the caller which ids are running.
+#![tactic(auto)]
+
+ghost use Rattle.snapshot.specs.SightLaws.{SightsSeeFirst, SightsGoOn};
+
+mod sight;
+mod snapshot;
+#[cfg(test)]
+mod tests;
+
+pub use failure::NoMemory;
+pub use sight::is_seen;
+pub use snapshot::Snapshot;
+
+/// A snapshot that is taken of a machine, with its running ids, sees of the names that matter
+/// those that were released.
+pub fn sights_see_first()
+    ensures { SightsSeeFirst }
+{}
+
+/// A snapshot goes on to see what it sees, at each event that may come.
+pub fn sights_go_on()
+    ensures { SightsGoOn }
+{}

@@ -1,0 +1,102 @@
+//! The snapshot of a transaction.
+
+ghost use Rattle.std.specs.Prelude.{◌≡◌, ◌≤◌, IfOk, length, []};
+ghost use Rattle.snapshot.specs.Sight.{Ascends, is_seen, sight_at, sight_of};
+
+use crate::sight::is_seen_among;
+use failure::NoMemory;
+use stamp::{Name, View};
+use std::alloc::Global;
+use std::marker::Model;
+
+/// Which transactions a reader sees: those of earlier runs, and of its own run those whose id was
+/// drawn and not running when the snapshot was taken.
+#[derive(Drop)]
+pub struct Snapshot {
+    run: u64,
+    min: u64,
+    max: u64,
+    // Ascending, from `min` on and below `max`.
+    list: Vec<u64>,
+}
+
+impl Model for Snapshot {
+    ghost use Rattle.std.specs.Prelude.{vec_capacity, vec_len};
+    ghost use Rattle.snapshot.specs.Sight.{Kept, Ascends};
+
+    ghost Value = { Kept };
+
+    ghost view = { λ s.
+        record {
+          sight = record { run = s.run; min = s.min; max = s.max; list = s.list.items };
+          room = vec_capacity s.list;
+        } };
+
+    ghost invariant = { λ s. Ascends s.min s.list.items s.max };
+}
+
+impl Snapshot {
+    /// A snapshot that sees nothing but earlier runs than `run`, with room for this many running
+    /// ids. One allocation.
+    pub fn new(alloc: Global, run: u64, room: usize) -> Result<Snapshot, NoMemory>
+        ensures sight { IfOk result (λ s. s.sight ≡ sight_at run 0 []) }
+        ensures room { IfOk result (λ s. room ≤ s.room) }
+    {
+        Ok(Snapshot {
+            run,
+            min: 0,
+            max: 0,
+            list: Vec::with_capacity(alloc, room)?,
+        })
+    }
+
+    /// Takes the snapshot anew: in this run, with its next id and the ids that are running, which
+    /// ascend. Takes no memory. One copy of the ids.
+    pub fn fill(&mut self, run: u64, next: u64, running: &[u64])
+        requires ascending { Ascends 1 running.now next }
+        requires room { length running.now ≤ self.old.room }
+        ensures sight { self.new.sight ≡ sight_at run next running.now }
+        ensures room { self.old.room ≤ self.new.room }
+    {
+        self.run = run;
+        self.min = match running.first() {
+            None => next,
+            Some(least) => *least,
+        };
+        self.max = next;
+        self.list.clear();
+        let _copied = self.list.extend_from_slice(running);
+    }
+
+    /// Whether it sees this name. `O(log n)` in the ids that were running.
+    pub fn sees(&self, name: Name) -> bool
+        ensures { result ≡ is_seen self.now.sight name }
+    {
+        is_seen_among(self.run, self.min, self.max, self.list.as_slice(), name)
+    }
+
+    /// Lends it to a look-up, with the reader's own id and its read stamp, 0 for none of either.
+    pub fn view(&self, own: u64, read: u64) -> View<'_>
+        ensures sight { sight_of result ≡ self.now.sight }
+        ensures own { result.own ≡ own }
+        ensures read { result.read ≡ read }
+        ensures ascending { Ascends 0 result.list.now result.max }
+    {
+        View {
+            run: self.run,
+            own,
+            min: self.min,
+            max: self.max,
+            list: self.list.as_slice(),
+            read,
+        }
+    }
+
+    /// The id below which it sees every name of its run: the least id that was running, or the
+    /// next one where none was.
+    pub fn min(&self) -> u64
+        ensures { result ≡ self.now.sight.min }
+    {
+        self.min
+    }
+}

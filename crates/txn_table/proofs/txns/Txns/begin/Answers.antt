@@ -1,0 +1,10 @@
+use Rattle.std.proofs.Common.{ap}
+use Rattle.txn_table.specs.Seated.{is_unreleased, runs}
+use Rattle.txn_table.proofs.TableLemmas.{call-rests, few-run}
+use Rattle.txn_table.proofs.txns.Txns.begin.Goals as goal
+
+pub begin-requires-clause-few : goal.begin-requires-clause-few
+begin-requires-clause-few c = rw c.deref.ensures.value (few-run _ c.self.invariant)
+
+pub invariant_of-self : goal.invariant_of-self
+invariant_of-self c = call-rests _ c.args.self.now c.args.session c.begin.new.self c.self.view_is c.self.invariant c.requires.open (ap is_unreleased c.requires.idle) (ap runs c.begin.ensures)

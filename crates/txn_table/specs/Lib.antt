@@ -1,0 +1,4 @@
+pub mod Seated
+pub mod Tabled
+pub mod Stands
+pub mod TableLaws

@@ -1,0 +1,44 @@
+-- What the table keeps of one session.
+use Rattle.std.specs.Prelude.{ℕ, Bool, true, false, ◌&&◌, nat_lt, List, []}
+use Rattle.kv_model.specs.Machine.{Phase as ModelPhase, Running as ModelRunning, Failed as ModelFailed, Prepared as ModelPrepared, Resolving as ModelResolving, Leaving as ModelLeaving}
+use Rattle.std.specs.Prelude.{Option, Some, None}
+use Rattle.snapshot.specs.Sight.{Sight, sight_at}
+use Rattle.txn_table.specs.declared.kept.Kept.{Kept}
+use Rattle.txn_table.specs.declared.phase.Phase.{Phase}
+use Rattle.txn_table.specs.declared.phase.Phase.TheVariants.{Idle, Running, Failed, Prepared, Resolving, Leaving}
+
+-- id is 0 until the first write, read is 0 for none
+pub record Seated : Type 0 where
+  pub phase : Phase
+  pub id : ℕ
+  pub read : ℕ
+  pub sight : Sight
+  pub kept : List Kept
+
+-- a session that was opened in this run and has not begun
+abbrev pub opened : ℕ → Seated
+opened run = record { phase = Idle; id = 0; read = 0; sight = sight_at run 0 []; kept = [] }
+
+abbrev pub is_idle : Phase → Bool
+is_idle Idle = true
+is_idle _ = false
+
+-- in the phases before a transaction is released
+abbrev pub is_unreleased : Phase → Bool
+is_unreleased Running = true
+is_unreleased Failed = true
+is_unreleased Leaving = true
+is_unreleased _ = false
+
+-- its id is among the running ones
+abbrev pub runs : Seated → Bool
+runs s = is_unreleased s.phase && nat_lt 0 s.id
+
+-- the model's phase; None: no transaction
+abbrev pub phase_in : Phase → Option ModelPhase
+phase_in Idle = None
+phase_in Running = Some ModelRunning
+phase_in Failed = Some ModelFailed
+phase_in (Prepared stamp) = Some (ModelPrepared stamp)
+phase_in Resolving = Some ModelResolving
+phase_in Leaving = Some ModelLeaving

@@ -1,0 +1,105 @@
+-- What the table keeps, and what each call makes of it.
+use Rattle.std.specs.Prelude.{◌≡◌, ℕ, ◌+◌, ◌<◌, ◌≤◌, ◌==◌, true, not, min, List, [], ◌∷◌, ◌++◌, length, filter, fold, Option, Some, None, option_map, if◌then◌else◌, slice_index_or, slice_set}
+use Rattle.std.specs.List.{filter_map, sum_by}
+use Rattle.stamp.specs.declared.Name.{Name}
+use Rattle.snapshot.specs.Sight.{Sight, Kept as SnapshotKept, Ascends, is_listed, sight_at}
+use Rattle.txn_table.specs.declared.kept.Kept.{Kept}
+use Rattle.txn_table.specs.declared.phase.Phase.{Phase}
+use Rattle.txn_table.specs.declared.phase.Phase.TheVariants.{Idle, Running}
+use Rattle.txn_table.specs.Seated.{Seated, opened, is_idle, is_unreleased, runs}
+
+-- running: the ids that are drawn and not released
+pub record Table : Type 0 where
+  pub run : ℕ
+  pub next : ℕ
+  pub running : List ℕ
+  -- by session
+  pub seats : List Seated
+
+abbrev pub seat_of : Table → ℕ → Seated
+seat_of t session = slice_index_or t.seats session (opened t.run)
+
+abbrev pub phase_of : Table → ℕ → Phase
+phase_of t session = (seat_of t session).phase
+
+abbrev pub with_seat : Table → ℕ → Seated → Table
+with_seat t session seat = record t { seats = slice_set t.seats session seat }
+
+-- the ids but this one
+abbrev pub without : ℕ → List ℕ → List ℕ
+without id ids = filter (λ other. not (other == id)) ids
+
+-- ---- calls
+
+abbrev pub one_more : Table → Table
+one_more t = record t { seats = t.seats ++ opened t.run ∷ [] }
+
+abbrev pub begun : Table → ℕ → ℕ → Table
+begun t session read = with_seat t session (record { phase = Running; id = 0; read = read; sight = sight_at t.run t.next t.running; kept = [] })
+
+-- with the next id
+abbrev pub drawn : Table → ℕ → Table
+drawn t session = record { run = t.run; next = t.next + 1; running = t.running ++ t.next ∷ []; seats = slice_set t.seats session (record (seat_of t session) { id = t.next }) }
+
+abbrev pub registered : Table → ℕ → Kept → Table
+registered t session k = with_seat t session (record (seat_of t session) { kept = (seat_of t session).kept ++ k ∷ [] })
+
+abbrev pub in_phase : Table → ℕ → Phase → Table
+in_phase t session phase = with_seat t session (record (seat_of t session) { phase = phase })
+
+-- in another phase, and its id no longer running
+abbrev pub released_in : Table → ℕ → Phase → Table
+released_in t session phase = record (in_phase t session phase) { running = without (seat_of t session).id t.running }
+
+-- a transaction that leaves was not released; one that is resolving was
+abbrev pub ended : Table → ℕ → Table
+ended t session = if is_unreleased (phase_of t session) then released_in t session Idle else in_phase t session Idle
+
+-- ---- looks
+
+-- the lowest session with a transaction
+abbrev pub first_active : ℕ → List Seated → Option ℕ
+first_active at [] = None
+first_active at (s ∷ later) = if is_idle s.phase then first_active (at + 1) later else Some at
+
+abbrev pub read_of : Seated → Option ℕ
+read_of s = if is_idle s.phase then None else (if s.read == 0 then None else Some s.read)
+
+abbrev pub min_of : Seated → Option ℕ
+min_of s = if is_idle s.phase then None else Some s.sight.min
+
+-- the lower of two, or the one that is there
+abbrev pub lower_of : ℕ → Option ℕ → ℕ
+lower_of value None = value
+lower_of value (Some other) = min value other
+
+abbrev pub sight_in : Option SnapshotKept → Option Sight
+sight_in None = None
+sight_in (Some k) = Some k.sight
+
+-- the least of oldest, of the oldest that a checkpoint recorded, and of the active read stamps
+abbrev pub pin_of : Table → ℕ → Option ℕ → ℕ
+pin_of t oldest recorded = fold min (lower_of oldest recorded) (filter_map read_of t.seats)
+
+-- the least min of the active snapshots and of the checkpoint's, or the next id
+abbrev pub floor_of : Table → Option Sight → Name
+floor_of t checkpoint = record { run = t.run; id = fold min (lower_of t.next (option_map (λ (s : Sight). s.min) checkpoint)) (filter_map min_of t.seats) }
+
+-- ---- what holds of every table
+
+pub record IsTable (t : Table) : Type 0 where
+  pub ascending : Ascends 1 t.running t.next
+  -- whose id is running
+  pub listed : (s : ℕ) → runs (seat_of t s) ≡ true → is_listed t.running (seat_of t s).id ≡ true
+  pub each : (id : ℕ) → is_listed t.running id ≡ true → (s : ℕ) × (s < length t.seats) × (runs (seat_of t s) ≡ true) × ((seat_of t s).id ≡ id)
+  -- no two have one running id
+  pub distinct : (s r : ℕ) → runs (seat_of t s) ≡ true → runs (seat_of t r) ≡ true → (seat_of t s).id ≡ (seat_of t r).id → s ≡ r
+
+abbrev pub weight : Seated → ℕ
+weight s = if runs s then 1 else 0
+
+-- at most one running id for each of at most 64 sessions
+pub record HasRoom (t : Table) : Type 0 where
+  pub table : IsTable t
+  pub few : length t.running ≤ sum_by weight t.seats
+  pub sessions : length t.seats ≤ 64

@@ -1,0 +1,3 @@
+pub mod Updates
+pub mod Looks
+pub mod ChainLaws
