@@ -27,3 +27,4 @@ pub mod PlainStanding
 pub mod Sorting
 pub mod Opening
 pub mod Deciding
+pub mod Closes

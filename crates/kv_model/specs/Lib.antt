@@ -5,7 +5,10 @@ pub mod Machine
 pub mod Droppable
 pub mod Reads
 pub mod Refusals
+pub mod Outside
 pub mod Decisions
+pub mod Closing
+pub mod Rows
 pub mod Content
 pub mod Pending
 pub mod Captures
