@@ -20,6 +20,5 @@ pub mod DroppableLaws
 pub mod MachineLaws
 pub mod StoreLaws
 pub mod CaptureLaws
-pub mod Plain
 pub mod Regular
 pub mod DecisionLaws

@@ -10,7 +10,6 @@ mod captures;
 mod droppable;
 mod lines;
 mod machine;
-pub mod plain;
 mod stores;
 
 pub use agreement::{

@@ -1,0 +1,5 @@
+pub mod PlainLooks
+pub mod PlainStanding
+pub mod Choosing
+pub mod Creating
+pub mod Pinning
