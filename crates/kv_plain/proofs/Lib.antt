@@ -3,3 +3,4 @@ pub mod PlainStanding
 pub mod Choosing
 pub mod Creating
 pub mod Pinning
+pub mod Changing

@@ -6,3 +6,4 @@ pub mod Outcome
 pub mod Checks
 pub mod Decisions
 pub mod Covers
+pub mod After

@@ -1,11 +1,11 @@
 //! What can happen to the machine.
 
 use crate::history::Table;
-use crate::machine::{Fault, Position};
+use crate::machine::Fault;
 use crate::outcome::Outcome;
 use item::{Change, Item};
 
-/// What can happen. A session's number comes first.
+/// What can happen, but for the moves of cursors. A session's number comes first.
 #[derive(Drop)]
 pub enum Event {
     OpenSession,
@@ -20,8 +20,6 @@ pub enum Event {
     Commit(usize, u64, u64),
     StartLeaving(usize),
     EndTransaction(usize),
-    /// The cursor of this number; none: it is not positioned.
-    PlaceCursor(usize, usize, Option<Position>),
     CreateTable(Table),
     /// Oldest and stable, 0 for none.
     SetStamps(u64, u64),

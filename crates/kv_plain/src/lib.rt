@@ -1,11 +1,12 @@
 //! The definitions of `kv_model` as a plain, slow program over plain data, newest entry first: what
-//! stands, what each read and write answers, what each call decides, and which versions are out of
-//! reach. It promises exactly what the definitions say, and compares with nothing: that a page, a
+//! stands, what each read and write answers, what each call decides, what each event but the move
+//! of a cursor leaves, and which versions are out of reach. It promises exactly what the definitions say, and compares with nothing: that a page, a
 //! chain or an engine answers the same is for the tests of the crates that have them. Where the
 //! model leaves a choice it takes one, and says which. A call that takes memory may always answer
 //! want of it.
 #![tactic(auto)]
 
+mod after;
 mod checks;
 mod covers;
 mod decisions;
@@ -15,8 +16,11 @@ mod looks;
 mod machine;
 mod outcome;
 mod reads;
+#[cfg(test)]
+mod rows;
 mod standing;
 
+pub use after::{apply, can_count, cut};
 pub use checks::{
     Check, Rule, begin_rules, checked, commit_rules, durable_below, first_cause, first_reason,
     invalid, is_name, or_stamp, prepare_rules, refused, resolve_rules, ruled, set_rules, stamp_of,

@@ -102,7 +102,7 @@ fn bound_of(stable: u64) -> Option<u64>
 }
 
 /// The versions of all keys that stand and are durable at the stable stamp, or all that stand
-/// where it is 0.
+/// where it is 0. It may always answer want of memory.
 pub fn standing_at(alloc: Global, history: &[Entry], stable: u64) -> Result<Vec<Placed>, NoMemory>
     ensures { IfOk result (λ r. map placed_in r.items ≡ filter (λ p. is_stable stable p.version) (standing (history_in history.now))) }
 {
@@ -128,6 +128,7 @@ pub fn first_entries(history: &[Entry], n: usize) -> &[Entry]
 }
 
 /// The versions that a checkpoint of the first `n` entries keeps at the stable stamp, 0 for none.
+/// It may always answer want of memory.
 pub fn cut_standing(
     alloc: Global,
     history: &[Entry],
