@@ -1,14 +1,15 @@
 -- The event of each decision may come.
-use Rattle.std.proofs.Common.{◌≡◌, ◌⊎◌, ◌<◌, ◌≤◌, ◌+◌, ℕ, refl, ap, sym, Bool, true, false, ◌&&◌, List, [], ◌∷◌, length, inl, inr, subst, arith, zero, suc, max}
+use Rattle.std.proofs.Common.{◌≡◌, ◌⊎◌, ◌<◌, ◌≤◌, ◌+◌, ℕ, refl, ap, sym, Bool, true, false, ◌&&◌, List, [], ◌∷◌, ◌++◌, length, inl, inr, subst, arith, zero, suc, max}
 use Rattle.std.specs.Prelude.{Option, Some, None, not, nat_lt, nat_le, ◌==◌, bytes_eq, slice_index_or, if◌then◌else◌}
 use Rattle.std.proofs.lemmas.Bool.{cases_Bool, both_ways, eqb-true, lt-ltb, le-leb}
 use Rattle.std.proofs.lemmas.Slice.Eq.{bytes_eq-Decides}
 use Rattle.kv_model.specs.Holds.{Member}
 use Rattle.kv_model.specs.History.{Table, tables, named}
-use Rattle.kv_model.specs.Machine.{Machine, Transaction, Phase, Running, Failed, Prepared, Resolving, Leaving, Fault, Event, OpenSession, BeginAt, DrawId, PrepareAt, CommitAt, StartLeaving, CreateTable, SetStamps, RollbackToStable, CheckpointStart, Nothing, transaction_of, of_some}
+use Rattle.kv_model.specs.Machine.{Machine, Transaction, Phase, Running, Failed, Prepared, Resolving, Leaving, Fault, Event, OpenSession, BeginAt, DrawId, PrepareAt, CommitAt, StartLeaving, CreateTable, SetStamps, RollbackToStable, CheckpointStart, CheckpointFinish, Nothing, transaction_of, of_some}
+use Rattle.kv_model.specs.Outside.{Storing, Stored, NoPlace, ReadFailed, Damaged, WriteFailed}
 use Rattle.kv_model.specs.Allowed.{Allowed, StampsFit, CommitsAt}
-use Rattle.kv_model.specs.Refusals.{Reason, ActiveSession, ResolvingSession, CheckpointRuns, Cause, Limit, Tables, Ids, Rollbacks, Sessions, IsBusy, Invalid, BadName, NoCheckpoint, NoTransaction, InTransaction, Panic, first_of, stamp_of, or_stamp, begin_rules, prepare_rules, commit_rules, resolve_rules, set_rules}
-use Rattle.kv_model.specs.Decisions.{Outcome, Done, Refused, refused, invalid, checked, ruled, with_session, in_state, running_session, first_session, is_resolving, is_there, unless_found, id_drawn, created, same_formats, commit_decision, rollback_decision, Request, OpenCall, BeginCall, PrepareCall, CommitCall, RollbackCall, FindKey, FindToWrite, FindRow, CreateCall, SetCall, RtsCall, StartCall, StepCall, judged, decision, key_checks, write_checks, table_checks, is_name, count_max, tables_max}
+use Rattle.kv_model.specs.Refusals.{Reason, ActiveSession, ResolvingSession, CheckpointRuns, Cause, Limit, Tables, Ids, Checkpoints, Rollbacks, Sessions, IsBusy, Invalid, BadName, CheckpointLeft, NoTransaction, InTransaction, Panic, first_of, stamp_of, or_stamp, begin_rules, prepare_rules, commit_rules, resolve_rules, set_rules}
+use Rattle.kv_model.specs.Decisions.{Outcome, Done, End, Refused, refused, invalid, checked, ruled, with_session, in_state, running_session, first_session, is_resolving, is_there, unless_found, id_drawn, created, same_formats, commit_decision, rollback_decision, Request, OpenCall, BeginCall, PrepareCall, CommitCall, RollbackCall, FindKey, FindToWrite, FindRow, CreateCall, SetCall, RtsCall, StartCall, StepCall, CaptureCall, FinishCall, stored_as, left_or_end, running_checkpoint, judged, decision, key_checks, write_checks, table_checks, is_name, count_max, tables_max}
 use Rattle.kv_model.specs.DecisionLaws.{Suits}
 use Rattle.kv_model.proofs.Newest.{find-none}
 
@@ -63,7 +64,7 @@ lt-false x y e = le (λ l. both_ways (nat_lt x y) e (lt-ltb x y l)) where
   le : (x < y → ⊥) → y ≤ x
   le f = omega (arith, f)
 
-le-false : (x y : ℕ) → nat_le x y ≡ false → y < x
+pub le-false : (x y : ℕ) → nat_le x y ≡ false → y < x
 le-false x y e = lt (λ l. both_ways (nat_le x y) e (le-leb x y l)) where
   lt : (x ≤ y → ⊥) → y < x
   lt f = omega (arith, f)
@@ -149,12 +150,19 @@ nobody-there m e s = by (transaction_of m s) refl where
   by None is = is
   by (Some t) is = let f = none-found (λ t. true) 0 m.sessions e s t is in absurd (cc)
 
-not-there : {A : Type 0} (o : Option A) → is_there o ≡ false → o ≡ None
+pub not-there : {A : Type 0} (o : Option A) → is_there o ≡ false → o ≡ None
 not-there None e = refl
 not-there (Some a) e = absurd (cc)
 
 resolving-is : (p : Phase) → is_resolving p ≡ false → p ≡ Resolving → ⊥
 resolving-is p e is = both_ways (is_resolving p) e (ap is_resolving is)
+
+may-store : (m : Machine) (done : Outcome) (event : Event) (storing : Storing) → Allowed m event → Allowed m (stored_as storing (done, event)).1
+may-store m done event Stored may = may
+may-store m done event NoPlace may = tt
+may-store m done event ReadFailed may = tt
+may-store m done event (Damaged offset want found) may = tt
+may-store m done event (WriteFailed fault) may = tt
 
 may-judge : (m : Machine) (s : ℕ) (request : Request) → Suits m s request → Allowed m (judged m s request).1
 may-judge m s OpenCall suits = may-check m ((nat_le 64 (length m.sessions), Limit Sessions) ∷ []) (Done, OpenSession) (λ e. tt)
@@ -171,14 +179,16 @@ may-judge m s RtsCall suits = may-some m (checked ((is_there m.checkpoint, IsBus
     (λ none. may-check m ((is_there m.checkpoint, IsBusy CheckpointRuns) ∷ (nat_le count_max m.rollbacks, Limit Rollbacks) ∷ []) (Done, RollbackToStable)
     (λ e. (nobody-there m none, not-there m.checkpoint (all-pass ((is_there m.checkpoint, IsBusy CheckpointRuns) ∷ (nat_le count_max m.rollbacks, Limit Rollbacks) ∷ []) e).0)))
     (λ r found. tt)
-may-judge m s StartCall suits = may-check m ((is_there m.checkpoint, IsBusy CheckpointRuns) ∷ []) (unless_found (first_session (λ t. is_resolving t.phase) 0 m.sessions) ResolvingSession (Done, CheckpointStart))
-    (λ e. may-some m (Done, CheckpointStart) (λ (r : ℕ). refused (IsBusy (ResolvingSession r))) (first_session (λ t. is_resolving t.phase) 0 m.sessions)
-    (λ none. (
+may-judge m s (StartCall number) suits = may-check m ((is_there m.checkpoint, IsBusy CheckpointRuns) ∷ []) (unless_found (first_session (λ t. is_resolving t.phase) 0 m.sessions) ResolvingSession (checked ((nat_le count_max number, Limit Checkpoints) ∷ []) (Done, CheckpointStart)))
+    (λ e. may-some m (checked ((nat_le count_max number, Limit Checkpoints) ∷ []) (Done, CheckpointStart)) (λ (r : ℕ). refused (IsBusy (ResolvingSession r))) (first_session (λ t. is_resolving t.phase) 0 m.sessions)
+    (λ none. may-check m ((nat_le count_max number, Limit Checkpoints) ∷ []) (Done, CheckpointStart) (λ few. (
       not-there m.checkpoint (all-pass ((is_there m.checkpoint, IsBusy CheckpointRuns) ∷ []) e).0,
       λ r t there is. resolving-is t.phase (none-found (λ t. is_resolving t.phase) 0 m.sessions none r t there) is,
-    ))
+    )))
     (λ r found. tt))
-may-judge m s StepCall suits = may-check m ((not (is_there m.checkpoint), Invalid NoCheckpoint) ∷ []) (Done, Nothing) (λ e. tt)
+may-judge m s (StepCall left) suits = may-check m (running_checkpoint m) (if left then Done else End, Nothing) (λ e. tt)
+may-judge m s (CaptureCall left storing) suits = may-check m (running_checkpoint m) (stored_as storing (left_or_end left, Nothing)) (λ e. may-store m (left_or_end left) Nothing storing tt)
+may-judge m s (FinishCall left storing) suits = may-check m (running_checkpoint m ++ (left, Invalid CheckpointLeft) ∷ []) (stored_as storing (Done, CheckpointFinish)) (λ e. may-store m Done CheckpointFinish storing tt)
 
 pub may-decide : (m : Machine) (s : ℕ) (request : Request) → Suits m s request → Allowed m (decision m s request).1
 may-decide m s request suits = may-some m (judged m s request) (λ (fault : Fault). refused (Panic fault)) m.fault (λ e. may-judge m s request suits) (λ fault e. tt)

@@ -22,8 +22,7 @@ pub mod EveryEvent
 pub mod Pins
 pub mod Droppables
 pub mod StoreLists
-pub mod PlainLooks
-pub mod PlainStanding
 pub mod Sorting
 pub mod Opening
 pub mod Deciding
+pub mod Closes

@@ -1,13 +1,18 @@
 -- Short runs of the machine, with their answers written out.
-use Rattle.std.proofs.Common.{◌≡◌, ℕ, refl, Bool, true, false, List, [], ◌∷◌, ◌++◌}
-use Rattle.std.specs.Prelude.{Option, Some, None}
+use Rattle.std.proofs.Common.{◌≡◌, ◌≢◌, ℕ, refl, ap, sym, subst, inl, inr, zero, suc, Bool, true, false, List, [], ◌∷◌, ◌++◌}
+use Rattle.std.specs.Prelude.{Option, Some, None, ◌^◌, ◌-◌, bytes_eq}
+use Rattle.std.proofs.lemmas.Bool.{cases_Bool}
+use Rattle.std.proofs.lemmas.Slice.Eq.{bytes_eq-Decides}
 use Rattle.item.specs.declared.Change.TheVariants.{Put}
 use Rattle.item.specs.declared.Format.TheVariants.{S, U}
-use Rattle.kv_model.specs.History.{value, line, cut}
-use Rattle.kv_model.specs.Machine.{Machine, after, Event, OpenSession, BeginAt, DrawId, AcceptWrite, PrepareAt, CommitAt, CreateTable, SetStamps, RollbackToStable, Nothing, transaction_of, of_some}
-use Rattle.kv_model.specs.Reads.{prepared_in, may_follow}
-use Rattle.kv_model.specs.Refusals.{Invalid, BeforeOldest, Order, NoStampAfterStamp, InTransaction, Exists, IsBusy, ActiveSession}
-use Rattle.kv_model.specs.Decisions.{Done, Refused, decision, BeginCall, CommitCall, CreateCall, RtsCall}
+use Rattle.kv_model.specs.History.{Create, Undo, value, line, cut}
+use Rattle.kv_model.specs.Machine.{Machine, after, Event, OpenSession, BeginAt, DrawId, AcceptWrite, PrepareAt, CommitAt, StartLeaving, EndTransaction, PlaceCursor, CreateTable, SetStamps, RollbackToStable, CheckpointStart, CheckpointFinish, CheckpointDrop, GoDown, SyncFault, Nothing, Transaction, Position, begun, transaction_of, of_some}
+use Rattle.kv_model.specs.Outside.{Stored, NoPlace, ReadFailed, WriteFailed, Unfinished}
+use Rattle.kv_model.specs.Reads.{Value, Meets, ReadAnswer, Wrote, IsEnding, is_own, own_write, prepared_in, may_follow}
+use Rattle.kv_model.specs.Refusals.{Invalid, BeforeOldest, Order, NoStampAfterStamp, InTransaction, Exists, IsBusy, ActiveSession, CheckpointRuns, Evicting, ResolvingSession, Panic, NoCheckpoint, CheckpointLeft, Limit, Checkpoints, NoSpace, DiskFault, NotFound, PrepareConflict}
+use Rattle.kv_model.specs.Decisions.{Done, GivesRow, Left, End, Refused, decision, BeginCall, CommitCall, CreateCall, RtsCall, StartCall, StepCall, CaptureCall, FinishCall}
+use Rattle.kv_model.specs.Closing.{close_decision, after_all}
+use Rattle.kv_model.specs.Rows.{Up, Down, key_lt, NextAnswer}
 use Rattle.kv_model.specs.Content.{nothing, start}
 
 abbrev run : Machine → List Event → Machine
@@ -149,3 +154,188 @@ create-again = refl
 
 create-other : (decision ready 0 (CreateCall (record { number = 2; name = 116 ∷ []; formats = record { key = S; value = U } }))).0 ≡ Refused Exists
 create-other = refl
+
+-- the start of a checkpoint: the last number is a limit, and comes after a checkpoint that runs
+start-last : (decision ready 0 (StartCall (2 ^ 62 - 1))).0 ≡ Refused (Limit Checkpoints)
+start-last = refl
+
+start-before : decision ready 0 (StartCall (2 ^ 62 - 2)) ≡ (Done, CheckpointStart)
+start-before = refl
+
+abbrev started : Machine
+started = after ready CheckpointStart
+
+start-again : (decision started 0 (StartCall (2 ^ 62 - 1))).0 ≡ Refused (IsBusy CheckpointRuns)
+start-again = refl
+
+-- a step and a finish without a checkpoint, a finish with a leaf that is left
+step-none : decision ready 0 (StepCall true) ≡ (Refused (Invalid NoCheckpoint), Nothing)
+step-none = refl
+
+finish-none : (decision ready 0 (FinishCall true Stored)).0 ≡ Refused (Invalid NoCheckpoint)
+finish-none = refl
+
+finish-left : decision started 0 (FinishCall true Stored) ≡ (Refused (Invalid CheckpointLeft), Nothing)
+finish-left = refl
+
+-- steps, with two leaves
+step-on : decision started 0 (StepCall true) ≡ (Done, Nothing)
+step-on = refl
+
+capture-first : decision started 0 (CaptureCall true Stored) ≡ (Left, Nothing)
+capture-first = refl
+
+capture-last : decision started 0 (CaptureCall false Stored) ≡ (End, Nothing)
+capture-last = refl
+
+step-end : decision started 0 (StepCall false) ≡ (End, Nothing)
+step-end = refl
+
+finish-done : decision started 0 (FinishCall false Stored) ≡ (Done, CheckpointFinish)
+finish-done = refl
+
+-- without room the checkpoint ends; a failed sync takes the machine down, and a failed read does not
+capture-full : decision started 0 (CaptureCall true NoPlace) ≡ (Refused NoSpace, CheckpointDrop)
+capture-full = refl
+
+finish-fault : decision started 0 (FinishCall false (WriteFailed SyncFault)) ≡ (Refused DiskFault, GoDown SyncFault)
+finish-fault = refl
+
+finish-unread : decision started 0 (FinishCall false ReadFailed) ≡ (Refused DiskFault, Nothing)
+finish-unread = refl
+
+finish-down : (decision (after started (GoDown SyncFault)) 0 (FinishCall true Stored)).0 ≡ Refused (Panic SyncFault)
+finish-down = refl
+
+-- Close: session 0 is prepared, session 1 runs
+abbrev idle : Unfinished
+idle = record { eviction = None; calls = [] }
+
+abbrev two_open : Machine
+two_open = run ready (BeginAt 1 0 ∷ BeginAt 0 0 ∷ DrawId 0 ∷ AcceptWrite 0 1 a (Put (1 ∷ [])) ∷ PrepareAt 0 5 ∷ [])
+
+close-done : close_decision two_open idle 0 Stored ≡ (Done, StartLeaving 0 ∷ EndTransaction 0 ∷ StartLeaving 1 ∷ EndTransaction 1 ∷ CheckpointStart ∷ CheckpointFinish ∷ [])
+close-done = refl
+
+abbrev closed : Machine
+closed = after_all two_open (close_decision two_open idle 0 Stored).1
+
+-- both are rolled back, and the checkpoint has the table alone
+close-rolls : closed.history ≡ Undo (record { run = 1; id = 1 }) ∷ two_open.history
+close-rolls = refl
+
+close-sessions : closed.sessions ≡ None ∷ None ∷ None ∷ None ∷ []
+close-sessions = refl
+
+close-content : closed.completed.content ≡ Create (record { number = 1; name = 116 ∷ []; formats = record { key = U; value = U } }) ∷ []
+close-content = refl
+
+-- one that finds no room has rolled back too
+close-full : close_decision two_open idle 0 NoPlace ≡ (Refused NoSpace, StartLeaving 0 ∷ EndTransaction 0 ∷ StartLeaving 1 ∷ EndTransaction 1 ∷ [])
+close-full = refl
+
+close-last : (close_decision two_open idle (2 ^ 62 - 1) Stored).0 ≡ Refused (Limit Checkpoints)
+close-last = refl
+
+-- busy: a checkpoint, then an eviction, then the lowest session with a call
+close-checkpoint : close_decision started (record { eviction = Some 7; calls = true ∷ [] }) 0 Stored ≡ (Refused (IsBusy CheckpointRuns), [])
+close-checkpoint = refl
+
+close-eviction : (close_decision two_open (record { eviction = Some 7; calls = true ∷ [] }) 0 Stored).0 ≡ Refused (IsBusy (Evicting 7))
+close-eviction = refl
+
+close-call : (close_decision two_open (record { eviction = None; calls = false ∷ true ∷ [] }) 0 Stored).0 ≡ Refused (IsBusy (ResolvingSession 1))
+close-call = refl
+
+close-ending : (close_decision (after two_open (StartLeaving 1)) idle 0 Stored).0 ≡ Refused (IsBusy (ResolvingSession 1))
+close-ending = refl
+
+close-down : close_decision (after started (GoDown SyncFault)) idle 0 Stored ≡ (Refused (Panic SyncFault), [])
+close-down = refl
+
+-- the next row and the previous one: a = 1 and b = 2
+abbrev b : List ℕ
+b = 98 ∷ []
+
+-- with cursor 0 of session 0 there
+abbrev rows : Option Position → Machine
+rows p = run ready (set 1 0 ++ BeginAt 0 0 ∷ DrawId 0 ∷ AcceptWrite 0 1 b (Put (2 ∷ [])) ∷ CommitAt 0 0 0 ∷ BeginAt 0 0 ∷ PlaceCursor 0 0 p ∷ [])
+
+abbrev at : List ℕ → Option Position
+at key = Some (record { table = 1; key = key })
+
+abbrev reader : Transaction
+reader = begun (rows None) 0
+
+differs : (x k : List ℕ) → (x ≡ k → ⊥) → bytes_eq x k ≡ false
+differs x k never = elim (cases_Bool (bytes_eq x k)) [ inl is ↦ absurd (never ((bytes_eq-Decides x k).0 is)) | inr isnt ↦ isnt ]
+
+-- a key below another, or above it, is another
+not-below : (x k : List ℕ) → key_lt k x ≡ true → key_lt x x ≡ false → bytes_eq x k ≡ false
+not-below x k lt irreflexive = differs x k (λ same. let e = subst (λ y. key_lt y x ≡ true) (sym same) lt in cc)
+
+not-above : (x k : List ℕ) → key_lt x k ≡ true → key_lt x x ≡ false → bytes_eq x k ≡ false
+not-above x k lt irreflexive = differs x k (λ same. let e = subst (λ y. key_lt x y ≡ true) (sym same) lt in cc)
+
+below-a : (k : List ℕ) → key_lt k a ≡ true → bytes_eq b k ≡ false
+below-a k lt = differs b k (λ same. let e = subst (λ y. key_lt y a ≡ true) (sym same) lt in cc)
+
+above-b : (k : List ℕ) → key_lt b k ≡ true → bytes_eq a k ≡ false
+above-b k lt = differs a k (λ same. let e = subst (λ y. key_lt b y ≡ true) (sym same) lt in cc)
+
+nobody-else : (p : Option Position) (other : ℕ) (x : Transaction) → other ≢ 0 → transaction_of (rows p) other ≡ Some x → ⊥
+nobody-else p zero x another e = another refl
+nobody-else p (suc zero) x another e = cc
+nobody-else p (suc (suc zero)) x another e = cc
+nobody-else p (suc (suc (suc zero))) x another e = cc
+nobody-else p (suc (suc (suc (suc n)))) x another e = cc
+
+none-met : (p : Option Position) (key : List ℕ) (other : ℕ) (x : Transaction) → Meets (rows p) 0 reader 1 key other x → IsEnding x.phase
+none-met p key other x m = absurd (nobody-else p other x m.another m.writer.0)
+
+reads-a : (p : Option Position) → ReadAnswer (rows p) 0 reader 1 a (Value (Some (1 ∷ [])))
+reads-a p = (refl, none-met p a)
+
+reads-b : (p : Option Position) → ReadAnswer (rows p) 0 reader 1 b (Value (Some (2 ∷ [])))
+reads-b p = (refl, none-met p b)
+
+reads-none : (p : Option Position) (k : List ℕ) → bytes_eq a k ≡ false → bytes_eq b k ≡ false → ReadAnswer (rows p) 0 reader 1 k (Value None)
+reads-none p k not-a not-b = (rw (not-b, not-a) refl, none-met p k)
+
+next-a : NextAnswer (rows None) 0 reader 0 1 Up (GivesRow a (1 ∷ [])) (PlaceCursor 0 0 (at a))
+next-a = ((refl, reads-a None, λ k past before. reads-none None k (not-below a k before refl) (below-a k before)), refl)
+
+next-b : NextAnswer (rows (at a)) 0 reader 0 1 Up (GivesRow b (2 ∷ [])) (PlaceCursor 0 0 (at b))
+next-b = ((refl, reads-b (at a), λ k past before. reads-none (at a) k (not-above a k past refl) (not-below b k before refl)), refl)
+
+next-none : NextAnswer (rows (at b)) 0 reader 0 1 Up (Refused NotFound) (PlaceCursor 0 0 None)
+next-none = ((λ k past. reads-none (at b) k (above-b k past) (not-above b k past refl)), refl)
+
+prev-b : NextAnswer (rows None) 0 reader 0 1 Down (GivesRow b (2 ∷ [])) (PlaceCursor 0 0 (at b))
+prev-b = ((refl, reads-b None, λ k past before. reads-none None k (above-b k before) (not-above b k before refl)), refl)
+
+prev-a : NextAnswer (rows (at b)) 0 reader 0 1 Down (GivesRow a (1 ∷ [])) (PlaceCursor 0 0 (at a))
+prev-a = ((refl, reads-a (at b), λ k past before. reads-none (at b) k (not-above a k before refl) (not-below b k past refl)), refl)
+
+-- a cursor on another table starts at the first row
+next-elsewhere : NextAnswer (rows (Some (record { table = 2; key = b }))) 0 reader 0 1 Up (GivesRow a (1 ∷ [])) (PlaceCursor 0 0 (at a))
+next-elsewhere = ((refl, reads-a _, λ k past before. reads-none _ k (not-below a k before refl) (below-a k before)), refl)
+
+-- a key that another prepared: a conflict, and the cursor stays
+others-of : (other : ℕ) (x : Transaction) (k : List ℕ) → bytes_eq a k ≡ false → Wrote prepared other 1 k x → ⊥
+others-of zero x k not-a w = let e : x ≡ of_some x (λ t. t) (transaction_of prepared 0) = sym (ap (of_some x (λ t. t)) w.0) in let o = subst (λ t. is_own (own_write t 1 k) ≡ true) e w.1 in let f = rw not-a at o in cc
+others-of (suc zero) x k not-a w = let e : x ≡ of_some x (λ t. t) (transaction_of prepared 1) = sym (ap (of_some x (λ t. t)) w.0) in let o = subst (λ t. is_own (own_write t 1 k) ≡ true) e w.1 in cc
+others-of (suc (suc zero)) x k not-a w = let e : x ≡ of_some x (λ t. t) (transaction_of prepared 2) = sym (ap (of_some x (λ t. t)) w.0) in let o = subst (λ t. is_own (own_write t 1 k) ≡ true) e w.1 in cc
+others-of (suc (suc (suc zero))) x k not-a w = let e : x ≡ of_some x (λ t. t) (transaction_of prepared 3) = sym (ap (of_some x (λ t. t)) w.0) in let o = subst (λ t. is_own (own_write t 1 k) ≡ true) e w.1 in cc
+others-of (suc (suc (suc (suc n)))) x k not-a w = let e = w.0 in cc
+
+next-conflict : NextAnswer prepared 1 (begun prepared 0) 0 1 Up (Refused (PrepareConflict 2)) Nothing
+next-conflict = (
+  (
+    a,
+    refl,
+    (0, _, record { another = λ e. cc; writer = (refl, refl); before = refl }, refl),
+    λ k past before. (rw (not-below a k before refl) refl, λ other x m. absurd (others-of other x k (not-below a k before refl) m.writer)),
+  ),
+  refl,
+)

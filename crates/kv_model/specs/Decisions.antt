@@ -1,14 +1,15 @@
 -- What each call answers where the machine determines it, and the event that it makes. Its checks are lists, in the order of refusals.
-use Rattle.std.specs.Prelude.{◌≡◌, ℕ, ◌+◌, ◌-◌, ◌^◌, Bool, true, false, not, ◌&&◌, ◌==◌, nat_lt, nat_le, List, [], ◌∷◌, length, Option, Some, None, if◌then◌else◌}
+use Rattle.std.specs.Prelude.{◌≡◌, ℕ, ◌+◌, ◌-◌, ◌^◌, Bool, true, false, not, ◌&&◌, ◌==◌, nat_lt, nat_le, List, [], ◌∷◌, ◌++◌, length, Option, Some, None, if◌then◌else◌}
 use Rattle.std.specs.List.{list_all}
 use Rattle.item.specs.declared.Change.{Change}
 use Rattle.item.specs.declared.Format.{Format}
 use Rattle.item.specs.declared.Format.TheVariants.{S, U}
 use Rattle.item.specs.declared.Formats.{Formats}
 use Rattle.kv_model.specs.History.{Table, tables, named, put_of}
-use Rattle.kv_model.specs.Machine.{Machine, Transaction, Phase, Running, Failed, Prepared, Resolving, Leaving, transaction_of, of_some, Event, OpenSession, BeginAt, DrawId, AcceptWrite, RefuseWrite, PrepareAt, CommitAt, StartLeaving, CreateTable, SetStamps, RollbackToStable, CheckpointStart, Nothing}
+use Rattle.kv_model.specs.Machine.{Machine, Transaction, Phase, Running, Failed, Prepared, Resolving, Leaving, transaction_of, of_some, Event, OpenSession, BeginAt, DrawId, AcceptWrite, RefuseWrite, PrepareAt, CommitAt, StartLeaving, CreateTable, SetStamps, RollbackToStable, CheckpointStart, CheckpointFinish, CheckpointDrop, GoDown, Nothing}
+use Rattle.kv_model.specs.Outside.{Storing, Stored, NoPlace, ReadFailed, Damaged, WriteFailed}
 use Rattle.kv_model.specs.Reads.{ReadAnswer, Value, Conflict, MayWrite, MustNotWrite, present}
-use Rattle.kv_model.specs.Refusals.{Reason, NoTransaction, InTransaction, IsPrepared, FailedTransaction, BadName, KeyLong, ValueLong, NoCheckpoint, Busy, ActiveSession, CheckpointRuns, ResolvingSession, Sessions, Tables, Ids, Rollbacks, Cause, RollBack, DuplicateKey, NotFound, Panic, PrepareConflict, NoTable, IsBusy, Exists, Invalid, Limit, first_of, stamp_of, or_stamp, begin_rules, prepare_rules, commit_rules, resolve_rules, set_rules}
+use Rattle.kv_model.specs.Refusals.{Reason, NoTransaction, InTransaction, IsPrepared, FailedTransaction, BadName, KeyLong, ValueLong, NoCheckpoint, CheckpointLeft, Busy, ActiveSession, CheckpointRuns, ResolvingSession, Sessions, Tables, Ids, Checkpoints, Rollbacks, Cause, RollBack, DuplicateKey, NotFound, Panic, PrepareConflict, NoTable, IsBusy, Exists, Invalid, Limit, NoSpace, DiskFault, Corrupt, first_of, stamp_of, or_stamp, begin_rules, prepare_rules, commit_rules, resolve_rules, set_rules}
 
 pub data Outcome : Type 0 where
   -- the call is done, or goes on after this event
@@ -102,7 +103,7 @@ write_checks m name key change =
     (not (is_name name), Invalid BadName) ∷ (nat_lt key_max (length key), Invalid (KeyLong (length key)))
     ∷ (nat_lt value_max (value_length change), Invalid (ValueLong (value_length change))) ∷ table_checks m name
 
--- ids and rollbacks to stable are at most 2 ^ 62 - 1
+-- ids, checkpoint numbers and rollbacks to stable are at most 2 ^ 62 - 1
 abbrev pub count_max : ℕ
 count_max = 2 ^ 62 - 1
 
@@ -140,6 +141,17 @@ rollback_decision Resolving session = (Resumes, Nothing)
 rollback_decision Leaving session = (Resumes, Nothing)
 rollback_decision _ session = (Done, StartLeaving session)
 
+-- what was written for a checkpoint, by how the device took it: without room the checkpoint ends, a failed write or sync takes the machine down
+abbrev pub stored_as : Storing → Outcome × Event → Outcome × Event
+stored_as Stored done = done
+stored_as NoPlace done = (Refused NoSpace, CheckpointDrop)
+stored_as ReadFailed done = refused DiskFault
+stored_as (Damaged offset want found) done = refused (Corrupt offset want found)
+stored_as (WriteFailed fault) done = (Refused DiskFault, GoDown fault)
+
+abbrev pub left_or_end : Bool → Outcome
+left_or_end left = if left then Left else End
+
 -- a call, or its event that finds the leaf
 pub data Request : Type 0 where
   OpenCall : Request
@@ -156,9 +168,18 @@ pub data Request : Type 0 where
   CreateCall : (table : Table) → Request
   SetCall : (oldest stable : Option ℕ) → Request
   RtsCall : Request
-  StartCall : Request
-  -- the first event of a step or the finish of a checkpoint
-  StepCall : Request
+  -- number: that of the last completed checkpoint, 0 where there is none
+  StartCall : (number : ℕ) → Request
+  -- the first event of a step of a checkpoint; left: a leaf of its tables is not captured yet
+  StepCall : (left : Bool) → Request
+  -- the last event of a step that found a leaf; left: another one is not captured yet
+  CaptureCall : (left : Bool) (storing : Storing) → Request
+  -- left: a leaf of its tables is not captured yet
+  FinishCall : (left : Bool) (storing : Storing) → Request
+
+-- of a step or the finish of a checkpoint
+abbrev pub running_checkpoint : Machine → List (Bool × Cause)
+running_checkpoint m = (not (is_there m.checkpoint), Invalid NoCheckpoint) ∷ []
 
 abbrev pub judged : Machine → ℕ → Request → Outcome × Event
 judged m session OpenCall = checked ((nat_le 64 (length m.sessions), Limit Sessions) ∷ []) (Done, OpenSession)
@@ -174,10 +195,13 @@ judged m session (SetCall oldest stable) = ruled (set_rules m oldest stable) (Se
 judged m session RtsCall =
     unless_found (first_session (λ t. true) 0 m.sessions) ActiveSession
     (checked ((is_there m.checkpoint, IsBusy CheckpointRuns) ∷ (nat_le count_max m.rollbacks, Limit Rollbacks) ∷ []) (Done, RollbackToStable))
-judged m session StartCall =
+judged m session (StartCall number) =
     checked ((is_there m.checkpoint, IsBusy CheckpointRuns) ∷ [])
-    (unless_found (first_session (λ t. is_resolving t.phase) 0 m.sessions) ResolvingSession (Done, CheckpointStart))
-judged m session StepCall = checked ((not (is_there m.checkpoint), Invalid NoCheckpoint) ∷ []) (Done, Nothing)
+    (unless_found (first_session (λ t. is_resolving t.phase) 0 m.sessions) ResolvingSession
+    (checked ((nat_le count_max number, Limit Checkpoints) ∷ []) (Done, CheckpointStart)))
+judged m session (StepCall left) = checked (running_checkpoint m) (if left then Done else End, Nothing)
+judged m session (CaptureCall left storing) = checked (running_checkpoint m) (stored_as storing (left_or_end left, Nothing))
+judged m session (FinishCall left storing) = checked (running_checkpoint m ++ (left, Invalid CheckpointLeft) ∷ []) (stored_as storing (Done, CheckpointFinish))
 
 -- the answer to a call at the event that judges it, and that event
 abbrev pub decision : Machine → ℕ → Request → Outcome × Event

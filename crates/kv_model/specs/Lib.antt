@@ -5,7 +5,10 @@ pub mod Machine
 pub mod Droppable
 pub mod Reads
 pub mod Refusals
+pub mod Outside
 pub mod Decisions
+pub mod Closing
+pub mod Rows
 pub mod Content
 pub mod Pending
 pub mod Captures
@@ -17,6 +20,5 @@ pub mod DroppableLaws
 pub mod MachineLaws
 pub mod StoreLaws
 pub mod CaptureLaws
-pub mod Plain
 pub mod Regular
 pub mod DecisionLaws

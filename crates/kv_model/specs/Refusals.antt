@@ -32,12 +32,16 @@ pub data Reason : Type 0 where
 pub data Busy : Type 0 where
   ActiveSession : (session : ℕ) → Busy
   CheckpointRuns : Busy
+  -- an eviction has begun, in this place
+  Evicting : (place : ℕ) → Busy
+  -- a session's call is unfinished, or its commit or rollback was decided and has not ended
   ResolvingSession : (session : ℕ) → Busy
 
 pub data Counted : Type 0 where
   Sessions : Counted
   Tables : Counted
   Ids : Counted
+  Checkpoints : Counted
   Rollbacks : Counted
 
 pub data Cause : Type 0 where
@@ -52,6 +56,11 @@ pub data Cause : Type 0 where
   Exists : Cause
   Invalid : (reason : Reason) → Cause
   Limit : (of : Counted) → Cause
+  -- the device has no room for a block
+  NoSpace : Cause
+  DiskFault : Cause
+  -- a block is damaged, with the numbers that the refusal carries
+  Corrupt : (offset want found : ℕ) → Cause
 
 -- the first check that holds
 abbrev pub first_of : {A : Type 0} → List (Bool × A) → Option A

@@ -10,7 +10,6 @@ mod captures;
 mod droppable;
 mod lines;
 mod machine;
-pub mod plain;
 mod stores;
 
 pub use agreement::{
@@ -24,7 +23,10 @@ pub use droppable::{
     covers_are_admitted, covers_go_on, droppables_are_never_picked, pin_does_not_fall,
 };
 pub use lines::lines_descend;
-pub use machine::{decisions_may_come, events_keep_valid, starts_are_valid};
+pub use machine::{
+    closes_end_transactions, closes_may_come, decisions_may_come, events_keep_valid,
+    starts_are_valid,
+};
 pub use stores::{
     captures_keep_stores, evictions_keep_stores, rollbacks_keep_stores, stores_answer,
 };

@@ -1,7 +1,7 @@
 //! Laws of the machine.
 
 ghost use Rattle.kv_model.specs.MachineLaws.{EventsKeepValid, StartsAreValid};
-ghost use Rattle.kv_model.specs.DecisionLaws.{DecisionsMayCome};
+ghost use Rattle.kv_model.specs.DecisionLaws.{DecisionsMayCome, ClosesMayCome, ClosesEndTransactions};
 
 /// The machine that an opening makes of a regular content is valid.
 pub fn starts_are_valid()
@@ -16,4 +16,14 @@ pub fn events_keep_valid()
 /// The event that a decision makes may come.
 pub fn decisions_may_come()
     ensures { DecisionsMayCome }
+{}
+
+/// The events of a Close may come, one after the other.
+pub fn closes_may_come()
+    ensures { ClosesMayCome }
+{}
+
+/// A Close that finds the machine up and nobody busy leaves no transaction.
+pub fn closes_end_transactions()
+    ensures { ClosesEndTransactions }
 {}

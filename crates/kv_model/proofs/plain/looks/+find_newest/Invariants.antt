@@ -1,5 +1,0 @@
-use Rattle.std.proofs.Common.{length}
-use Rattle.kv_model.proofs.plain.looks.+find_newest.Given as goal
-
-abbrev pub decreases-find_newest : goal.decreases-find_newest
-decreases-find_newest l = length l.history.now

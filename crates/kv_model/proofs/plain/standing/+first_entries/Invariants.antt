@@ -1,5 +1,0 @@
-use Rattle.std.proofs.Common.{length}
-use Rattle.kv_model.proofs.plain.standing.+first_entries.Given as goal
-
-abbrev pub decreases-first_entries : goal.decreases-first_entries
-decreases-first_entries l = length l.history.now

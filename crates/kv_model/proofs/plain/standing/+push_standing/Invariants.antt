@@ -1,5 +1,0 @@
-use Rattle.std.proofs.Common.{length}
-use Rattle.kv_model.proofs.plain.standing.+push_standing.Given as goal
-
-abbrev pub decreases-push_standing : goal.decreases-push_standing
-decreases-push_standing l = length l.history.now

@@ -1,0 +1,9 @@
+pub mod Plain
+pub mod Machine
+pub mod Choices
+pub mod Answers
+pub mod Outcome
+pub mod Checks
+pub mod Decisions
+pub mod Covers
+pub mod After

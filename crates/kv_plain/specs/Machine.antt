@@ -1,0 +1,58 @@
+-- What the plain machine stands for.
+use Rattle.std.specs.Prelude.{ℕ, List, Vec, Option, map, option_map}
+use Rattle.std.specs.declared.alloc.Global.{Global}
+use Rattle.kv_model.specs.Machine.{Machine, Transaction, Phase, Running, Failed, Prepared, Resolving, Leaving, Position, Checkpoint, Completed, Fault, WriteFault, SyncFault}
+use Rattle.kv_plain.specs.declared.machine.Phase.{Phase as PlainPhase}
+use Rattle.kv_plain.specs.declared.machine.Phase.TheVariants as phase
+use Rattle.kv_plain.specs.declared.machine.Transaction.{Transaction as PlainTransaction}
+use Rattle.kv_plain.specs.declared.machine.Position.{Position as PlainPosition}
+use Rattle.kv_plain.specs.declared.machine.Checkpoint.{Checkpoint as PlainCheckpoint}
+use Rattle.kv_plain.specs.declared.machine.Completed.{Completed as PlainCompleted}
+use Rattle.kv_plain.specs.declared.machine.Fault.{Fault as PlainFault}
+use Rattle.kv_plain.specs.declared.machine.Fault.TheVariants as fault
+use Rattle.kv_plain.specs.declared.machine.Machine.{Machine as PlainMachine}
+use Rattle.kv_plain.specs.Plain.{write_in, history_in}
+
+abbrev pub phase_in : PlainPhase → Phase
+phase_in phase.Running = Running
+phase_in phase.Failed = Failed
+phase_in (phase.Prepared stamp) = Prepared stamp
+phase_in phase.Resolving = Resolving
+phase_in phase.Leaving = Leaving
+
+abbrev pub transaction_in : PlainTransaction → Transaction
+transaction_in t = record { id = t.id; start = t.start; read = t.read; writes = map write_in t.writes.items; phase = phase_in t.phase }
+
+abbrev pub position_in : PlainPosition → Position
+position_in p = record { table = p.table; key = p.key }
+
+abbrev pub checkpoint_in : PlainCheckpoint → Checkpoint
+checkpoint_in c = record { prefix = c.prefix; oldest = c.oldest; stable = c.stable }
+
+abbrev pub completed_in : PlainCompleted → Completed
+completed_in c = record { content = history_in c.content.items; oldest = c.oldest; stable = c.stable }
+
+abbrev pub fault_in : PlainFault → Fault
+fault_in (fault.Write offset) = WriteFault offset
+fault_in fault.Sync = SyncFault
+
+abbrev pub sessions_in : List (Option PlainTransaction) → List (Option Transaction)
+sessions_in sessions = map (option_map transaction_in) sessions
+
+abbrev pub cursors_in : List (Vec (Option PlainPosition) Global) → List (List (Option Position))
+cursors_in cursors = map (λ row. map (option_map position_in) row.items) cursors
+
+abbrev pub machine_in : PlainMachine → Machine
+machine_in m = record {
+  history = history_in m.history.items;
+  run = m.run;
+  next = m.next;
+  oldest = m.oldest;
+  stable = m.stable;
+  sessions = sessions_in m.sessions.items;
+  cursors = cursors_in m.cursors.items;
+  checkpoint = option_map checkpoint_in m.checkpoint;
+  completed = completed_in m.completed;
+  rollbacks = m.rollbacks;
+  fault = option_map fault_in m.fault;
+}

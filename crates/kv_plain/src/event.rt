@@ -1,0 +1,39 @@
+//! What can happen to the machine.
+
+use crate::history::Table;
+use crate::machine::Fault;
+use crate::outcome::Outcome;
+use item::{Change, Item};
+
+/// What can happen, but for the moves of cursors. A session's number comes first.
+#[derive(Drop)]
+pub enum Event {
+    OpenSession,
+    /// At a read stamp, 0 for none.
+    Begin(usize, u64),
+    DrawId(usize),
+    /// Of this key of this table.
+    AcceptWrite(usize, u32, Item, Change),
+    RefuseWrite(usize),
+    Prepare(usize, u64),
+    /// At a commit and a durable stamp.
+    Commit(usize, u64, u64),
+    StartLeaving(usize),
+    EndTransaction(usize),
+    CreateTable(Table),
+    /// Oldest and stable, 0 for none.
+    SetStamps(u64, u64),
+    RollbackToStable,
+    CheckpointStart,
+    CheckpointFinish,
+    CheckpointDrop,
+    GoDown(Fault),
+    Nothing,
+}
+
+/// The answer at the event that judges a call, and that event.
+#[derive(Drop)]
+pub struct Decision {
+    pub outcome: Outcome,
+    pub event: Event,
+}
