@@ -1,8 +1,8 @@
 -- A transaction that is taken out, changed, and put back.
-use Rattle.std.proofs.Common.{◌≡◌, ◌∙◌, ap, sym, subst, refl, ℕ, List}
+use Rattle.std.proofs.Common.{◌≡◌, ◌∙◌, ap, sym, ℕ, List}
 use Rattle.std.specs.Prelude.{Option, Some, None, option_map, slice_index_or, slice_set}
 use Rattle.std.proofs.lemmas.List.{set-set, set-get_or}
-use Rattle.kv_model.specs.Machine.{Machine, Transaction, Phase, Running, Failed, Prepared, Resolving, Leaving, Event, PrepareAt, CommitAt, StartLeaving, transaction_of, of_some, prepared, decided, left, after}
+use Rattle.kv_model.specs.Machine.{Machine, Transaction, Phase, Running, Failed, Prepared, Resolving, Leaving, PrepareAt, CommitAt, StartLeaving, transaction_of, of_some, prepared, decided, left, after}
 use Rattle.kv_plain.specs.After.{left_taken}
 
 pub put-back : (before without after : List (Option Transaction)) (s : ℕ) (o p : Option Transaction) (change : Transaction → Transaction)

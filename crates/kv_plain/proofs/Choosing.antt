@@ -1,13 +1,13 @@
 -- What the plain program chooses is an answer that the model allows.
-use Rattle.std.proofs.Common.{◌≡◌, ◌≢◌, ◌⊎◌, ◌+◌, ℕ, refl, ap, sym, ◌∙◌, Bool, true, false, ◌&&◌, List, [], ◌∷◌, inl, inr, subst, arith, zero, suc}
-use Rattle.std.specs.Prelude.{Option, Some, None, MatchOption, not, ◌==◌, slice_index_or, if◌then◌else◌}
-use Rattle.std.proofs.lemmas.Bool.{cases_Bool, both_ways, and_parts, and_from, eqb-true, ne_eqb, eq-eqb}
+use Rattle.std.proofs.Common.{◌≡◌, ◌≢◌, ◌+◌, ℕ, refl, ap, ◌∙◌, Bool, true, false, ◌&&◌, List, [], ◌∷◌, inl, inr, subst, arith, zero, suc}
+use Rattle.std.specs.Prelude.{Option, Some, None, MatchOption, not, ◌==◌, slice_index_or}
+use Rattle.std.proofs.lemmas.Bool.{cases_Bool, both_ways, and_parts, and_from, ne_eqb, eq-eqb}
 use Rattle.item.specs.declared.Change.{Change}
 use Rattle.stamp.specs.declared.Name.{Name}
 use Rattle.stamp.specs.declared.Version.{Version}
-use Rattle.kv_model.specs.History.{Write, line, value, name_eq}
-use Rattle.kv_model.specs.Machine.{Machine, Transaction, Phase, Running, Failed, Prepared, Resolving, Leaving, transaction_of, name_of}
-use Rattle.kv_model.specs.Reads.{own_write, is_own, prepared_in, may_follow, names_newest, Wrote, Meets, IsEnding, OthersEnding, ReadOthers, ReadAs, ReadAnswer, Accepts, Refuses, MayWriteAs, MustNotWriteAs, MayWrite, MustNotWrite}
+use Rattle.kv_model.specs.History.{Write, line, value}
+use Rattle.kv_model.specs.Machine.{Machine, Transaction, Phase, Running, Failed, Prepared, Resolving, Leaving, name_of}
+use Rattle.kv_model.specs.Reads.{own_write, is_own, prepared_in, may_follow, names_newest, Meets, IsEnding, OthersEnding, ReadOthers, ReadAs, ReadAnswer, MayWriteAs, MustNotWriteAs, MayWrite, MustNotWrite}
 use Rattle.kv_model.specs.Closing.{is_ending}
 use Rattle.kv_model.proofs.Finishing.{name_eq-refl}
 use Rattle.kv_plain.specs.Choices.{first_id, is_holding, is_met, met, holder, value_unless, own_or, read_of, unseen, held_or, unless_own, refusal_of}

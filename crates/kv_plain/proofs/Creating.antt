@@ -1,7 +1,6 @@
 -- A decision of Create needs the formats of the table of its name alone.
-use Rattle.std.proofs.Common.{◌≡◌, ◌∙◌, ap, refl, List, length}
+use Rattle.std.proofs.Common.{◌≡◌, refl, List, length}
 use Rattle.std.specs.Prelude.{Option, Some, None, option_map}
-use Rattle.item.specs.declared.Formats.{Formats}
 use Rattle.kv_model.specs.History.{Table}
 use Rattle.kv_model.specs.Decisions.{created}
 use Rattle.kv_plain.specs.Decisions.{created_with}

@@ -4,7 +4,7 @@ use Rattle.std.specs.Prelude.{Option, Some, None, min, fold, ◌==◌, option_an
 use Rattle.std.specs.List.{filter_map}
 use Rattle.std.proofs.lemmas.Bool.{cases_Bool}
 use Rattle.kv_model.specs.Machine.{Machine, Transaction, of_some}
-use Rattle.kv_model.specs.Droppable.{pin, read_stamps}
+use Rattle.kv_model.specs.Droppable.{pin}
 use Rattle.kv_plain.specs.Covers.{least_read}
 
 reads-of : (bound : ℕ) (sessions : List (Option Transaction)) → least_read bound sessions ≡ fold min bound (filter_map (λ (s : Option Transaction). option_and_then (λ (t : Transaction). if t.read == 0 then None else Some t.read) s) sessions)

@@ -1,5 +1,5 @@
 -- What the plain machine stands for.
-use Rattle.std.specs.Prelude.{ℕ, List, Vec, Option, map, option_map}
+use Rattle.std.specs.Prelude.{List, Vec, Option, map, option_map}
 use Rattle.std.specs.declared.alloc.Global.{Global}
 use Rattle.kv_model.specs.Machine.{Machine, Transaction, Phase, Running, Failed, Prepared, Resolving, Leaving, Position, Checkpoint, Completed, Fault, WriteFault, SyncFault}
 use Rattle.kv_plain.specs.declared.machine.Phase.{Phase as PlainPhase}

@@ -1,6 +1,4 @@
 use Rattle.std.proofs.Common.{◌∙◌, ap, length}
-use Rattle.std.specs.Prelude.{Option}
-use Rattle.item.specs.declared.Formats.{Formats}
 use Rattle.kv_model.specs.History.{tables, named}
 use Rattle.kv_plain.specs.Plain.{table_in, history_in}
 use Rattle.kv_plain.specs.Decisions.{created_with}
