@@ -125,7 +125,7 @@ all_push : (key : List ℕ) (rows : List Row) (r : Row) → AllByRecursion (λ (
 all_push key [] r all is = (is, tt)
 all_push key (x ∷ rows) r all is = (all.0, all_push key rows r all.1 is)
 
-take_next : (i : ℕ) (rows : List Row) (r : Row) → slice_get rows i ≡ Some r → take (i + 1) rows ≡ take i rows ++ r ∷ []
+pub take_next : (i : ℕ) (rows : List Row) (r : Row) → slice_get rows i ≡ Some r → take (i + 1) rows ≡ take i rows ++ r ∷ []
 take_next i rows r e =
     let lt = slice_get_within rows i r e in
     take_more rows i r lt ∙ ap (λ (x : Row). take i rows ++ x ∷ []) (get_or_from_slice_get rows i r r e)

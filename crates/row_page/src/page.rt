@@ -1,4 +1,4 @@
-ghost use Rattle.std.specs.Prelude.{◌≡◌, ◌<◌, ◌≤◌, List, ℕ, Option, Some, None, [], ◌∷◌, MatchOption, MatchResult, IfSome, IfNone, IsTrue, ◌↔◌, length, slice_get, option_map, if◌then◌else◌};
+ghost use Rattle.std.specs.Prelude.{◌≡◌, ◌<◌, ◌≤◌, List, ℕ, Option, Some, None, [], ◌∷◌, MatchOption, MatchResult, IfOk, OnOk, ◌++◌, IfSome, IfNone, IsTrue, ◌↔◌, length, slice_get, option_map, if◌then◌else◌};
 ghost use Rattle.std.specs.Ordering.{nat_cmp, is_lt};
 ghost use Rattle.std.specs.Cmp.Lexicographic.{slice_cmp};
 ghost use Rattle.le_codec.specs.Fields.{Gives};
@@ -6,8 +6,11 @@ ghost use Rattle.row_page.specs.Rows.{Row, comes_after, key_most, IsPage};
 ghost use Rattle.row_page.specs.Reading.{window_at, raw_at, cell_at, row_at, read_rows, rows_in, leaf_at, is_number, window_fits, row_fits, row_under, change_of};
 ghost use Rattle.row_page.specs.Views.{change_from, row_seen, raw_seen, HasKeyAt, Splits};
 
+use failure::NoMemory;
+use item::{Change, Item};
 use le_codec::{Image, Reader, open_image};
-use stamp::{Name, Window};
+use stamp::{Name, Version, Window};
+use std::alloc::{AllocError, Global};
 use std::cmp::Ordering;
 use std::marker::Model;
 
@@ -232,6 +235,59 @@ fn place(count: u16, text: &[u8], key: &[u8]) -> Result<usize, usize>
     Err(count as usize)
 }
 
+// An item of these bytes.
+fn item_of(alloc: Global, bytes: &[u8]) -> Result<Item, NoMemory>
+    ensures { IfOk result (λ item. item ≡ bytes.now) }
+{
+    Ok(Item::new(Vec::from_slice(alloc, bytes)?))
+}
+
+// A row of its own, with the cell's key and version.
+fn owned(alloc: Global, cell: &Cell<'_>) -> Result<(Item, Version<Change>), NoMemory>
+    ensures { IfOk result (λ row. row ≡ row_seen cell.now) }
+{
+    let key = item_of(alloc, cell.key)?;
+    let change = match cell.change {
+        Some(value) => Change::Put(item_of(alloc, value)?),
+        None => Change::Remove,
+    };
+    Ok((
+        key,
+        Version {
+            window: cell.window,
+            change,
+        },
+    ))
+}
+
+fn push(
+    rows: &mut Vec<(Item, Version<Change>)>,
+    row: (Item, Version<Change>),
+) -> Result<(), NoMemory>
+    ensures { OnOk result (rows.new.items ≡ rows.old.items ++ row ∷ []) }
+{
+    match rows.push(row) {
+        Ok(()) => Ok(()),
+        Err(failed) => Err(AllocError::from(failed).into()),
+    }
+}
+
+// The rows of so many cells, which fill the text.
+fn copied(alloc: Global, count: u16, text: &[u8]) -> Result<Vec<(Item, Version<Change>)>, NoMemory>
+    requires whole { read_rows count text.now ≡ Some (rows_in count text.now, []) }
+    ensures { IfOk result (λ v. v.items ≡ rows_in count text.now) }
+{
+    let mut rows = Vec::new(alloc);
+    rows.reserve(count as usize)?;
+    let mut reader = Reader::new(text);
+    for _ in 0..count {
+        let cell = cell_of(&mut reader);
+        let cell = cell.unwrap();
+        push(&mut rows, owned(alloc, &cell)?)?;
+    }
+    Ok(rows)
+}
+
 impl<'a> Page<'a> {
     /// The leaf that the block spells, with all of its bytes: header, cells, and the zeros that
     /// fill it up. None exactly where it spells none. `O(block)`, and it takes no memory.
@@ -257,6 +313,13 @@ impl<'a> Page<'a> {
         ensures { IsTrue result ↔ (length self.now ≡ 0) }
     {
         self.len() == 0
+    }
+
+    /// All rows, each key and value copied once. The error is want of memory. `O(bytes)`.
+    pub fn rows(&self, alloc: Global) -> Result<Vec<(Item, Version<Change>)>, NoMemory>
+        ensures { IfOk result (λ v. v.items ≡ self.now) }
+    {
+        copied(alloc, self.count, self.text)
     }
 
     /// The i-th row. `O(i)`.
