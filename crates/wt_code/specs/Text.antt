@@ -4,7 +4,7 @@ use Rattle.std.specs.Fmt.{decimal}
 use Rattle.wt_code.specs.declared.refusals.Busy.{Busy}
 use Rattle.wt_code.specs.declared.refusals.Busy.TheVariants.{Active, Checkpoint, Resolving, Evicting, Pinned, Unresolved}
 use Rattle.wt_code.specs.declared.refusals.Limit.{Limit}
-use Rattle.wt_code.specs.declared.refusals.Limit.TheVariants.{Sessions, Tables, Ids, Generations, Checkpoints, Rollbacks}
+use Rattle.wt_code.specs.declared.refusals.Limit.TheVariants.{Sessions, Tables, Ids, Generations, Checkpoints, Rollbacks, Image}
 use Rattle.wt_code.specs.declared.refusals.Invalid.{Invalid}
 use Rattle.wt_code.specs.declared.refusals.Invalid.TheVariants.{NoTxn, InTxn, Prepared, FailedTxn, ZeroStamp, BeforeOldest, NotAfterStable, OldestAfterStable, NoCommitStamp, DurableGiven, BeforePrepare, DurableBeforeCommit, Order, NoStampAfterStamp, KeyLong, ValueLong, Unpositioned, InCall, NoCall, NoCkpt, CkptLeft, BadName, BadConfig, Text}
 use Rattle.wt_code.specs.declared.refusals.Refusal.{Refusal}
@@ -43,6 +43,7 @@ limit_text Ids = codes "75 limit ids"
 limit_text Generations = codes "75 limit generations"
 limit_text Checkpoints = codes "75 limit checkpoints"
 limit_text Rollbacks = codes "75 limit rollbacks"
+limit_text Image = codes "75 limit image"
 
 abbrev pub reason_text : Invalid → List ℕ
 reason_text NoTxn = codes "22 no transaction"

@@ -99,6 +99,8 @@ pub enum Limit {
     Checkpoints,
     /// Rollbacks to stable of one engine.
     Rollbacks,
+    /// The bytes of a table's one leaf, while a table has no more than that.
+    Image,
 }
 
 /// Why a call was refused.

@@ -143,5 +143,6 @@ fn text_of_limit(alloc: Global, what: &Limit) -> Result<String, NoMemory>
         Limit::Generations => plain(alloc, "75 limit generations"),
         Limit::Checkpoints => plain(alloc, "75 limit checkpoints"),
         Limit::Rollbacks => plain(alloc, "75 limit rollbacks"),
+        Limit::Image => plain(alloc, "75 limit image"),
     }
 }

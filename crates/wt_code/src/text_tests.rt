@@ -115,6 +115,14 @@ fn each_refusal_has_its_number_and_text(rt: HostRuntime) {
             "75 limit rollbacks",
         )
     );
+    assert!(rt;
+        prints(
+            rt.alloc(),
+            Refusal::Limit(Limit::Image),
+            75,
+            "75 limit image",
+        )
+    );
 }
 
 #[test]
