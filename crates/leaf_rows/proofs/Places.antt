@@ -1,0 +1,105 @@
+-- Where a key stands among rows that ascend.
+use Rattle.std.proofs.Common.{◌≡◌, ℕ, zero, suc, ◌+◌, ◌<◌, true, false, List, [], ◌∷◌, ◌++◌, length, take, drop, get_or, Option, Some, None, refl, sym, ap, subst, inl, inr, arith}
+use Rattle.std.specs.Prelude.{bytes_eq, slice_set}
+use Rattle.std.specs.List.{AllByRecursion}
+use Rattle.std.proofs.lemmas.Bool.{cases_Bool, both_ways}
+use Rattle.std.proofs.lemmas.Slice.Eq.{bytes_eq-Decides}
+use Rattle.item.specs.declared.change.Change.{Change}
+use Rattle.stamp.specs.declared.version.Version.{Version}
+use Rattle.row_page.specs.Rows.{Row, is_below, comes_after, Ascends, RowFits, key_most}
+use Rattle.leaf_rows.specs.Rows.{AreFit, SplitsAt, version_at, put_row}
+use Rattle.leaf_rows.proofs.Keys.{below_trans, keys_part, below_differs, above_differs, all_above, above_at}
+
+one_more : (i : ℕ) → suc i + 1 ≡ suc (i + 1)
+one_more i = omega arith
+
+-- ---- the search
+
+pub below_upto : (before : Option (List ℕ)) (rows : List Row) (i : ℕ) (r : Row) (key : List ℕ) → Ascends before rows → i < length rows → r ≡ get_or rows i r → is_below r.0 key ≡ true → AllByRecursion (λ (x : Row). is_below x.0 key ≡ true) (take (i + 1) rows)
+below_upto before [] i r key ascend lt is below = absurd (omega (arith, lt))
+below_upto before (x ∷ rows) zero r key ascend lt is below = (subst (λ (y : Row). is_below y.0 key ≡ true) is below, tt)
+below_upto before (x ∷ rows) (suc i) r key ascend lt is below =
+    subst (λ (n : ℕ). AllByRecursion (λ (y : Row). is_below y.0 key ≡ true) (take n (x ∷ rows))) (sym (one_more i))
+    (below_trans x.0 r.0 key (above_at x.0 rows i r ascend.1 (omega (arith, lt)) is) below, below_upto (Some x.0) rows i r key ascend.1 (omega (arith, lt)) is below)
+
+not_below_later : (x y key : List ℕ) → is_below x key ≡ false → is_below x y ≡ true → is_below y key ≡ false
+not_below_later x y key isnt lt = elim (cases_Bool (is_below y key)) [
+  | inl is ↦ absurd (both_ways (is_below x key) isnt (below_trans x y key lt is))
+  | inr other ↦ other
+]
+
+all_not_below : (x key : List ℕ) (rows : List Row) → is_below x key ≡ false → AllByRecursion (λ (r : Row). is_below x r.0 ≡ true) rows → AllByRecursion (λ (r : Row). is_below r.0 key ≡ false) rows
+all_not_below x key [] isnt all = tt
+all_not_below x key (r ∷ rows) isnt all = (not_below_later x r.0 key isnt all.0, all_not_below x key rows isnt all.1)
+
+pub above_from : (before : Option (List ℕ)) (rows : List Row) (i : ℕ) (r : Row) (key : List ℕ) → Ascends before rows → i < length rows → r ≡ get_or rows i r → is_below r.0 key ≡ false → AllByRecursion (λ (x : Row). is_below x.0 key ≡ false) (drop i rows)
+above_from before [] i r key ascend lt is above = absurd (omega (arith, lt))
+above_from before (x ∷ rows) zero r key ascend lt is above =
+    let here : is_below x.0 key ≡ false = subst (λ (y : Row). is_below y.0 key ≡ false) is above in
+    (here, all_not_below x.0 key rows here (all_above x.0 rows ascend.1))
+above_from before (x ∷ rows) (suc i) r key ascend lt is above = above_from (Some x.0) rows i r key ascend.1 (omega (arith, lt)) is above
+
+-- ---- the version of a key
+
+none_among : (key : List ℕ) (rows : List Row) → AllByRecursion (λ (r : Row). is_below key r.0 ≡ true) rows → version_at key rows ≡ None
+none_among key [] all = refl
+none_among key (r ∷ rows) all = rw (above_differs r.0 key all.0) (none_among key rows all.1)
+
+-- at the place, or nowhere
+pub version_there : (rows : List Row) (key : List ℕ) (i : ℕ) (d : Row) → SplitsAt rows key i → i < length rows → bytes_eq (get_or rows i d).0 key ≡ true → version_at key rows ≡ Some (get_or rows i d).1
+version_there [] key i d splits lt same = absurd (omega (arith, lt))
+version_there (x ∷ rows) key zero d splits lt same = rw same refl
+version_there (x ∷ rows) key (suc i) d splits lt same =
+    rw (below_differs x.0 key splits.below.0) (version_there rows key i d (record { within = omega (arith, splits.within); below = splits.below.1; above = splits.above }) (omega (arith, lt)) same)
+
+pub version_nowhere : (before : Option (List ℕ)) (rows : List Row) (key : List ℕ) (i : ℕ) → Ascends before rows → SplitsAt rows key i → ((d : Row) → i < length rows → bytes_eq (get_or rows i d).0 key ≡ false) → version_at key rows ≡ None
+version_nowhere before [] key i ascend splits other = refl
+version_nowhere before (x ∷ rows) key zero ascend splits other =
+    let differs : bytes_eq x.0 key ≡ false = other x (omega arith) in
+    rw differs (none_among key rows (later rows (keys_part x.0 key splits.above.0 differs) (all_above x.0 rows ascend.1)))
+  where
+    later : (rest : List Row) → is_below key x.0 ≡ true → AllByRecursion (λ (r : Row). is_below x.0 r.0 ≡ true) rest → AllByRecursion (λ (r : Row). is_below key r.0 ≡ true) rest
+    later [] above all = tt
+    later (r ∷ rest) above all = (below_trans key x.0 r.0 above all.0, later rest above all.1)
+version_nowhere before (x ∷ rows) key (suc i) ascend splits other =
+    rw (below_differs x.0 key splits.below.0) (version_nowhere (Some x.0) rows key i ascend.1 (record { within = omega (arith, splits.within); below = splits.below.1; above = splits.above }) (λ d lt. other d (omega (arith, lt))))
+
+-- ---- a put
+
+pub put_there : (rows : List Row) (key : List ℕ) (v : Version Change) (i : ℕ) (d : Row) → SplitsAt rows key i → i < length rows → bytes_eq (get_or rows i d).0 key ≡ true → slice_set rows i (key, v) ≡ put_row key v rows
+put_there [] key v i d splits lt same = absurd (omega (arith, lt))
+put_there (x ∷ rows) key v zero d splits lt same = rw (splits.above.0, same) refl
+put_there (x ∷ rows) key v (suc i) d splits lt same =
+    rw splits.below.0 (ap (λ (l : List Row). x ∷ l) (put_there rows key v i d (record { within = omega (arith, splits.within); below = splits.below.1; above = splits.above }) (omega (arith, lt)) same))
+
+pub put_new : (rows : List Row) (key : List ℕ) (v : Version Change) (i : ℕ) → SplitsAt rows key i → ((d : Row) → i < length rows → bytes_eq (get_or rows i d).0 key ≡ false) → take i rows ++ (key, v) ∷ drop i rows ≡ put_row key v rows
+put_new [] key v zero splits other = refl
+put_new [] key v (suc i) splits other = absurd (omega (arith, splits.within))
+put_new (x ∷ rows) key v zero splits other = rw (splits.above.0, other x (omega arith)) refl
+put_new (x ∷ rows) key v (suc i) splits other =
+    rw splits.below.0 (ap (λ (l : List Row). x ∷ l) (put_new rows key v i (record { within = omega (arith, splits.within); below = splits.below.1; above = splits.above }) (λ d lt. other d (omega (arith, lt)))))
+
+-- ---- what a put keeps
+
+fit_put : (key : List ℕ) (v : Version Change) (rows : List Row) → RowFits [] key_most (key, v) → AllByRecursion (λ (r : Row). RowFits [] key_most r) rows → AllByRecursion (λ (r : Row). RowFits [] key_most r) (put_row key v rows)
+fit_put key v [] new fit = (new, tt)
+fit_put key v (r ∷ rows) new fit = elim (cases_Bool (is_below r.0 key)) [
+  | inl is ↦ rw is (fit.0, fit_put key v rows new fit.1)
+  | inr isnt ↦ elim (cases_Bool (bytes_eq r.0 key)) [
+    | inl same ↦ rw (isnt, same) (new, fit.1)
+    | inr other ↦ rw (isnt, other) (new, fit)
+  ]
+]
+
+ascend_put : (before : Option (List ℕ)) (key : List ℕ) (v : Version Change) (rows : List Row) → comes_after before key ≡ true → Ascends before rows → Ascends before (put_row key v rows)
+ascend_put before key v [] after ascend = (after, tt)
+ascend_put before key v (r ∷ rows) after ascend = elim (cases_Bool (is_below r.0 key)) [
+  | inl is ↦ rw is (ascend.0, ascend_put (Some r.0) key v rows is ascend.1)
+  | inr isnt ↦ elim (cases_Bool (bytes_eq r.0 key)) [
+    | inl same ↦ rw (isnt, same) (after, subst (λ (k : List ℕ). Ascends (Some k) rows) ((bytes_eq-Decides r.0 key).0 same) ascend.1)
+    | inr other ↦ rw (isnt, other) (after, (keys_part r.0 key isnt other, ascend.1))
+  ]
+]
+
+pub put_fit : (key : List ℕ) (v : Version Change) (rows : List Row) → RowFits [] key_most (key, v) → AreFit rows → AreFit (put_row key v rows)
+put_fit key v rows new are = record { fit = fit_put key v rows new are.fit; ascend = ascend_put None key v rows refl are.ascend }

@@ -1,0 +1,246 @@
+// The rows, and what is asked of them.
+ghost use Rattle.std.specs.Prelude.{◌≡◌, ◌≤◌, ◌<◌, ◌||◌, ◌==◌, ◌++◌, nat_le, true, false, max, ℕ, List, [], ◌∷◌, length, map, take, drop, bytes_eq, slice_index_or, vec_len, vec_capacity, IfOk, OnOk, OnErr, IsTrue, ◌↔◌, None, option_map};
+ghost use Rattle.kv_model.specs.Content.{sees_name};
+ghost use Rattle.row_page.specs.Rows.{Row, RowFits, IsImage, Ascends, cell, key_most, is_below};
+ghost use Rattle.stored.specs.Links.{name_lt, later, greatest_in, most_in};
+ghost use Rattle.leaf_rows.specs.Rows.{AreFit, SplitsAt, version_at, put_row, image_length};
+ghost use Rattle.leaf_rows.specs.Contents.{is_kept_window, kept_rows};
+
+use crate::Marks;
+use failure::NoMemory;
+use item::{Change, Item};
+use row_page::{Page, encode};
+use stamp::{Name, Version, Window};
+use std::alloc::Global;
+use std::marker::Model;
+
+const IMAGE_MAX: u64 = 32_768; // bytes
+
+const HEADER_LEN: u64 = 16; // bytes
+
+const NUMBERS_LEN: u64 = 39; // bytes of a cell beside its key and its value
+
+/// Rows in the order of their keys: each key with its newest version. It is seen as their list.
+#[derive(Drop)]
+pub struct Rows {
+    rows: Vec<(Item, Version<Change>)>,
+}
+
+impl Model for Rows {
+    ghost Value = { List Row };
+
+    ghost view = { λ s. s.rows.items };
+
+    ghost invariant = { λ s. AreFit s.rows.items };
+}
+
+impl Rows {
+    /// No rows. Takes no memory.
+    pub fn new(alloc: Global) -> Self
+        ensures { result ≡ [] }
+    {
+        Rows {
+            rows: Vec::new(alloc),
+        }
+    }
+
+    /// The rows of a leaf, each key and value copied once. The error is want of memory.
+    /// `O(bytes)`.
+    pub fn of_page(alloc: Global, page: &Page<'_>) -> Result<Self, NoMemory>
+        requires { AreFit page.now }
+        ensures { IfOk result (λ s. s ≡ page.now) }
+    {
+        let rows = page.rows(alloc)?;
+        Ok(Rows { rows })
+    }
+
+    /// Takes out what an opening does not keep: versions that the recorded snapshot does not see,
+    /// or that are not durable at the recorded stable stamp. `O(n)`, and it takes no memory.
+    pub fn keep(&mut self, marks: Marks)
+        ensures { self.new ≡ kept_rows marks self.old }
+    {
+        keep(&mut self.rows, marks);
+    }
+
+    /// The version of a key. `O(log n)` in the number of rows.
+    pub fn version(&self, key: &[u8]) -> Option<&Version<Change>>
+        ensures { option_map (λ v. v.now) result ≡ version_at key.now self.now }
+    {
+        let i = first_not_below(&self.rows, key);
+        if is_there(&self.rows, i, key) {
+            Some(&self.rows[i].1)
+        } else {
+            None
+        }
+    }
+
+    /// Puts a version of a key in place of the one that it had. `O(log n)` in the number of rows to
+    /// find its place, and a move of those behind it where the key is new. Where memory is short
+    /// nothing is changed.
+    pub fn put(&mut self, key: Item, version: Version<Change>) -> Result<(), NoMemory>
+        requires { RowFits [] key_most (key, version) }
+        ensures put { OnOk result (self.new ≡ put_row key version self.old) }
+        ensures same { OnErr result (self.new ≡ self.old) }
+    {
+        let i = first_not_below(&self.rows, key.as_bytes());
+        if is_there(&self.rows, i, key.as_bytes()) {
+            self.rows[i] = (key, version);
+            return Ok(());
+        }
+        self.rows.reserve(1)?;
+        insert_at(&mut self.rows, i, (key, version));
+        Ok(())
+    }
+
+    /// Whether one leaf has room for them: their image, with its header, is at most 32,768 bytes
+    /// long. `O(n)`, and it stops at the first row that has no room.
+    pub fn fit_a_leaf(&self) -> bool
+        ensures { IsTrue result ↔ (image_length self.now ≤ 32768) }
+    {
+        let mut size = HEADER_LEN;
+        for row in &self.rows {
+            size += cell_len(row);
+            if size > IMAGE_MAX {
+                return false;
+            }
+        }
+        true
+    }
+
+    /// Whether there are no rows.
+    pub fn is_empty(&self) -> bool
+        ensures { IsTrue result ↔ (self.now ≡ []) }
+    {
+        self.rows.is_empty()
+    }
+
+    /// The image of the leaf. The error is want of memory. `O(bytes)`.
+    pub fn encode(&self, alloc: Global) -> Result<Vec<u8>, NoMemory>
+        requires { image_length self.now ≤ 32768 }
+        ensures { IfOk result (λ v. IsImage v.items self.now) }
+    {
+        encode(alloc, &self.rows)
+    }
+
+    /// The greatest name of a version, 0 and 0 where there is none. `O(n)`.
+    pub fn greatest(&self) -> Name
+        ensures { result ≡ greatest_in (map {A = Row} (λ r. r.1.window.name) self.now) }
+    {
+        let mut greatest = Name { run: 0, id: 0 };
+        let mut i = self.rows.len();
+        while i > 0 {
+            i -= 1;
+            greatest = later(self.rows[i].1.window.name, greatest);
+        }
+        greatest
+    }
+
+    /// The greatest durable stamp of a version, 0 where there is none. `O(n)`.
+    pub fn durable(&self) -> u64
+        ensures { result ≡ most_in (map {A = Row} (λ r. r.1.window.durable) self.now) }
+    {
+        let mut durable = 0;
+        let mut i = self.rows.len();
+        while i > 0 {
+            i -= 1;
+            durable = greater(self.rows[i].1.window.durable, durable);
+        }
+        durable
+    }
+}
+
+fn cell_len(row: &(Item, Version<Change>)) -> u64
+    requires { RowFits [] key_most row.now }
+    ensures { result ≡ length (cell row.now) }
+{
+    let value = match &row.1.change {
+        Change::Put(value) => value.len(),
+        Change::Remove => 0,
+    };
+    NUMBERS_LEN + row.0.len() as u64 + value as u64
+}
+
+fn later(a: Name, b: Name) -> Name
+    ensures { result ≡ later a b }
+{
+    if is_before(a, b) { b } else { a }
+}
+
+fn is_before(a: Name, b: Name) -> bool
+    ensures { result ≡ name_lt a b }
+{
+    a.run < b.run || (a.run == b.run && a.id < b.id)
+}
+
+fn greater(a: u64, b: u64) -> u64
+    ensures { result ≡ max a b }
+{
+    a.max(b)
+}
+
+// Whether the i-th row has the key.
+fn is_there(rows: &[(Item, Version<Change>)], i: usize, key: &[u8]) -> bool
+    ensures within { result ≡ true → i < length rows.now }
+    ensures same { (d : Row) → i < length rows.now → result ≡ bytes_eq (slice_index_or rows.now i d).0 key.now }
+{
+    i < rows.len() && rows[i].0.as_bytes() == key
+}
+
+// How many rows, from the first on, have keys below this one, by halving.
+fn first_not_below(rows: &[(Item, Version<Change>)], key: &[u8]) -> usize
+    requires { Ascends None rows.now }
+    ensures { SplitsAt rows.now key.now result }
+{
+    let mut low = 0;
+    let mut high = rows.len();
+    while low < high {
+        let middle = low + (high - low) / 2;
+        if is_below(rows[middle].0.as_bytes(), key) {
+            low = middle + 1;
+        } else {
+            high = middle;
+        }
+    }
+    low
+}
+
+fn is_below(key: &[u8], other: &[u8]) -> bool
+    ensures { result ≡ is_below key.now other.now }
+{
+    key.cmp(other).is_lt()
+}
+
+// There is room for the row, so it takes no memory.
+fn insert_at(rows: &mut Vec<(Item, Version<Change>)>, i: usize, row: (Item, Version<Change>))
+    requires within { i ≤ vec_len rows.old }
+    requires room { vec_len rows.old < vec_capacity rows.old }
+    ensures { rows.new.items ≡ take i rows.old.items ++ row ∷ drop i rows.old.items }
+{
+    let _inserted = rows.insert(i, row);
+}
+
+fn keep(rows: &mut Vec<(Item, Version<Change>)>, marks: Marks)
+    ensures { rows.new.items ≡ kept_rows marks rows.old.items }
+{
+    rows.retain(|row| is_kept(&marks, &row.1.window));
+}
+
+// An opening keeps the version: the recorded snapshot sees its name, and it is durable at the
+// recorded stable stamp.
+fn is_kept(marks: &Marks, window: &Window) -> bool
+    ensures { result ≡ is_kept_window marks.now window.now }
+{
+    sees(marks, window.name) && is_stable(marks, window.durable)
+}
+
+fn sees(marks: &Marks, name: Name) -> bool
+    ensures { result ≡ sees_name marks.now.run (record { min = marks.now.min; max = marks.now.max; ids = [] }) name }
+{
+    name.run < marks.run || (name.run == marks.run && (name.id < marks.min || name.id < marks.max))
+}
+
+fn is_stable(marks: &Marks, durable: u64) -> bool
+    ensures { result ≡ (marks.now.stable == 0) || nat_le durable marks.now.stable }
+{
+    marks.stable == 0 || durable <= marks.stable
+}
