@@ -1,0 +1,6 @@
+pub mod Slots
+pub mod Holding
+pub mod Installing
+pub mod Recording
+pub mod Capturing
+pub mod Rooms

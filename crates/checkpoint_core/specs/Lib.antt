@@ -1,0 +1,3 @@
+pub mod Stands
+pub mod Finishes
+pub mod Room
