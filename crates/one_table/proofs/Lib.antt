@@ -1,0 +1,6 @@
+pub mod Spelling
+pub mod Leaves
+pub mod Shapes
+pub mod Books
+pub mod Opens
+pub mod Writes

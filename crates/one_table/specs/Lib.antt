@@ -1,0 +1,3 @@
+pub mod OneTable
+pub mod Openings
+pub mod Closings

@@ -1,0 +1,148 @@
+-- What an opening finds, and why it finds nothing.
+use Rattle.std.specs.Prelude.{◌≡◌, ◌≢◌, ◌⊎◌, ℕ, ◌≤◌, ◌<◌, ◌-◌, ◌^◌, ◌==◌, nat_lt, false, List, [], ◌∷◌, length, map, Option, Some, None, if◌then◌else◌}
+use Rattle.std.specs.List.{AllByRecursion}
+use Rattle.block_mgr.specs.Blocks.{Books, AreUnits}
+use Rattle.block_mgr.specs.declared.addr.Addr.{Addr}
+use Rattle.turtle.specs.declared.slot.Slot.{Slot}
+use Rattle.turtle.specs.Slots.{Chooses}
+use Rattle.le_codec.specs.Images.{block_of}
+use Rattle.kv_model.specs.History.{Table}
+use Rattle.wt_code.specs.declared.refusals.Refusal.{Refusal}
+use Rattle.wt_code.specs.declared.refusals.Refusal.TheVariants.{Corrupt, DiskFault, NoMemory, Limit as Refusal_Limit}
+use Rattle.wt_code.specs.declared.refusals.Limit.TheVariants.{Tables, Checkpoints}
+use Rattle.kv_model.specs.Content.{Content}
+use Rattle.row_page.specs.Rows.{Row, IsPage}
+use Rattle.stored.specs.Blocks.{Block, IsAddressed, Holds}
+use Rattle.stored.specs.Links.{Link, SaysOf}
+use Rattle.stored.specs.Tree.{leaf_blocks}
+use Rattle.stored.specs.TableTree.{table_kind, Bears, root_entry}
+use Rattle.stored.specs.Stored.{Stored, Reads}
+use Rattle.leaf_rows.specs.Contents.{kept_rows}
+use Rattle.checkpoint_core.specs.Stands.{HasStill, chosen_of, blocks_of, AreInUse, at_slot}
+use Rattle.checkpoint_core.specs.Room.{IsSpaceOf}
+use Rattle.one_table.specs.declared.place.Place.{Place}
+use Rattle.one_table.specs.declared.opening.Kept.{Kept}
+use Rattle.one_table.specs.declared.opening.Opened.{Opened}
+use Rattle.one_table.specs.declared.leaf.Root.{Root}
+use Rattle.one_table.specs.declared.record.Numbers.{Numbers}
+use Rattle.one_table.specs.declared.record.OneRecord.{OneRecord}
+use Rattle.one_table.specs.OneTable.{table_of, lent, one_image, one_stored, HoldsOne, HoldsRecord, HoldsNone, IsInForm, IsLink}
+
+-- the greatest run, and the greatest sequence
+abbrev pub last_number : ℕ
+last_number = 2 ^ 62 - 1
+
+-- the blocks of a leaf: one, or none where it is stored nowhere
+abbrev pub blocks_at : Link → List Row → List Block
+blocks_at link rows = leaf_blocks table_kind (root_entry link ∷ []) (rows ∷ [])
+
+-- the device has a leaf of these rows where the link leads
+pub record LeafIs (bytes : List ℕ) (link : Link) (rows : List Row) : Type 0 where
+  pub bears : Bears (root_entry link) rows
+  pub addressed : AllByRecursion (λ (b : Block). IsAddressed b) (blocks_at link rows)
+  pub holds : Holds bytes (blocks_at link rows)
+
+-- no rows make it such a leaf
+abbrev pub NoLeaf : List ℕ → Link → Type 0
+NoLeaf bytes link = (rows : List Row) → LeafIs bytes link rows → ⊥
+
+-- the block is that of a leaf of these rows, of which the link says the greatest
+pub record PageIs (block : List ℕ) (link : Link) (rows : List Row) : Type 0 where
+  pub page : IsPage block rows
+  pub says : SaysOf link (map (λ (r : Row). r.1.window.name) rows) (map (λ (r : Row). r.1.window.durable) rows)
+
+-- why the leaf is not loaded
+abbrev pub LeafRefused : (fault known : Type 0) → List ℕ → Link → Refusal → Type 0
+LeafRefused fault known bytes link r =
+    ((r ≡ DiskFault) × fault)
+    ⊎ ((r ≡ NoMemory)
+    ⊎ (((found : ℕ) × (r ≡ Corrupt link.place.offset link.place.sum found)) × (known → NoLeaf bytes link)))
+
+-- The place keeps the slot and the books of a device that has this checkpoint, or none, and was not synced since.
+pub record Serves (bytes : List ℕ) (place : Place) (old : Option Stored) : Type 0 where
+  pub still : HasStill old bytes
+  pub slot : place.slot ≡ chosen_of old
+  pub unsynced : place.blocks.is_synced ≡ false
+  pub in_use : AreInUse place.blocks.blocks (blocks_of old)
+  pub space : IsSpaceOf (blocks_of old) place.blocks.space
+  pub within : place.blocks.space.end ≤ length bytes
+
+-- what was kept is that of one table: the slot has its number, and the rows are those of its leaf that are kept
+pub record Keeps (bytes : List ℕ) (place : Place) (k : Kept) : Type 0 where
+  pub link : Link
+  pub rows : List Row
+  pub slot : Slot
+  pub serves : Serves bytes place (Some (one_stored (at_slot slot) k.numbers (table_of k.entry) link rows))
+  pub kept : k.rows ≡ kept_rows k.numbers.marks rows
+  pub form : IsInForm k.numbers (table_of k.entry)
+  pub sequence : k.numbers.sequence ≡ slot.sequence
+  pub run : k.numbers.marks.run < last_number
+
+abbrev pub KeepsOr : List ℕ → Place → Option Kept → Type 0
+KeepsOr bytes place None = Serves bytes place None
+KeepsOr bytes place (Some k) = Keeps bytes place k
+
+abbrev pub IsOpened : List ℕ → Opened → Type 0
+IsOpened bytes o = KeepsOr bytes o.place o.kept
+
+-- Why an opening finds nothing: fault says that the disk's count of faults rose, known that what it holds is known. A device that is refused as corrupt reads as no content.
+abbrev pub OpenRefused : (fault known : Type 0) → List ℕ → Refusal → Type 0
+OpenRefused fault known bytes r =
+    ((r ≡ DiskFault) × fault)
+    ⊎ ((r ≡ NoMemory)
+    ⊎ (((r ≡ Refusal_Limit Tables) × (known → HoldsOne bytes → ⊥))
+    ⊎ (((r ≡ Refusal_Limit Checkpoints) × (known → (content : Content) → Reads bytes content → content.run ≡ last_number))
+    ⊎ (((offset : ℕ) × (want : ℕ) × (found : ℕ) × (r ≡ Corrupt offset want found)) × (known → (content : Content) → Reads bytes content → ⊥)))))
+
+-- ---- the steps of an opening
+
+pub record IsChosen (bytes : List ℕ) (slot : Slot) : Type 0 where
+  pub long : 8192 ≤ length bytes
+  pub chooses : Chooses bytes (Some slot)
+
+-- the address of the record that a slot names
+abbrev pub record_addr : Slot → Addr
+record_addr slot = record { offset = slot.offset; size = slot.size; sum = slot.sum }
+
+-- the addresses of the record and of the leaf, where it is stored, by offset
+abbrev pub addrs_of : Slot → Root → List Addr
+addrs_of slot root =
+    if root.addr.offset == 0 then record_addr slot ∷ []
+    else if nat_lt slot.offset root.addr.offset then record_addr slot ∷ root.addr ∷ []
+    else root.addr ∷ record_addr slot ∷ []
+
+-- the record of the slot, which another run may follow
+pub record IsRecordOf (slot : Slot) (block : List ℕ) (r : OneRecord) : Type 0 where
+  pub holds : HoldsRecord block r
+  pub sequence : r.numbers.sequence ≡ slot.sequence
+  pub run : r.numbers.marks.run < last_number
+
+-- the block is that of a record with one table of one leaf
+abbrev pub IsBlockWith : List ℕ → (Numbers → Type 0) → Type 0
+IsBlockWith block P = (n : Numbers) × (t : Table) × (l : Link) × IsInForm n t × IsLink l × (block ≡ block_of (one_image n t l)) × P n
+
+-- why the record of a slot is not read
+abbrev pub RecordRefused : Slot → List ℕ → Refusal → Type 0
+RecordRefused slot block r =
+    (r ≡ NoMemory)
+    ⊎ (((r ≡ Refusal_Limit Tables) × (HoldsNone block ⊎ IsBlockWith block (λ n. n.sequence ≢ slot.sequence)))
+    ⊎ ((r ≡ Refusal_Limit Checkpoints) × IsBlockWith block (λ n. (n.sequence ≡ slot.sequence) × (last_number ≤ n.marks.run))))
+
+-- what is put together of a record, rows and books
+pub record IsAssembled (slot : Slot) (r : OneRecord) (rows : List Row) (books : Books) (o : Opened) : Type 0 where
+  pub place : (o.place.slot ≡ Some slot) × (o.place.blocks ≡ books)
+  pub kept : Kept
+  pub is : o.kept ≡ Some kept
+  pub numbers : kept.numbers ≡ r.numbers
+  pub entry : table_of kept.entry ≡ lent r.entry
+  pub rows_are : kept.rows ≡ kept_rows r.numbers.marks rows
+  pub units : AreUnits books.blocks books.space
+
+-- what is opened where no checkpoint was completed
+pub record IsNothing (o : Opened) : Type 0 where
+  pub none : o.kept ≡ None
+  pub slot : o.place.slot ≡ None
+  pub blocks : o.place.blocks.blocks ≡ []
+  pub end : o.place.blocks.space.end ≡ 8192
+  pub unsynced : o.place.blocks.is_synced ≡ false
+  pub units : AreUnits o.place.blocks.blocks o.place.blocks.space

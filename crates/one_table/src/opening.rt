@@ -1,0 +1,205 @@
+// How a device is opened.
+ghost use Rattle.std.specs.Prelude.{◌≡◌, ◌≢◌, ◌⊎◌, ◌≤◌, ◌<◌, ℕ, List, map, false, length, IfOk, IfErr, IfSome, IfNone, OnOk, IsTrue};
+ghost use Rattle.failure.specs.Counts.{Rose};
+ghost use Rattle.disk_model.specs.Crash.{Looked};
+ghost use Rattle.block_mgr.specs.Open.{AreStored, stored, last_end};
+ghost use Rattle.one_table.specs.Openings.{IsOpened, OpenRefused, IsNothing, IsChosen, record_addr, addrs_of, IsRecordOf, RecordRefused, IsAssembled, last_number};
+
+use crate::leaf::{Root, load};
+use crate::place::Place;
+use crate::record::{Entry, Numbers, OneRecord, SEQUENCE_MAX, decode};
+use block_mgr::{Addr, Blocks, read_block};
+use disk_model::Disk;
+use item::Item;
+use leaf_rows::Rows;
+use std::alloc::Global;
+use turtle::{Slot, choose};
+use wt_code::{Limit, Refusal};
+
+/// What the last completed checkpoint holds.
+#[derive(Drop)]
+pub struct Kept {
+    /// What its record keeps beside the table.
+    pub numbers: Numbers,
+    /// Its table.
+    pub entry: Entry,
+    /// The table's rows, but those that an opening does not keep.
+    pub rows: Rows,
+}
+
+/// What an opening finds.
+#[derive(Drop)]
+pub struct Opened {
+    /// Where it stands.
+    pub place: Place,
+    /// None where no checkpoint was completed.
+    pub kept: Option<Kept>,
+}
+
+/// Finds the last completed checkpoint, and changes nothing. `75 limit tables` comes exactly where
+/// the device holds another one than of one table of one leaf, `75 limit checkpoints` exactly where
+/// no run may follow the one that made it. `Corrupt` comes only where the device reads as no
+/// content. `O(bytes)` of the record and the leaf.
+pub fn open<D: Disk>(alloc: Global, disk: &mut D) -> Result<Opened, Refusal>
+    ensures ok { IsTrue (D.honest disk.old) → IfOk result (IsOpened (D.seen disk.old)) }
+    ensures err { IfErr result (OpenRefused (Rose (D.faults disk.old) (D.faults disk.new)) (IsTrue (D.honest disk.old)) (D.seen disk.old)) }
+    ensures looked { Looked D.honest D.seen D.may_leave D.capacity D.faults D.moment D.left_since disk.old disk.new }
+{
+    match choose(disk) {
+        Err(refusal) => Err(refusal),
+        Ok(None) => Ok(blank(alloc)),
+        Ok(Some(slot)) => open_at(alloc, disk, slot),
+    }
+}
+
+fn blank(alloc: Global) -> Opened
+    ensures { IsNothing result }
+{
+    let blocks = Blocks::new(alloc);
+    let _ = blocks.end();
+    Opened {
+        place: Place { slot: None, blocks },
+        kept: None,
+    }
+}
+
+// The checkpoint whose record a slot names.
+fn open_at<D: Disk>(alloc: Global, disk: &mut D, slot: Slot) -> Result<Opened, Refusal>
+    ensures ok { IsTrue (D.honest disk.old) → IsChosen (D.seen disk.old) slot → IfOk result (IsOpened (D.seen disk.old)) }
+    ensures err { IfErr result (OpenRefused (Rose (D.faults disk.old) (D.faults disk.new)) (IsTrue (D.honest disk.old) × IsChosen (D.seen disk.old) slot) (D.seen disk.old)) }
+    ensures looked { Looked D.honest D.seen D.may_leave D.capacity D.faults D.moment D.left_since disk.old disk.new }
+{
+    let block = match read_block(alloc, disk, addr_of(slot)) {
+        Ok(block) => block,
+        Err(refusal) => return Err(refusal),
+    };
+    let found = match record_of(alloc, slot, &block) {
+        Ok(found) => found,
+        Err(refusal) => return Err(refusal),
+    };
+    let rows = match load(alloc, disk, found.entry.root) {
+        Ok(rows) => rows,
+        Err(refusal) => return Err(refusal),
+    };
+    let len = match length(disk) {
+        Ok(len) => len,
+        Err(refusal) => return Err(refusal),
+    };
+    let blocks = match books(alloc, slot, found.entry.root, len) {
+        Ok(blocks) => blocks,
+        Err(refusal) => return Err(refusal),
+    };
+    assembled(alloc, slot, &found, rows, blocks)
+}
+
+fn length<D: Disk>(disk: &mut D) -> Result<u64, Refusal>
+    ensures len { IsTrue (D.honest disk.old) → IfOk result (λ n. n ≡ length (D.seen disk.old)) }
+    ensures err { IfErr result (λ r. (r ≡ Refusal.DiskFault) × Rose (D.faults disk.old) (D.faults disk.new)) }
+    ensures looked { Looked D.honest D.seen D.may_leave D.capacity D.faults D.moment D.left_since disk.old disk.new }
+{
+    match disk.len() {
+        Ok(len) => Ok(len),
+        Err(_) => Err(Refusal::DiskFault),
+    }
+}
+
+fn addr_of(slot: Slot) -> Addr
+    ensures { result ≡ record_addr slot }
+{
+    Addr {
+        offset: slot.offset,
+        size: slot.size,
+        sum: slot.sum,
+    }
+}
+
+// The record, where it is one with one table of one leaf, and another run may follow its run.
+fn record_of<'a>(alloc: Global, slot: Slot, block: &'a [u8]) -> Result<OneRecord<'a>, Refusal>
+    ensures ok { IfOk result (IsRecordOf slot block.now) }
+    ensures err { IfErr result (RecordRefused slot block.now) }
+{
+    match decode(alloc, block) {
+        Err(_) => Err(Refusal::NoMemory),
+        Ok(None) => Err(Refusal::Limit(Limit::Tables)),
+        Ok(Some(found)) => match why_not(slot, found.numbers) {
+            Some(limit) => Err(Refusal::Limit(limit)),
+            None => Ok(found),
+        },
+    }
+}
+
+// Why the numbers of a record do not suit its slot, or no run may follow.
+fn why_not(slot: Slot, numbers: Numbers) -> Option<Limit>
+    ensures none { IfNone result ((numbers.sequence ≡ slot.sequence) × (numbers.marks.run < last_number)) }
+    ensures some { IfSome result (λ l. ((l ≡ Limit.Tables) × (numbers.sequence ≢ slot.sequence)) ⊎ ((l ≡ Limit.Checkpoints) × (numbers.sequence ≡ slot.sequence) × (last_number ≤ numbers.marks.run))) }
+{
+    if numbers.sequence != slot.sequence {
+        Some(Limit::Tables)
+    } else if numbers.marks.run >= SEQUENCE_MAX {
+        Some(Limit::Checkpoints)
+    } else {
+        None
+    }
+}
+
+// The blocks in use: the record's, and the leaf's where it is stored. `Corrupt` comes exactly where
+// they overlap or reach past the device's end.
+fn books(alloc: Global, slot: Slot, root: Root, len: u64) -> Result<Blocks, Refusal>
+    ensures blocks { IfOk result (λ s. s.blocks ≡ map stored (addrs_of slot root)) }
+    ensures end { IfOk result (λ s. s.space.end ≡ last_end 8192 (map stored (addrs_of slot root))) }
+    ensures fresh { IfOk result (λ s. (s.is_synced ≡ false) × (s.is_held ≡ false)) }
+    ensures stored { OnOk result (AreStored (addrs_of slot root) len) }
+    ensures err { IfErr result (λ r. (r ≡ Refusal.NoMemory) ⊎ ((r ≡ Refusal.Corrupt slot.offset slot.sum slot.sum) × (AreStored (addrs_of slot root) len → ⊥))) }
+{
+    let record = addr_of(slot);
+    let opened = if root.addr.offset == 0 {
+        Blocks::open(alloc, &[record], len)
+    } else if slot.offset < root.addr.offset {
+        Blocks::open(alloc, &[record, root.addr], len)
+    } else {
+        Blocks::open(alloc, &[root.addr, record], len)
+    };
+    match opened {
+        Ok(Some(blocks)) => Ok(blocks),
+        Ok(None) => Err(Refusal::Corrupt {
+            offset: slot.offset,
+            want: slot.sum,
+            found: slot.sum,
+        }),
+        Err(_) => Err(Refusal::NoMemory),
+    }
+}
+
+fn assembled(
+    alloc: Global,
+    slot: Slot,
+    found: &OneRecord<'_>,
+    rows: Rows,
+    blocks: Blocks,
+) -> Result<Opened, Refusal>
+    ensures ok { IfOk result (IsAssembled slot found.now rows blocks) }
+    ensures err { IfErr result (λ r. r ≡ Refusal.NoMemory) }
+{
+    let _ = blocks.end();
+    let mut rows = rows;
+    rows.keep(found.numbers.marks);
+    let Ok(name) = Vec::from_slice(alloc, found.entry.name) else {
+        return Err(Refusal::NoMemory);
+    };
+    let entry = Entry {
+        number: found.entry.number,
+        formats: found.entry.formats,
+        name: Item::new(name),
+    };
+    Ok(Opened {
+        place: Place {
+            slot: Some(slot),
+            blocks,
+        },
+        kept: Some(Kept {
+            numbers: found.numbers,
+            entry,
+            rows,
+        }),
+    })
+}
