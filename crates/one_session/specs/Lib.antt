@@ -1,0 +1,4 @@
+pub mod Calls
+pub mod Shows
+pub mod ShowsLaws
+pub mod CallLaws
