@@ -43,7 +43,7 @@ use Rattle.one_table.specs.OneTable.{table_of, lent, link_of, one_record, one_im
 use Rattle.failure.specs.Counts.{Rose}
 use Rattle.wt_code.specs.declared.refusals.Refusal.{Refusal}
 use Rattle.wt_code.specs.declared.refusals.Refusal.TheVariants.{NoMemory, DiskFault, Corrupt}
-use Rattle.one_table.specs.Openings.{LeafIs, NoLeaf, KeepsOr, IsOpened, IsNothing, IsRecordOf, IsAssembled, RecordRefused, LeafRefused, OpenRefused, last_number, IsChosen, Serves, record_addr, addrs_of, blocks_at}
+use Rattle.one_table.specs.Openings.{LeafIs, NoLeaf, KeepsOr, IsOpened, IsNothing, IsRecordOf, IsAssembled, RecordRefused, LeafRefused, OpenRefused, last_number, IsChosen, Serves, record_addr, addrs_of, blocks_at, InForm}
 use Rattle.one_table.proofs.Spelling.{one_unit, block_length}
 use Rattle.one_table.proofs.Leaves.{addr_at, block_at, stored_block, no_block, place_is, there_not_spoilt, leaf_there, leaf_bytes}
 use Rattle.one_table.proofs.Shapes.{leaf_on, leaf_tree, blocks_are}
@@ -320,6 +320,15 @@ opened_is bytes block slot r rows books o is of leaf apart fresh are end made = 
 pub ok_map : {T E : Type 0} {P Q : T → Type 0} (r : Result T E) → IfOk r P → ((x : T) → P x → Q x) → IfOk r Q
 ok_map (Ok x) is more = more x is
 ok_map (Err e) is more = tt
+
+pub kept_in_form : (slot : Slot) (r : OneRecord) (rows : List Row) (books : Books) (o : Opened) → IsInForm r.numbers (lent r.entry) → r.numbers.marks.run < last_number → IsAssembled slot r rows books o → InForm o.kept
+kept_in_form slot r rows books o form run made = subst (λ (k : Option Kept). InForm k) (sym made.is) (record {
+  form = subst (λ (n : Numbers). IsInForm n (table_of made.kept.entry)) (sym made.numbers) (subst (λ (t : Table). IsInForm r.numbers t) (sym made.entry) form);
+  run = subst (λ (n : Numbers). n.marks.run < last_number) (sym made.numbers) run;
+})
+
+pub none_in_form : (o : Opened) → IsNothing o → InForm o.kept
+none_in_form o none = subst (λ (k : Option Kept). InForm k) (sym none.none) tt
 
 pub nothing_is : (bytes : List ℕ) (o : Opened) → IsNothing o → 8192 ≤ length bytes → Chooses bytes None → IsOpened bytes o
 nothing_is bytes o none long shut = subst (λ (k : Option Kept). KeepsOr bytes o.place k) (sym none.none) (record {

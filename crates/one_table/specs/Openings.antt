@@ -82,6 +82,15 @@ abbrev pub KeepsOr : List ℕ → Place → Option Kept → Type 0
 KeepsOr bytes place None = Serves bytes place None
 KeepsOr bytes place (Some k) = Keeps bytes place k
 
+-- whatever the disk, the numbers and the table of what was kept are in form, and another run may follow
+pub record KeptInForm (k : Kept) : Type 0 where
+  pub form : IsInForm k.numbers (table_of k.entry)
+  pub run : k.numbers.marks.run < last_number
+
+abbrev pub InForm : Option Kept → Type 0
+InForm None = Unit {0}
+InForm (Some k) = KeptInForm k
+
 abbrev pub IsOpened : List ℕ → Opened → Type 0
 IsOpened bytes o = KeepsOr bytes o.place o.kept
 

@@ -3,7 +3,7 @@ ghost use Rattle.std.specs.Prelude.{◌≡◌, ◌≢◌, ◌⊎◌, ◌≤◌, 
 ghost use Rattle.failure.specs.Counts.{Rose};
 ghost use Rattle.disk_model.specs.Crash.{Looked};
 ghost use Rattle.block_mgr.specs.Open.{AreStored, stored, last_end};
-ghost use Rattle.one_table.specs.Openings.{IsOpened, OpenRefused, IsNothing, IsChosen, record_addr, addrs_of, IsRecordOf, RecordRefused, IsAssembled, last_number};
+ghost use Rattle.one_table.specs.Openings.{IsOpened, InForm, OpenRefused, IsNothing, IsChosen, record_addr, addrs_of, IsRecordOf, RecordRefused, IsAssembled, last_number};
 
 use crate::leaf::{Root, load};
 use crate::place::Place;
@@ -42,6 +42,7 @@ pub struct Opened {
 /// content. `O(bytes)` of the record and the leaf.
 pub fn open<D: Disk>(alloc: Global, disk: &mut D) -> Result<Opened, Refusal>
     ensures ok { IsTrue (D.honest disk.old) → IfOk result (IsOpened (D.seen disk.old)) }
+    ensures form { IfOk result (λ o. InForm o.kept) }
     ensures err { IfErr result (OpenRefused (Rose (D.faults disk.old) (D.faults disk.new)) (IsTrue (D.honest disk.old)) (D.seen disk.old)) }
     ensures looked { Looked D.honest D.seen D.may_leave D.capacity D.faults D.moment D.left_since disk.old disk.new }
 {
@@ -66,6 +67,7 @@ fn blank(alloc: Global) -> Opened
 // The checkpoint whose record a slot names.
 fn open_at<D: Disk>(alloc: Global, disk: &mut D, slot: Slot) -> Result<Opened, Refusal>
     ensures ok { IsTrue (D.honest disk.old) → IsChosen (D.seen disk.old) slot → IfOk result (IsOpened (D.seen disk.old)) }
+    ensures form { IfOk result (λ o. InForm o.kept) }
     ensures err { IfErr result (OpenRefused (Rose (D.faults disk.old) (D.faults disk.new)) (IsTrue (D.honest disk.old) × IsChosen (D.seen disk.old) slot) (D.seen disk.old)) }
     ensures looked { Looked D.honest D.seen D.may_leave D.capacity D.faults D.moment D.left_since disk.old disk.new }
 {

@@ -1,8 +1,6 @@
-mod Spelling
-mod Openings
-mod Installs
-mod Makings
-mod Meaning
-mod Outcomes
-mod Creations
-mod Programs
+mod Closings
+mod Creates
+mod Gets
+mod Running
+mod Sessions
+mod Writes

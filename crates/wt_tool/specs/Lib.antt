@@ -1,6 +1,6 @@
 pub mod Words
-pub mod Small
-pub mod Devices
 pub mod Runs
-pub mod Making
+pub mod Calls
+pub mod Closes
+pub mod Answers
 pub mod Top

@@ -2,20 +2,19 @@
 //!
 //! Promises, on the call that the program makes, that a run is one that the machine's definitions
 //! allow, that the disk it hands back opens to the last completed checkpoint, and that a status
-//! tells its cause. Leaves the real file and the real streams to the program. Today there is one
-//! command, `create`, on a device with one table without rows; what else a device holds is
-//! refused as `75 limit tables`.
+//! tells its cause. Leaves the real file and the real streams to the program. Today a device holds
+//! one table of one leaf; what else a device holds is refused as `75 limit tables`.
 #![tactic(auto)]
 
 mod closing;
-mod command;
-mod device;
-mod making;
-mod record;
+mod create;
+mod names;
+mod opening;
+mod read;
+mod telling;
 #[cfg(test)]
 mod tests;
 mod top;
+mod write;
 
-pub use command::Command;
-pub use record::{Entry, Numbers};
 pub use top::{Ended, wt_main, wt_plain};

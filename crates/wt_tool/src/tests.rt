@@ -28,6 +28,19 @@ fn run(
     status: u8,
     told: &str,
 ) -> MemDisk {
+    run_printing(rt, alloc, disk, line, status, told, "")
+}
+
+// The same, with what it prints.
+fn run_printing(
+    rt: &impl Abort,
+    alloc: Global,
+    disk: MemDisk,
+    line: &[&str],
+    status: u8,
+    told: &str,
+    printed: &str,
+) -> MemDisk {
     let mut words = Vec::new(alloc);
     for word in line {
         let word = String::from_str(alloc, word).expect(rt, "there is memory");
@@ -43,7 +56,7 @@ fn run(
     } = ended;
     assert!(rt; ended_with == status);
     assert!(rt; err.bytes() == told.as_bytes());
-    assert!(rt; out.bytes().is_empty());
+    assert!(rt; out.bytes() == printed.as_bytes());
     disk
 }
 
@@ -165,4 +178,99 @@ fn a_name_has_128_bytes_at_most(rt: HostRuntime) {
     let disk = run(&rt, rt.alloc(), disk, &["create", more], 1, "22 name\n");
     let disk = run(&rt, rt.alloc(), disk, &["create", most], 0, "");
     assert!(&rt; disk.bytes().len() == 12288);
+}
+
+// A device after the first run's two writing commands.
+fn written(rt: &impl Abort, alloc: Global) -> MemDisk {
+    let disk = new_device(rt, alloc);
+    let disk = run(
+        rt,
+        alloc,
+        disk,
+        &["create", "-c", FORMATS, "table:t"],
+        0,
+        "",
+    );
+    run(rt, alloc, disk, &["write", "t", "a", "1"], 0, "")
+}
+
+#[test]
+fn the_first_run_reads_what_it_wrote(rt: HostRuntime) {
+    let disk = written(&rt, rt.alloc());
+    let disk = run_printing(&rt, rt.alloc(), disk, &["read", "t", "a"], 0, "", "1\n");
+    let bytes = disk.bytes();
+    assert!(&rt; bytes.len() == 20480);
+    let slot = b"\xa5WTTURTL\x01\0\0\0\x02\0\0\0\0\0\0\0\0\x40\0\0\0\0\0\0\0\x10\0\0";
+    assert!(&rt; bytes[4096..].starts_with(slot.as_slice()));
+    let leaf = b"\x01\x01\x01\0\x3b\0\0\0";
+    assert!(&rt; bytes[12288..].starts_with(leaf.as_slice()));
+}
+
+#[test]
+fn a_key_that_is_there_is_refused_without_o(rt: HostRuntime) {
+    let disk = written(&rt, rt.alloc());
+    let told = "-31801 duplicate key\n";
+    let disk = run(&rt, rt.alloc(), disk, &["write", "t", "a", "2"], 1, told);
+    let disk = run_printing(&rt, rt.alloc(), disk, &["read", "t", "a"], 0, "", "1\n");
+    let disk = run(
+        &rt,
+        rt.alloc(),
+        disk,
+        &["write", "-o", "t", "a", "2"],
+        0,
+        "",
+    );
+    let disk = run_printing(&rt, rt.alloc(), disk, &["read", "t", "a"], 0, "", "2\n");
+    // the first pair is not kept where the second is refused
+    let disk = run(
+        &rt,
+        rt.alloc(),
+        disk,
+        &["write", "t", "b", "3", "a", "4"],
+        1,
+        told,
+    );
+    run(
+        &rt,
+        rt.alloc(),
+        disk,
+        &["read", "t", "b"],
+        1,
+        "-31803 not found\n",
+    );
+}
+
+#[test]
+fn an_absent_key_is_told_and_the_rest_goes_on(rt: HostRuntime) {
+    let disk = written(&rt, rt.alloc());
+    let words = ["read", "t", "x", "a", "y"];
+    let told = "-31803 not found\n-31803 not found\n";
+    let disk = run_printing(&rt, rt.alloc(), disk, &words, 1, told, "1\n");
+    let disk = run(
+        &rt,
+        rt.alloc(),
+        disk,
+        &["read", "u", "a"],
+        1,
+        "2 no table\n",
+    );
+    let disk = run(
+        &rt,
+        rt.alloc(),
+        disk,
+        &["write", "u", "a", "1"],
+        1,
+        "2 no table\n",
+    );
+    let usage = "usage: wt [-h home] command ..\n";
+    let disk = run(&rt, rt.alloc(), disk, &["write", "t", "a"], 1, usage);
+    run_printing(
+        &rt,
+        rt.alloc(),
+        disk,
+        &["-h", "x", "read", "t", "a"],
+        0,
+        "",
+        "1\n",
+    );
 }

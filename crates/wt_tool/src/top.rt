@@ -1,26 +1,25 @@
 // The top call.
-ghost use Rattle.std.specs.Prelude.{◌≡◌, ◌⊎◌, ◌≤◌, ◌<◌, ◌%◌, [], ◌∷◌, List, ℕ, length, map, slice_index_or, IsTrue, IfOk, IfErr, Some, None};
-ghost use Rattle.std.specs.Option.{option_map};
+ghost use Rattle.std.specs.Prelude.{◌≡◌, ◌⊎◌, ◌≤◌, List, ℕ, map, IsTrue, None};
 ghost use Rattle.std.specs.String.{string_bytes};
 ghost use Rattle.failure.specs.Counts.{Rose};
 ghost use Rattle.kv_model.specs.Content.{Content};
-ghost use Rattle.kv_model.specs.Decisions.{is_name};
-ghost use Rattle.turtle.specs.Slots.{Chooses};
-ghost use Rattle.wt_tool.specs.Devices.{IsBlockOf};
-ghost use Rattle.wt_tool.specs.Words.{asked_of, formats_asked, name_in};
-ghost use Rattle.wt_tool.specs.Top.{EachReads, RanCreate, Outcome, Written, Told, met_of, status_of, lines, outside, IsStatus, IsUsage};
+ghost use Rattle.wt_line.specs.Line.{command_of, meaning};
+ghost use Rattle.wt_tool.specs.Calls.{uri_of};
+ghost use Rattle.wt_tool.specs.Top.{EachReads, Outcome, Running, Written, Told, met_of, lines, status_of, outside, IsStatus, IsUsage};
 
-use crate::command::{Command, command_of, formats_of, name_of};
-use crate::device::{Opened, open};
-use crate::making::{make_again, make_first, record_of};
-use disk_model::{Disk, Home, Unattached};
-use item::{Format, Formats};
+use crate::create::create;
+use crate::names::name_of;
+use crate::opening::reach;
+use crate::read::read;
+use crate::telling::report;
+use crate::write::write;
+use disk_model::Home;
 use std::alloc::Global;
 use std::sync::Wait;
 use std::thread::Threads;
-use turtle::Slot;
-use wt_code::{Invalid, Refusal, text_of};
+use wt_code::{Invalid, Refusal};
 use wt_io::{Sink, Source, write_all};
+use wt_line::{Command, LineFault, home_of, parse};
 
 /// How a run ended: its status, and the disk.
 #[derive(Drop)]
@@ -45,7 +44,7 @@ pub fn wt_plain<S: Source, K: Sink, E: Sink, D: Home>(
     // is on the output, its lines on the errors, each image opens to its last checkpoint or to the one that a
     // fault at the gate stopped, so does what a crash at any moment left, and the status is that of what it met.
     ensures run { IsTrue (D.honest disk) → (content : Content) → EachReads (D.may_leave disk) content →
-        Outcome (outside (D.faults disk) (D.faults result.disk) (D.seen disk) (D.capacity disk)) (D.moment result.disk)
+        Outcome (outside (D.faults disk) (D.faults result.disk) (D.seen disk) (D.capacity disk) (K.fault_count out.old) (K.fault_count out.new)) (D.moment result.disk)
         (map string_bytes words.now) content
         (record {
           out_before = K.written out.old;
@@ -59,7 +58,7 @@ pub fn wt_plain<S: Source, K: Sink, E: Sink, D: Home>(
 
     // Whatever the disk, the input and the sinks: words that are no command give the usage line and status 1,
     // a status is one of six, and a fault is told only where the object's count of faults rose.
-    ensures usage { asked_of (map string_bytes words.now) ≡ None →
+    ensures usage { command_of (map string_bytes words.now) ≡ None →
         IsUsage (record {
           out_before = K.written out.old;
           out_now = K.written out.new;
@@ -75,146 +74,88 @@ pub fn wt_plain<S: Source, K: Sink, E: Sink, D: Home>(
     ensures honest { D.honest result.disk ≡ D.honest disk }
 {
     let _ = input;
-    let _ = out;
     let mut disk = disk;
-    match command_of(words) {
-        Command::Usage => {
+    match parse(alloc, words) {
+        Err(LineFault::Usage) => {
             let _ = write_all(err, b"usage: wt [-h home] command ..\n");
             Ended { status: 1, disk }
         }
-        Command::Create(config, uri) => match create(alloc, &mut disk, config, uri) {
-            Ok(()) => Ended { status: 0, disk },
-            Err(refusal) => {
-                let status = report(alloc, err, &refusal);
-                Ended { status, disk }
-            }
-        },
+        Err(LineFault::NoMemory) => Ended { status: 12, disk },
+        Ok(command) => {
+            let status = run(alloc, &command, home_of(words), out, err, &mut disk);
+            Ended { status, disk }
+        }
     }
 }
 
-// Prints the line of a refusal, and gives the status.
-fn report<E: Sink>(alloc: Global, err: &mut E, refusal: &Refusal) -> u8
-    ensures told { Told (record { out_before = None; out_now = None; err_before = E.written err.old; err_now = E.written err.new; err_faults = E.fault_count err.old; err_faults_now = E.fault_count err.new }) result (lines (refusal.now ∷ [])) }
-    ensures status { (result ≡ status_of (refusal.now ∷ [])) ⊎ (result ≡ 12) }
-{
-    let Ok(mut line) = text_of(alloc, refusal) else {
-        return 12;
-    };
-    if line.push_str("\n").is_err() {
-        return 12;
-    }
-    let _ = write_all(err, line.as_bytes());
-    status_for(refusal)
-}
-
-fn status_for(refusal: &Refusal) -> u8
-    ensures { result ≡ status_of (refusal.now ∷ []) }
-{
-    match refusal {
-        Refusal::DiskFault => 4,
-        Refusal::NoMemory => 12,
-        _ => 1,
-    }
-}
-
-// The table and the formats that are asked for. The name is judged before the configuration.
-fn plan<'a>(config: Option<&str>, uri: &'a str) -> Result<(&'a [u8], Formats), Invalid>
-    ensures ok { IfOk result (λ p. (name_in uri.now ≡ Some p.0.now) × (formats_asked (option_map (λ x. x.now) config.entry) ≡ Some p.1)) }
-    ensures name { IfOk result (λ p. (length p.0.now ≤ 128) × IsTrue (is_name p.0.now) × ((i : ℕ) → slice_index_or p.0.now i 0 < 256)) }
-    ensures err { IfErr result (λ e. ((e ≡ Invalid.BadName) × (name_in uri.now ≡ None))
-        ⊎ ((e ≡ Invalid.BadConfig) × ((n : List ℕ) × (name_in uri.now ≡ Some n)) × (formats_asked (option_map (λ x. x.now) config.entry) ≡ None))) }
-{
-    match name_of(uri.as_bytes()) {
-        None => Err(Invalid::BadName),
-        Some(name) => match formats_in(config) {
-            None => Err(Invalid::BadConfig),
-            Some(formats) => Ok((name, formats)),
-        },
-    }
-}
-
-fn formats_in(config: Option<&str>) -> Option<Formats>
-    ensures { result ≡ formats_asked (option_map (λ x. x.now) config.entry) }
-{
-    match config {
-        None => Some(Formats {
-            key: Format::U,
-            value: Format::U,
-        }),
-        Some(text) => formats_of(text),
-    }
-}
-
-fn create<D: Home>(
+// A run of a command, on the device at its home.
+fn run<K: Sink, E: Sink, D: Home>(
     alloc: Global,
+    command: &Command<'_>,
+    home: &str,
+    out: &mut K,
+    err: &mut E,
     disk: &mut D,
-    config: Option<&str>,
-    uri: &str,
-) -> Result<(), Refusal>
+) -> u8
     ensures run { IsTrue (D.honest disk.old) → (content : Content) → EachReads (D.may_leave disk.old) content →
-        RanCreate D.moment D.left_since D.may_leave (outside (D.faults disk.old) (D.faults disk.new) (D.seen disk.old) (D.capacity disk.old))
-        (option_map (λ x. x.now) config.entry) uri.now content disk.old disk.new (met_of result) }
-    ensures fault { IfErr result (λ r. r ≡ Refusal.DiskFault → Rose (D.faults disk.old) (D.faults disk.new)) }
+        Running (outside (D.faults disk.old) (D.faults disk.new) (D.seen disk.old) (D.capacity disk.old) (K.fault_count out.old) (K.fault_count out.new)) D.moment D.left_since D.may_leave
+        (meaning command.now) content
+        (record {
+          out_before = K.written out.old;
+          out_now = K.written out.new;
+          err_before = E.written err.old;
+          err_now = E.written err.new;
+          err_faults = E.fault_count err.old;
+          err_faults_now = E.fault_count err.new;
+        })
+        disk.old disk.new result }
+    ensures status { IsStatus result }
+    ensures disk_fault { result ≡ 4 → Rose (D.faults disk.old) (D.faults disk.new) }
+    ensures input_fault { result ≡ 5 → ⊥ }
+    ensures output_fault { result ≡ 6 → Rose (K.fault_count out.old) (K.fault_count out.new) }
     ensures same { D.honest disk.new ≡ D.honest disk.old }
 {
-    match disk.attach(alloc, ".") {
-        Ok(()) => {}
-        Err(Unattached::Failed) => return Err(Refusal::DiskFault),
-        Err(Unattached::NoMemory) => return Err(Refusal::NoMemory),
-    }
-    match open(alloc, disk) {
-        Err(refusal) => Err(refusal),
-        Ok(Opened::Blank) => create_first(alloc, disk, config, uri),
-        Ok(Opened::Holds(slot, block)) => create_again(alloc, disk, slot, &block, config, uri),
-    }
-}
-
-// On a device without a checkpoint.
-fn create_first<D: Disk>(
-    alloc: Global,
-    disk: &mut D,
-    config: Option<&str>,
-    uri: &str,
-) -> Result<(), Refusal>
-    requires long { IsTrue (D.honest disk.old) → (8192 ≤ length (D.seen disk.old)) × Chooses (D.seen disk.old) None }
-    ensures run { IsTrue (D.honest disk.old) → (content : Content) → EachReads (D.may_leave disk.old) content → (before : ℕ) → before ≤ D.faults disk.old →
-        RanCreate D.moment D.left_since D.may_leave (outside before (D.faults disk.new) (D.seen disk.old) (D.capacity disk.old))
-        (option_map (λ x. x.now) config.entry) uri.now content disk.old disk.new (met_of result) }
-    ensures fault { IfErr result (λ r. r ≡ Refusal.DiskFault → Rose (D.faults disk.old) (D.faults disk.new)) }
-    ensures later { D.faults disk.old ≤ D.faults disk.new }
-    ensures same { D.honest disk.new ≡ D.honest disk.old }
-{
-    match plan(config, uri) {
-        Err(reason) => Err(Refusal::Invalid(reason)),
-        Ok((name, formats)) => make_first(alloc, disk, name, formats),
-    }
-}
-
-// On a device with a checkpoint, whose record the slot names.
-fn create_again<D: Disk>(
-    alloc: Global,
-    disk: &mut D,
-    slot: Slot,
-    block: &[u8],
-    config: Option<&str>,
-    uri: &str,
-) -> Result<(), Refusal>
-    requires place { (8192 ≤ slot.offset) × (slot.offset % 4096 ≡ 0) }
-    requires finds { IsTrue (D.honest disk.old) → (8192 ≤ length (D.seen disk.old)) × Chooses (D.seen disk.old) (Some slot) × IsBlockOf (D.seen disk.old) slot block.now }
-    ensures run { IsTrue (D.honest disk.old) → (content : Content) → EachReads (D.may_leave disk.old) content → (before : ℕ) → before ≤ D.faults disk.old →
-        RanCreate D.moment D.left_since D.may_leave (outside before (D.faults disk.new) (D.seen disk.old) (D.capacity disk.old))
-        (option_map (λ x. x.now) config.entry) uri.now content disk.old disk.new (met_of result) }
-    ensures fault { IfErr result (λ r. r ≡ Refusal.DiskFault → Rose (D.faults disk.old) (D.faults disk.new)) }
-    ensures later { D.faults disk.old ≤ D.faults disk.new }
-    ensures same { D.honest disk.new ≡ D.honest disk.old }
-{
-    let found = match record_of(alloc, slot, block) {
-        Ok(found) => found,
-        Err(refusal) => return Err(refusal),
+    let opened = match reach(alloc, disk, home) {
+        Ok(opened) => opened,
+        Err(refusal) => return report(alloc, err, &refusal),
     };
-    match plan(config, uri) {
-        Err(reason) => Err(Refusal::Invalid(reason)),
-        Ok((name, formats)) => make_again(alloc, disk, slot, &found, name, formats),
+    let name = match name_of(uri_of(command).as_bytes()) {
+        Some(name) => name,
+        None => return report(alloc, err, &Refusal::Invalid(Invalid::BadName)),
+    };
+    match command {
+        Command::Create { config, .. } => {
+            let result = create(alloc, disk, opened, *config, name);
+            told(alloc, err, &result)
+        }
+        Command::Write {
+            overwrite,
+            pairs,
+            ..
+        } => {
+            let result = write(alloc, disk, opened, *overwrite, name, pairs);
+            told(alloc, err, &result)
+        }
+        Command::Read { keys, .. } => read(alloc, out, err, opened.kept.as_ref(), name, keys),
+    }
+}
+
+// The line of a refusal, where there is one, and the status.
+fn told<E: Sink>(alloc: Global, err: &mut E, answer: &Result<(), Refusal>) -> u8
+    ensures status { (result ≡ status_of (met_of answer.now)) ⊎ (result ≡ 12) }
+    ensures told { Told (record { out_before = None; out_now = None; err_before = E.written err.old; err_now = E.written err.new; err_faults = E.fault_count err.old; err_faults_now = E.fault_count err.new }) result (lines (met_of answer.now)) }
+{
+    match answer {
+        Ok(()) => 0,
+        Err(refusal) => report(alloc, err, refusal),
+    }
+}
+
+fn uri_of<'a>(command: &Command<'a>) -> &'a str
+    ensures { result.now ≡ uri_of (meaning command.now) }
+{
+    match command {
+        Command::Create { uri, .. } | Command::Write { uri, .. } | Command::Read { uri, .. } => uri,
     }
 }
 
@@ -232,7 +173,7 @@ pub fn wt_main<R: Threads + Wait, S: Source, K: Sink, E: Sink, D: Home + Send>(
     // is on the output, its lines on the errors, each image opens to its last checkpoint or to the one that a
     // fault at the gate stopped, so does what a crash at any moment left, and the status is that of what it met.
     ensures run { IsTrue (D.honest disk) → (content : Content) → EachReads (D.may_leave disk) content →
-        Outcome (outside (D.faults disk) (D.faults result.disk) (D.seen disk) (D.capacity disk)) (D.moment result.disk)
+        Outcome (outside (D.faults disk) (D.faults result.disk) (D.seen disk) (D.capacity disk) (K.fault_count out.old) (K.fault_count out.new)) (D.moment result.disk)
         (map string_bytes words.now) content
         (record {
           out_before = K.written out.old;
@@ -246,7 +187,7 @@ pub fn wt_main<R: Threads + Wait, S: Source, K: Sink, E: Sink, D: Home + Send>(
 
     // Whatever the disk, the input and the sinks: words that are no command give the usage line and status 1,
     // a status is one of six, and a fault is told only where the object's count of faults rose.
-    ensures usage { asked_of (map string_bytes words.now) ≡ None →
+    ensures usage { command_of (map string_bytes words.now) ≡ None →
         IsUsage (record {
           out_before = K.written out.old;
           out_now = K.written out.new;

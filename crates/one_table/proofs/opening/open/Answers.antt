@@ -4,7 +4,7 @@ use Rattle.disk_model.proofs.Crash.{looked_then}
 use Rattle.turtle.specs.declared.slot.Slot.{Slot}
 use Rattle.turtle.specs.Slots.{Chooses}
 use Rattle.one_table.specs.Openings.{IsOpened, IsChosen, OpenRefused}
-use Rattle.one_table.proofs.Opens.{slot_refused, nothing_is, open_further, err_map, ok_map, rose_sooner}
+use Rattle.one_table.proofs.Opens.{slot_refused, nothing_is, none_in_form, open_further, err_map, ok_map, rose_sooner}
 use Rattle.one_table.proofs.opening.open.Goals as goal
 
 pub returns-in-Err-clause-err : goal.returns-in-Err-clause-err
@@ -38,3 +38,6 @@ pub returns-in-Ok-Some-clause-looked : goal.returns-in-Ok-Some-clause-looked
 returns-in-Ok-Some-clause-looked g c =
     let D = g.D.Disk in
     looked_then D.honest D.seen D.may_leave D.capacity D.faults D.moment D.left_since _ _ _ c.choose.ensures.looked c.open_at.ensures.looked
+
+pub returns-in-Ok-None-clause-form : goal.returns-in-Ok-None-clause-form
+returns-in-Ok-None-clause-form g c = none_in_form c.blank.result c.blank.ensures

@@ -5,7 +5,7 @@ use Rattle.block_mgr.specs.Places.{Spoils}
 use Rattle.block_mgr.specs.Open.{AreStored}
 use Rattle.one_table.specs.OneTable.{link_of, lent}
 use Rattle.one_table.specs.Openings.{LeafIs, addrs_of}
-use Rattle.one_table.proofs.Opens.{block_there, spoilt_no_content, record_refused, leaf_refused, books_refused, no_leaf_no_content, no_books_no_content, opened_is, ok_map, rose_sooner}
+use Rattle.one_table.proofs.Opens.{block_there, spoilt_no_content, record_refused, leaf_refused, books_refused, no_leaf_no_content, no_books_no_content, opened_is, kept_in_form, ok_map, rose_sooner}
 use Rattle.one_table.proofs.opening.open_at.Goals as goal
 
 pub returns-in-Err-clause-err : goal.returns-in-Err-clause-err
@@ -63,3 +63,8 @@ pub returns-clause-looked : goal.returns-clause-looked
 returns-clause-looked g c =
     let D = g.D.Disk in
     looked_then D.honest D.seen D.may_leave D.capacity D.faults D.moment D.left_since _ _ _ (looked_then D.honest D.seen D.may_leave D.capacity D.faults D.moment D.left_since _ _ _ c.read_block.ensures.looked c.load.ensures.looked) c.length.ensures.looked
+
+pub returns-clause-form : goal.returns-clause-form
+returns-clause-form g c =
+    let found = c.in-Ok-record_of.ensures.ok in
+    ok_map c.assembled.result c.assembled.ensures.ok (λ o made. kept_in_form c.args.slot c.in-Ok-record_of.found c.in-Ok-load.rows c.in-Ok-books.blocks o found.holds.form found.run made)

@@ -1,0 +1,44 @@
+-- What the checkpoint at the end of a command leaves.
+use Rattle.std.specs.Prelude.{◌≡◌, ◌⊎◌, ℕ, ◌+◌, ◌≤◌, ◌<◌, List, Option, Some, Result, Ok, Err}
+use Rattle.disk_model.specs.Crash.{LeavesOnly}
+use Rattle.turtle.specs.declared.slot.Slot.{Slot}
+use Rattle.kv_model.specs.History.{Table}
+use Rattle.kv_model.specs.Content.{Content}
+use Rattle.row_page.specs.Rows.{Row}
+use Rattle.stored.specs.Links.{Link}
+use Rattle.leaf_rows.specs.declared.marks.Marks.{Marks}
+use Rattle.leaf_rows.specs.Rows.{image_length}
+use Rattle.leaf_rows.specs.Contents.{leaf_content}
+use Rattle.checkpoint_core.specs.Stands.{at_slot}
+use Rattle.one_table.specs.declared.record.Numbers.{Numbers}
+use Rattle.one_table.specs.declared.place.Place.{Place}
+use Rattle.one_table.specs.OneTable.{one_stored, IsInForm}
+use Rattle.one_table.specs.Openings.{Serves}
+use Rattle.one_table.specs.Closings.{Installs}
+use Rattle.wt_code.specs.declared.refusals.Refusal.{Refusal}
+use Rattle.wt_code.specs.declared.refusals.Refusal.TheVariants.{Limit as Refusal_Limit}
+use Rattle.wt_code.specs.declared.refusals.Limit.TheVariants.{Checkpoints, Image}
+use Rattle.wt_tool.specs.Runs.{last_number}
+
+-- the numbers of the first checkpoint, with one table
+abbrev pub first_numbers : Numbers
+first_numbers = record { sequence = 1; marks = record { run = 1; oldest = 0; stable = 0; min = 1; max = 1 }; next_table = 2 }
+
+-- those of the next checkpoint, by the next run, whose next id this is
+abbrev pub next_numbers : Numbers → ℕ → Numbers
+next_numbers n next = record n { sequence = n.sequence + 1; marks = record n.marks { run = n.marks.run + 1; min = next; max = next } }
+
+-- the device has a checkpoint with these numbers and this table
+pub record HasCheckpoint (bytes : List ℕ) (place : Place) (n : Numbers) (t : Table) : Type 0 where
+  pub link : Link
+  pub rows : List Row
+  pub slot : Slot
+  pub serves : Serves bytes place (Some (one_stored (at_slot slot) n t link rows))
+  pub sequence : n.sequence ≡ slot.sequence
+
+-- what the next checkpoint with these rows leaves, on a device of this content
+abbrev pub Closes : {D : Type 0} (moment : D → ℕ) (left_since : D → ℕ → List ℕ → Type 0) (may_leave : D → List ℕ → Type 0) (fault full : Type 0) → Numbers → Table → List Row → ℕ → Content → D → D → Result (Unit {0}) Refusal → Type 0
+Closes moment left_since may_leave fault full n t rows next content old new result =
+    ((result ≡ Err (Refusal_Limit Checkpoints)) × (n.sequence ≡ last_number) × LeavesOnly moment left_since old new (may_leave old))
+    ⊎ (((result ≡ Err (Refusal_Limit Image)) × (n.sequence < last_number) × (32768 < image_length rows) × LeavesOnly moment left_since old new (may_leave old))
+    ⊎ ((n.sequence < last_number) × (image_length rows ≤ 32768) × Installs moment left_since may_leave fault full content (leaf_content (next_numbers n next).marks t rows) old new result))

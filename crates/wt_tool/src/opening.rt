@@ -1,0 +1,24 @@
+// How a command comes to its device.
+ghost use Rattle.std.specs.Prelude.{◌≡◌, ◌≤◌, IfOk, IfErr, IsTrue};
+ghost use Rattle.disk_model.specs.Crash.{Looked};
+ghost use Rattle.failure.specs.Counts.{Rose};
+ghost use Rattle.one_table.specs.Openings.{IsOpened, InForm, OpenRefused};
+
+use disk_model::{Home, Unattached};
+use one_table::{Opened, open};
+use std::alloc::Global;
+use wt_code::Refusal;
+
+// Attaches the disk, and finds what it holds. It changes nothing.
+pub(crate) fn reach<D: Home>(alloc: Global, disk: &mut D, home: &str) -> Result<Opened, Refusal>
+    ensures ok { IsTrue (D.honest disk.old) → IfOk result (IsOpened (D.seen disk.old)) }
+    ensures form { IfOk result (λ o. InForm o.kept) }
+    ensures err { IfErr result (OpenRefused (Rose (D.faults disk.old) (D.faults disk.new)) (IsTrue (D.honest disk.old)) (D.seen disk.old)) }
+    ensures looked { Looked D.honest D.seen D.may_leave D.capacity D.faults D.moment D.left_since disk.old disk.new }
+{
+    match disk.attach(alloc, home) {
+        Ok(()) => open(alloc, disk),
+        Err(Unattached::Failed) => Err(Refusal::DiskFault),
+        Err(Unattached::NoMemory) => Err(Refusal::NoMemory),
+    }
+}

@@ -1,0 +1,145 @@
+// `read`: each key's value is printed.
+ghost use Rattle.std.specs.Prelude.{◌≡◌, ◌⊎◌, ◌↔◌, ◌≤◌, ◌<◌, ◌++◌, ◌∷◌, [], ℕ, List, Option, Some, None, Ok, Err, length, map, option_map, IsTrue, IfOk, IfErr, OnOk, OnErr};
+ghost use Rattle.failure.specs.Counts.{Rose, HasCause};
+ghost use Rattle.wt_io.specs.Streams.{Took, TookFront};
+ghost use Rattle.kv_model.specs.Content.{Content, start};
+ghost use Rattle.kv_model.specs.Decisions.{is_name};
+ghost use Rattle.one_session.specs.Shows.{value_in};
+ghost use Rattle.wt_tool.specs.Words.{printed_as};
+ghost use Rattle.wt_tool.specs.Answers.{get_answer, printed_by};
+ghost use Rattle.wt_tool.specs.Top.{Meets, Reading, Written};
+
+use crate::names::{printed_as, stored_as, stored_len};
+use crate::telling::report;
+use crate::write::formats_by;
+use item::{Change, Format};
+use one_table::Kept;
+use stamp::Version;
+use std::alloc::Global;
+use wt_code::{Invalid, Refusal};
+use wt_io::{Failed, Sink, write_all};
+
+const KEY_MAX: u64 = 1024; // bytes, as stored
+
+pub(crate) fn read<K: Sink, E: Sink>(
+    alloc: Global,
+    out: &mut K,
+    err: &mut E,
+    kept: Option<&Kept>,
+    name: &[u8],
+    keys: &[&str],
+) -> u8
+    requires name { IsTrue (is_name name.now) }
+    ensures run { (content : Content) → Meets content (option_map (λ k. k.now) kept.entry) → Reading (Rose (K.fault_count out.old) (K.fault_count out.new)) name.now (map (λ s. s.now) keys.now) (start content)
+        (record {
+          out_before = K.written out.old;
+          out_now = K.written out.new;
+          err_before = E.written err.old;
+          err_now = E.written err.new;
+          err_faults = E.fault_count err.old;
+          err_faults_now = E.fault_count err.new;
+        }) result }
+    ensures status { (result ≡ 0) ⊎ ((result ≡ 1) ⊎ ((result ≡ 6) ⊎ (result ≡ 12))) }
+    ensures output_fault { result ≡ 6 → Rose (K.fault_count out.old) (K.fault_count out.new) }
+{
+    let mut status = 0;
+    for key in keys {
+        match get(alloc, kept, name, key) {
+            Ok(text) => {
+                if print(out, text).is_err() {
+                    let _ = write_all(err, b"output fault\n");
+                    return 6;
+                }
+            }
+            Err(refusal) => {
+                let told = report(alloc, err, &refusal);
+                if status == 0 || told == 12 {
+                    status = told;
+                }
+                if told == 12 || !is_absence(&refusal) {
+                    return status;
+                }
+            }
+        }
+    }
+    status
+}
+
+fn is_absence(refusal: &Refusal) -> bool
+    ensures { IsTrue result ↔ (refusal.now ≡ Refusal.NotFound) }
+{
+    match refusal {
+        Refusal::NotFound => true,
+        _ => false,
+    }
+}
+
+// What is printed of the value at a key. The error is why there is none, or want of memory.
+fn get<'a>(
+    alloc: Global,
+    kept: Option<&'a Kept>,
+    name: &[u8],
+    key: &str,
+) -> Result<&'a [u8], Refusal>
+    ensures ok { IfOk result (λ text. (value : List ℕ) × (get_answer (option_map (λ k. k.now) kept.entry) name.now key.now ≡ Ok value) × (text.now ≡ printed_by (option_map (λ k. k.now) kept.entry) value)) }
+    ensures err { IfErr result (λ r. (r ≡ Refusal.NoMemory) ⊎ (get_answer (option_map (λ k. k.now) kept.entry) name.now key.now ≡ Err r)) }
+{
+    match kept {
+        None => Err(nowhere(key.len() as u64)),
+        Some(kept) => get_in(alloc, kept, name, key),
+    }
+}
+
+// The refusal of a get where there is no table.
+fn nowhere(len: u64) -> Refusal
+    ensures { (word : List ℕ) → length word ≡ len → get_answer None [] word ≡ Err result }
+{
+    if len > KEY_MAX {
+        Refusal::Invalid(Invalid::KeyLong { len })
+    } else {
+        Refusal::NoTable
+    }
+}
+
+fn get_in<'a>(alloc: Global, kept: &'a Kept, name: &[u8], key: &str) -> Result<&'a [u8], Refusal>
+    ensures ok { IfOk result (λ text. (value : List ℕ) × (get_answer (Some kept.now) name.now key.now ≡ Ok value) × (text.now ≡ printed_by (Some kept.now) value)) }
+    ensures err { IfErr result (λ r. (r ≡ Refusal.NoMemory) ⊎ (get_answer (Some kept.now) name.now key.now ≡ Err r)) }
+{
+    let format = formats_by(&kept.entry, name).key;
+    let len = stored_len(format, key);
+    if len > KEY_MAX {
+        return Err(Refusal::Invalid(Invalid::KeyLong { len }));
+    }
+    if kept.entry.name.as_bytes() != name {
+        return Err(Refusal::NoTable);
+    }
+    let Ok(key) = stored_as(alloc, format, key) else {
+        return Err(Refusal::NoMemory);
+    };
+    match value_in(kept.rows.version(key.as_bytes())) {
+        Some(value) => Ok(printed_as(kept.entry.formats.value, value)),
+        None => Err(Refusal::NotFound),
+    }
+}
+
+fn value_in<'a>(version: Option<&'a Version<Change>>) -> Option<&'a [u8]>
+    ensures { option_map (λ s. s.now) result ≡ value_in (option_map (λ v. v.now) version.entry) }
+{
+    match version {
+        Some(version) => match &version.change {
+            Change::Put(value) => Some(value.as_bytes()),
+            Change::Remove => None,
+        },
+        None => None,
+    }
+}
+
+// Prints a text and a newline.
+fn print<K: Sink>(out: &mut K, text: &[u8]) -> Result<(), Failed>
+    ensures ok { OnOk result (Took (K.written out.old) (K.written out.new) (text.now ++ 10 ∷ [])) }
+    ensures err { OnErr result (TookFront (K.written out.old) (K.written out.new) (text.now ++ 10 ∷ [])) }
+    ensures cause { HasCause (K.fault_count out.old) (K.fault_count out.new) result }
+{
+    write_all(out, text)?;
+    write_all(out, b"\n")
+}
