@@ -37,6 +37,7 @@ phase-older (Prepared stamp) run entry history t none other p = record {
   uncommitted = still-uncommitted entry history (name_in run t) other p.uncommitted;
   later = λ n e. elim (released-cases entry history n (name_in run t) e) [ inl here ↦ absurd (both_ways (releases entry (name_in run t)) none here.0) | inr old ↦ p.later n old ];
   released = is-released-older entry history (name_in run t) t p.released;
+  prepared = λ w there. inr (none, p.prepared w there);
 }
 phase-older Resolving run entry history t none other p = is-released-older entry history (name_in run t) t p
 phase-older Leaving run entry history t none other p = still-unreleased entry history (name_in run t) none p

@@ -99,6 +99,7 @@ valid-prepare m s stamp t v there running late = subst (λ o. Valid (of_some m (
         uncommitted = never-committed m t v none;
         later = λ n e. absurd (unreleased m.history n name none e);
         released = λ w there. absurd (subst (λ l. Member w l) is there);
+        prepared = λ w there. absurd (subst (λ l. Member w l) is there);
       }))
 
   now : ValidTransaction m.run m.next (Prepare (name_in m.run t) stamp ∷ m.history) (in_phase (Prepared stamp) t)
@@ -115,6 +116,7 @@ valid-prepare m s stamp t v there running late = subst (λ o. Valid (of_some m (
       uncommitted = still-uncommitted (Prepare (name_in m.run t) stamp) m.history name refl (never-committed m t v none);
       later = λ n e. elim (released-cases (Prepare (name_in m.run t) stamp) m.history n name e) [ inl here ↦ let after = here.1 in let low = old.start in omega arith | inr before ↦ absurd (unreleased m.history n name none before) ];
       released = λ w at. released-now (Prepare (name_in m.run t) stamp) m.history name (name_eq-refl name);
+      prepared = λ w at. inl ((name_eq-refl name, refl), none);
     };
   }
 

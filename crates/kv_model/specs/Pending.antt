@@ -1,15 +1,16 @@
 -- What a chain, a cell and the history hold of one key, in each phase of the transaction whose update stands on top.
-use Rattle.std.specs.Prelude.{◌≡◌, ◌⊎◌, ◌<◌, ℕ, List, [], ◌∷◌, ◌++◌, map, Option, Some}
+use Rattle.std.specs.Prelude.{◌≡◌, ◌⊎◌, ◌<◌, ◌≤◌, ℕ, List, [], ◌∷◌, ◌++◌, map, Option, Some}
+use Rattle.std.specs.Option.{option_to_list}
 use Rattle.item.specs.declared.Change.{Change}
 use Rattle.stamp.specs.declared.Name.{Name}
 use Rattle.stamp.specs.declared.Version.{Version}
-use Rattle.kv_model.specs.Holds.{Member, Stores}
+use Rattle.kv_model.specs.Holds.{Member, Descends, Stores}
 use Rattle.kv_model.specs.Captures.{UpTo}
 use Rattle.kv_model.specs.Ordered.{Older}
-use Rattle.kv_model.specs.History.{line, Write}
+use Rattle.kv_model.specs.History.{Entry, line, Write}
 use Rattle.kv_model.specs.Machine.{Machine, Transaction, Phase, Prepared, Resolving, transaction_of, name_of}
 use Rattle.kv_model.specs.Droppable.{covers}
-use Rattle.kv_model.specs.Reads.{own_write, OthersEnding, Wrote, IsEnding}
+use Rattle.kv_model.specs.Reads.{own_write, OthersEnding, Wrote, IsEnding, PreparedAt}
 
 -- prepared is 0 where the update is not marked
 pub record Update : Type 0 where
@@ -19,16 +20,20 @@ pub record Update : Type 0 where
 abbrev pub settled : Version Change → Update
 settled v = record { version = v; prepared = 0 }
 
--- the mark means something once the transaction is prepared
-abbrev pub MarkStands : Phase → Update → Type 0
-MarkStands (Prepared stamp) u = u.prepared ≡ stamp
-MarkStands Resolving u = 0 < u.prepared
-MarkStands _ u = Unit {0}
+-- the mark means something once the transaction is prepared: it is the stamp of its prepare
+abbrev pub MarkStands : Phase → List Entry → Name → Update → Type 0
+MarkStands (Prepared stamp) history name u = u.prepared ≡ stamp
+MarkStands Resolving history name u = (0 < u.prepared) × PreparedAt history name u.prepared
+MarkStands _ history name u = Unit {0}
+
+-- the version that its commit makes of an update of this name, not before its prepare
+abbrev pub IsOutcome : Name → Update → Version Change → Type 0
+IsOutcome name u v = (v.window.name ≡ name) × (u.prepared ≤ v.window.commit)
 
 -- the versions below the update: all that stand, but for the update's own one where it is resolved and not stamped yet
-abbrev pub BelowStands : Phase → Name → List (Version Change) → List (Version Change) → Type 0
-BelowStands Resolving name stands below = (stands ≡ below) ⊎ ((v : Version Change) × (v.window.name ≡ name) × (stands ≡ v ∷ below))
-BelowStands _ name stands below = stands ≡ below
+abbrev pub BelowStands : Phase → Name → Update → List (Version Change) → List (Version Change) → Type 0
+BelowStands Resolving name u stands below = (stands ≡ below) ⊎ ((v : Version Change) × IsOutcome name u v × (stands ≡ v ∷ below))
+BelowStands _ name u stands below = stands ≡ below
 
 -- the update is the write of this transaction, and of the others that wrote the key each is ending
 pub record IsTop (m : Machine) (table : ℕ) (key : List ℕ) (u : Update) (below : List (Version Change)) : Type 0 where
@@ -39,8 +44,8 @@ pub record IsTop (m : Machine) (table : ℕ) (key : List ℕ) (u : Update) (belo
   pub own : own_write transaction table key ≡ Some write
   pub name : u.version.window.name ≡ name_of m transaction
   pub change : u.version.change ≡ write.change
-  pub mark : MarkStands transaction.phase u
-  pub rest : BelowStands transaction.phase (name_of m transaction) (line m.history table key) below
+  pub mark : MarkStands transaction.phase m.history (name_of m transaction) u
+  pub rest : BelowStands transaction.phase (name_of m transaction) u (line m.history table key) below
   pub alone : OthersEnding m session table key
 
 -- no transaction holds an update of the key, but one that is ending
@@ -62,6 +67,8 @@ pub record KeyStands (m : Machine) (table : ℕ) (key : List ℕ) (chain : List 
   pub held : List (Version Change)
   pub below : List (Version Change)
   pub chained : chain ≡ top ++ map settled held
+  -- newest first, the cell the oldest
+  pub ordered : Descends Older (held ++ option_to_list cell)
   pub topped : TopStands m table key top below
   pub stores : Stores Older (covers m) below (InFrame held cell) InHistory
   -- each record has a version of an ended transaction at or above it in the frame

@@ -3,7 +3,7 @@ use Rattle.std.specs.Prelude.{◌≡◌, ◌≢◌, ℕ, ◌⊎◌, Bool, true, 
 use Rattle.item.specs.declared.Change.{Change}
 use Rattle.stamp.specs.declared.Name.{Name}
 use Rattle.stamp.specs.declared.Version.{Version}
-use Rattle.kv_model.specs.History.{Entry, Prepare, Write, line, writes_at, admits, name_eq, reads_at, value, put_of}
+use Rattle.kv_model.specs.History.{Entry, Prepare, Write, line, writes_at, admits, name_eq, reads_at, released, releases, value, put_of}
 use Rattle.kv_model.specs.Machine.{Machine, Transaction, Phase, Resolving, Leaving, transaction_of, name_of}
 
 abbrev pub own_write : Transaction → ℕ → List ℕ → Option Write
@@ -22,6 +22,17 @@ abbrev pub prepared_in : List Entry → ℕ → ℕ → Name → Bool
 prepared_in [] n read x = false
 prepared_in (Prepare name stamp ∷ older) n read x = (name_eq name x && (nat_lt (length older) n && reads_at read stamp)) || prepared_in older n read x
 prepared_in (_ ∷ older) n read x = prepared_in older n read x
+
+-- the entry is the prepare of x at this stamp
+abbrev pub IsPrepareAt : Entry → Name → ℕ → Type 0
+IsPrepareAt (Prepare name at) x stamp = (name_eq name x ≡ true) × (at ≡ stamp)
+IsPrepareAt _ x stamp = ⊥
+
+-- one entry alone released x: its prepare at this stamp
+abbrev pub PreparedAt : List Entry → Name → ℕ → Type 0
+PreparedAt [] x stamp = ⊥
+PreparedAt (entry ∷ older) x stamp =
+    (IsPrepareAt entry x stamp × (released older (length older) x ≡ false)) ⊎ ((releases entry x ≡ false) × PreparedAt older x stamp)
 
 -- another session's transaction, prepared or resolving, that the reader meets at the key
 pub record Meets (m : Machine) (session : ℕ) (t : Transaction) (table : ℕ) (key : List ℕ) (other : ℕ) (x : Transaction) : Type 0 where

@@ -9,7 +9,7 @@ use Rattle.kv_model.specs.History.{Entry, Write, line, released, committed, tabl
 use Rattle.kv_model.specs.Ordered.{IsOrderly}
 use Rattle.kv_model.specs.Machine.{Machine, Transaction, Phase, Prepared, Resolving, Checkpoint, name_in}
 use Rattle.kv_model.specs.Captures.{AllFollow}
-use Rattle.kv_model.specs.Reads.{own_write, is_own, IsEnding}
+use Rattle.kv_model.specs.Reads.{own_write, is_own, IsEnding, PreparedAt}
 use Rattle.kv_model.specs.Allowed.{StampsFit}
 
 -- of an earlier run, or drawn in this one
@@ -26,6 +26,8 @@ pub record PreparedStands (stamp : ℕ) (history : List Entry) (name : Name) (t 
   -- not before it began
   pub later : (n : ℕ) → released history n name ≡ true → t.start ≤ n
   pub released : IsReleased history name t
+  -- by its prepare at this stamp, where it has writes
+  pub prepared : (w : Write) → Member w t.writes → PreparedAt history name stamp
 
 -- how the history knows a transaction, by its phase
 abbrev pub PhaseStands : Phase → List Entry → Name → Transaction → Type 0

@@ -1,12 +1,12 @@
 -- A read of a chain picks what the model admits.
-use Rattle.std.proofs.Common.{◌≡◌, ◌⊎◌, ℕ, refl, ap, sym, ◌∙◌, Bool, true, false, ◌&&◌, ◌||◌, List, [], ◌∷◌, inl, inr, map}
-use Rattle.std.specs.Prelude.{find, Option, Some, None, option_map, if◌then◌else◌}
+use Rattle.std.proofs.Common.{◌≡◌, ℕ, refl, ap, ◌∙◌, false, ◌&&◌, ◌||◌, List, [], ◌∷◌, inl, inr, map}
+use Rattle.std.specs.Prelude.{find, option_map}
 use Rattle.std.proofs.lemmas.Bool.{cases_Bool}
 use Rattle.item.specs.declared.Change.{Change}
 use Rattle.stamp.specs.declared.Version.{Version}
 use Rattle.stamp.specs.declared.View.{View}
 use Rattle.kv_model.specs.Holds.{Member}
-use Rattle.kv_model.specs.History.{admits, reads_at, released}
+use Rattle.kv_model.specs.History.{admits, reads_at}
 use Rattle.kv_model.specs.Machine.{Machine}
 use Rattle.snapshot.specs.Sight.{sight_of, is_seen}
 use Rattle.snapshot.specs.Matters.{Matters, SeesFirst}

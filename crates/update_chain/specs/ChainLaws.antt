@@ -1,5 +1,5 @@
 -- What reads and trims of chains are good for.
-use Rattle.std.specs.Prelude.{◌≡◌, ◌⊎◌, ℕ, true, false, List, ◌++◌, map, find, Option, option_map}
+use Rattle.std.specs.Prelude.{◌≡◌, ℕ, true, false, List, ◌++◌, map, find, option_map}
 use Rattle.item.specs.declared.Change.{Change}
 use Rattle.stamp.specs.declared.Name.{Name}
 use Rattle.stamp.specs.declared.Version.{Version}

@@ -1,3 +1,4 @@
 pub mod Updates
 pub mod Looks
 pub mod ChainLaws
+pub mod Answers

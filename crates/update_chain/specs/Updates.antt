@@ -1,5 +1,5 @@
 -- A chain as the list of its updates, newest first: what each call makes of it, and what a read of it answers.
-use Rattle.std.specs.Prelude.{ℕ, ◌<◌, ◌≤◌, Bool, true, false, ◌&&◌, ◌||◌, ◌==◌, not, nat_lt, nat_le, List, [], ◌∷◌, find, Option, Some, None, if◌then◌else◌}
+use Rattle.std.specs.Prelude.{ℕ, Bool, ◌&&◌, ◌||◌, ◌==◌, not, nat_lt, nat_le, List, [], ◌∷◌, find, Option, Some, None, if◌then◌else◌}
 use Rattle.item.specs.declared.Change.{Change}
 use Rattle.item.specs.declared.Change.TheVariants.{Put, Remove}
 use Rattle.stamp.specs.declared.Name.{Name}
