@@ -1,18 +1,18 @@
 -- At each event a snapshot stays one of the entries that it was taken of.
 use Rattle.std.proofs.Common.{◌≡◌, ◌⊎◌, ◌<◌, ◌≤◌, ◌+◌, ℕ, zero, suc, refl, ap, sym, ◌∙◌, Bool, true, false, List, [], ◌∷◌, ◌++◌, length, inl, inr, subst, arith}
-use Rattle.std.specs.Prelude.{◌==◌, Option, Some, None, slice_index_or, slice_set, option_map, if◌then◌else◌}
-use Rattle.std.proofs.lemmas.Bool.{both_ways}
+use Rattle.std.specs.Prelude.{◌==◌, ◌&&◌, nat_lt, Option, Some, None, slice_index_or, slice_set, option_map, if◌then◌else◌}
+use Rattle.std.proofs.lemmas.Bool.{both_ways, and_right, and_parts, or_cases, le-ltb}
 use Rattle.stamp.specs.declared.Name.{Name}
 use Rattle.kv_model.specs.Holds.{Member}
-use Rattle.kv_model.specs.History.{Entry, Create, Commit, Prepare, Resolve, Undo, Rts, Write, released, releases, name_eq}
+use Rattle.kv_model.specs.History.{Entry, Create, Commit, Prepare, Resolve, Undo, Rts, Write, released, releases, committed, ends, name_eq}
 use Rattle.kv_model.specs.Machine.{Machine, Transaction, Phase, Running, Failed, Prepared, Resolving, Leaving, Event, OpenSession, BeginAt, DrawId, AcceptWrite, RefuseWrite, PrepareAt, CommitAt, StartLeaving, EndTransaction, PlaceCursor, CreateTable, SetStamps, RollbackToStable, CheckpointStart, CheckpointFinish, CheckpointDrop, GoDown, Nothing, after, of_some, finished, transaction_of, name_of, name_in, appended, stamped, in_phase, decided, left, begun, written}
 use Rattle.kv_model.specs.Allowed.{Allowed}
 use Rattle.kv_model.specs.Valid.{Valid}
-use Rattle.kv_model.proofs.Releases.{released-later, released-cases, released-whole, released-same, name_eq-same}
+use Rattle.kv_model.proofs.Releases.{released-later, released-cases, released-whole, released-same, committed-whole, committed-released, false-from, name_eq-same}
 use Rattle.kv_model.proofs.Seats.{seat-inside, seat-cases}
 use Rattle.kv_model.proofs.Beginning.{undrawn-unreleased}
 use Rattle.snapshot.specs.Sight.{Sight}
-use Rattle.snapshot.specs.Matters.{HasWrites, Counts, IsLive, Matters, SeesFirst}
+use Rattle.snapshot.specs.Matters.{HasWrites, Counts, IsLive, Matters, SeesFirst, MattersToCheckpoints, SeesCommitted}
 use Rattle.snapshot.proofs.Sighting.{unseen-late}
 
 -- a name that was not drawn yet
@@ -28,6 +28,9 @@ pub record Follows (m next : Machine) : Type 0 where
   pub same : (n : ℕ) (x : Name) → n ≤ length m.history → released next.history n x ≡ released m.history n x
   -- a name that matters did so before, or is a new one
   pub matters : (x : Name) → Matters next x → Matters m x ⊎ IsUndrawn m x
+  -- so for what is committed
+  pub kept : (n : ℕ) (x : Name) → n ≤ length m.history → committed next.history n x ≡ committed m.history n x
+  pub matters_to_checkpoints : (x : Name) → MattersToCheckpoints next x → MattersToCheckpoints m x ⊎ IsUndrawn m x
 
 pub goes-on : (m next : Machine) (n : ℕ) (s : Sight) → Valid m → Follows m next → SeesFirst m n s → SeesFirst next n s
 goes-on m next n s v f old = record {
@@ -48,6 +51,23 @@ goes-on m next n s v f old = record {
         false-of : (b : Bool) → (b ≡ true → ⊥) → b ≡ false
         false-of true f = absurd (f refl)
         false-of false f = refl
+
+pub committed-goes-on : (m next : Machine) (n : ℕ) (s : Sight) → Valid m → Follows m next → SeesCommitted m n s → SeesCommitted next n s
+committed-goes-on m next n s v f old = record {
+  run = old.run ∙ sym f.run;
+  order = old.order;
+  drawn = (let a = old.drawn in let b = f.drawn in omega arith);
+  within = (let a = old.within in let b = f.longer in omega arith);
+  sees = λ x matters. elim (f.matters_to_checkpoints x matters) [
+    | inl before ↦ old.sees x before ∙ sym (f.kept n x old.within)
+    | inr new ↦ unseen-late s x (new.0 ∙ sym old.run) old.order (let a = old.drawn in let b = new.1 in omega arith)
+        ∙ sym (f.kept n x old.within ∙ uncommitted x new)
+  ];
+} where
+  uncommitted : (x : Name) → IsUndrawn m x → committed m.history n x ≡ false
+  uncommitted x new = false-from (committed m.history n x) (λ e. both_ways (released m.history (length m.history) x)
+      (released-same x (record { run = m.run; id = x.id }) m.history (length m.history) new.0 refl ∙ undrawn-unreleased m v x.id (inr new.1))
+      (committed-released m.history v.orderly n x e))
 
 -- ---- seats
 
@@ -102,9 +122,26 @@ live-kin m next x run all l = elim (all l.session l.transaction l.there).kin [
 
 -- ---- histories
 
--- the history stays, or gets an entry that releases a transaction that has not ended, if any
+committed-later : (entry : Entry) (history : List Entry) (n : ℕ) (x : Name) → n ≤ length history → committed (entry ∷ history) n x ≡ committed history n x
+committed-later entry history n x le = rw (and_right (ends entry x) (nat_lt (length history) n) (le-ltb (length history) n le)) refl
+
+committed-cases : (entry : Entry) (history : List Entry) (n : ℕ) (x : Name) → committed (entry ∷ history) n x ≡ true → (ends entry x ≡ true) ⊎ (committed history n x ≡ true)
+committed-cases entry history n x e = elim (or_cases (ends entry x && nat_lt (length history) n) (committed history n x) e) [
+  | inl here ↦ inl (and_parts (ends entry x) (nat_lt (length history) n) here).0
+  | inr later ↦ inr later
+]
+
+-- the entry releases or commits it
+abbrev pub IsOf : Entry → Name → Type 0
+IsOf entry x = (releases entry x ≡ true) ⊎ (ends entry x ≡ true)
+
+either : {A : Type 0} → A ⊎ A → A
+either (inl a) = a
+either (inr a) = a
+
+-- the history stays, or gets an entry that releases or commits a transaction that has not ended, if any
 pub record Grows (m : Machine) (next : List Entry) : Type 0 where
-  pub grows : (next ≡ m.history) ⊎ ((entry : Entry) × (next ≡ entry ∷ m.history) × ((x : Name) → releases entry x ≡ true → IsLive m x))
+  pub grows : (next ≡ m.history) ⊎ ((entry : Entry) × (next ≡ entry ∷ m.history) × ((x : Name) → IsOf entry x → IsLive m x))
 
 follows : (m next : Machine) → next.run ≡ m.run → m.next ≤ next.next → Grows m next.history → AllKin m next.sessions → Follows m next
 follows m next run drawn g all = elim g.grows [
@@ -117,6 +154,11 @@ follows m next run drawn g all = elim g.grows [
       | inl e ↦ inl (inl (ap (λ h. released h (length h) x) (sym same) ∙ e))
       | inr live ↦ elim (live-kin m next x run all live) [ inl before ↦ inl (inr before) | inr new ↦ inr new ]
     ];
+    kept = λ n x le. ap (λ h. committed h n x) same;
+    matters_to_checkpoints = λ x matters. elim matters [
+      | inl e ↦ inl (inl (ap (λ h. committed h (length h) x) (sym same) ∙ e))
+      | inr live ↦ elim (live-kin m next x run all live) [ inl before ↦ inl (inr before) | inr new ↦ inr new ]
+    ];
   }
   | inr more ↦ record {
     run = run;
@@ -125,8 +167,16 @@ follows m next run drawn g all = elim g.grows [
     same = λ n x le. ap (λ h. released h n x) more.1 ∙ released-later more.0 m.history n x le;
     matters = λ x matters. elim matters [
       | inl e ↦ elim (released-cases more.0 m.history (length (more.0 ∷ m.history)) x (ap (λ h. released h (length h) x) (sym more.1) ∙ e)) [
-        | inl here ↦ inl (inr (more.2 x here.0))
+        | inl here ↦ inl (inr (more.2 x (inl here.0)))
         | inr older ↦ inl (inl (released-whole m.history (length (more.0 ∷ m.history)) x older))
+      ]
+      | inr live ↦ elim (live-kin m next x run all live) [ inl before ↦ inl (inr before) | inr new ↦ inr new ]
+    ];
+    kept = λ n x le. ap (λ h. committed h n x) more.1 ∙ committed-later more.0 m.history n x le;
+    matters_to_checkpoints = λ x matters. elim matters [
+      | inl e ↦ elim (committed-cases more.0 m.history (length (more.0 ∷ m.history)) x (ap (λ h. committed h (length h) x) (sym more.1) ∙ e)) [
+        | inl here ↦ inl (inr (more.2 x (inr here)))
+        | inr older ↦ inl (inl (committed-whole m.history (length (more.0 ∷ m.history)) x older))
       ]
       | inr live ↦ elim (live-kin m next x run all live) [ inl before ↦ inl (inr before) | inr new ↦ inr new ]
     ];
@@ -136,13 +186,13 @@ follows m next run drawn g all = elim g.grows [
 grows-none : (m : Machine) → Grows m m.history
 grows-none m = record { grows = inl refl }
 
--- an entry that releases nothing
-grows-quiet : (m : Machine) (entry : Entry) → ((x : Name) → releases entry x ≡ false) → Grows m (entry ∷ m.history)
-grows-quiet m entry quiet = record { grows = inr (entry, refl, λ x e. absurd (both_ways (releases entry x) (quiet x) e)) }
+-- an entry that releases and commits nothing
+grows-quiet : (m : Machine) (entry : Entry) → ((x : Name) → (releases entry x ≡ false) × (ends entry x ≡ false)) → Grows m (entry ∷ m.history)
+grows-quiet m entry quiet = record { grows = inr (entry, refl, λ x of. elim of [ inl e ↦ absurd (both_ways (releases entry x) (quiet x).0 e) | inr e ↦ absurd (both_ways (ends entry x) (quiet x).1 e) ]) }
 
 -- nothing joins the history for a transaction without writes
 grows-by : (m : Machine) (s : ℕ) (t : Transaction) (entry : Entry) → Valid m → transaction_of m s ≡ Some t
-    → ((w : HasWrites t) (x : Name) → releases entry x ≡ true → IsLive m x) → Grows m (appended t.writes entry m.history)
+    → ((w : HasWrites t) (x : Name) → IsOf entry x → IsLive m x) → Grows m (appended t.writes entry m.history)
 grows-by m s t entry v there live = by-writes t.writes refl where
   by-writes : (writes : List Write) → t.writes ≡ writes → Grows m (appended writes entry m.history)
   by-writes [] is = grows-none m
@@ -174,21 +224,21 @@ counts-writes Resolving t w = w
 follows-prepare : (m : Machine) (s stamp : ℕ) (t : Transaction) → Valid m → transaction_of m s ≡ Some t → t.phase ≡ Running → Follows m (after m (PrepareAt s stamp))
 follows-prepare m s stamp t v there running = subst (λ o. Follows m (of_some m (λ u. record m { sessions = slice_set m.sessions s (Some (in_phase (Prepared stamp) u)); history = appended u.writes (Prepare (name_of m u) stamp) m.history }) o)) (sym there)
     (follows m (record m { sessions = slice_set m.sessions s (Some (in_phase (Prepared stamp) t)); history = appended t.writes (Prepare (name_of m t) stamp) m.history }) refl (omega arith)
-    (grows-by m s t (Prepare (name_of m t) stamp) v there (λ w x e. live-named m s t x v there w (counts-writes t.phase t w) e))
+    (grows-by m s t (Prepare (name_of m t) stamp) v there (λ w x of. elim of [ inl e ↦ live-named m s t x v there w (counts-writes t.phase t w) e | inr e ↦ absurd (cc) ]))
     (changed m s t (in_phase (Prepared stamp) t) there refl (λ w. counts-writes t.phase t w)))
 
 follows-decided : (m : Machine) (s commit durable : ℕ) (t : Transaction) (p : Phase) → Valid m → transaction_of m s ≡ Some t → t.phase ≡ p → Follows m (decided p m s commit durable t)
 follows-decided m s commit durable t (Prepared stamp) v there is = follows m (decided (Prepared stamp) m s commit durable t) refl (omega arith)
-    (grows-by m s t (Resolve (name_of m t) (stamped commit durable t.writes)) v there (λ w x e. absurd (cc)))
+    (grows-by m s t (Resolve (name_of m t) (stamped commit durable t.writes)) v there (λ w x of. elim of [ inl e ↦ absurd (cc) | inr e ↦ live-named m s t x v there w (counts-writes t.phase t w) e ]))
     (changed m s t (in_phase Resolving t) there refl (λ w. counts-writes t.phase t w))
 follows-decided m s commit durable t Running v there is = follows m (decided Running m s commit durable t) refl (omega arith)
-    (grows-by m s t (Commit (name_of m t) (stamped commit durable t.writes)) v there (λ w x e. live-named m s t x v there w (counts-writes t.phase t w) e)) (gone m s t there)
+    (grows-by m s t (Commit (name_of m t) (stamped commit durable t.writes)) v there (λ w x e. live-named m s t x v there w (counts-writes t.phase t w) (either e))) (gone m s t there)
 follows-decided m s commit durable t Failed v there is = follows m (decided Failed m s commit durable t) refl (omega arith)
-    (grows-by m s t (Commit (name_of m t) (stamped commit durable t.writes)) v there (λ w x e. live-named m s t x v there w (counts-writes t.phase t w) e)) (gone m s t there)
+    (grows-by m s t (Commit (name_of m t) (stamped commit durable t.writes)) v there (λ w x e. live-named m s t x v there w (counts-writes t.phase t w) (either e))) (gone m s t there)
 follows-decided m s commit durable t Resolving v there is = follows m (decided Resolving m s commit durable t) refl (omega arith)
-    (grows-by m s t (Commit (name_of m t) (stamped commit durable t.writes)) v there (λ w x e. live-named m s t x v there w (counts-writes t.phase t w) e)) (gone m s t there)
+    (grows-by m s t (Commit (name_of m t) (stamped commit durable t.writes)) v there (λ w x e. live-named m s t x v there w (counts-writes t.phase t w) (either e))) (gone m s t there)
 follows-decided m s commit durable t Leaving v there is = follows m (decided Leaving m s commit durable t) refl (omega arith)
-    (grows-by m s t (Commit (name_of m t) (stamped commit durable t.writes)) v there (λ w x e. live-named m s t x v there w (counts-writes t.phase t w) e)) (gone m s t there)
+    (grows-by m s t (Commit (name_of m t) (stamped commit durable t.writes)) v there (λ w x e. live-named m s t x v there w (counts-writes t.phase t w) (either e))) (gone m s t there)
 
 pub follows-itself : (m : Machine) → Follows m m
 follows-itself m = follows m m refl (omega arith) (grows-none m) (all-itself m)
@@ -200,7 +250,7 @@ leaving m s t there counts = follows m (record m { sessions = slice_set m.sessio
 
 follows-left : (m : Machine) (s : ℕ) (t : Transaction) (p : Phase) → Valid m → transaction_of m s ≡ Some t → t.phase ≡ p → Follows m (left p m s t)
 follows-left m s t (Prepared stamp) v there is = follows m (left (Prepared stamp) m s t) refl (omega arith)
-    (grows-by m s t (Undo (name_of m t)) v there (λ w x e. absurd (cc)))
+    (grows-by m s t (Undo (name_of m t)) v there (λ w x of. elim of [ inl e ↦ absurd (cc) | inr e ↦ absurd (cc) ]))
     (changed m s t (in_phase Resolving t) there refl (λ w. counts-writes t.phase t w))
 follows-left m s t Resolving v there is = follows-itself m
 follows-left m s t Running v there is = leaving m s t there (subst (λ q. Counts q t) (sym is) tt)
@@ -241,7 +291,7 @@ follows-rollback : (m : Machine) → Follows m (after m RollbackToStable)
 follows-rollback m = follows m (after m RollbackToStable) refl (omega arith) (by-stable (m.stable == 0)) (all-itself m) where
   by-stable : (b : Bool) → Grows m (if b then m.history else Rts m.stable ∷ m.history)
   by-stable true = grows-none m
-  by-stable false = grows-quiet m (Rts m.stable) (λ x. refl)
+  by-stable false = grows-quiet m (Rts m.stable) (λ x. (refl, refl))
 
 follows-finish : (m : Machine) → Follows m (after m CheckpointFinish)
 follows-finish m = by-run m.checkpoint where
@@ -260,7 +310,7 @@ follows-after m (CommitAt s commit durable) v may = subst (λ o. Follows m (of_s
 follows-after m (StartLeaving s) v may = follows-leave m s v
 follows-after m (EndTransaction s) v may = follows m (after m (EndTransaction s)) refl (omega arith) (grows-none m) (gone m s may.0 may.1)
 follows-after m (PlaceCursor s cursor position) v may = follows m (after m (PlaceCursor s cursor position)) refl (omega arith) (grows-none m) (all-itself m)
-follows-after m (CreateTable table) v may = follows m (after m (CreateTable table)) refl (omega arith) (grows-quiet m (Create table) (λ x. refl)) (all-itself m)
+follows-after m (CreateTable table) v may = follows m (after m (CreateTable table)) refl (omega arith) (grows-quiet m (Create table) (λ x. (refl, refl))) (all-itself m)
 follows-after m (SetStamps oldest stable) v may = follows m (after m (SetStamps oldest stable)) refl (omega arith) (grows-none m) (all-itself m)
 follows-after m RollbackToStable v may = follows-rollback m
 follows-after m CheckpointStart v may = follows m (after m CheckpointStart) refl (omega arith) (grows-none m) (all-itself m)

@@ -1,3 +1,4 @@
 pub mod Listed
 pub mod Sighting
 pub mod GoingOn
+pub mod Checkpoints

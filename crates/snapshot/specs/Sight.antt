@@ -1,5 +1,5 @@
 -- What a snapshot sees: by run, and in its run by the ids that were running.
-use Rattle.std.specs.Prelude.{ℕ, ◌+◌, ◌≤◌, Bool, not, ◌&&◌, ◌||◌, ◌==◌, nat_lt, List, [], ◌∷◌}
+use Rattle.std.specs.Prelude.{ℕ, ◌+◌, ◌≤◌, Bool, not, ◌&&◌, ◌||◌, ◌==◌, nat_lt, List, [], ◌∷◌, if◌then◌else◌}
 use Rattle.std.specs.List.{list_any}
 use Rattle.stamp.specs.declared.Name.{Name}
 use Rattle.stamp.specs.declared.View.{View}
@@ -24,6 +24,11 @@ Ascends low (id ∷ ids) high = (low ≤ id) × Ascends (id + 1) ids high
 abbrev pub is_listed : List ℕ → ℕ → Bool
 is_listed ids id = list_any (λ other. other == id) ids
 
+-- an ascending list with one id more, where it is not there
+abbrev pub with_id : List ℕ → ℕ → List ℕ
+with_id [] id = id ∷ []
+with_id (other ∷ ids) id = if nat_lt id other then id ∷ (other ∷ ids) else (if other == id then other ∷ ids else other ∷ with_id ids id)
+
 -- the least of an ascending list, or this number where it is empty
 abbrev pub least_or : ℕ → List ℕ → ℕ
 least_or next [] = next
@@ -36,6 +41,10 @@ is_seen s x = nat_lt x.run s.run || ((x.run == s.run) && (nat_lt x.id s.min || (
 -- taken in a run, with its next id and the running ones
 abbrev pub sight_at : ℕ → ℕ → List ℕ → Sight
 sight_at run next running = record { run = run; min = least_or next running; max = next; list = running }
+
+-- the same, with one id more that counts as running
+abbrev pub counting : Sight → ℕ → Sight
+counting s id = sight_at s.run s.max (with_id s.list id)
 
 -- the snapshot that a view lends
 abbrev pub sight_of : View → Sight

@@ -1,7 +1,7 @@
 //! The snapshot of a transaction.
 
-ghost use Rattle.std.specs.Prelude.{◌≡◌, ◌≤◌, IfOk, length, []};
-ghost use Rattle.snapshot.specs.Sight.{Ascends, is_seen, sight_at, sight_of};
+ghost use Rattle.std.specs.Prelude.{◌≡◌, ◌<◌, ◌≤◌, ℕ, IfOk, length, [], vec_capacity, vec_len};
+ghost use Rattle.snapshot.specs.Sight.{Ascends, counting, is_seen, least_or, sight_at, sight_of, with_id};
 
 use crate::sight::is_seen_among;
 use failure::NoMemory;
@@ -59,13 +59,22 @@ impl Snapshot {
         ensures room { self.old.room ≤ self.new.room }
     {
         self.run = run;
-        self.min = match running.first() {
-            None => next,
-            Some(least) => *least,
-        };
+        self.min = least(running, next);
         self.max = next;
         self.list.clear();
         let _copied = self.list.extend_from_slice(running);
+    }
+
+    /// Counts one more id of its run as running, one that was drawn. Takes no memory. `O(log n)` in
+    /// the ids that count as running, and one move of those above.
+    pub fn count_running(&mut self, id: u64)
+        requires drawn { id < self.old.sight.max }
+        requires room { length self.old.sight.list < self.old.room }
+        ensures sight { self.new.sight ≡ counting self.old.sight id }
+        ensures room { self.old.room ≤ self.new.room }
+    {
+        list_too(&mut self.list, id);
+        self.min = least(&self.list, self.max);
     }
 
     /// Whether it sees this name. `O(log n)` in the ids that were running.
@@ -98,5 +107,27 @@ impl Snapshot {
         ensures { result ≡ self.now.sight.min }
     {
         self.min
+    }
+}
+
+// The least of some ids, which ascend, or the next one where there are none.
+fn least(ids: &[u64], next: u64) -> u64
+    ensures { result ≡ least_or next ids.now }
+{
+    match ids.first() {
+        None => next,
+        Some(least) => *least,
+    }
+}
+
+// Puts an id among these, which ascend, where it is not there.
+fn list_too(ids: &mut Vec<u64>, id: u64)
+    requires ascending { (high : ℕ) × Ascends 0 ids.old.items high }
+    requires room { vec_len ids.old < vec_capacity ids.old }
+    ensures items { ids.new.items ≡ with_id ids.old.items id }
+    ensures room { vec_capacity ids.old ≤ vec_capacity ids.new }
+{
+    if let Err(place) = ids.binary_search(&id) {
+        let _inserted = ids.insert(place, id);
     }
 }

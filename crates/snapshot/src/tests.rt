@@ -34,3 +34,27 @@ fn a_snapshot_sees_what_was_drawn_and_not_running(rt: HostRuntime) -> Result<(),
     assert!(rt; view.min == 12 && view.max == 12 && view.list.is_empty());
     Ok(())
 }
+
+#[test]
+fn an_id_that_is_counted_too_is_not_seen(rt: HostRuntime) -> Result<(), NoMemory> {
+    let mut snapshot = Snapshot::new(rt.alloc(), 7, 64)?;
+    snapshot.fill(7, 12, &[5, 8]);
+    snapshot.count_running(3);
+    snapshot.count_running(11);
+    snapshot.count_running(6);
+    snapshot.count_running(8);
+    let view = snapshot.view(0, 0);
+    assert!(rt; view.list == [3, 5, 6, 8, 11].as_slice());
+    assert!(rt; view.min == 3 && view.max == 12 && view.run == 7);
+    for (id, seen) in [
+        (2, true),
+        (3, false),
+        (4, true),
+        (6, false),
+        (7, true),
+        (11, false),
+    ] {
+        assert!(rt; snapshot.sees(Name { run: 7, id }) == seen);
+    }
+    Ok(())
+}

@@ -40,7 +40,7 @@ least-at f d (x ∷ seats) (suc s) start n none e = by-head (f x) refl (λ from.
 min-at : (s : Seated) → is_idle s.phase ≡ false → min_of s ≡ Some s.sight.min
 min-at s busy = ap (λ b. if b then None else Some s.sight.min) busy
 
-busy-has : (p : Phase) → is_idle p ≡ false → phase_in p ≡ None → ⊥
+pub busy-has : (p : Phase) → is_idle p ≡ false → phase_in p ≡ None → ⊥
 busy-has Idle busy e = absurd (cc)
 busy-has Running busy e = absurd (cc)
 busy-has Failed busy e = absurd (cc)
@@ -76,7 +76,7 @@ idle-none Leaving e = absurd (cc)
 idle-none (Prepared stamp) e = absurd (cc)
 idle-none Resolving e = absurd (cc)
 
-busy-some : (p : Phase) (q : ModelPhase) → phase_in p ≡ Some q → is_idle p ≡ false
+pub busy-some : (p : Phase) (q : ModelPhase) → phase_in p ≡ Some q → is_idle p ≡ false
 busy-some Idle q e = absurd (cc)
 busy-some Running q e = refl
 busy-some Failed q e = refl

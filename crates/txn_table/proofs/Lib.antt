@@ -3,3 +3,6 @@ pub mod TableLemmas
 pub mod LookLemmas
 pub mod Standing
 pub mod Bounds
+pub mod Starting
+pub mod Unended
+pub mod Capturing

@@ -154,7 +154,7 @@ begins t m s read v stands may =
     subst (λ n. SeesFirst m (length m.history) (sight_at t.run n t.running)) (sym stands.next) (subst (λ r. SeesFirst m (length m.history) (sight_at r m.next t.running)) (sym stands.run)
     (sees-first m t.running v (subst (λ n. Ascends 1 t.running n) stands.next stands.table.ascending) (are-running t m stands))) in
     seat-moves t m (after m (BeginAt s read)) s (record { phase = Running; id = 0; read = read; sight = sight_at t.run t.next t.running; kept = [] }) (Some (begun_in m read)) t.running t.next stands v follows inside refl
-    (table-same t s (record { phase = Running; id = 0; read = read; sight = sight_at t.run t.next t.running; kept = [] }) stands.table inside (sym rests) (λ yes. absurd (cc)))
+    (table-same t s (record { phase = Running; id = 0; read = read; sight = sight_at t.run t.next t.running; kept = [] }) stands.table inside (omega arith) (sym rests) (λ yes. absurd (cc)))
     stands.next
     (record { phase = refl; id = refl; read = refl; sees = goes-on m (after m (BeginAt s read)) (length m.history) (sight_at t.run t.next t.running) v follows here })
 
@@ -187,7 +187,7 @@ phase-moves : (t : Table) (m next : Machine) (s : ℕ) (p : Phase) (q : ModelPha
 phase-moves t m next s p q x stands v f there sessions ids phase same =
     let seat = seat-at t m s x stands there in
     seat-moves t m next s (phase-changed t s p) (Some (phased q x)) t.running t.next stands v f (open-at t m s x stands there) sessions
-    (table-same t s (phase-changed t s p) stands.table (open-at t m s x stands there) (ap (λ b. b && nat_lt 0 (seat_of t s).id) same) (λ yes. refl))
+    (table-same t s (phase-changed t s p) stands.table (open-at t m s x stands there) (omega arith) (ap (λ b. b && nat_lt 0 (seat_of t s).id) same) (λ yes. refl))
     (stands.next ∙ sym ids)
     (record { phase = phase; id = seat.id; read = seat.read; sees = goes-on m next x.start (seat_of t s).sight v f seat.sees })
 
@@ -196,7 +196,7 @@ release-moves : (t : Table) (m next : Machine) (s : ℕ) (p : Phase) (x : Transa
     → next.sessions ≡ slice_set m.sessions s o → next.next ≡ m.next → is_unreleased (phase_of t s) ≡ true → is_unreleased p ≡ false → SessionStands next (phase-changed t s p) o → TableStands (released_in t s p) next
 release-moves t m next s p x o stands v f there sessions ids is isnt now =
     seat-moves t m next s (phase-changed t s p) o (without (seat_of t s).id t.running) t.next stands v f (open-at t m s x stands there) sessions
-    (table-released t s (phase-changed t s p) stands.table (open-at t m s x stands there) is (ap (λ b. b && nat_lt 0 (seat_of t s).id) isnt))
+    (table-released t s (phase-changed t s p) stands.table (open-at t m s x stands there) (omega arith) is (ap (λ b. b && nat_lt 0 (seat_of t s).id) isnt))
     (stands.next ∙ sym ids) now
 
 fails : (t : Table) (m : Machine) (s : ℕ) → Valid m → TableStands t m → Allowed m (RefuseWrite s) → TableStands (in_phase t s Failed) (after m (RefuseWrite s))
@@ -266,7 +266,7 @@ ends t m s v stands may = elim (cases_Bool (is_unreleased (phase_of t s))) [
       (release-moves t m (after m (EndTransaction s)) s Idle may.0 None stands v (follows-after m (EndTransaction s) v may) may.1 refl refl is refl refl)
   | inr isnt ↦ subst (λ b. TableStands (if b then released_in t s Idle else in_phase t s Idle) (after m (EndTransaction s))) (sym isnt)
       (seat-moves t m (after m (EndTransaction s)) s (phase-changed t s Idle) None t.running t.next stands v (follows-after m (EndTransaction s) v may) (open-at t m s may.0 stands may.1) refl
-      (table-same t s (phase-changed t s Idle) stands.table (open-at t m s may.0 stands may.1) (sym (ap (λ b. b && nat_lt 0 (seat_of t s).id) isnt)) (λ yes. refl)) stands.next refl)
+      (table-same t s (phase-changed t s Idle) stands.table (open-at t m s may.0 stands may.1) (omega arith) (sym (ap (λ b. b && nat_lt 0 (seat_of t s).id) isnt)) (λ yes. refl)) stands.next refl)
 ]
 
 opens : (t : Table) (m : Machine) → Valid m → TableStands t m → TableStands (one_more t) (after m OpenSession)
@@ -298,7 +298,7 @@ other-kept m x kept (Some t) stands = record { phase = stands.phase; id = stands
 registers : (t : Table) (m : Machine) (s : ℕ) (kept : Kept) → Valid m → TableStands t m → s < length t.seats → TableStands (registered t s kept) m
 registers t m s kept v stands inside =
     seat-moves t m m s (record (seat_of t s) { kept = (seat_of t s).kept ++ kept ∷ [] }) (transaction_of m s) t.running t.next stands v (follows-itself m) inside (sym (set-itself m.sessions s))
-    (table-same t s (record (seat_of t s) { kept = (seat_of t s).kept ++ kept ∷ [] }) stands.table inside refl (λ yes. refl)) stands.next
+    (table-same t s (record (seat_of t s) { kept = (seat_of t s).kept ++ kept ∷ [] }) stands.table inside (omega arith) refl (λ yes. refl)) stands.next
     (other-kept m (seat_of t s) ((seat_of t s).kept ++ kept ∷ []) (transaction_of m s) (stands.sessions s))
 
 -- the writes of one transaction changed alone

@@ -35,6 +35,8 @@ outside t s le = beyond t.seats s le where
 pub record Keeps (t : Table) (s : ℕ) (u : Seated) (ids : List ℕ) (next : ℕ) : Type 0 where
   pub inside : s < length t.seats
   pub ascending : Ascends 1 ids next
+  pub mine : u.id < next
+  pub grows : t.next ≤ next
   pub here : runs u ≡ true → is_listed ids u.id ≡ true
   pub others : (r : ℕ) → (r ≡ s → ⊥) → runs (seat_of t r) ≡ true → is_listed ids (seat_of t r).id ≡ true
   pub each : (id : ℕ) → is_listed ids id ≡ true → ((runs u ≡ true) × (u.id ≡ id)) ⊎ ((r : ℕ) × (r ≡ s → ⊥) × (r < length t.seats) × (runs (seat_of t r) ≡ true) × ((seat_of t r).id ≡ id))
@@ -50,6 +52,11 @@ table-changed t s u ids next old k = record {
   each = λ id is. elim (k.each id is) [
     | inl new ↦ let e = seat-same t s u ids next k.inside in (s, inside s k.inside, ap runs e ∙ new.0, ap (λ (x : Seated). x.id) e ∙ new.1)
     | inr at ↦ let e = seat-other t s at.0 u ids next at.1 in (at.0, inside at.0 at.2, ap runs e ∙ at.3, ap (λ (x : Seated). x.id) e ∙ at.4)
+  ];
+  drawn = λ r. elim (cases_eq r s) [
+    | inl same ↦ let e = at-same r same in subst (λ (x : Seated). x.id < next) (sym e) k.mine
+    | inr other ↦ let e = seat-other t s r u ids next other in let low = old.drawn r in let grows = k.grows in
+        subst (λ (x : Seated). x.id < next) (sym e) (omega arith)
   ];
   distinct = λ a b one two same. elim (cases_eq a s) [
     | inl x ↦ elim (cases_eq b s) [
@@ -86,10 +93,12 @@ seats-kept t s u h = let e = length-set t.seats s u in let most = h.sessions in 
 
 -- ---- changes that leave the running ids
 
-keeps-same : (t : Table) (s : ℕ) (u : Seated) → IsTable t → s < length t.seats → runs u ≡ runs (seat_of t s) → (runs u ≡ true → u.id ≡ (seat_of t s).id) → Keeps t s u t.running t.next
-keeps-same t s u old inside same id = record {
+keeps-same : (t : Table) (s : ℕ) (u : Seated) → IsTable t → s < length t.seats → u.id ≤ (seat_of t s).id → runs u ≡ runs (seat_of t s) → (runs u ≡ true → u.id ≡ (seat_of t s).id) → Keeps t s u t.running t.next
+keeps-same t s u old inside low same id = record {
   inside = inside;
   ascending = old.ascending;
+  mine = (let drawn = old.drawn s in omega arith);
+  grows = omega arith;
   here = λ is. subst (λ x. is_listed t.running x ≡ true) (sym (id is)) (old.listed s (sym same ∙ is));
   others = λ r other is. old.listed r is;
   each = λ x is. let at = old.each x is in elim (cases_eq at.0 s) [
@@ -100,9 +109,9 @@ keeps-same t s u old inside same id = record {
   distinct = λ is r other run e. other (old.distinct r s run (sym same ∙ is) (sym e ∙ id is));
 }
 
-pub room-same : (t : Table) (s : ℕ) (u : Seated) → HasRoom t → s < length t.seats → runs u ≡ runs (seat_of t s) → (runs u ≡ true → u.id ≡ (seat_of t s).id) → HasRoom (changed t s u t.running t.next)
-room-same t s u h inside same id = record {
-  table = table-changed t s u t.running t.next h.table (keeps-same t s u h.table inside same id);
+pub room-same : (t : Table) (s : ℕ) (u : Seated) → HasRoom t → s < length t.seats → u.id ≤ (seat_of t s).id → runs u ≡ runs (seat_of t s) → (runs u ≡ true → u.id ≡ (seat_of t s).id) → HasRoom (changed t s u t.running t.next)
+room-same t s u h inside low same id = record {
+  table = table-changed t s u t.running t.next h.table (keeps-same t s u h.table inside low same id);
   few = (let w = weights-changed t s u inside in let e : weight u ≡ weight (seat_of t s) = ap (λ b. if b then 1 else 0) same in let f = h.few in omega arith);
   sessions = seats-kept t s u h;
 }
@@ -122,13 +131,15 @@ zero-unlisted t h = false-of (is_listed t.running 0) (λ l. let w = listed-withi
   false-of true f = absurd (f refl)
   false-of false f = refl
 
-pub table-same : (t : Table) (s : ℕ) (u : Seated) → IsTable t → s < length t.seats → runs u ≡ runs (seat_of t s) → (runs u ≡ true → u.id ≡ (seat_of t s).id) → IsTable (changed t s u t.running t.next)
-table-same t s u h inside same id = table-changed t s u t.running t.next h (keeps-same t s u h inside same id)
+pub table-same : (t : Table) (s : ℕ) (u : Seated) → IsTable t → s < length t.seats → u.id ≤ (seat_of t s).id → runs u ≡ runs (seat_of t s) → (runs u ≡ true → u.id ≡ (seat_of t s).id) → IsTable (changed t s u t.running t.next)
+table-same t s u h inside low same id = table-changed t s u t.running t.next h (keeps-same t s u h inside low same id)
 
-table-left : (t : Table) (s : ℕ) (u : Seated) → IsTable t → s < length t.seats → runs (seat_of t s) ≡ true → runs u ≡ false → IsTable (changed t s u (without (seat_of t s).id t.running) t.next)
-table-left t s u h inside run rests = table-changed t s u (without (seat_of t s).id t.running) t.next h (record {
+table-left : (t : Table) (s : ℕ) (u : Seated) → IsTable t → s < length t.seats → u.id ≤ (seat_of t s).id → runs (seat_of t s) ≡ true → runs u ≡ false → IsTable (changed t s u (without (seat_of t s).id t.running) t.next)
+table-left t s u h inside low run rests = table-changed t s u (without (seat_of t s).id t.running) t.next h (record {
   inside = inside;
   ascending = ascends-without 1 t.next (seat_of t s).id t.running h.ascending;
+  mine = (let drawn = h.drawn s in omega arith);
+  grows = omega arith;
   here = λ yes. absurd (both_ways (runs u) rests yes);
   others = λ r other yes. without-listed (seat_of t s).id (seat_of t r).id t.running (h.listed r yes) (λ e. other (h.distinct r s yes run e));
   each = λ x yes. let l = listed-without (seat_of t s).id x t.running yes in let at = h.each x l.0 in
@@ -139,22 +150,22 @@ table-left t s u h inside run rests = table-changed t s u (without (seat_of t s)
 idle-left : (t : Table) (s : ℕ) → IsTable t → is_unreleased (seat_of t s).phase ≡ true → runs (seat_of t s) ≡ false → without (seat_of t s).id t.running ≡ t.running
 idle-left t s h is idle = ap (λ i. without i t.running) (no-id (seat_of t s) is idle) ∙ without-none 0 t.running (zero-unlisted t h)
 
-pub table-released : (t : Table) (s : ℕ) (u : Seated) → IsTable t → s < length t.seats → is_unreleased (seat_of t s).phase ≡ true → runs u ≡ false → IsTable (changed t s u (without (seat_of t s).id t.running) t.next)
-table-released t s u h inside is rests = elim (cases_Bool (runs (seat_of t s))) [
-  | inl run ↦ table-left t s u h inside run rests
-  | inr idle ↦ subst (λ ids. IsTable (changed t s u ids t.next)) (sym (idle-left t s h is idle)) (table-same t s u h inside (rests ∙ sym idle) (λ yes. absurd (both_ways (runs u) rests yes)))
+pub table-released : (t : Table) (s : ℕ) (u : Seated) → IsTable t → s < length t.seats → u.id ≤ (seat_of t s).id → is_unreleased (seat_of t s).phase ≡ true → runs u ≡ false → IsTable (changed t s u (without (seat_of t s).id t.running) t.next)
+table-released t s u h inside low is rests = elim (cases_Bool (runs (seat_of t s))) [
+  | inl run ↦ table-left t s u h inside low run rests
+  | inr idle ↦ subst (λ ids. IsTable (changed t s u ids t.next)) (sym (idle-left t s h is idle)) (table-same t s u h inside low (rests ∙ sym idle) (λ yes. absurd (both_ways (runs u) rests yes)))
 ]
 
-pub room-released : (t : Table) (s : ℕ) (u : Seated) → HasRoom t → s < length t.seats → is_unreleased (seat_of t s).phase ≡ true → runs u ≡ false
+pub room-released : (t : Table) (s : ℕ) (u : Seated) → HasRoom t → s < length t.seats → u.id ≤ (seat_of t s).id → is_unreleased (seat_of t s).phase ≡ true → runs u ≡ false
     → HasRoom (changed t s u (without (seat_of t s).id t.running) t.next)
-room-released t s u h inside is rests = elim (cases_Bool (runs (seat_of t s))) [
+room-released t s u h inside low is rests = elim (cases_Bool (runs (seat_of t s))) [
   | inl run ↦ record {
-    table = table-left t s u h.table inside run rests;
+    table = table-left t s u h.table inside low run rests;
     few = (let w = weights-changed t s u inside in let one = weight-runs (seat_of t s) run in let none = weight-rests u rests in let f = h.few in
         let less = without-shorter (seat_of t s).id t.running (h.table.listed s run) in omega arith);
     sessions = seats-kept t s u h;
   }
-  | inr idle ↦ subst (λ ids. HasRoom (changed t s u ids t.next)) (sym (idle-left t s h.table is idle)) (room-same t s u h inside (rests ∙ sym idle) (λ yes. absurd (both_ways (runs u) rests yes)))
+  | inr idle ↦ subst (λ ids. HasRoom (changed t s u ids t.next)) (sym (idle-left t s h.table is idle)) (room-same t s u h inside low (rests ∙ sym idle) (λ yes. absurd (both_ways (runs u) rests yes)))
 ]
 
 -- ---- an id is drawn
@@ -163,6 +174,8 @@ pub table-drawn : (t : Table) (s : ℕ) (u : Seated) → IsTable t → s < lengt
 table-drawn t s u h inside rests id run = table-changed t s u (t.running ++ t.next ∷ []) (t.next + 1) h (record {
   inside = inside;
   ascending = ascends-append 1 t.next t.running h.ascending;
+  mine = omega arith;
+  grows = omega arith;
   here = λ yes. subst (λ x. is_listed (t.running ++ t.next ∷ []) x ≡ true) (sym id) (listed-last t.next t.running);
   others = λ r other yes. listed-append t.next (seat_of t r).id t.running (h.listed r yes);
   each = λ x yes. elim (append-listed t.next x t.running yes) [
@@ -196,6 +209,7 @@ table-opened t h = record {
   listed = λ r yes. let e = append-opened t.run t.seats r in subst (λ (x : Seated). is_listed t.running x.id ≡ true) (sym e) (h.listed r (ap runs (sym e) ∙ yes));
   each = λ id yes. let at = h.each id yes in let e = append-opened t.run t.seats at.0 in
       (at.0, (let n = length-append t.seats (opened t.run ∷ []) in let low = at.1 in omega arith), ap runs e ∙ at.2, ap (λ (x : Seated). x.id) e ∙ at.3);
+  drawn = λ r. let e = append-opened t.run t.seats r in subst (λ (x : Seated). x.id < t.next) (sym e) (h.drawn r);
   distinct = λ a b one two same. let e = append-opened t.run t.seats a in let f = append-opened t.run t.seats b in
       h.distinct a b (ap runs (sym e) ∙ one) (ap runs (sym f) ∙ two) (ap (λ (x : Seated). x.id) (sym e) ∙ (same ∙ ap (λ (x : Seated). x.id) f));
 }
@@ -207,19 +221,23 @@ room-opened t h less = record {
   sessions = (let n = length-append t.seats (opened t.run ∷ []) in omega arith);
 }
 
-new-seat : (run : ℕ) (n r : ℕ) → slice_index_or (replicate n (opened run)) r (opened run) ≡ opened run
+pub new-seat : (run : ℕ) (n r : ℕ) → slice_index_or (replicate n (opened run)) r (opened run) ≡ opened run
 new-seat run zero r = refl
 new-seat run (suc n) zero = refl
 new-seat run (suc n) (suc r) = new-seat run n r
 
+pub table-new : (run n : ℕ) → IsTable (record { run = run; next = 1; running = []; seats = replicate n (opened run) })
+table-new run n = record {
+  ascending = omega arith;
+  listed = λ r yes. let e = ap runs (new-seat run n r) in absurd (both_ways (runs (slice_index_or (replicate n (opened run)) r (opened run))) e yes);
+  each = λ id yes. absurd (cc);
+  drawn = λ r. let e = new-seat run n r in subst (λ (x : Seated). x.id < 1) (sym e) (omega arith);
+  distinct = λ a b one. let e = ap runs (new-seat run n a) in absurd (both_ways (runs (slice_index_or (replicate n (opened run)) a (opened run))) e one);
+}
+
 pub room-new : (run n : ℕ) → n ≤ 64 → HasRoom (record { run = run; next = 1; running = []; seats = replicate n (opened run) })
 room-new run n le = record {
-  table = record {
-    ascending = omega arith;
-    listed = λ r yes. let e = ap runs (new-seat run n r) in absurd (both_ways (runs (slice_index_or (replicate n (opened run)) r (opened run))) e yes);
-    each = λ id yes. absurd (cc);
-    distinct = λ a b one. let e = ap runs (new-seat run n a) in absurd (both_ways (runs (slice_index_or (replicate n (opened run)) a (opened run))) e one);
-  };
+  table = table-new run n;
   few = omega arith;
   sessions = (let e = length-replicate n (opened run) in omega arith);
 }
@@ -240,24 +258,25 @@ call-same t now s x u e h inside read id phases =
     let seat = seat-read t s x within read in
     let as_now : x.phase ≡ (seat_of now s).phase = ap (λ (z : Seated). z.phase) seat ∙ ap (λ z. (seat_of z s).phase) e in
     let run : runs u ≡ runs (seat_of t s) = ap (λ i. is_unreleased u.phase && nat_lt 0 i) id ∙ (runs-by u.phase x.phase x.id (phases as_now) ∙ ap runs seat) in
-    room-same t s u h within run (λ yes. id ∙ ap (λ (z : Seated). z.id) seat)
+    let old : x.id ≡ (seat_of t s).id = ap (λ (z : Seated). z.id) seat in
+    room-same t s u h within (omega arith) run (λ yes. id ∙ old)
 
 -- who did not run does not run
-pub call-rests : (t now : Table) (s : ℕ) (u : Seated) → t ≡ now → HasRoom t → s < length now.seats → is_unreleased (seat_of now s).phase ≡ false → runs u ≡ false → HasRoom (changed t s u t.running t.next)
-call-rests t now s u e h inside idle rests =
+pub call-rests : (t now : Table) (s : ℕ) (u : Seated) → t ≡ now → HasRoom t → s < length now.seats → u.id ≤ (seat_of t s).id → is_unreleased (seat_of now s).phase ≡ false → runs u ≡ false → HasRoom (changed t s u t.running t.next)
+call-rests t now s u e h inside low idle rests =
     let within : s < length t.seats = subst (λ (z : Table). s < length z.seats) (sym e) inside in
     let old : is_unreleased (seat_of t s).phase ≡ false = ap (λ z. is_unreleased (seat_of z s).phase) e ∙ idle in
     let none : runs (seat_of t s) ≡ false = ap (λ b. b && nat_lt 0 (seat_of t s).id) old in
-    room-same t s u h within (rests ∙ sym none) (λ yes. absurd (both_ways (runs u) rests yes))
+    room-same t s u h within low (rests ∙ sym none) (λ yes. absurd (both_ways (runs u) rests yes))
 
-pub call-released : (t now : Table) (s : ℕ) (x u : Seated) (ids : List ℕ) → t ≡ now → HasRoom t → s < length now.seats → x ≡ slice_index_or t.seats s x → is_unreleased (seat_of now s).phase ≡ true → is_unreleased u.phase ≡ false → ids ≡ without x.id t.running
+pub call-released : (t now : Table) (s : ℕ) (x u : Seated) (ids : List ℕ) → t ≡ now → HasRoom t → s < length now.seats → x ≡ slice_index_or t.seats s x → u.id ≡ x.id → is_unreleased (seat_of now s).phase ≡ true → is_unreleased u.phase ≡ false → ids ≡ without x.id t.running
     → HasRoom (changed t s u ids t.next)
-call-released t now s x u ids e h inside read is isnt left =
+call-released t now s x u ids e h inside read id is isnt left =
     let within : s < length t.seats = subst (λ (z : Table). s < length z.seats) (sym e) inside in
     let seat = seat-read t s x within read in
     let old : is_unreleased (seat_of t s).phase ≡ true = ap (λ z. is_unreleased (seat_of z s).phase) e ∙ is in
     let same : ids ≡ without (seat_of t s).id t.running = left ∙ ap (λ (z : Seated). without z.id t.running) seat in
-    subst (λ l. HasRoom (changed t s u l t.next)) (sym same) (room-released t s u h within old (ap (λ b. b && nat_lt 0 u.id) isnt))
+    subst (λ l. HasRoom (changed t s u l t.next)) (sym same) (room-released t s u h within (let same_id : x.id ≡ (seat_of t s).id = ap (λ (z : Seated). z.id) seat in omega arith) old (ap (λ b. b && nat_lt 0 u.id) isnt))
 
 pub call-drawn : (t now : Table) (s : ℕ) (x u : Seated) (ids : List ℕ) → t ≡ now → HasRoom t → s < length now.seats → x ≡ slice_index_or t.seats s x → (seat_of now s).phase ≡ Running → (seat_of now s).id ≡ 0 → u.phase ≡ x.phase → u.id ≡ t.next → ids ≡ t.running ++ t.next ∷ []
     → HasRoom (changed t s u ids (t.next + 1))
@@ -298,3 +317,9 @@ pub phase-read : (t now : Table) (s : ℕ) (x : Seated) → t ≡ now → s < le
 phase-read t now s x e inside read =
     let within : s < length t.seats = subst (λ (z : Table). s < length z.seats) (sym e) inside in
     ap (λ (z : Seated). z.phase) (seat-read t s x within read) ∙ ap (λ z. (seat_of z s).phase) e
+
+-- the id that a call leaves
+pub id-left : (t now : Table) (s : ℕ) (x u : Seated) → t ≡ now → s < length now.seats → x ≡ slice_index_or t.seats s x → u.id ≡ x.id → u.id ≤ (seat_of t s).id
+id-left t now s x u e inside read id =
+    let within : s < length t.seats = subst (λ (z : Table). s < length z.seats) (sym e) inside in
+    let same : x.id ≡ (seat_of t s).id = ap (λ (z : Seated). z.id) (seat-read t s x within read) in omega arith

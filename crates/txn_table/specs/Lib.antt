@@ -2,3 +2,4 @@ pub mod Seated
 pub mod Tabled
 pub mod Stands
 pub mod TableLaws
+pub mod Checkpoints

@@ -1,5 +1,5 @@
 -- What the table keeps of one session.
-use Rattle.std.specs.Prelude.{ℕ, Bool, true, false, ◌&&◌, nat_lt, List, []}
+use Rattle.std.specs.Prelude.{ℕ, Bool, true, false, ◌&&◌, ◌==◌, nat_lt, List, [], if◌then◌else◌}
 use Rattle.kv_model.specs.Machine.{Phase as ModelPhase, Running as ModelRunning, Failed as ModelFailed, Prepared as ModelPrepared, Resolving as ModelResolving, Leaving as ModelLeaving}
 use Rattle.std.specs.Prelude.{Option, Some, None}
 use Rattle.snapshot.specs.Sight.{Sight, sight_at}
@@ -33,6 +33,10 @@ is_unreleased _ = false
 -- its id is among the running ones
 abbrev pub runs : Seated → Bool
 runs s = is_unreleased s.phase && nat_lt 0 s.id
+
+-- the id of a transaction that has not ended, once it is drawn
+abbrev pub unended_id : Seated → Option ℕ
+unended_id s = if is_idle s.phase then None else (if s.id == 0 then None else Some s.id)
 
 -- the model's phase; None: no transaction
 abbrev pub phase_in : Phase → Option ModelPhase

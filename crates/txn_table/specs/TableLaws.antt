@@ -1,15 +1,17 @@
 -- A table that stands for the sessions of a machine goes on to stand for them, over its calls and over all other events.
-use Rattle.std.specs.Prelude.{◌≡◌, ◌⊎◌, ◌<◌, ℕ, true, false, length, Option, Some, option_map}
+use Rattle.std.specs.Prelude.{◌≡◌, ◌⊎◌, ◌<◌, ◌+◌, ℕ, true, false, length, replicate, Option, Some, option_map}
 use Rattle.stamp.specs.declared.Name.{Name}
 use Rattle.kv_model.specs.Machine.{Machine, Checkpoint, Event, OpenSession, BeginAt, DrawId, AcceptWrite, RefuseWrite, PrepareAt, CommitAt, StartLeaving, EndTransaction, PlaceCursor, CreateTable, SetStamps, RollbackToStable, CheckpointStart, CheckpointFinish, CheckpointDrop, GoDown, Nothing, after}
 use Rattle.kv_model.specs.Allowed.{Allowed}
 use Rattle.kv_model.specs.Valid.{Valid}
+use Rattle.kv_model.specs.Closing.{after_all}
+use Rattle.kv_model.specs.Content.{Content, start}
 use Rattle.kv_model.specs.Droppable.{pin}
 use Rattle.snapshot.specs.Sight.{Sight, is_seen}
 use Rattle.txn_table.specs.declared.kept.Kept.{Kept}
 use Rattle.txn_table.specs.declared.phase.Phase.TheVariants.{Idle, Running, Failed, Prepared, Resolving, Leaving}
 use Rattle.txn_table.specs.Seated.{is_idle}
-use Rattle.txn_table.specs.Tabled.{Table, seat_of, phase_of, one_more, begun, drawn, registered, in_phase, released_in, ended, floor_of, pin_of}
+use Rattle.txn_table.specs.Tabled.{Table, fresh, seat_of, phase_of, one_more, begun, drawn, registered, in_phase, released_in, ended, floor_of, pin_of}
 use Rattle.txn_table.specs.Stands.{TableStands}
 
 -- an event that changes no session's phase, id, snapshot or read stamp
@@ -41,6 +43,10 @@ pub record CallsStand (t : Table) (m : Machine) : Type 0 where
   pub undoes : (s stamp : ℕ) → phase_of t s ≡ Prepared stamp → TableStands (in_phase t s Resolving) (after m (StartLeaving s))
   pub ends : (s : ℕ) → Allowed m (EndTransaction s) → TableStands (ended t s) (after m (EndTransaction s))
   pub others : (event : Event) → IsBeside event → Allowed m event → TableStands t (after m event)
+
+-- the table of the run that an opening begins stands for the machine that the opening makes, and goes on to as sessions are opened
+abbrev pub NewTablesStand : Type 0
+NewTablesStand = (c : Content) (sessions : ℕ) → TableStands (fresh (c.run + 1) sessions) (after_all (start c) (replicate sessions OpenSession))
 
 abbrev pub CallsGoOn : Type 0
 CallsGoOn = (t : Table) (m : Machine) → Valid m → TableStands t m → CallsStand t m

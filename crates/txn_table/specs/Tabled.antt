@@ -1,12 +1,12 @@
 -- What the table keeps, and what each call makes of it.
-use Rattle.std.specs.Prelude.{◌≡◌, ℕ, ◌+◌, ◌<◌, ◌≤◌, ◌==◌, true, not, min, List, [], ◌∷◌, ◌++◌, length, filter, fold, Option, Some, None, option_map, if◌then◌else◌, slice_index_or, slice_set}
+use Rattle.std.specs.Prelude.{◌≡◌, ℕ, ◌+◌, ◌<◌, ◌≤◌, ◌==◌, true, not, min, List, [], ◌∷◌, ◌++◌, length, filter, fold, Option, Some, None, option_map, if◌then◌else◌, slice_index_or, slice_set, replicate}
 use Rattle.std.specs.List.{filter_map, sum_by}
 use Rattle.stamp.specs.declared.Name.{Name}
-use Rattle.snapshot.specs.Sight.{Sight, Kept as SnapshotKept, Ascends, is_listed, sight_at}
+use Rattle.snapshot.specs.Sight.{Sight, Kept as SnapshotKept, Ascends, counting, is_listed, sight_at, with_id}
 use Rattle.txn_table.specs.declared.kept.Kept.{Kept}
 use Rattle.txn_table.specs.declared.phase.Phase.{Phase}
 use Rattle.txn_table.specs.declared.phase.Phase.TheVariants.{Idle, Running}
-use Rattle.txn_table.specs.Seated.{Seated, opened, is_idle, is_unreleased, runs}
+use Rattle.txn_table.specs.Seated.{Seated, opened, is_idle, is_unreleased, unended_id, runs}
 
 -- running: the ids that are drawn and not released
 pub record Table : Type 0 where
@@ -28,6 +28,10 @@ with_seat t session seat = record t { seats = slice_set t.seats session seat }
 -- the ids but this one
 abbrev pub without : ℕ → List ℕ → List ℕ
 without id ids = filter (λ other. not (other == id)) ids
+
+-- of a run that begins, with this many sessions open
+abbrev pub fresh : ℕ → ℕ → Table
+fresh run sessions = record { run = run; next = 1; running = []; seats = replicate sessions (opened run) }
 
 -- ---- calls
 
@@ -85,6 +89,15 @@ pin_of t oldest recorded = fold min (lower_of oldest recorded) (filter_map read_
 abbrev pub floor_of : Table → Option Sight → Name
 floor_of t checkpoint = record { run = t.run; id = fold min (lower_of t.next (option_map (λ (s : Sight). s.min) checkpoint)) (filter_map min_of t.seats) }
 
+-- a snapshot that counts one id more as running, or none
+abbrev pub counted : Sight → Option ℕ → Sight
+counted s None = s
+counted s (Some id) = counting s id
+
+-- ascending, the ids of all transactions that have not ended: the running ones, and those that are prepared or resolving
+abbrev pub unended : Table → List ℕ
+unended t = fold with_id [] (filter_map unended_id t.seats)
+
 -- ---- what holds of every table
 
 pub record IsTable (t : Table) : Type 0 where
@@ -92,6 +105,8 @@ pub record IsTable (t : Table) : Type 0 where
   -- whose id is running
   pub listed : (s : ℕ) → runs (seat_of t s) ≡ true → is_listed t.running (seat_of t s).id ≡ true
   pub each : (id : ℕ) → is_listed t.running id ≡ true → (s : ℕ) × (s < length t.seats) × (runs (seat_of t s) ≡ true) × ((seat_of t s).id ≡ id)
+  -- an id was drawn, or is 0
+  pub drawn : (s : ℕ) → (seat_of t s).id < t.next
   -- no two have one running id
   pub distinct : (s r : ℕ) → runs (seat_of t s) ≡ true → runs (seat_of t r) ≡ true → (seat_of t s).id ≡ (seat_of t r).id → s ≡ r
 

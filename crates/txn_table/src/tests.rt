@@ -262,3 +262,28 @@ fn what_a_session_keeps_stays_until_it_begins(rt: HostRuntime) -> Result<(), NoM
     assert!(rt; kept_count(&txns, 0) == 0);
     Ok(())
 }
+
+#[test]
+fn a_checkpoints_snapshot_lists_what_has_not_ended(rt: HostRuntime) -> Result<(), NoMemory> {
+    let mut txns = Txns::new(rt.alloc(), 1, 5)?;
+    let mut checkpoint = Snapshot::new(rt.alloc(), 1, 64)?;
+    txns.checkpoint_snapshot(&mut checkpoint);
+    assert!(rt; checkpoint.view(0, 0).list.is_empty() && checkpoint.min() == 1);
+    for session in 0..4 {
+        assert!(rt; begin(&mut txns, session, None));
+    }
+    assert!(rt; draw(&mut txns, 2) == Some(1));
+    assert!(rt; draw(&mut txns, 0) == Some(2));
+    assert!(rt; draw(&mut txns, 1) == Some(3));
+    assert!(rt; prepare(&mut txns, 2, 0x14));
+    assert!(rt; commit(&mut txns, 0));
+    txns.checkpoint_snapshot(&mut checkpoint);
+    let view = checkpoint.view(0, 0);
+    assert!(rt; view.list == [1, 3].as_slice());
+    assert!(rt; view.min == 1 && view.max == 4);
+    assert!(rt; begin(&mut txns, 0, None));
+    assert!(rt; sees(&txns, 0, 1) == Some(true));
+    assert!(rt; !checkpoint.sees(Name { run: 1, id: 1 }));
+    assert!(rt; checkpoint.sees(Name { run: 1, id: 2 }));
+    Ok(())
+}

@@ -1,14 +1,16 @@
 //! The table of transactions.
 
-ghost use Rattle.std.specs.Prelude.{◌≡◌, ◌<◌, ◌≤◌, ◌⊎◌, ◌^◌, [], ℕ, true, false, length, replicate, IfOk, OnOk, OnErr, IfErr, IfSome, option_map, option_copied, IsNone, ◌↔◌};
-ghost use Rattle.snapshot.specs.Sight.{Ascends, Sight, sight_of};
+ghost use Rattle.std.specs.Prelude.{◌≡◌, ◌<◌, ◌≤◌, ◌⊎◌, ◌^◌, ℕ, true, false, length, IfOk, OnOk, OnErr, IfErr, IfSome, option_map, option_copied, IsNone, ◌↔◌};
+ghost use Rattle.snapshot.specs.Sight.{Ascends, Sight, sight_at, sight_of};
 ghost use Rattle.kv_model.specs.Refusals.{stamp_of};
-ghost use Rattle.txn_table.specs.Seated.{is_unreleased, opened};
+ghost use Rattle.txn_table.specs.Seated.{is_unreleased, unended_id};
 ghost use Rattle.txn_table.specs.Tabled.{
   begun,
+  counted,
   drawn,
   ended,
   first_active,
+  fresh,
   floor_of,
   in_phase,
   lower_of,
@@ -21,6 +23,7 @@ ghost use Rattle.txn_table.specs.Tabled.{
   released_in,
   seat_of,
   sight_in,
+  unended,
   without,
 };
 
@@ -65,7 +68,7 @@ impl Txns {
     /// The table of a run, with this many sessions open, none of which has a transaction.
     pub fn new(alloc: Global, run: u64, sessions: u32) -> Result<Txns, NoMemory>
         requires { sessions ≤ 64 }
-        ensures { IfOk result (λ t. t ≡ record { run = run; next = 1; running = []; seats = replicate sessions (opened run) }) }
+        ensures { IfOk result (λ t. t ≡ fresh run sessions) }
     {
         let mut seats = Vec::new(alloc);
         for _ in 0..sessions {
@@ -277,6 +280,20 @@ impl Txns {
         Name { run: self.run, id }
     }
 
+    /// Takes the snapshot of a checkpoint anew: of now, with each drawn id of a transaction that has
+    /// not ended, prepared and resolving ones too. Takes no memory. `O(n log n)` in the sessions,
+    /// and one move of the ids above each.
+    pub fn checkpoint_snapshot(&self, snapshot: &mut Snapshot)
+        requires room { 64 ≤ snapshot.old.room }
+        ensures sight { snapshot.new.sight ≡ sight_at self.now.run self.now.next (unended self.now) }
+        ensures room { snapshot.old.room ≤ snapshot.new.room }
+    {
+        snapshot.fill(self.run, self.next, &[]);
+        for seat in self.seats.iter() {
+            count_unended(snapshot, unended_id(seat));
+        }
+    }
+
     /// How far the session's transaction is.
     pub fn phase(&self, session: u32) -> Phase
         requires open { session < length self.now.seats }
@@ -331,6 +348,31 @@ fn snapshot_min(seat: &Seat) -> Option<u64>
     match seat.phase() {
         Phase::Idle => None,
         _ => Some(seat.min()),
+    }
+}
+
+// The id of a transaction that has not ended, once it is drawn.
+fn unended_id(seat: &Seat) -> Option<u64>
+    ensures { result ≡ unended_id seat.now }
+{
+    match seat.phase() {
+        Phase::Idle => None,
+        _ => match seat.id() {
+            0 => None,
+            id => Some(id),
+        },
+    }
+}
+
+// Counts an id as running too, where there is one.
+fn count_unended(snapshot: &mut Snapshot, id: Option<u64>)
+    requires drawn { IfSome id (λ id. id < snapshot.old.sight.max) }
+    requires room { length snapshot.old.sight.list < snapshot.old.room }
+    ensures sight { snapshot.new.sight ≡ counted snapshot.old.sight id }
+    ensures room { snapshot.old.room ≤ snapshot.new.room }
+{
+    if let Some(id) = id {
+        snapshot.count_running(id);
     }
 }
 

@@ -1,5 +1,5 @@
-use Rattle.std.proofs.Common.{ap}
-use Rattle.txn_table.specs.Seated.{is_unreleased, runs}
+use Rattle.std.proofs.Common.{◌≡◌, ap, arith}
+use Rattle.txn_table.specs.Seated.{Seated, is_unreleased, runs}
 use Rattle.txn_table.proofs.TableLemmas.{call-rests, few-run}
 use Rattle.txn_table.proofs.txns.Txns.begin.Goals as goal
 
@@ -7,4 +7,4 @@ pub begin-requires-clause-few : goal.begin-requires-clause-few
 begin-requires-clause-few c = rw c.deref.ensures.value (few-run _ c.self.invariant)
 
 pub invariant_of-self : goal.invariant_of-self
-invariant_of-self c = call-rests _ c.args.self.now c.args.session c.begin.new.self c.self.view_is c.self.invariant c.requires.open (ap is_unreleased c.requires.idle) (ap runs c.begin.ensures)
+invariant_of-self c = call-rests _ c.args.self.now c.args.session c.begin.new.self c.self.view_is c.self.invariant c.requires.open (let none : c.begin.new.self.id ≡ 0 = ap (λ (x : Seated). x.id) c.begin.ensures in omega arith) (ap is_unreleased c.requires.idle) (ap runs c.begin.ensures)
