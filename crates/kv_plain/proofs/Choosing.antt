@@ -120,7 +120,7 @@ met-ends m session t table key e other x meets = elim (cases_Bool (is_holding se
   | inr isnt ↦ ends-unless session table key other x isnt meets.another meets.writer.1
 ]
 
-reads-others : (m : Machine) (session : ℕ) (t : Transaction) (table : ℕ) (key : List ℕ) (o : Option ℕ) → met m session t table key ≡ o → ReadOthers m session t table key (value_unless o (value m.history t.start t.read table key))
+pub reads-others : (m : Machine) (session : ℕ) (t : Transaction) (table : ℕ) (key : List ℕ) (o : Option ℕ) → met m session t table key ≡ o → ReadOthers m session t table key (value_unless o (value m.history t.start t.read table key))
 reads-others m session t table key None e = (refl, met-ends m session t table key e)
 reads-others m session t table key (Some id) e =
     let p = first-found (is_met m session t table key) m.sessions id e in

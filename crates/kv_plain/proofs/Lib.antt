@@ -1,6 +1,9 @@
 pub mod PlainLooks
 pub mod PlainStanding
 pub mod Choosing
+pub mod Walking
 pub mod Creating
 pub mod Pinning
 pub mod Changing
+pub mod Calling
+pub mod Counting

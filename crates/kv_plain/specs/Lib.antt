@@ -2,8 +2,10 @@ pub mod Plain
 pub mod Machine
 pub mod Choices
 pub mod Answers
+pub mod Walk
 pub mod Outcome
 pub mod Checks
 pub mod Decisions
 pub mod Covers
 pub mod After
+pub mod Calls

@@ -1,4 +1,5 @@
 -- What the plain answers and events stand for.
+use Rattle.std.specs.Prelude.{option_map}
 use Rattle.kv_model.specs.Machine as model
 use Rattle.kv_model.specs.Refusals as why
 use Rattle.kv_model.specs.Decisions as answer
@@ -16,7 +17,7 @@ use Rattle.kv_plain.specs.declared.event.Event.{Event}
 use Rattle.kv_plain.specs.declared.event.Event.TheVariants as event
 use Rattle.kv_plain.specs.declared.event.Decision.{Decision}
 use Rattle.kv_plain.specs.Plain.{table_in}
-use Rattle.kv_plain.specs.Machine.{fault_in}
+use Rattle.kv_plain.specs.Machine.{fault_in, position_in}
 
 abbrev pub reason_in : Reason → why.Reason
 reason_in reason.NoTransaction = why.NoTransaction
@@ -86,6 +87,7 @@ event_in (event.Prepare session stamp) = model.PrepareAt session stamp
 event_in (event.Commit session commit durable) = model.CommitAt session commit durable
 event_in (event.StartLeaving session) = model.StartLeaving session
 event_in (event.EndTransaction session) = model.EndTransaction session
+event_in (event.PlaceCursor session cursor position) = model.PlaceCursor session cursor (option_map position_in position)
 event_in (event.CreateTable table) = model.CreateTable (table_in table)
 event_in (event.SetStamps oldest stable) = model.SetStamps oldest stable
 event_in event.RollbackToStable = model.RollbackToStable

@@ -1,10 +1,10 @@
 //! Checks in the order of refusals: the first that holds refuses.
 
-ghost use Rattle.std.specs.Prelude.{◌≡◌, ℕ, ◌≤◌, ◌<◌, List, map, length, option_map, max};
+ghost use Rattle.std.specs.Prelude.{◌≡◌, ℕ, ◌≤◌, ◌<◌, ◌&&◌, ◌||◌, ◌==◌, nat_lt, List, map, length, option_map, max};
 ghost use Rattle.std.specs.List.{list_all};
 ghost use Rattle.kv_model.specs.Refusals.{first_of, is_zero, stamp_of, or_stamp, durable_below, order_rule, begin_rules, prepare_rules, commit_rules, resolve_rules, set_rules};
 ghost use Rattle.kv_model.specs.Machine.{Nothing};
-ghost use Rattle.kv_model.specs.Refusals.{Invalid};
+ghost use Rattle.kv_model.specs.Refusals.{Invalid, ZeroStamp, BeforePrepare, DurableBeforeCommit, NoStampAfterStamp, Order};
 ghost use Rattle.kv_model.specs.Decisions.{Refused, checked, ruled, is_name, is_name_byte};
 ghost use Rattle.kv_plain.specs.Plain.{write_in};
 ghost use Rattle.kv_plain.specs.Machine.{transaction_in, machine_in};
@@ -144,6 +144,56 @@ pub fn durable_below(m: &Machine, writes: &[Write]) -> u64
     }
 }
 
+/// Neither stamp is given as 0.
+fn no_zero(first: Option<u64>, second: Option<u64>) -> Rule
+    ensures { rule_in result ≡ (is_zero first || is_zero second, ZeroStamp) }
+{
+    Rule {
+        broken: is_zero(first) || is_zero(second),
+        reason: Reason::ZeroStamp,
+    }
+}
+
+/// A commit stamp is not before the prepare stamp.
+fn not_before_prepare(prepare: u64, given: u64) -> Rule
+    ensures { rule_in result ≡ (nat_lt given prepare, BeforePrepare given prepare) }
+{
+    Rule {
+        broken: given < prepare,
+        reason: Reason::BeforePrepare { given, prepare },
+    }
+}
+
+/// A durable stamp is not before the commit stamp.
+fn not_before_commit(commit: u64, durable: u64) -> Rule
+    ensures { rule_in result ≡ (nat_lt durable commit, DurableBeforeCommit durable commit) }
+{
+    Rule {
+        broken: durable < commit,
+        reason: Reason::DurableBeforeCommit { durable, commit },
+    }
+}
+
+/// A commit over a version of the durable stamp `prev`, later than oldest, has a stamp.
+fn stamp_wanted(m: &Machine, prev: u64, given: u64) -> Rule
+    ensures { rule_in result ≡ (nat_lt (machine_in m.now).oldest prev && (given == 0), NoStampAfterStamp prev) }
+{
+    Rule {
+        broken: m.oldest < prev && given == 0,
+        reason: Reason::NoStampAfterStamp { prev },
+    }
+}
+
+/// The same commit's stamp is not before `prev`.
+fn in_order(m: &Machine, prev: u64, given: u64) -> Rule
+    ensures { rule_in result ≡ (nat_lt (machine_in m.now).oldest prev && nat_lt given prev, Order given prev) }
+{
+    Rule {
+        broken: m.oldest < prev && given < prev,
+        reason: Reason::Order { given, prev },
+    }
+}
+
 /// The rules of a read stamp.
 pub fn begin_rules(m: &Machine, read: Option<u64>) -> [Rule; 2]
     ensures { map rule_in result ≡ begin_rules (machine_in m.now) read }
@@ -195,10 +245,7 @@ pub fn commit_rules(
     let given = stamp_of(commit);
     let prev = durable_below(m, &t.writes);
     [
-        Rule {
-            broken: is_zero(commit) || is_zero(durable),
-            reason: Reason::ZeroStamp,
-        },
+        no_zero(commit, durable),
         Rule {
             broken: stamp_of(durable) != 0,
             reason: Reason::DurableGiven,
@@ -217,14 +264,8 @@ pub fn commit_rules(
                 stable: m.stable,
             },
         },
-        Rule {
-            broken: m.oldest < prev && given == 0,
-            reason: Reason::NoStampAfterStamp { prev },
-        },
-        Rule {
-            broken: m.oldest < prev && given < prev,
-            reason: Reason::Order { given, prev },
-        },
+        stamp_wanted(m, prev, given),
+        in_order(m, prev, given),
     ]
 }
 
@@ -242,25 +283,13 @@ pub fn resolve_rules(
     let lasting = or_stamp(stamp_of(durable), given);
     let prev = durable_below(m, &t.writes);
     [
-        Rule {
-            broken: is_zero(commit) || is_zero(durable),
-            reason: Reason::ZeroStamp,
-        },
+        no_zero(commit, durable),
         Rule {
             broken: given == 0,
             reason: Reason::NoCommitStamp,
         },
-        Rule {
-            broken: given < prepare,
-            reason: Reason::BeforePrepare { given, prepare },
-        },
-        Rule {
-            broken: lasting < given,
-            reason: Reason::DurableBeforeCommit {
-                durable: lasting,
-                commit: given,
-            },
-        },
+        not_before_prepare(prepare, given),
+        not_before_commit(given, lasting),
         Rule {
             broken: lasting < m.oldest,
             reason: Reason::BeforeOldest {
@@ -275,14 +304,8 @@ pub fn resolve_rules(
                 stable: m.stable,
             },
         },
-        Rule {
-            broken: m.oldest < prev && given == 0,
-            reason: Reason::NoStampAfterStamp { prev },
-        },
-        Rule {
-            broken: m.oldest < prev && given < prev,
-            reason: Reason::Order { given, prev },
-        },
+        stamp_wanted(m, prev, given),
+        in_order(m, prev, given),
     ]
 }
 
@@ -293,10 +316,7 @@ pub fn set_rules(m: &Machine, oldest: Option<u64>, stable: Option<u64>) -> [Rule
     let o = m.oldest.max(stamp_of(oldest));
     let s = m.stable.max(stamp_of(stable));
     [
-        Rule {
-            broken: is_zero(oldest) || is_zero(stable),
-            reason: Reason::ZeroStamp,
-        },
+        no_zero(oldest, stable),
         Rule {
             broken: o != 0 && (s != 0 && s < o),
             reason: Reason::OldestAfterStable {

@@ -5,6 +5,7 @@ ghost use Rattle.kv_model.specs.History.{Table as ModelTable, tables, named};
 ghost use Rattle.kv_model.specs.Machine as model;
 ghost use Rattle.kv_model.specs.Refusals as why;
 ghost use Rattle.kv_model.specs.Decisions as answer;
+ghost use Rattle.kv_model.specs.Rows.{reset_decision};
 ghost use Rattle.kv_plain.specs.Plain.{table_in, history_in};
 ghost use Rattle.kv_plain.specs.Machine.{phase_in, transaction_in, sessions_in, machine_in};
 ghost use Rattle.kv_plain.specs.Outcome.{reason_in, cause_in, event_in, decision_in};
@@ -387,6 +388,16 @@ pub fn decide_row(m: &Machine, session: usize, table: &Item) -> Decision
     ensures { decision_in result ≡ answer.decision (machine_in m.now) session (answer.FindRow table.now) }
 {
     while_up(m, judge_row(m, session, table))
+}
+
+/// Reset of a cursor. A machine that is down does not refuse it.
+pub fn decide_reset(m: &Machine, session: usize, cursor: usize) -> Decision
+    ensures { decision_in result ≡ reset_decision (machine_in m.now) session cursor }
+{
+    match running(m, session) {
+        Err(reason) => invalid(reason),
+        Ok(_) => done(Event::PlaceCursor(session, cursor, None)),
+    }
 }
 
 fn same_format(a: Format, b: Format) -> bool

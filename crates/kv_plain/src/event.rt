@@ -1,11 +1,11 @@
-//! What can happen to the machine.
+//! What can happen to the machine, and what calls answer and leave.
 
 use crate::history::Table;
-use crate::machine::Fault;
+use crate::machine::{Fault, Machine, Position};
 use crate::outcome::Outcome;
 use item::{Change, Item};
 
-/// What can happen, but for the moves of cursors. A session's number comes first.
+/// What can happen. A session's number comes first.
 #[derive(Drop)]
 pub enum Event {
     OpenSession,
@@ -20,6 +20,8 @@ pub enum Event {
     Commit(usize, u64, u64),
     StartLeaving(usize),
     EndTransaction(usize),
+    /// Of this cursor, to a position or to none.
+    PlaceCursor(usize, usize, Option<Position>),
     CreateTable(Table),
     /// Oldest and stable, 0 for none.
     SetStamps(u64, u64),
@@ -36,4 +38,11 @@ pub enum Event {
 pub struct Decision {
     pub outcome: Outcome,
     pub event: Event,
+}
+
+/// What a call answers, and the machine that it leaves.
+#[derive(Drop)]
+pub struct Answered {
+    pub outcome: Outcome,
+    pub machine: Machine,
 }

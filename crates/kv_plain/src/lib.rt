@@ -1,44 +1,57 @@
 //! The definitions of `kv_model` as a plain, slow program over plain data, newest entry first: what
-//! stands, what each read and write answers, what each call decides, what each event but the move
-//! of a cursor leaves, and which versions are out of reach. It promises exactly what the definitions say, and compares with nothing: that a page, a
-//! chain or an engine answers the same is for the tests of the crates that have them. Where the
-//! model leaves a choice it takes one, and says which. A call that takes memory may always answer
-//! want of it.
+//! stands, what each read and write answers, which row comes next, what each call decides, what each
+//! event leaves, what a whole call answers and leaves, and which versions are out of reach.
+//! It promises exactly what the definitions say, and compares with nothing: that a page, a chain or
+//! an engine answers the same is for the tests of the crates that have them. Where the model leaves
+//! a choice it takes one, and says which. A call that takes memory may always answer want of it.
 #![tactic(auto)]
 
 mod after;
+mod calls;
 mod checks;
 mod covers;
+mod cursor_calls;
+mod cuts;
 mod decisions;
 mod event;
 mod history;
+mod key_calls;
 mod looks;
 mod machine;
 mod outcome;
 mod reads;
 #[cfg(test)]
 mod rows;
+mod seats;
+mod settling;
 mod standing;
+mod walk;
+#[cfg(test)]
+mod walks;
+mod writes;
 
-pub use after::{apply, can_count, cut};
+pub use after::{apply, can_count};
+pub use calls::{Call, run};
 pub use checks::{
     Check, Rule, begin_rules, checked, commit_rules, durable_below, first_cause, first_reason,
     invalid, is_name, or_stamp, prepare_rules, refused, resolve_rules, ruled, set_rules, stamp_of,
 };
 pub use covers::{does_cover, is_committed, pin};
+pub use cuts::cut;
 pub use decisions::{
     COUNT_MAX, KEY_MAX, SESSIONS_MAX, Storing, TABLES_MAX, VALUE_MAX, decide_begin, decide_capture,
     decide_commit, decide_create, decide_find, decide_finish, decide_open, decide_prepare,
-    decide_rollback, decide_row, decide_rts, decide_set, decide_start, decide_step, decide_write,
-    table_count, table_named, transaction_at,
+    decide_reset, decide_rollback, decide_row, decide_rts, decide_set, decide_start, decide_step,
+    decide_write, table_count, table_named, transaction_at,
 };
-pub use event::{Decision, Event};
+pub use event::{Answered, Decision, Event};
 pub use history::{Entry, Found, Placed, Table, Write};
 pub use looks::{durable_of, is_admitted, is_released, newest, newest_admitted, value};
 pub use machine::{Checkpoint, Completed, Fault, Machine, Phase, Position, Transaction};
 pub use outcome::{Busy, Cause, Counted, Outcome, Reason};
 pub use reads::{Reading, is_ending, is_prepared, is_written, own_write, read, write_refusal};
 pub use standing::{cut_standing, first_entries, standing_at};
+pub use walk::{Way, next_row, seek};
 
 #[cfg(test)]
 mod tests {

@@ -1,6 +1,6 @@
 //! What a read of a key answers, and whether a write of it is accepted.
 
-ghost use Rattle.std.specs.Prelude.{◌≡◌, ℕ, ◌+◌, ◌^◌, ◌<◌, map, length, find, option_map, Option, Some, None, MatchOption};
+ghost use Rattle.std.specs.Prelude.{◌≡◌, ℕ, ◌+◌, ◌^◌, ◌<◌, map, length, find, option_map, Option, Some, None, MatchOption, IfOk};
 ghost use Rattle.kv_model.specs.History.{line, writes_at, admits, value as value_at};
 ghost use Rattle.kv_model.specs.Reads.{own_write, is_own, prepared_in, ReadAnswer, MayWrite, MustNotWrite};
 ghost use Rattle.kv_model.specs.Closing.{is_ending};
@@ -8,10 +8,14 @@ ghost use Rattle.kv_plain.specs.Plain.{entry_in, history_in, write_in, version_i
 ghost use Rattle.kv_plain.specs.Machine.{phase_in, transaction_in, sessions_in, machine_in};
 ghost use Rattle.kv_plain.specs.Choices.{first_id, prepares, is_holding, is_met, met, holder, value_unless, read_of, unseen, held_or, refusal_of};
 ghost use Rattle.kv_plain.specs.Answers.{read_in};
+ghost use Rattle.kv_plain.specs.Outcome.{outcome_in};
+ghost use Rattle.kv_plain.specs.Calls.{read_answer};
 
 use crate::history::{Entry, Found, Write};
 use crate::looks::{is_admitted, is_released, is_same, is_write_of, newest, put_in, value};
 use crate::machine::{Machine, Phase, Transaction};
+use crate::outcome::{Cause, Outcome};
+use failure::NoMemory;
 use item::Item;
 use stamp::Name;
 
@@ -200,6 +204,17 @@ pub fn read<'a>(
     ensures answers { ReadAnswer (machine_in m.now) session (transaction_in t.now) table key.now (read_in result) }
 {
     chosen_read(m, session, t, table, key)
+}
+
+/// The answer to a call that reads so.
+pub(crate) fn outcome_of(found: Reading<'_>) -> Result<Outcome, NoMemory>
+    ensures { IfOk result (λ r. outcome_in r ≡ read_answer (read_in found.entry)) }
+{
+    match found {
+        Reading::Value(Some(v)) => Ok(Outcome::Gives(v.copy()?)),
+        Reading::Value(None) => Ok(Outcome::Refused(Cause::NotFound)),
+        Reading::Conflict(id) => Ok(Outcome::Refused(Cause::PrepareConflict(id))),
+    }
 }
 
 fn is_seen(m: &Machine, t: &Transaction, found: &Found<'_>) -> bool
