@@ -9,6 +9,9 @@ use failure::NoMemory;
 use item::{Format, Formats, Item};
 use std::alloc::{AllocError, Global};
 
+/// The length of the longest key, in bytes as stored.
+pub(crate) const KEY_MAX: u64 = 1024;
+
 // Items that are stored as they are.
 pub(crate) fn plain_formats() -> Formats
     ensures { result ≡ plain_formats }

@@ -9,17 +9,13 @@ ghost use Rattle.wt_tool.specs.Words.{printed_as};
 ghost use Rattle.wt_tool.specs.Answers.{get_answer, printed_by};
 ghost use Rattle.wt_tool.specs.Top.{Meets, Reading, Written};
 
-use crate::names::{printed_as, stored_as, stored_len};
+use crate::names::{KEY_MAX, printed_as, stored_as, stored_len};
 use crate::telling::report;
-use crate::write::formats_by;
-use item::{Change, Format};
+use crate::write::{formats_by, value_in};
 use one_table::Kept;
-use stamp::Version;
 use std::alloc::Global;
 use wt_code::{Invalid, Refusal};
 use wt_io::{Failed, Sink, write_all};
-
-const KEY_MAX: u64 = 1024; // bytes, as stored
 
 pub(crate) fn read<K: Sink, E: Sink>(
     alloc: Global,
@@ -119,18 +115,6 @@ fn get_in<'a>(alloc: Global, kept: &'a Kept, name: &[u8], key: &str) -> Result<&
     match value_in(kept.rows.version(key.as_bytes())) {
         Some(value) => Ok(printed_as(kept.entry.formats.value, value)),
         None => Err(Refusal::NotFound),
-    }
-}
-
-fn value_in<'a>(version: Option<&'a Version<Change>>) -> Option<&'a [u8]>
-    ensures { option_map (λ s. s.now) result ≡ value_in (option_map (λ v. v.now) version.entry) }
-{
-    match version {
-        Some(version) => match &version.change {
-            Change::Put(value) => Some(value.as_bytes()),
-            Change::Remove => None,
-        },
-        None => None,
     }
 }
 

@@ -15,7 +15,7 @@ ghost use Rattle.wt_tool.specs.Answers.{Puts, put_nowhere, put_refusal, put_over
 ghost use Rattle.wt_tool.specs.Top.{EachReads, Ran, outside, met_of};
 
 use crate::closing::close_next;
-use crate::names::{plain_formats, stored_as, stored_len};
+use crate::names::{KEY_MAX, plain_formats, stored_as, stored_len};
 use disk_model::Disk;
 use item::{Change, Formats};
 use leaf_rows::Rows;
@@ -23,8 +23,6 @@ use one_table::{Entry, Kept, Opened};
 use stamp::{Name, Version, Window};
 use std::alloc::Global;
 use wt_code::{Invalid, Limit, Refusal};
-
-const KEY_MAX: u64 = 1024; // bytes, as stored
 
 const VALUE_MAX: u64 = 16_384; // bytes, as stored
 
@@ -211,12 +209,19 @@ fn put_over(rows: &Rows, oldest: u64, id: u64, overwrite: bool, key: &[u8]) -> O
 fn has_value(version: Option<&Version<Change>>) -> bool
     ensures { IsTrue result ↔ ((value : List ℕ) × (value_in (option_map (λ v. v.now) version.entry) ≡ Some value)) }
 {
+    value_in(version).is_some()
+}
+
+// The value of a version, where it has one.
+pub(crate) fn value_in<'a>(version: Option<&'a Version<Change>>) -> Option<&'a [u8]>
+    ensures { option_map (λ s. s.now) result ≡ value_in (option_map (λ v. v.now) version.entry) }
+{
     match version {
         Some(version) => match &version.change {
-            Change::Put(_) => true,
-            Change::Remove => false,
+            Change::Put(value) => Some(value.as_bytes()),
+            Change::Remove => None,
         },
-        None => false,
+        None => None,
     }
 }
 

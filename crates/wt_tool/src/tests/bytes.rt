@@ -1,0 +1,126 @@
+// The bytes of a device, whole units of them, after each command that writes.
+use super::{created, runs, written};
+use std::process::Abort;
+
+// Slot A after the first command: sequence 1, a record of 4,096 bytes at 8,192, sum 39,222.
+const FIRST_SLOT: &[u8; 36] = b"\xa5WTTURTL\x01\0\0\0\
+    \x01\0\0\0\0\0\0\0\
+    \x00\x20\0\0\0\0\0\0\x00\x10\0\0\x36\x99\0\0";
+
+// The record that it names: run 1, and a table without rows.
+const FIRST_RECORD: &[u8; 160] = b"\x05\x01\x01\0\xa0\0\0\0\0\0\0\0\0\0\0\0\
+    \x01\0\0\0\0\0\0\0\x01\0\0\0\0\0\0\0\
+    \0\0\0\0\0\0\0\0\0\0\0\0\0\0\0\0\
+    \x01\0\0\0\0\0\0\0\x01\0\0\0\0\0\0\0\
+    \0\0\x02\0\0\0\
+    \0\
+    \0\0\0\0\0\0\0\0\0\0\0\0\0\0\0\0\0\0\0\0\0\0\0\0\0\0\0\0\0\0\0\0\0\0\0\0\0\0\0\0\
+    \x01\0\0\0SS\0\x01\
+    \0\0\0\0\0\0\0\0\0\0\0\0\0\0\0\0\0\0\0\0\0\0\0\0\0\0\0\0\0\0\0\0\0\0\0\0\0\0\0\0\
+    t";
+
+// The leaf after the first write: key `a`, value `1`, by transaction 1 of run 2.
+const LEAF: &[u8; 59] = b"\x01\x01\x01\0\x3b\0\0\0\0\0\0\0\0\0\0\0\
+    \x02\0\x01\x02\0\0\0\
+    \x02\0\0\0\0\0\0\0\x01\0\0\0\0\0\0\0\
+    \0\0\0\0\0\0\0\0\0\0\0\0\0\0\0\0\
+    a\x001\0";
+
+// Slot B: sequence 2, a record of 4,096 bytes at 16,384, sum 57,988.
+const SECOND_SLOT: &[u8; 36] = b"\xa5WTTURTL\x01\0\0\0\
+    \x02\0\0\0\0\0\0\0\
+    \x00\x40\0\0\0\0\0\0\x00\x10\0\0\x84\xe2\0\0";
+
+// The record that it names: run 2, next id 2, and a link to the leaf: 4,096 bytes at 12,288, sum
+// 8,748, the greatest name 2, 1.
+const SECOND_RECORD: &[u8; 160] = b"\x05\x01\x01\0\xa0\0\0\0\0\0\0\0\0\0\0\0\
+    \x02\0\0\0\0\0\0\0\x02\0\0\0\0\0\0\0\
+    \0\0\0\0\0\0\0\0\0\0\0\0\0\0\0\0\
+    \x02\0\0\0\0\0\0\0\x02\0\0\0\0\0\0\0\
+    \0\0\x02\0\0\0\
+    \0\
+    \0\0\0\0\0\0\0\0\0\0\0\0\0\0\0\0\0\0\0\0\0\0\0\0\0\0\0\0\0\0\0\0\0\0\0\0\0\0\0\0\
+    \x01\0\0\0SS\0\x01\
+    \x00\x30\0\0\0\0\0\0\x00\x10\0\0\x2c\x22\0\0\
+    \x02\0\0\0\0\0\0\0\x01\0\0\0\0\0\0\0\0\0\0\0\0\0\0\0\
+    t";
+
+// The leaf of the third checkpoint: value `2`, by transaction 1 of run 3. Its sum is 8,830.
+const THIRD_LEAF: &[u8; 59] = b"\x01\x01\x01\0\x3b\0\0\0\0\0\0\0\0\0\0\0\
+    \x02\0\x01\x02\0\0\0\
+    \x03\0\0\0\0\0\0\0\x01\0\0\0\0\0\0\0\
+    \0\0\0\0\0\0\0\0\0\0\0\0\0\0\0\0\
+    a\x002\0";
+
+// The unit at an offset has these bytes, and zeros behind them.
+fn unit_is(rt: &impl Abort, bytes: &[u8], at: usize, used: &[u8]) {
+    assert!(rt; bytes.len() >= 4096);
+    assert!(rt; at <= bytes.len() - 4096, "at {at}");
+    assert!(rt; used.len() <= 4096, "at {at}");
+    let unit = &bytes[at..at + 4096];
+    assert!(rt; unit.starts_with(used), "at {at}");
+    assert!(rt;
+        unit[used.len()..].iter().all(|b| *b == 0),
+        "behind, at {at}"
+    );
+}
+
+#[test]
+fn the_first_command_writes_these_bytes(rt: HostRuntime) {
+    let disk = created(&rt, rt.alloc());
+    let bytes = disk.bytes();
+    assert_eq!(rt; bytes.len(), 12288);
+    unit_is(&rt, bytes, 0, FIRST_SLOT.as_slice());
+    unit_is(&rt, bytes, 4096, &[]);
+    unit_is(&rt, bytes, 8192, FIRST_RECORD.as_slice());
+}
+
+#[test]
+fn a_write_leaves_the_first_checkpoint_as_it_was(rt: HostRuntime) {
+    let disk = written(&rt, rt.alloc());
+    let bytes = disk.bytes();
+    assert_eq!(rt; bytes.len(), 20480);
+    unit_is(&rt, bytes, 0, FIRST_SLOT.as_slice());
+    unit_is(&rt, bytes, 4096, SECOND_SLOT.as_slice());
+    unit_is(&rt, bytes, 8192, FIRST_RECORD.as_slice());
+    unit_is(&rt, bytes, 12288, LEAF.as_slice());
+    unit_is(&rt, bytes, 16384, SECOND_RECORD.as_slice());
+    assert_eq!(rt; bytes[12345], b'1');
+}
+
+#[test]
+fn the_third_checkpoint_takes_the_units_of_the_first(rt: HostRuntime) {
+    let alloc = rt.alloc();
+    let disk = written(&rt, alloc);
+    let disk = runs(&rt, alloc, disk, &[("write|-o|t|a|2", 0, "", "")]);
+    let bytes = disk.bytes();
+    assert_eq!(rt; bytes.len(), 24576);
+    // Sequence 3, a record of 4,096 bytes at 20,480, sum 67,054.
+    let slot =
+        b"\xa5WTTURTL\x01\0\0\0\x03\0\0\0\0\0\0\0\x00\x50\0\0\0\0\0\0\x00\x10\0\0\xee\x05\x01\0";
+    unit_is(&rt, bytes, 0, slot.as_slice());
+    unit_is(&rt, bytes, 4096, SECOND_SLOT.as_slice());
+    unit_is(&rt, bytes, 8192, THIRD_LEAF.as_slice());
+    unit_is(&rt, bytes, 12288, LEAF.as_slice());
+    unit_is(&rt, bytes, 16384, SECOND_RECORD.as_slice());
+}
+
+#[test]
+fn rows_stand_in_the_order_of_their_keys(rt: HostRuntime) {
+    let alloc = rt.alloc();
+    let disk = created(&rt, alloc);
+    let disk = runs(&rt, alloc, disk, &[("write|t|b|2|a|1", 0, "", "")]);
+    let bytes = disk.bytes();
+    assert_eq!(rt; bytes.len(), 20480);
+    // The first pair is written by transaction 1, the second by transaction 2.
+    let leaf = b"\x01\x01\x02\0\x66\0\0\0\0\0\0\0\0\0\0\0\
+        \x02\0\x01\x02\0\0\0\
+        \x02\0\0\0\0\0\0\0\x02\0\0\0\0\0\0\0\
+        \0\0\0\0\0\0\0\0\0\0\0\0\0\0\0\0\
+        a\x001\0\
+        \x02\0\x01\x02\0\0\0\
+        \x02\0\0\0\0\0\0\0\x01\0\0\0\0\0\0\0\
+        \0\0\0\0\0\0\0\0\0\0\0\0\0\0\0\0\
+        b\x002\0";
+    unit_is(&rt, bytes, 12288, leaf.as_slice());
+}

@@ -1,0 +1,207 @@
+// Each call of the disk, and each write of a stream, fails in turn.
+use super::{
+    Failing, ROOM, State, bytes_of, created, disk_of, expect, new_device, run_over, runs, split,
+    state_of, written,
+};
+use disk_model::{Disk, MemDisk};
+use std::alloc::Global;
+use std::process::Abort;
+
+const NONE: &Failing<'static> = &Failing { out: &[], err: &[] };
+
+// A command on a device with these bytes, whose call of this number fails. What it leaves.
+fn fails(rt: &impl Abort, alloc: Global, device: &MemDisk, line: &str, call: u64) -> MemDisk {
+    let content = bytes_of(rt, alloc, device);
+    let disk = disk_of(rt, alloc, content, ROOM, &[call]);
+    let words = split(rt, alloc, line);
+    let ran = run_over(rt, alloc, disk, &words, NONE);
+    assert_eq!(rt; ran.disk.faults(), 1, "call {call} of {line}");
+    expect(rt, ran, line, 4, "5 disk fault\n", "")
+}
+
+// Each of the command's calls of the disk fails in turn, so many, and no further one. What a read
+// gives then is what was there before, and, where the last sync failed, what the command makes.
+fn each_call_fails(
+    rt: &impl Abort,
+    alloc: Global,
+    device: &MemDisk,
+    line: &str,
+    calls: u64,
+    states: (State, State),
+) {
+    let (before, after) = states;
+    for call in 0..calls {
+        let left = fails(rt, alloc, device, line, call);
+        let want = if call + 1 == calls { after } else { before };
+        let content = bytes_of(rt, alloc, &left);
+        assert_eq!(rt; state_of(rt, alloc, content), want, "call {call} of {line}");
+    }
+    let content = bytes_of(rt, alloc, device);
+    let disk = disk_of(rt, alloc, content, ROOM, &[calls]);
+    let words = split(rt, alloc, line);
+    let ran = run_over(rt, alloc, disk, &words, NONE);
+    assert_eq!(rt; ran.status, 0, "{line}");
+    assert_eq!(rt; ran.disk.faults(), 0, "{line}");
+    let content = bytes_of(rt, alloc, &ran.disk);
+    assert_eq!(rt; state_of(rt, alloc, content), after, "{line}");
+}
+
+// An opening attaches the disk, asks its length and reads both slots: 4 calls. Of a checkpoint it
+// asks the length, reads the record, and asks the length again: 3 more, and 2 for a leaf.
+//
+// A checkpoint syncs, writes the leaf, where there is one, and the record, and syncs: 3 calls or 4.
+// Its slot takes 2 reads, and 2 more where both gates are open; the shut gate with its sync, where
+// it was open; the body, a sync, the gate, a sync.
+#[test]
+fn a_failing_call_of_create_leaves_no_table(rt: HostRuntime) {
+    let alloc = rt.alloc();
+    let device = new_device(&rt, alloc);
+    let line = "create|-c|key_format=S,value_format=S|table:t";
+    let states = (State::NoTable, State::NoRow);
+    each_call_fails(&rt, alloc, &device, line, 4 + 3 + 2 + 4, states);
+}
+
+#[test]
+fn a_failing_call_of_write_leaves_no_row(rt: HostRuntime) {
+    let alloc = rt.alloc();
+    let device = created(&rt, alloc);
+    let states = (State::NoRow, State::One);
+    each_call_fails(&rt, alloc, &device, "write|t|a|1", 7 + 4 + 2 + 4, states);
+}
+
+#[test]
+fn a_failing_call_of_a_second_write_leaves_the_old_value(rt: HostRuntime) {
+    let alloc = rt.alloc();
+    let device = written(&rt, alloc);
+    let states = (State::One, State::Two);
+    each_call_fails(
+        &rt,
+        alloc,
+        &device,
+        "write|-o|t|a|2",
+        9 + 4 + 4 + 2 + 4,
+        states,
+    );
+}
+
+#[test]
+fn a_failing_call_of_read_prints_nothing(rt: HostRuntime) {
+    let alloc = rt.alloc();
+    let device = written(&rt, alloc);
+    let bytes = bytes_of(&rt, alloc, &device);
+    for call in 0..9 {
+        let left = fails(&rt, alloc, &device, "read|t|a", call);
+        assert!(rt; left.bytes() == bytes.as_slice(), "call {call}");
+    }
+    let disk = disk_of(&rt, alloc, bytes, ROOM, &[9]);
+    let disk = runs(&rt, alloc, disk, &[("read|t|a", 0, "", "1\n")]);
+    assert_eq!(rt; disk.faults(), 0);
+}
+
+#[test]
+fn each_failing_write_of_the_output_ends_the_run(rt: HostRuntime) {
+    let alloc = rt.alloc();
+    let rows = [("write|t|b|22|c|", 0, "", "")];
+    let mut disk = runs(&rt, alloc, written(&rt, alloc), &rows);
+    // A value and a newline are two writes; an empty value is none.
+    let cases = [
+        (0, ""),
+        (1, "1"),
+        (2, "1\n"),
+        (3, "1\n22"),
+        (4, "1\n22\n"),
+        (5, "1\n22\n\n"),
+        (6, "1\n22\n\n1"),
+    ];
+    let words = ["read", "t", "a", "b", "c", "a"];
+    for (call, printed) in cases {
+        let failing = Failing {
+            out: &[call],
+            err: &[],
+        };
+        let ran = run_over(&rt, alloc, disk, &words, &failing);
+        disk = expect(&rt, ran, printed, 6, "output fault\n", printed);
+    }
+    let failing = Failing {
+        out: &[7],
+        err: &[],
+    };
+    let ran = run_over(&rt, alloc, disk, &words, &failing);
+    expect(&rt, ran, "all writes", 0, "", "1\n22\n\n1\n");
+}
+
+// Absent keys before it stand on the errors, and the status is that of the fault.
+#[test]
+fn a_fault_of_the_output_behind_an_absent_key_is_told(rt: HostRuntime) {
+    let alloc = rt.alloc();
+    let failing = Failing {
+        out: &[0],
+        err: &[],
+    };
+    let ran = run_over(
+        &rt,
+        alloc,
+        written(&rt, alloc),
+        &["read", "t", "b", "a"],
+        &failing,
+    );
+    let told = "-31803 not found\noutput fault\n";
+    let disk = expect(&rt, ran, "an absent key first", 6, told, "");
+    let failing = Failing {
+        out: &[0],
+        err: &[1],
+    };
+    let ran = run_over(&rt, alloc, disk, &["read", "t", "b", "a"], &failing);
+    expect(&rt, ran, "no line of it", 6, "-31803 not found\n", "");
+}
+
+#[test]
+fn a_failing_write_of_the_errors_changes_nothing_else(rt: HostRuntime) {
+    let alloc = rt.alloc();
+    let device = written(&rt, alloc);
+    let rows = [
+        ("make", 1, 0, "", ""),
+        ("create|t", 1, 0, "", ""),
+        ("create|file:t", 1, 0, "", ""),
+        ("write|t|a|2", 1, 0, "", ""),
+        ("read|t|x|a|y", 1, 0, "-31803 not found\n", "1\n"),
+        ("read|t|x|a|y", 1, 1, "-31803 not found\n", "1\n"),
+        (
+            "read|t|x|a|y",
+            1,
+            2,
+            "-31803 not found\n-31803 not found\n",
+            "1\n",
+        ),
+        ("read|t|a", 0, 0, "", "1\n"),
+        ("write|-o|t|a|2", 0, 0, "", ""),
+    ];
+    for (line, status, call, told, printed) in rows {
+        let failing = Failing {
+            out: &[],
+            err: &[call],
+        };
+        let disk = disk_of(&rt, alloc, bytes_of(&rt, alloc, &device), ROOM, &[]);
+        let words = split(&rt, alloc, line);
+        let ran = run_over(&rt, alloc, disk, &words, &failing);
+        expect(&rt, ran, line, status, told, printed);
+    }
+}
+
+#[test]
+fn a_fault_of_the_disk_is_told_by_its_status_alone_where_the_errors_fail(rt: HostRuntime) {
+    let alloc = rt.alloc();
+    let disk = disk_of(
+        &rt,
+        alloc,
+        bytes_of(&rt, alloc, &written(&rt, alloc)),
+        ROOM,
+        &[0],
+    );
+    let failing = Failing {
+        out: &[],
+        err: &[0],
+    };
+    let ran = run_over(&rt, alloc, disk, &["read", "t", "a"], &failing);
+    expect(&rt, ran, "a fault", 4, "", "");
+}
