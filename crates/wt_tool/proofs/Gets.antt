@@ -5,11 +5,11 @@ use Rattle.std.specs.Prelude.{OnOk, OnErr, Result, Ok, Err, IsTrue, bytes_eq, na
 use Rattle.std.proofs.lemmas.List.{append-nil, take-append-le}
 use Rattle.std.proofs.lemmas.Bool.{cases_Bool, ltb-true, ltb-false}
 use Rattle.item.specs.declared.formats.Formats.{Formats}
-use Rattle.kv_model.specs.History.{Entry as Made, Table, tables, named}
-use Rattle.kv_model.specs.Content.{Content, base, nothing, start}
+use Rattle.kv_model.specs.History.{Entry as Made, Table, tables}
+use Rattle.kv_model.specs.Content.{Content, base, start}
 use Rattle.kv_model.specs.Machine.{Machine}
-use Rattle.kv_model.specs.Refusals.{Cause, NotFound as IsAbsent, NoTable as NoSuchTable, Invalid as CallInvalid, KeyLong as LongKey}
-use Rattle.kv_model.specs.Decisions.{Outcome, Done, Refused, Gives, is_name}
+use Rattle.kv_model.specs.Refusals.{NotFound as IsAbsent, NoTable as NoSuchTable, Invalid as CallInvalid, KeyLong as LongKey}
+use Rattle.kv_model.specs.Decisions.{Done, Refused, Gives, is_name}
 use Rattle.row_page.specs.Rows.{Row}
 use Rattle.leaf_rows.specs.Rows.{version_at}
 use Rattle.one_session.specs.Calls.{Call, Begin, GetKey, Answers}

@@ -1,32 +1,30 @@
 -- What a run of a command is to the definitions.
-use Rattle.std.specs.Prelude.{◌≡◌, ◌≢◌, ◌⊎◌, ℕ, ◌+◌, ◌<◌, ◌≤◌, IsTrue, List, [], ◌∷◌, ◌++◌, Option, Some, None, MatchOption, IfSome, OnOk, OnErr, Result, Ok, Err, refl}
-use Rattle.std.proofs.Common.{inl, inr, sym, ◌∙◌, ap, subst, arith}
+use Rattle.std.specs.Prelude.{◌≡◌, ◌⊎◌, ℕ, ◌+◌, ◌<◌, List, [], ◌∷◌, ◌++◌, Option, Some, None, MatchOption, IfSome, OnOk, Result, Ok, Err, refl}
+use Rattle.std.proofs.Common.{inl, inr, sym, ap, subst, arith}
 use Rattle.std.proofs.lemmas.List.{append-nil}
 use Rattle.failure.specs.Counts.{Rose, HasCause}
-use Rattle.disk_model.specs.Crash.{Each, LeavesOnly}
+use Rattle.disk_model.specs.Crash.{LeavesOnly}
 use Rattle.disk_model.proofs.Crash.{joined, widened}
 use Rattle.kv_model.specs.Machine.{Machine, Completed}
 use Rattle.kv_model.specs.Content.{Content, start, IsLayered, OpensAs}
-use Rattle.stored.specs.Stored.{Stored, Reads, content_of}
+use Rattle.stored.specs.Stored.{Reads}
 use Rattle.stored.specs.Opens.{Opens}
 use Rattle.wt_code.specs.declared.refusals.Refusal.{Refusal}
-use Rattle.wt_code.specs.declared.refusals.Refusal.TheVariants.{NoMemory, DiskFault, Corrupt, Invalid as Refusal_Invalid, Limit as Refusal_Limit}
+use Rattle.wt_code.specs.declared.refusals.Refusal.TheVariants.{NoMemory, Invalid as Refusal_Invalid}
 use Rattle.wt_code.specs.declared.refusals.Invalid.TheVariants.{BadName}
-use Rattle.wt_io.specs.Streams.{Took, TookFront}
+use Rattle.wt_io.specs.Streams.{Took}
 use Rattle.checkpoint_core.specs.Stands.{at_slot}
 use Rattle.one_table.specs.declared.opening.Kept.{Kept}
 use Rattle.one_table.specs.declared.opening.Opened.{Opened}
-use Rattle.one_table.specs.declared.place.Place.{Place}
 use Rattle.one_table.specs.OneTable.{HoldsOne, IsInForm, table_of, one_stored}
-use Rattle.one_table.specs.Openings.{IsOpened as Finds, KeepsOr, Keeps, InForm, KeptInForm, OpenRefused}
-use Rattle.one_table.proofs.Opens.{rose_sooner}
+use Rattle.one_table.specs.Openings.{IsOpened as Finds, KeepsOr, InForm, OpenRefused}
 use Rattle.stored.proofs.Device.{one_content}
 use Rattle.wt_line.specs.Line.{Asked, command_of}
 use Rattle.wt_tool.specs.Words.{name_in}
-use Rattle.wt_tool.specs.Runs.{Outside, Installed, End, Through, RefusesOpening, IsOpened, Stops, last_number}
+use Rattle.wt_tool.specs.Runs.{Outside, Installed, End, Through, RefusesOpening, IsOpened, last_number}
 use Rattle.wt_tool.specs.Calls.{RunsNamed, RunsAsked, RunsWords, RunsRead, StopsAtOnce, uri_of}
 use Rattle.wt_tool.proofs.Closings.{keeps_meets}
-use Rattle.wt_tool.specs.Top.{outside, Meets, OpensToOne, EachReads, Ran, Running, Reading, Outcome, Written, Told, for_command, complaints, usage, lines, last_line, status_of, status_by}
+use Rattle.wt_tool.specs.Top.{outside, Meets, EachReads, Ran, Running, Reading, Outcome, Written, Told, for_command, complaints, usage, lines, last_line, status_of, status_by}
 
 -- what was opened opens as the checkpoint that it was read from
 pub start_opens : (content : Content) → IsLayered content → OpensAs content (start content).completed

@@ -1,12 +1,12 @@
 -- What the puts of pairs answer is what the calls of a session answer, on a machine that the rows show.
 use Rattle.std.proofs.Common.{◌≡◌, ◌⊎◌, ◌<◌, ◌≤◌, ◌+◌, ◌-◌, ◌^◌, ◌∙◌, ℕ, true, false, List, [], ◌∷◌, length, Option, Some, None, inl, inr, refl, sym, ap, subst, arith}
-use Rattle.std.specs.Prelude.{Result, Ok, Err, IsTrue, bytes_eq, nat_lt, nat_le, if◌then◌else◌}
-use Rattle.std.proofs.lemmas.Bool.{cases_Bool, ltb-true, ltb-false, leb-true, leb-false, lt-ltb, le-ltb}
+use Rattle.std.specs.Prelude.{Ok, Err, IsTrue, bytes_eq, nat_lt, nat_le, if◌then◌else◌}
+use Rattle.std.proofs.lemmas.Bool.{cases_Bool, ltb-true, ltb-false, leb-true, leb-false, le-ltb}
 use Rattle.item.specs.declared.change.Change.TheVariants.{Put}
 use Rattle.item.specs.declared.formats.Formats.{Formats}
 use Rattle.kv_model.specs.History.{Entry as Made, Table, tables, named, line}
 use Rattle.kv_model.specs.Content.{Content}
-use Rattle.kv_model.specs.Machine.{Machine, Transaction, Event, DrawId, AcceptWrite, after as left_by}
+use Rattle.kv_model.specs.Machine.{Machine, Event, DrawId, AcceptWrite, after as left_by}
 use Rattle.kv_model.specs.Refusals.{Cause, newest_durable, NotFound as IsAbsent, DuplicateKey as IsThere, NoTable as NoSuchTable, Invalid as CallInvalid, Limit as NoMore, KeyLong as LongKey, ValueLong as LongValue, NoStampAfterStamp as Unstamped, Ids as NoIds}
 use Rattle.kv_model.specs.Decisions.{Outcome, Done, Refused, Demand, Anything, Vacant, Occupied, unmet, is_name, FindToWrite, decision}
 use Rattle.row_page.specs.Rows.{Row}
@@ -14,7 +14,7 @@ use Rattle.leaf_rows.specs.Rows.{version_at, put_row}
 use Rattle.one_session.specs.Calls.{Call, Begin, PutKey, Commit, Answers}
 use Rattle.one_session.specs.Shows.{Shows, resting, beginning, put_into, plain_version, value_in}
 use Rattle.one_session.specs.ShowsLaws.{durable_in}
-use Rattle.one_session.specs.CallLaws.{PutCases, Refuses, Accepted}
+use Rattle.one_session.specs.CallLaws.{PutCases, Refuses}
 use Rattle.one_session.proofs.Keyed.{same_key, key_self}
 use Rattle.one_session.proofs.Telling.{durables}
 use Rattle.one_session.proofs.Putting.{puts as put_shows}
@@ -28,7 +28,7 @@ use Rattle.wt_code.specs.declared.refusals.Limit.TheVariants.{Ids}
 use Rattle.wt_tool.specs.Words.{stored_as}
 use Rattle.wt_tool.specs.Runs.{Outside, Installed, RunsClose, refusal_of}
 use Rattle.wt_tool.specs.Calls.{RefusedBy, PutsPairs, formats_at, the_put}
-use Rattle.wt_tool.specs.Answers.{Puts, put_over, put_refusal, rows_put, too_long, or_else, formats_by, key_of, value_of}
+use Rattle.wt_tool.specs.Answers.{Puts, put_over, rows_put, too_long, or_else, formats_by, key_of, value_of}
 
 -- why a put of a key and a value, as stored, is refused
 abbrev by_parts : (oldest id : ℕ) → Demand → (own name key value : List ℕ) → List Row → Option Refusal

@@ -1,16 +1,15 @@
 -- The run of `write`.
-use Rattle.std.specs.Prelude.{◌≡◌, ◌≢◌, ◌⊎◌, ℕ, ◌+◌, ◌<◌, ◌≤◌, ◌^◌, IsTrue, Bool, true, false, nat_lt, nat_le, ◌==◌, bytes_eq, List, [], ◌∷◌, length, Option, Some, None, Result, Ok, Err, OnOk, IfErr, refl}
+use Rattle.std.specs.Prelude.{◌≡◌, ℕ, ◌+◌, ◌<◌, ◌≤◌, ◌^◌, IsTrue, Bool, true, false, nat_lt, nat_le, ◌==◌, bytes_eq, List, [], ◌∷◌, length, Option, Some, None, Result, Ok, Err, OnOk, IfErr, refl}
 use Rattle.std.proofs.Common.{inl, inr, sym, ◌∙◌, ap, subst, arith}
 use Rattle.std.proofs.lemmas.Bool.{cases_Bool, ltb-true, ltb-false, eqb-true}
 use Rattle.std.specs.Borrow.{Bor}
 use Rattle.wt_line.specs.Line.{pair_texts}
 use Rattle.failure.specs.Counts.{Rose}
 use Rattle.disk_model.specs.Crash.{Each, LeavesOnly}
-use Rattle.kv_model.specs.History.{Entry as Made, tables}
-use Rattle.kv_model.specs.Machine.{Machine, OpenSession, after as left_by}
+use Rattle.kv_model.specs.Machine.{Machine}
 use Rattle.kv_model.specs.Content.{Content, base, nothing, start, IsLayered}
 use Rattle.kv_model.specs.Decisions.{Demand, Anything, Vacant, Occupied, unmet, is_name}
-use Rattle.kv_model.specs.Refusals.{Cause, NoTable as NoSuchTable, Invalid as CallInvalid, KeyLong as LongKey, ValueLong as LongValue}
+use Rattle.kv_model.specs.Refusals.{NoTable as NoSuchTable, Invalid as CallInvalid, KeyLong as LongKey, ValueLong as LongValue}
 use Rattle.row_page.specs.Rows.{Row}
 use Rattle.leaf_rows.specs.Rows.{version_at}
 use Rattle.stored.specs.Stored.{Reads}
@@ -25,13 +24,13 @@ use Rattle.one_table.specs.OneTable.{table_of}
 use Rattle.one_table.specs.Openings.{Keeps}
 use Rattle.one_table.specs.Closings.{IsFullFor}
 use Rattle.wt_code.specs.declared.refusals.Refusal.{Refusal}
-use Rattle.wt_code.specs.declared.refusals.Refusal.TheVariants.{NoMemory, DiskFault, DuplicateKey, NotFound, NoTable, Invalid as Refusal_Invalid, Limit as Refusal_Limit}
+use Rattle.wt_code.specs.declared.refusals.Refusal.TheVariants.{DiskFault, DuplicateKey, NotFound, NoTable, Invalid as Refusal_Invalid, Limit as Refusal_Limit}
 use Rattle.wt_code.specs.declared.refusals.Invalid.TheVariants.{KeyLong, ValueLong, NoStampAfterStamp}
 use Rattle.wt_code.specs.declared.refusals.Limit.TheVariants.{Ids}
 use Rattle.wt_tool.specs.Words.{stored_as}
-use Rattle.wt_tool.specs.Runs.{Outside, Installed, RunsClose, last_number}
+use Rattle.wt_tool.specs.Runs.{Outside, Installed}
 use Rattle.wt_tool.specs.Calls.{RunsWrite, PutsPairs, RefusedBy, the_put, demand_of}
-use Rattle.wt_tool.specs.Closes.{Closes, HasCheckpoint}
+use Rattle.wt_tool.specs.Closes.{Closes}
 use Rattle.wt_tool.specs.Answers.{Puts, put_nowhere, put_refusal, put_over, refused_by, or_else, too_long, key_of, value_of}
 use Rattle.wt_tool.specs.Top.{MeetsTable, Ran, outside, met_of}
 use Rattle.wt_tool.proofs.Closings.{keeps_meets, untouched, ran_closes}

@@ -1,5 +1,5 @@
 -- What a put and a get of words answer, by what was kept of the table.
-use Rattle.std.specs.Prelude.{◌≡◌, ◌⊎◌, ℕ, ◌+◌, ◌^◌, Bool, not, nat_lt, nat_le, List, [], ◌∷◌, length, Option, Some, None, Result, Ok, Err, bytes_eq, MatchOption, if◌then◌else◌}
+use Rattle.std.specs.Prelude.{◌≡◌, ◌⊎◌, ℕ, ◌+◌, ◌^◌, nat_lt, nat_le, List, [], ◌∷◌, length, Option, Some, None, Result, Ok, Err, bytes_eq, if◌then◌else◌}
 use Rattle.item.specs.declared.formats.Formats.{Formats}
 use Rattle.kv_model.specs.Decisions.{Demand, unmet}
 use Rattle.kv_model.specs.Refusals.{Cause}

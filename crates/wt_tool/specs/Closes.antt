@@ -1,18 +1,17 @@
 -- What the checkpoint at the end of a command leaves.
-use Rattle.std.specs.Prelude.{◌≡◌, ◌⊎◌, ℕ, ◌+◌, ◌≤◌, ◌<◌, List, Option, Some, Result, Ok, Err}
+use Rattle.std.specs.Prelude.{◌≡◌, ◌⊎◌, ℕ, ◌+◌, ◌≤◌, ◌<◌, List, Some, Result, Err}
 use Rattle.disk_model.specs.Crash.{LeavesOnly}
 use Rattle.turtle.specs.declared.slot.Slot.{Slot}
 use Rattle.kv_model.specs.History.{Table}
 use Rattle.kv_model.specs.Content.{Content}
 use Rattle.row_page.specs.Rows.{Row}
 use Rattle.stored.specs.Links.{Link}
-use Rattle.leaf_rows.specs.declared.marks.Marks.{Marks}
 use Rattle.leaf_rows.specs.Rows.{image_length}
 use Rattle.leaf_rows.specs.Contents.{leaf_content}
 use Rattle.checkpoint_core.specs.Stands.{at_slot}
 use Rattle.one_table.specs.declared.record.Numbers.{Numbers}
 use Rattle.one_table.specs.declared.place.Place.{Place}
-use Rattle.one_table.specs.OneTable.{one_stored, IsInForm}
+use Rattle.one_table.specs.OneTable.{one_stored}
 use Rattle.one_table.specs.Openings.{Serves}
 use Rattle.one_table.specs.Closings.{Installs}
 use Rattle.wt_code.specs.declared.refusals.Refusal.{Refusal}

@@ -1,16 +1,16 @@
 -- The run of a command: the calls that it makes of the machine, up to the refusal that ends it.
-use Rattle.std.specs.Prelude.{◌≡◌, ◌≢◌, ◌⊎◌, ℕ, Bool, true, false, ◌+◌, ◌-◌, ◌^◌, ◌≤◌, ◌<◌, List, [], ◌∷◌, ◌++◌, length, Option, Some, None, MatchOption}
+use Rattle.std.specs.Prelude.{◌≡◌, ◌≢◌, ◌⊎◌, ℕ, ◌+◌, ◌-◌, ◌^◌, ◌≤◌, ◌<◌, List, [], ◌∷◌, length, Option, Some, None}
 use Rattle.item.specs.declared.formats.Formats.{Formats}
 use Rattle.kv_model.specs.History.{Table, line, tables, named}
 use Rattle.kv_model.specs.AgreementLaws.{head_of}
-use Rattle.kv_model.specs.Machine.{Machine, Completed, Fault, Event, OpenSession, CheckpointStart, CheckpointFinish, GoDown, Nothing, after as left_by}
+use Rattle.kv_model.specs.Machine.{Machine, Completed, Fault, Event, CheckpointStart, CheckpointFinish, GoDown, Nothing, after as left_by}
 use Rattle.kv_model.specs.Refusals.{Cause, Ids, Exists as TableExists, NotFound as IsAbsent, DuplicateKey as IsThere, NoTable as NoSuchTable, Invalid as CallInvalid, Limit as NoMore, KeyLong as LongKey, ValueLong as LongValue, NoStampAfterStamp as Unstamped}
-use Rattle.kv_model.specs.Decisions.{Done, Refused, Gives, CreateCall, Demand, Anything, Vacant, decision}
+use Rattle.kv_model.specs.Decisions.{Done, Refused, CreateCall, decision}
 use Rattle.row_page.specs.Rows.{Row}
 use Rattle.leaf_rows.specs.Rows.{AreFit, version_at, image_length}
 use Rattle.wt_code.specs.declared.refusals.Refusal.{Refusal}
 use Rattle.wt_code.specs.declared.refusals.Refusal.TheVariants.{NoMemory, DiskFault, NoSpace, NotFound, DuplicateKey, NoTable, Exists, Invalid as Refusal_Invalid, Limit as Refusal_Limit}
-use Rattle.wt_code.specs.declared.refusals.Invalid.TheVariants.{BadName, BadConfig, KeyLong, ValueLong, NoStampAfterStamp}
+use Rattle.wt_code.specs.declared.refusals.Invalid.TheVariants.{KeyLong, ValueLong, NoStampAfterStamp}
 use Rattle.wt_code.specs.declared.refusals.Limit.TheVariants.{Tables, Checkpoints, Image, Ids as Limit_Ids}
 
 -- Facts of the outside that refusals rest on. fault: the disk's count of faults rose; full: a block of a checkpoint with these rows finds no free extent, and the end plus its size passes the capacity; wide: the device holds another checkpoint than one of one table of one leaf; last: the chosen slot has the greatest sequence; output: the output's count of faults rose.

@@ -1,5 +1,5 @@
 -- What the top call promises.
-use Rattle.std.specs.Prelude.{◌≡◌, ◌⊎◌, ℕ, ◌+◌, ◌≤◌, List, [], ◌∷◌, ◌++◌, Option, Some, None, Result, Ok, Err, codes}
+use Rattle.std.specs.Prelude.{◌≡◌, ◌⊎◌, ℕ, ◌+◌, List, [], ◌∷◌, ◌++◌, Option, Some, None, Result, Ok, Err, codes}
 use Rattle.std.specs.List.{flat_map}
 use Rattle.failure.specs.Counts.{Rose}
 use Rattle.disk_model.specs.Crash.{Each, LeavesOnly}
@@ -14,7 +14,7 @@ use Rattle.kv_model.specs.Content.{Content, base, nothing, start, IsLayered}
 use Rattle.stored.specs.Stored.{Reads}
 use Rattle.stored.specs.Opens.{Opens}
 use Rattle.one_table.specs.declared.opening.Kept.{Kept}
-use Rattle.one_table.specs.OneTable.{HoldsOne, IsInForm, table_of}
+use Rattle.one_table.specs.OneTable.{HoldsOne, table_of}
 use Rattle.one_table.specs.Closings.{IsFullFor}
 use Rattle.one_session.specs.Shows.{Shows}
 use Rattle.wt_line.specs.Line.{Asked, command_of}

@@ -1,5 +1,3 @@
-use Rattle.wt_tool.proofs.Gets.{gets_word}
-use Rattle.wt_tool.proofs.Sessions.{one}
 use Rattle.std.proofs.Common.{◌≡◌, ◌∙◌, ◌++◌, ℕ, List, [], ◌∷◌, refl, sym, ap}
 use Rattle.std.proofs.lemmas.Bool.{ne_eqb}
 use Rattle.wt_tool.specs.Words.{without_zero}

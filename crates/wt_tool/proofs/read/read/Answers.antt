@@ -2,7 +2,7 @@ use Rattle.std.proofs.Common.{◌≡◌, ◌⊎◌, ◌≤◌, ◌<◌, ◌+◌,
 use Rattle.std.proofs.Math.Seq.{drop-cons}
 use Rattle.std.proofs.lemmas.List.{append-nil, nil_from_length}
 use Rattle.failure.specs.Counts.{Rose}
-use Rattle.kv_model.specs.Content.{Content, base, start}
+use Rattle.kv_model.specs.Content.{Content, base}
 use Rattle.one_session.specs.Shows.{beginning}
 use Rattle.wt_code.specs.declared.refusals.Refusal.{Refusal}
 use Rattle.wt_code.specs.declared.refusals.Refusal.TheVariants.{NoMemory, NotFound, DiskFault}
@@ -10,11 +10,11 @@ use Rattle.wt_code.specs.Text.{text_of_refusal}
 use Rattle.wt_io.specs.Streams.{Took, TookFront}
 use Rattle.wt_io.specs.StreamLemmas.{took_more}
 use Rattle.wt_tool.specs.Runs.{End, Through, OutputFailed}
-use Rattle.wt_tool.specs.Calls.{GetsKeys, the_get}
-use Rattle.wt_tool.specs.Answers.{get_answer, printed_by}
+use Rattle.wt_tool.specs.Calls.{GetsKeys}
+use Rattle.wt_tool.specs.Answers.{get_answer}
 use Rattle.one_table.specs.declared.opening.Kept.{Kept}
-use Rattle.wt_tool.specs.Top.{Meets, lines, output_fault, status_of, Told, Reading, Written}
-use Rattle.wt_tool.proofs.Gets.{reading, reading_ended, reading_failed, got_value, got_refused, more_value, failed_value, more_absent, last_refused, last_memory, rose_before, rose_after, front_more, told_more, ok_or_err, of_ok, of_err, stopped, told_end}
+use Rattle.wt_tool.specs.Top.{lines, output_fault, status_of, Told, Written}
+use Rattle.wt_tool.proofs.Gets.{reading, reading_ended, reading_failed, got_value, got_refused, more_value, failed_value, more_absent, rose_before, front_more, told_more, ok_or_err, of_ok, of_err, stopped, told_end}
 use Rattle.wt_tool.proofs.read.read.Goals as goal
 use Rattle.wt_tool.proofs.read.read.Goals.{in-Ok+else-is_err, in-Err+else-told-eq12-2+else-not-is_absence, then-status-eq0, then-status-eq0-via-then-status-eq0, then-status-eq0-via-else-status-eq0+then-told-eq12, else-status-eq0+else-told-eq12, then-told-eq12-2-via-then-told-eq12-2, then-told-eq12-2-via-else-told-eq12-2+then-not-is_absence}
 

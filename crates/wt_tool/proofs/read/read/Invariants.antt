@@ -1,4 +1,4 @@
-use Rattle.std.proofs.Common.{◌≡◌, ◌⊎◌, ◌≤◌, ◌++◌, ℕ, List, Option, map, drop, option_map}
+use Rattle.std.proofs.Common.{◌≡◌, ◌⊎◌, ◌≤◌, ◌++◌, ℕ, List, map, drop, option_map}
 use Rattle.failure.specs.Counts.{Rose}
 use Rattle.kv_model.specs.Content.{Content, base}
 use Rattle.one_session.specs.Shows.{beginning}

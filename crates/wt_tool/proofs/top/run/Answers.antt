@@ -1,4 +1,4 @@
-use Rattle.std.proofs.Common.{inl, inr, refl, ◌≡◌, sym, ◌∙◌, subst, List, [], ℕ, map, Option, Some, None}
+use Rattle.std.proofs.Common.{refl, ◌≡◌, sym, ◌∙◌, subst, List, [], ℕ, map, Option, Some, None}
 use Rattle.std.specs.Option.{option_map}
 use Rattle.std.specs.Borrow.{Bor}
 use Rattle.disk_model.proofs.Crash.{looked_only}

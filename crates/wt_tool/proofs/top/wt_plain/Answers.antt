@@ -1,4 +1,4 @@
-use Rattle.std.proofs.Common.{inl, inr, refl, map}
+use Rattle.std.proofs.Common.{inl, refl, map}
 use Rattle.std.specs.String.{string_bytes}
 use Rattle.wt_io.specs.StreamLemmas.{took_none}
 use Rattle.wt_line.specs.Line.{meaning}

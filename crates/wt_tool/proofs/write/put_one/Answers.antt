@@ -1,13 +1,11 @@
-use Rattle.std.proofs.Common.{◌≡◌, ◌≤◌, ◌<◌, ◌+◌, ◌-◌, ◌^◌, ◌∙◌, ℕ, List, [], Option, Some, None, inl, inr, refl, sym, ap, subst, length, arith}
+use Rattle.std.proofs.Common.{◌≡◌, ◌≤◌, ◌<◌, ◌+◌, ◌^◌, ◌∙◌, ℕ, List, [], Some, None, inl, inr, refl, sym, ap, subst, length, arith}
 use Rattle.std.specs.Prelude.{nat_lt, nat_le}
 use Rattle.std.proofs.lemmas.Bool.{cases_Bool, ltb-false, leb-false}
-use Rattle.item.specs.declared.change.Change.TheVariants.{Put}
 use Rattle.kv_model.specs.Decisions.{Demand}
 use Rattle.row_page.specs.Rows.{Row, RowFits, key_most}
 use Rattle.one_session.specs.Shows.{plain_version}
 use Rattle.stamp.specs.declared.version.Version.{Version}
 use Rattle.item.specs.declared.change.Change.{Change}
-use Rattle.wt_code.specs.declared.refusals.Refusal.{Refusal}
 use Rattle.wt_code.specs.declared.refusals.Refusal.TheVariants.{Invalid as Refusal_Invalid, Limit as Refusal_Limit}
 use Rattle.wt_code.specs.declared.refusals.Invalid.TheVariants.{KeyLong, ValueLong}
 use Rattle.wt_code.specs.declared.refusals.Limit.TheVariants.{Ids}

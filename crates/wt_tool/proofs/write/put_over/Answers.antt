@@ -1,4 +1,4 @@
-use Rattle.std.proofs.Common.{◌≡◌, ◌↔◌, ◌≤◌, ◌<◌, ◌-◌, ◌^◌, ◌∙◌, ℕ, Bool, true, false, List, Option, Some, None, refl, sym, ap, subst, arith, option_map, IsTrue}
+use Rattle.std.proofs.Common.{◌≡◌, ◌↔◌, ◌≤◌, ◌<◌, ◌^◌, ◌∙◌, ℕ, Bool, true, false, List, Option, Some, None, refl, sym, ap, subst, arith, IsTrue}
 use Rattle.std.proofs.lemmas.Bool.{lt-ltb, le-ltb, lt-leb}
 use Rattle.item.specs.declared.change.Change.{Change}
 use Rattle.stamp.specs.declared.version.Version.{Version}
@@ -7,7 +7,6 @@ use Rattle.row_page.specs.Rows.{Row}
 use Rattle.leaf_rows.specs.Rows.{version_at}
 use Rattle.one_session.specs.Shows.{value_in}
 use Rattle.one_session.specs.ShowsLaws.{durable_in}
-use Rattle.wt_code.specs.declared.refusals.Refusal.{Refusal}
 use Rattle.wt_code.specs.declared.refusals.Refusal.TheVariants.{Invalid as Refusal_Invalid}
 use Rattle.wt_code.specs.declared.refusals.Invalid.TheVariants.{NoStampAfterStamp}
 use Rattle.wt_tool.specs.Calls.{demand_of}

@@ -1,4 +1,4 @@
-use Rattle.std.proofs.Common.{inl, inr, refl, sym, ◌∙◌, ap, subst, ◌≡◌, ◌+◌, List, [], ℕ, Option, Some, None}
+use Rattle.std.proofs.Common.{inl, refl, subst, ◌≡◌, ◌+◌, Option}
 use Rattle.disk_model.proofs.Crash.{started}
 use Rattle.kv_model.specs.Content.{nothing, start}
 use Rattle.stored.proofs.Device.{one_content}
