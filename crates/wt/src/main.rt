@@ -1,11 +1,17 @@
 //! The program `wt`: the commands of `wt_tool` on the file of a store and the standard streams.
 //!
-//! It promises nothing of its own. What a command means, what it writes and its status are
-//! `wt_tool`'s; that failed calls are counted is `disk_file`'s and `wt_std_io`'s.
+//! It promises that the words it takes are the arguments behind the first. What a command means,
+//! what it writes and its status are `wt_tool`'s; that failed calls are counted is `disk_file`'s and
+//! `wt_std_io`'s.
 #![tactic(auto)]
 
+ghost use Rattle.std.specs.Prelude.{◌≡◌, drop, IfOk, IfErr};
+ghost use Rattle.std.specs.Vec.Iter.{into_iter_items};
+
 use disk_file::FileDisk;
+use std::alloc::Global;
 use std::env;
+use std::env::Args;
 use std::io::ErrorKind;
 use std::process::ExitCode;
 use wt_io::write_all;
@@ -30,15 +36,23 @@ enum NoWords {
     NoMemory,
 }
 
-// The arguments after the program's name.
 fn words_of(rt: &HostRuntime) -> Result<Vec<String>, NoWords> {
-    let args = match env::args(rt) {
-        Ok(args) => args,
-        Err(e) if e.kind() == ErrorKind::OutOfMemory => return Err(NoWords::NoMemory),
-        Err(_) => return Err(NoWords::NotText),
-    };
-    let mut words = Vec::new(rt.alloc());
-    for word in args.skip(1) {
+    match env::args(rt) {
+        Ok(args) => behind_the_first(rt.alloc(), args),
+        Err(e) if e.kind() == ErrorKind::OutOfMemory => Err(NoWords::NoMemory),
+        Err(_) => Err(NoWords::NotText),
+    }
+}
+
+// The arguments behind the program's name. The error is want of memory.
+fn behind_the_first(alloc: Global, args: Args) -> Result<Vec<String>, NoWords>
+    ensures words { IfOk result (λ words. words.items ≡ drop 1 (into_iter_items args)) }
+    ensures short { IfErr result (λ e. e ≡ NoWords.NoMemory) }
+{
+    let mut args = args;
+    let _first = args.next();
+    let mut words = Vec::new(alloc);
+    for word in args {
         if words.push(word).is_err() {
             return Err(NoWords::NoMemory);
         }
