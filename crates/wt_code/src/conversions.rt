@@ -1,8 +1,9 @@
-// Want of memory as a refusal.
+// Want of memory, and an error of storing, as a refusal.
 ghost use Rattle.std.specs.Prelude.{◌≡◌};
+ghost use Rattle.wt_code.specs.StoreErrors.{refusal_of};
 ghost use Rattle.wt_code.specs.declared.refusals.Refusal.TheVariants.{NoMemory as WantOfMemory};
 
-use crate::{NoMemory, Refusal};
+use crate::{NoMemory, Refusal, StoreError};
 use std::alloc::AllocError;
 
 impl From<NoMemory> for Refusal {
@@ -18,5 +19,18 @@ impl From<AllocError> for Refusal {
 
     fn from(_: AllocError) -> Self {
         Refusal::NoMemory
+    }
+}
+
+impl From<StoreError> for Refusal {
+    ghost from_gives = { λ error refusal. refusal ≡ refusal_of error };
+
+    fn from(error: StoreError) -> Self {
+        match error {
+            StoreError::NoMemory => Refusal::NoMemory,
+            StoreError::NoSpace => Refusal::NoSpace,
+            StoreError::Read => Refusal::DiskFault,
+            StoreError::Down(_) => Refusal::DiskFault,
+        }
     }
 }

@@ -1,13 +1,6 @@
 // Why a call is refused.
 
-/// The call of the disk that failed, after which an engine takes no more calls.
-#[derive(Clone, Copy, Debug, PartialEq, Eq)]
-pub enum Fault {
-    /// The write at this offset of the device, in bytes.
-    Write(u64),
-    /// A sync.
-    Sync,
-}
+use crate::Fault;
 
 /// What is in the way of a call. A session is given by its number in the engine, from 0 upwards;
 /// its text is that number plus one.
