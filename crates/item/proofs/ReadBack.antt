@@ -1,9 +1,10 @@
 -- What is escaped reads as itself.
-use Rattle.std.proofs.Common.{◌≡◌, ◌≢◌, ◌<◌, ◌≤◌, ◌+◌, ◌-◌, ◌*◌, ◌/◌, ◌%◌, ℕ, refl, ap, sym, ◌∙◌, false, List, [], ◌∷◌, ◌++◌, inl, inr, arith}
+use Rattle.std.proofs.Common.{◌≡◌, ◌≢◌, ◌<◌, ◌≤◌, ◌+◌, ◌-◌, ◌*◌, ◌/◌, ◌%◌, ℕ, refl, ap, sym, subst, ◌∙◌, false, List, [], ◌∷◌, ◌++◌, inl, inr, arith}
 use Rattle.std.specs.Prelude.{Option, Some, None, IfSome, length, option_map, option_and_then, nat_lt, nat_le, ◌==◌, slice_index_or}
-use Rattle.std.proofs.Common.{drop, drop-cons, suc}
+use Rattle.std.proofs.Common.{take, drop, drop-cons, suc, take-append-drop}
+use Rattle.std.proofs.lemmas.List.{take_more}
 use Rattle.std.proofs.lemmas.Bool.{cases_Bool, both_ways, and_parts, le-leb, leb-true, lt-ltb, ltb-true, eqb-true, ne_eqb}
-use Rattle.item.specs.Escapes.{digit, digit_value, is_printable, escape_byte, escaped, bytes_of, step_to, read_on, unescaped, EscapesReadBack}
+use Rattle.item.specs.Escapes.{digit, digit_value, is_printable, escape_byte, escaped, bytes_of, step_to, read_on, reads_on, unescaped, EscapesReadBack}
 use Rattle.item.specs.declared.escapes.Reading.{Reading}
 use Rattle.item.specs.declared.escapes.Reading.TheVariants.{AtByte, AfterBackslash, AfterDigit}
 
@@ -57,7 +58,7 @@ byte-reads b rest small = elim (cases_Bool (b == 92)) [
   apart : (x : ℕ) → 32 ≤ x → x ≢ 10
   apart x more e = omega arith
 
-append-after : (l m n : List ℕ) → (l ++ m) ++ n ≡ l ++ (m ++ n)
+pub append-after : (l m n : List ℕ) → (l ++ m) ++ n ≡ l ++ (m ++ n)
 append-after [] m n = refl
 append-after (x ∷ l) m n = ap (λ t. x ∷ t) (append-after l m n)
 
@@ -100,23 +101,57 @@ joined : (out more : List ℕ) (o : Option (List ℕ)) → option_map (λ bytes.
 joined out more None = refl
 joined out more (Some bytes) = ap Some (sym (append-after out more bytes))
 
+-- a byte was taken: what stands before it, then what the rest gives
+pub taken : (out new : List ℕ) (reading next : Reading) (b : ℕ) (rest : List ℕ)
+    → (Some next ≡ option_map (λ now. now.0) (step_to reading b)) → IfSome (step_to reading b) (λ now. new ≡ out ++ now.1)
+    → reads_on out reading (b ∷ rest) ≡ reads_on new next rest
+taken out new reading next b rest to more =
+    ap (option_map (λ bytes. out ++ bytes)) (step-reads reading b rest) ∙ go (step_to reading b) to more where
+      go : (o : Option (Reading × List ℕ)) → Some next ≡ option_map (λ now. now.0) o → IfSome o (λ now. new ≡ out ++ now.1)
+          → option_map (λ bytes. out ++ bytes) (option_and_then (λ now. read_on now rest) o) ≡ reads_on new next rest
+      go None to more = absurd (cc)
+      go (Some now) to more = let same : next ≡ now.0 = cc in
+          joined out now.1 (bytes_of now.0 rest)
+          ∙ (ap (λ l. option_map (λ bytes. l ++ bytes) (bytes_of now.0 rest)) (sym more)
+          ∙ ap (λ r. option_map (λ bytes. new ++ bytes) (bytes_of r rest)) (sym same))
+
 drop-next : (text : List ℕ) (i : ℕ) → i < length text → drop i text ≡ slice_index_or text i 0 ∷ drop (i + 1) text
 drop-next text i inside = drop-cons text i 0 inside ∙ ap (λ n. slice_index_or text i 0 ∷ drop n text) (one-more i) where
   one-more : (n : ℕ) → suc n ≡ n + 1
   one-more n = omega arith
 
--- a byte was taken: what stands before it, then what the rest gives
-pub taken : (text : List ℕ) (i : ℕ) (out new : List ℕ) (reading next : Reading) → i < length text → unescaped text ≡ option_map (λ bytes. out ++ bytes) (bytes_of reading (drop i text))
-    → (Some next ≡ option_map (λ now. now.0) (step_to reading (slice_index_or text i 0))) → IfSome (step_to reading (slice_index_or text i 0)) (λ now. new ≡ out ++ now.1)
-    → unescaped text ≡ option_map (λ bytes. new ++ bytes) (bytes_of next (drop (i + 1) text))
-taken text i out new reading next inside before to more =
-    before ∙ (ap (λ l. option_map (λ bytes. out ++ bytes) (bytes_of reading l)) (drop-next text i inside)
-    ∙ (ap (option_map (λ bytes. out ++ bytes)) (step-reads reading (slice_index_or text i 0) (drop (i + 1) text))
-    ∙ go (step_to reading (slice_index_or text i 0)) to more)) where
-      go : (o : Option (Reading × List ℕ)) → Some next ≡ option_map (λ now. now.0) o → IfSome o (λ now. new ≡ out ++ now.1)
-          → option_map (λ bytes. out ++ bytes) (option_and_then (λ now. read_on now (drop (i + 1) text)) o) ≡ option_map (λ bytes. new ++ bytes) (bytes_of next (drop (i + 1) text))
-      go None to more = absurd (cc)
-      go (Some now) to more = let same : next ≡ now.0 = cc in
-          joined out now.1 (bytes_of now.0 (drop (i + 1) text))
-          ∙ (ap (λ l. option_map (λ bytes. l ++ bytes) (bytes_of now.0 (drop (i + 1) text))) (sym more)
-          ∙ ap (λ r. option_map (λ bytes. new ++ bytes) (bytes_of r (drop (i + 1) text))) (sym same))
+-- one plain byte more of a text
+pub text-more : (text : List ℕ) (i : ℕ) → i < length text → slice_index_or text i 0 ≢ 10 → slice_index_or text i 0 ≢ 92
+    → unescaped text ≡ reads_on (take i text) AtByte (drop i text) → unescaped text ≡ reads_on (take (i + 1) text) AtByte (drop (i + 1) text)
+text-more text i inside line slash before =
+    let b : ℕ = slice_index_or text i 0 in
+    let step : step_to AtByte b ≡ Some (AtByte, b ∷ []) = rw (ne_eqb b 10 line, ne_eqb b 92 slash) refl in
+    before ∙ (ap (λ (l : List ℕ). reads_on (take i text) AtByte l) (drop-next text i inside)
+    ∙ taken (take i text) (take (i + 1) text) AtByte AtByte b (drop (i + 1) text) (sym (ap (option_map (λ now. now.0)) step)) (subst (λ o. IfSome o (λ now. take (i + 1) text ≡ take i text ++ now.1)) (sym step) (take_more text i 0 inside)))
+
+pub nothing-read : (text : List ℕ) → unescaped text ≡ reads_on [] AtByte text
+nothing-read text = sym (map-none (unescaped text))
+
+-- a plain front was copied
+pub text-past : (out text : List ℕ) (n : ℕ) → unescaped text ≡ reads_on (take n text) AtByte (drop n text) → reads_on out AtByte text ≡ reads_on (out ++ take n text) AtByte (drop n text)
+text-past out text n plain = ap (option_map (λ bytes. out ++ bytes)) plain ∙ joined out (take n text) (bytes_of AtByte (drop n text))
+
+-- ---- plain runs
+
+plain-byte : (b : ℕ) → 32 ≤ b → b ≤ 126 → b ≢ 92 → escape_byte b ≡ b ∷ []
+plain-byte b low high other = rw (ne_eqb b 92 other, le-leb 32 b low, le-leb b 126 high) refl
+
+pub plain-more : (bytes : List ℕ) (i : ℕ) → i < length bytes → 32 ≤ slice_index_or bytes i 0 → slice_index_or bytes i 0 ≤ 126 → slice_index_or bytes i 0 ≢ 92 → escaped (take i bytes) ≡ take i bytes → escaped (take (i + 1) bytes) ≡ take (i + 1) bytes
+plain-more bytes i inside low high other before =
+    let b : ℕ = slice_index_or bytes i 0 in
+    ap escaped (take_more bytes i 0 inside) ∙ (escaped-more (take i bytes) b ∙ (ap (λ (l : List ℕ). l ++ escape_byte b) before ∙ (ap (λ (l : List ℕ). take i bytes ++ l) (plain-byte b low high other) ∙ sym (take_more bytes i 0 inside))))
+
+escaped-append : (xs ys : List ℕ) → escaped (xs ++ ys) ≡ escaped xs ++ escaped ys
+escaped-append [] ys = refl
+escaped-append (x ∷ xs) ys = ap (λ (l : List ℕ). escape_byte x ++ l) (escaped-append xs ys) ∙ sym (append-after (escape_byte x) (escaped xs) (escaped ys))
+
+-- what is written, then the escapes of the rest: a plain run is written as it is
+pub escaped-past : (out rest : List ℕ) (n : ℕ) → escaped (take n rest) ≡ take n rest → out ++ escaped rest ≡ (out ++ take n rest) ++ escaped (drop n rest)
+escaped-past out rest n plain =
+    let parts : escaped rest ≡ take n rest ++ escaped (drop n rest) = ap escaped (sym (take-append-drop n rest)) ∙ (escaped-append (take n rest) (drop n rest) ∙ ap (λ (l : List ℕ). l ++ escaped (drop n rest)) plain) in
+    ap (λ (l : List ℕ). out ++ l) parts ∙ sym (append-after out (take n rest) (escaped (drop n rest)))

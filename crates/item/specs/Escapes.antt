@@ -57,6 +57,10 @@ step_to (AfterDigit high) b = option_map (λ low. (AtByte, (16 * high + low) ∷
 abbrev pub read_on : Reading × List ℕ → List ℕ → Option (List ℕ)
 read_on now rest = option_map (λ bytes. now.1 ++ bytes) (bytes_of now.0 rest)
 
+-- these bytes, then those that the rest of a text stands for
+abbrev pub reads_on : List ℕ → Reading → List ℕ → Option (List ℕ)
+reads_on out reading rest = option_map (λ bytes. out ++ bytes) (bytes_of reading rest)
+
 -- what is escaped reads as itself
 abbrev pub EscapesReadBack : Type 0
 EscapesReadBack = (bytes : List ℕ) → AllByRecursion (λ b. b < 256) bytes → unescaped (escaped bytes) ≡ Some bytes

@@ -1,7 +1,7 @@
-//! Items as printable texts.
+// Items as printable texts.
 
-ghost use Rattle.std.specs.Prelude.{◌≡◌, ◌++◌, ◌<◌, IfOk, IfSome, option_map};
-ghost use Rattle.item.specs.Escapes.{escaped, escape_byte, unescaped, digit, digit_value, step_to, IsSmall, EscapesReadBack};
+ghost use Rattle.std.specs.Prelude.{◌≡◌, ◌++◌, ◌<◌, ◌≤◌, length, take, drop, IfOk, IfSome, option_map};
+ghost use Rattle.item.specs.Escapes.{escaped, escape_byte, unescaped, digit, digit_value, step_to, reads_on, IsSmall, EscapesReadBack};
 ghost use Rattle.item.specs.declared.escapes.Reading.TheVariants.{AtByte, AfterBackslash, AfterDigit};
 
 use crate::item::Item;
@@ -40,16 +40,38 @@ fn push_escaped(out: &mut Vec<u8>, b: u8) -> Result<(), AllocError>
     Ok(())
 }
 
+// How many bytes at the front are their own escapes.
+fn plain_front(bytes: &[u8]) -> usize
+    ensures within { result ≤ length bytes.now }
+    ensures plain { escaped (take result bytes.now) ≡ take result bytes.now }
+{
+    for (i, b) in bytes.iter().enumerate() {
+        if *b < 32 || *b > 126 || *b == b'\\' {
+            return i;
+        }
+    }
+    bytes.len()
+}
+
 /// The item as a printable text: bytes 0x20 to 0x7e are themselves but for a backslash, which is
-/// two; any other byte is a backslash and two lower-case hexadecimal digits.
+/// two; any other byte is a backslash and two lower-case hexadecimal digits. `O(bytes)`, and one
+/// allocation where the text is the item's bytes.
 pub fn escape(alloc: Global, item: &Item) -> Result<Vec<u8>, NoMemory>
     ensures { IfOk result (λ r. r.items ≡ escaped item.now) }
 {
-    let mut out = Vec::new(alloc);
-    for b in item.as_bytes() {
-        push_escaped(&mut out, *b)?;
+    let mut rest = item.as_bytes();
+    let mut out = Vec::with_capacity(alloc, rest.len())?;
+    loop {
+        let (front, others) = rest.split_at(plain_front(rest));
+        out.extend_from_slice(front)?;
+        match others.split_first() {
+            None => return Ok(out),
+            Some((b, behind)) => {
+                push_escaped(&mut out, *b)?;
+                rest = behind;
+            }
+        }
     }
-    Ok(out)
 }
 
 /// How far a text is read.
@@ -134,19 +156,57 @@ fn take_after_digit(out: &mut Vec<u8>, high: u8, b: u8) -> Result<Option<Reading
     }
 }
 
+// How many bytes at the front of a text are themselves.
+fn plain_text(text: &[u8]) -> usize
+    ensures within { result ≤ length text.now }
+    ensures plain { unescaped text.now ≡ option_map (λ bytes. take result text.now ++ bytes) (unescaped (drop result text.now)) }
+{
+    for (i, b) in text.iter().enumerate() {
+        if *b == b'\n' || *b == b'\\' {
+            return i;
+        }
+    }
+    text.len()
+}
+
+// Copies the bytes that are themselves, where the text is at a byte, and gives the rest of it.
+fn copy_plain<'a>(
+    out: &mut Vec<u8>,
+    reading: Reading,
+    text: &'a [u8],
+) -> Result<&'a [u8], AllocError>
+    ensures bytes { IfOk result (λ rest. reads_on out.old.items reading text.now ≡ reads_on out.new.items reading rest.now) }
+    ensures shorter { IfOk result (λ rest. length rest.now ≤ length text.now) }
+{
+    match reading {
+        Reading::AtByte => {
+            let (front, rest) = text.split_at(plain_text(text));
+            out.extend_from_slice(front)?;
+            Ok(rest)
+        }
+        _ => Ok(text),
+    }
+}
+
 /// The item that a text stands for: a backslash with a backslash or with two hexadecimal digits of
 /// either case is one byte, any other byte but a newline is itself. None exactly where a backslash
-/// is followed by neither form, or a newline stands.
+/// is followed by neither form, or a newline stands. `O(text)`, and one allocation.
 pub fn unescape(alloc: Global, text: &[u8]) -> Result<Option<Item>, NoMemory>
     ensures { IfOk result (λ r. r ≡ unescaped text.now) }
 {
-    let mut out = Vec::new(alloc);
+    let mut out = Vec::with_capacity(alloc, text.len())?;
     let mut reading = Reading::AtByte;
-    for b in text {
+    let mut rest = text;
+    loop {
+        rest = copy_plain(&mut out, reading, rest)?;
+        let Some((b, behind)) = rest.split_first() else {
+            break;
+        };
         match take_byte(&mut out, reading, *b)? {
             None => return Ok(None),
             Some(next) => reading = next,
         }
+        rest = behind;
     }
     match reading {
         Reading::AtByte => Ok(Some(Item::new(out))),

@@ -1,9 +1,13 @@
-//! Byte strings.
+// Byte strings.
 
-ghost use Rattle.std.specs.Prelude.{◌≡◌, List, ℕ, IfOk, IsTrue, ◌↔◌, length};
-ghost use Rattle.std.specs.Cmp.Lexicographic.{slice_cmp};
-ghost use Rattle.std.specs.Ordering.{nat_cmp};
+ghost use Rattle.std.proofs.Common.{rules};
+ghost use Rattle.std.specs.Prelude.{◌≡◌, List, ℕ, IfOk, IsTrue, ◌↔◌, ◌==◌, length};
+ghost use Rattle.std.specs.Cmp.{partial_order_from_own_ties};
+ghost use Rattle.std.specs.Cmp.Lexicographic.{pointwise, slice_cmp};
+ghost use Rattle.std.specs.Cmp.Rules.{comparing};
+ghost use Rattle.std.specs.Ordering.{as_partial_cmp, nat_cmp};
 
+use byte_order::order;
 use failure::NoMemory;
 use std::cmp::Ordering;
 use std::marker::Model;
@@ -65,10 +69,48 @@ impl Item {
         self.bytes == other.bytes
     }
 
-    /// Orders as unsigned bytes, a proper prefix first.
+    /// Orders as unsigned bytes, a proper prefix first. `O(bytes in common)`, eight at a time.
     pub fn compare(&self, other: &Item) -> Ordering
         ensures { result ≡ slice_cmp nat_cmp self.now other.now }
     {
-        self.bytes.cmp(&other.bytes)
+        order(self.as_bytes(), other.as_bytes())
+    }
+}
+
+impl PartialEq for Item {
+    ghost eq = { pointwise ◌==◌ };
+
+    ghost laws = { Prim.search (comparing, rules) };
+
+    fn eq(&self, other: &Item) -> bool {
+        self.same(other)
+    }
+}
+
+impl Eq for Item {
+    ghost laws = { Prim.search (comparing, rules) };
+}
+
+impl Ord for Item {
+    ghost cmp = { slice_cmp nat_cmp };
+
+    ghost total = { Prim.search (comparing, rules) };
+
+    ghost matches_partial_cmp = { Prim.search (comparing, rules) };
+
+    ghost matches_eq = { Prim.search (comparing, rules) };
+
+    fn cmp(&self, other: &Item) -> Ordering {
+        self.compare(other)
+    }
+}
+
+impl PartialOrd for Item {
+    ghost partial_cmp = { as_partial_cmp (slice_cmp nat_cmp) };
+
+    ghost laws = { partial_order_from_own_ties (Prim.search (comparing, rules)) (Prim.search (comparing, rules)) };
+
+    fn partial_cmp(&self, other: &Item) -> Option<Ordering> {
+        Some(self.cmp(other))
     }
 }

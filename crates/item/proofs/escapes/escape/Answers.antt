@@ -1,11 +1,19 @@
-use Rattle.std.proofs.Common.{ap, sym, ◌∙◌, ◌++◌, take, slice_index_or}
-use Rattle.std.proofs.lemmas.List.{take_more}
+use Rattle.std.proofs.Common.{◌≡◌, ◌++◌, ◌∷◌, List, ℕ, ap, sym, ◌∙◌, take, drop}
 use Rattle.item.specs.Escapes.{escaped, escape_byte}
-use Rattle.item.proofs.ReadBack.{escaped-more}
+use Rattle.item.proofs.ReadBack.{escaped-past, append-after}
 use Rattle.item.proofs.escapes.escape.Goals as goal
 
-pub loop-b-preserved : goal.loop-b-preserved
-loop-b-preserved c = let pushed = c.in_ok-push_escaped.ensures in let items = c.as_bytes-b-items.result.now in
-    pushed ∙ (ap (λ l. l ++ escape_byte (slice_index_or items c.loop-b.b-index 0)) c.loop-b.invariant
-    ∙ (sym (escaped-more (take c.loop-b.b-index items) (slice_index_or items c.loop-b.b-index 0))
-    ∙ sym (ap escaped (take_more items c.loop-b.b-index 0 c.loop-b-test.true))))
+pub loop-out-preserved : goal.loop-out-preserved
+loop-out-preserved c =
+    let rest : List ℕ = c.loop-out.rest.now in
+    let n : ℕ = c.plain_front.result in
+    let front : List ℕ = take n rest in
+    let behind : List ℕ = c.in-Some.behind.now in
+    let before : (c.loop-out.out.items ++ front) ++ escaped (drop n rest) ≡ escaped c.args.item.now = sym (escaped-past c.loop-out.out.items rest n c.plain_front.ensures.plain) ∙ c.loop-out.invariant in
+    let others : c.in-Some.b.now ∷ behind ≡ drop n rest = sym c.in-Some.ensures.cases.0 ∙ c.split_at.ensures.back in
+    let more : c.push_escaped.new.out.items ≡ (c.loop-out.out.items ++ front) ++ escape_byte c.in-Some.b.now =
+    c.in_ok-push_escaped-in-Some.ensures ∙ ap (λ (l : List ℕ). l ++ escape_byte c.in-Some.b.now) (c.in_ok-extend_from_slice.ensures.items ∙ ap (λ (l : List ℕ). c.loop-out.out.items ++ l) c.split_at.ensures.front) in
+    ap (λ (l : List ℕ). l ++ escaped behind) more
+    ∙ append-after (c.loop-out.out.items ++ front) (escape_byte c.in-Some.b.now) (escaped behind)
+    ∙ ap (λ (l : List ℕ). (c.loop-out.out.items ++ front) ++ escaped l) others
+    ∙ before
