@@ -5,13 +5,17 @@ use Rattle.std.specs.Int.{w8, w16, w32, w64}
 use Rattle.le_codec.specs.Fields.{◌>>=◌, le, number_at, slice_at}
 use Rattle.le_codec.specs.Combine.{then_at, as_at}
 
--- the 16 bytes that begin every image: its kind, format 1, how many things it has, its length, and its level
-abbrev pub header : ℕ → ℕ → ℕ → ℕ → List ℕ
-header kind count used level = le w8 kind ++ le w8 1 ++ le w16 count ++ le w32 used ++ le w64 level
+-- the format byte of every image that is written today
+abbrev pub first_format : ℕ
+first_format = 1
+
+-- the 16 bytes that begin every image: its kind, its format, how many things it has, its length, and its level
+abbrev pub header : ℕ → ℕ → ℕ → ℕ → ℕ → List ℕ
+header kind format count used level = le w8 kind ++ le w8 format ++ le w16 count ++ le w32 used ++ le w64 level
 
 -- an image: a header, and the text of so many things, which fills it exactly
-abbrev pub framed : ℕ → ℕ → ℕ → List ℕ → List ℕ
-framed kind count level text = header kind count (16 + length text) level ++ text
+abbrev pub framed : ℕ → ℕ → ℕ → ℕ → List ℕ → List ℕ
+framed kind format count level text = header kind format count (16 + length text) level ++ text
 
 -- an image, and zero bytes up to the block's size
 abbrev pub padded : List ℕ → ℕ → List ℕ
@@ -25,9 +29,9 @@ block_size used = (used + 4095) / 4096 * 4096
 abbrev pub block_of : List ℕ → List ℕ
 block_of image = padded image (block_size (length image))
 
--- a block has an image of this kind, with this count, level and text
-pub record HoldsImage (kind : ℕ) (block : List ℕ) (count level : ℕ) (text : List ℕ) : Type 0 where
-  pub spelled : block ≡ block_of (framed kind count level text)
+-- a block has an image of this kind and format, with this count, level and text
+pub record HoldsImage (kind format : ℕ) (block : List ℕ) (count level : ℕ) (text : List ℕ) : Type 0 where
+  pub spelled : block ≡ block_of (framed kind format count level text)
   pub count_fits : count < 2 ^ 16
   pub level_fits : level < 2 ^ 64
   pub text_fits : 16 + length text < 2 ^ 32
@@ -66,17 +70,17 @@ head_at = as_at head_of (then_at (number_at w8) (λ kind. then_at (number_at w8)
 abbrev pub is_zero : ℕ → Bool
 is_zero b = b == 0
 
--- the header is of this kind, and its length is that of the block
-abbrev pub head_fits : ℕ → ℕ → Head → Bool
-head_fits kind size h = (h.kind == kind) && (h.format == 1) && nat_le 16 h.used && (block_size h.used == size)
+-- the header is of this kind and format, and its length is that of the block
+abbrev pub head_fits : ℕ → ℕ → ℕ → Head → Bool
+head_fits kind format size h = (h.kind == kind) && (h.format == format) && nat_le 16 h.used && (block_size h.used == size)
 
--- the count, the level and the text of an image of this kind
+-- the count, the level and the text of an image
 abbrev pub Framed : Type 0
 Framed = ℕ × (ℕ × List ℕ)
 
-unfoldable pub image_at : ℕ → List ℕ → Option Framed
-image_at kind block = do
+unfoldable pub image_at : ℕ → ℕ → List ℕ → Option Framed
+image_at kind format block = do
   head ← head_at block
-  fits ← (if head_fits kind (length block) head.0 then Some head.0 else None)
+  fits ← (if head_fits kind format (length block) head.0 then Some head.0 else None)
   text ← slice_at (fits.used - 16) head.1
   if list_all is_zero text.1 then Some (fits.count, (fits.level, text.0)) else None

@@ -1,4 +1,4 @@
-ghost use Rattle.std.specs.Prelude.{◌≡◌, ℕ, List, Some, None, if◌then◌else◌, ◌++◌, IfSome, IfNone, OnOk, length, option_map};
+ghost use Rattle.std.specs.Prelude.{◌≡◌, ℕ, List, Some, None, if◌then◌else◌, ◌++◌, IfSome, IfNone, OnOk, OnErr, length, option_map};
 ghost use Rattle.std.specs.List.{list_all};
 ghost use Rattle.le_codec.specs.Fields.{Gives};
 ghost use Rattle.le_codec.specs.Images.{Framed, header, HoldsImage, block_size, head_at, head_fits, image_at, is_zero};
@@ -7,6 +7,10 @@ ghost use Rattle.le_codec.specs.Views.{head_seen, image_seen};
 use crate::reader::Reader;
 use crate::writer::Writer;
 use failure::NoMemory;
+
+/// The format byte of every image that is written today: rows, entries and records spelled plainly,
+/// one behind another.
+pub const FIRST_FORMAT: u8 = 1;
 
 const HEADER: usize = 16; // bytes
 
@@ -17,6 +21,7 @@ const UNIT: usize = 4_096; // bytes
 pub struct Image<'a> {
     /// How many things the image has, as its header says.
     pub count: u16,
+    /// Its level, as its header says: 0 for a leaf and for a record.
     pub level: u64,
     /// What follows the header, up to the image's end.
     pub text: &'a [u8],
@@ -50,8 +55,8 @@ fn header_of(reader: &mut Reader<'_>) -> Option<Header>
     })
 }
 
-/// The size of the block for so many bytes: the next multiple of 4,096.
-fn block_size(used: u32) -> usize
+/// The size of the block for an image of so many bytes: the next multiple of 4,096.
+pub fn block_size(used: u32) -> usize
     ensures { result ≡ block_size used }
 {
     (used as usize + (UNIT - 1)) / UNIT * UNIT
@@ -63,20 +68,20 @@ fn are_zeros(bytes: &[u8]) -> bool
     bytes.iter().all(|byte| *byte == 0)
 }
 
-fn header_fits(kind: u8, size: usize, header: &Header) -> bool
-    ensures { result ≡ head_fits kind size (head_seen header.now) }
+fn header_fits(kind: u8, format: u8, size: usize, header: &Header) -> bool
+    ensures { result ≡ head_fits kind format size (head_seen header.now) }
 {
     header.kind == kind
-        && header.format == 1
+        && header.format == format
         && HEADER <= header.used as usize
         && block_size(header.used) == size
 }
 
 /// The header, where it fits a block of this size.
-fn fitting(kind: u8, size: usize, header: Header) -> Option<Header>
-    ensures { option_map head_seen result ≡ (if head_fits kind size (head_seen header) then Some (head_seen header) else None) }
+fn fitting(kind: u8, format: u8, size: usize, header: Header) -> Option<Header>
+    ensures { option_map head_seen result ≡ (if head_fits kind format size (head_seen header) then Some (head_seen header) else None) }
 {
-    if header_fits(kind, size, &header) {
+    if header_fits(kind, format, size, &header) {
         Some(header)
     } else {
         None
@@ -84,12 +89,12 @@ fn fitting(kind: u8, size: usize, header: Header) -> Option<Header>
 }
 
 #[tactic(auto, unfolding(crate::specs::Images::image_at))]
-fn image_of(kind: u8, block: &[u8]) -> Option<Image<'_>>
-    ensures { option_map image_seen result ≡ image_at kind block.now }
+fn image_of(kind: u8, format: u8, block: &[u8]) -> Option<Image<'_>>
+    ensures { option_map image_seen result ≡ image_at kind format block.now }
 {
     let mut reader = Reader::new(block);
     let header = header_of(&mut reader)?;
-    let header = fitting(kind, block.len(), header)?;
+    let header = fitting(kind, format, block.len(), header)?;
     let text = reader.slice(header.used as usize - HEADER)?;
     if are_zeros(reader.rest()) {
         Some(Image {
@@ -102,30 +107,40 @@ fn image_of(kind: u8, block: &[u8]) -> Option<Image<'_>>
     }
 }
 
-/// Finds an image of the kind in all bytes of its block, with format 1. None exactly where the
-/// block is no such: it begins otherwise, has another size than an image of that length, or other
-/// bytes than zeros behind it. `O(block)`, and it takes no memory.
-pub fn open_image(kind: u8, block: &[u8]) -> Option<Image<'_>>
-    ensures found { IfSome result (λ i. HoldsImage kind block.now i.count i.level i.text.now) }
-    ensures none { IfNone result ((count level : ℕ) (text : List ℕ) → HoldsImage kind block.now count level text → ⊥) }
+/// Finds an image of this kind and format in all bytes of its block. None exactly where the block
+/// is no such: it begins otherwise, has another size than an image of that length, or other bytes
+/// than zeros behind it. `O(block)`, and it takes no memory.
+pub fn open_image(kind: u8, format: u8, block: &[u8]) -> Option<Image<'_>>
+    ensures found { IfSome result (λ i. HoldsImage kind format block.now i.count i.level i.text.now) }
+    ensures none { IfNone result ((count level : ℕ) (text : List ℕ) → HoldsImage kind format block.now count level text → ⊥) }
 {
-    image_of(kind, block)
+    image_of(kind, format, block)
 }
 
-/// Writes the 16 bytes that begin an image of this kind, with format 1. After want of memory a
-/// front of them may be written.
+/// Writes the 16 bytes that begin an image of this kind and format: of `count` things, of `used`
+/// bytes in all, at this level. After want of memory nothing is written.
 pub fn write_header(
     out: &mut Writer,
     kind: u8,
+    format: u8,
     count: u16,
     used: u32,
     level: u64,
 ) -> Result<(), NoMemory>
-    ensures { OnOk result (out.new ≡ out.old ++ header kind count used level) }
+    ensures written { OnOk result (out.new ≡ out.old ++ header kind format count used level) }
+    ensures kept { OnErr result (out.new ≡ out.old) }
 {
-    out.u8(kind)?;
-    out.u8(1)?;
-    out.u16(count)?;
-    out.u32(used)?;
-    out.u64(level)
+    out.slice(&header_bytes(kind, format, count, used, level))
+}
+
+/// The 16 bytes that begin an image, as `write_header` writes them.
+pub fn header_bytes(kind: u8, format: u8, count: u16, used: u32, level: u64) -> [u8; 16]
+    ensures { result ≡ header kind format count used level }
+{
+    let [c0, c1] = count.to_le_bytes();
+    let [u0, u1, u2, u3] = used.to_le_bytes();
+    let [l0, l1, l2, l3, l4, l5, l6, l7] = level.to_le_bytes();
+    [
+        kind, format, c0, c1, u0, u1, u2, u3, l0, l1, l2, l3, l4, l5, l6, l7,
+    ]
 }

@@ -5,7 +5,8 @@
 //! has one spelling (`IsField`); `specs/Combine` makes fields of fields, and `proofs/Combined`
 //! and `proofs/Chains` give their laws (`then_field`, `many_field`, `as_field`, `try_field`,
 //! `chain_field`). Every block of a device has an image with a header of its own (`specs/Images`):
-//! `open_image` finds it in the block and `write_header` begins one. Limits on what is read, and what it means, are left to each format.
+//! `open_image` finds it in the block and `write_header` begins one, both at the format byte that the
+//! caller names. Limits on what is read, and what it means, are left to each format.
 #![tactic(auto)]
 
 ghost use Rattle.std.specs.Prelude.{◌≡◌, ◌<◌, ◌^◌, ℕ, List, length};
@@ -16,7 +17,7 @@ mod image;
 mod reader;
 mod writer;
 
-pub use image::{Image, open_image, write_header};
+pub use image::{FIRST_FORMAT, Image, block_size, header_bytes, open_image, write_header};
 pub use reader::Reader;
 pub use writer::Writer;
 

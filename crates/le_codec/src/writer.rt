@@ -1,4 +1,4 @@
-ghost use Rattle.std.specs.Prelude.{◌≡◌, ◌++◌, [], List, ℕ, OnOk, OnErr};
+ghost use Rattle.std.specs.Prelude.{◌≡◌, ◌++◌, [], List, ℕ, OnOk, OnErr, IfOk};
 ghost use Rattle.std.specs.Int.{w8, w16, w32, w64};
 ghost use Rattle.le_codec.specs.Fields.{le};
 
@@ -27,6 +27,15 @@ impl Writer {
         Writer {
             bytes: Vec::new(alloc),
         }
+    }
+
+    /// A writer with no bytes, and room for so many. One allocation, and none where it is 0.
+    pub fn with_capacity(alloc: Global, capacity: usize) -> Result<Writer, NoMemory>
+        ensures { IfOk result (λ w. w ≡ []) }
+    {
+        Ok(Writer {
+            bytes: Vec::with_capacity(alloc, capacity)?,
+        })
     }
 
     /// The bytes that were written.
