@@ -1,6 +1,6 @@
 -- What a source gives and a sink takes. A source tells the bytes that are left, and a sink those
 -- that it has taken; where one does not tell them, it is None, before a call and after it.
-use Rattle.std.specs.Prelude.{◌≡◌, ℕ, ◌≤◌, List, [], ◌++◌, length, take, Option, Some, None}
+use Rattle.std.specs.Prelude.{◌≡◌, ℕ, ◌≤◌, ◌<◌, List, [], ◌++◌, length, take, Option, Some, None}
 
 -- these bytes stood first among those that were left, and the others are left now
 abbrev pub Gave : Option (List ℕ) → Option (List ℕ) → List ℕ → Type 0
@@ -20,3 +20,7 @@ Took (Some before) now bytes = now ≡ Some (before ++ bytes)
 -- a front of these bytes now stands behind those that were taken before
 abbrev pub TookFront : Option (List ℕ) → Option (List ℕ) → List ℕ → Type 0
 TookFront before now bytes = (n : ℕ) × (n ≤ length bytes) × Took before now (take n bytes)
+
+-- a front that is not all of these bytes now stands behind those that were taken before
+abbrev pub TookPart : Option (List ℕ) → Option (List ℕ) → List ℕ → Type 0
+TookPart before now bytes = (n : ℕ) × (n < length bytes) × Took before now (take n bytes)

@@ -1,36 +1,49 @@
 // A sink in memory.
-ghost use Rattle.std.specs.Prelude.{◌≡◌, [], Some, IfOk};
-ghost use Rattle.wt_io.specs.Memory.{Taken};
+ghost use Rattle.std.specs.Prelude.{◌≡◌, ◌<◌, ◌≤◌, ◌++◌, [], length, take, true, Some, IfOk, OnErr, is_err};
+ghost use Rattle.failure.specs.Counts.{HasCause};
+ghost use Rattle.wt_io.specs.Memory.{SinkState, is_among, number_after};
 
 use crate::{Failed, NoMemory, Sink};
 use failure::count_failure;
 use std::alloc::Global;
 use std::marker::Model;
 
-/// A sink in memory, which keeps what it takes. Its calls are counted from 0, and those that it
-/// was told of fail, as does one that finds no memory to keep its bytes.
+/// A sink in memory, which keeps what it takes. Its writes are numbered from 0 on, and those that
+/// it was told of fail, as does one that finds no memory for its bytes. A write that fails spends
+/// its number.
 #[derive(Drop)]
 pub struct MemSink {
     bytes: Vec<u8>,
-    calls: u64,
+    next_call: u64,
     failing: Vec<u64>,
     faults: u64,
 }
 
 impl Model for MemSink {
-    ghost Value = { Taken };
+    ghost Value = { SinkState };
 
-    ghost view = { λ s. record { content = s.bytes.items; failures = s.faults } };
+    ghost view = { λ s. record {
+      content = s.bytes.items;
+      next_call = s.next_call;
+      failing = s.failing.items;
+      failures = s.faults;
+    } };
 }
 
 impl MemSink {
-    /// A sink that has taken nothing. `failing` has the numbers of the calls that fail.
+    /// A sink that has taken nothing. `failing` has the numbers of the writes that fail, in any
+    /// order.
     pub fn new(alloc: Global, failing: &[u64]) -> Result<Self, NoMemory>
-        ensures { IfOk result (λ s. s ≡ record { content = []; failures = 0 }) }
+        ensures { IfOk result (λ s. s ≡ record {
+          content = [];
+          next_call = 0;
+          failing = failing.now;
+          failures = 0;
+        }) }
     {
         Ok(MemSink {
             bytes: Vec::new(alloc),
-            calls: 0,
+            next_call: 0,
             failing: Vec::from_slice(alloc, failing)?,
             faults: 0,
         })
@@ -53,9 +66,18 @@ impl Sink for MemSink {
         self.faults
     }
 
-    fn write(&mut self, piece: &[u8]) -> Result<usize, Failed> {
-        let fails = self.failing.contains(&self.calls);
-        self.calls = self.calls.saturating_add(1);
+    fn write(&mut self, piece: &[u8]) -> Result<usize, Failed>
+        ensures some { IfOk result (λ n. 0 < length piece.now → 0 < n) }
+        ensures bound { IfOk result (λ n. n ≤ length piece.now) }
+        ensures bytes { IfOk result (λ n. self.new.content ≡ self.old.content ++ take n piece.now) }
+        ensures err { OnErr result (self.new.content ≡ self.old.content) }
+        ensures cause { HasCause self.old.failures self.new.failures result }
+        ensures fails { is_among self.old.next_call self.old.failing ≡ true → is_err result ≡ true }
+        ensures number { self.new.next_call ≡ number_after self.old.next_call }
+        ensures list { self.new.failing ≡ self.old.failing }
+    {
+        let fails = self.failing.contains(&self.next_call);
+        self.next_call = self.next_call.saturating_add(1);
         if fails || self.bytes.extend_from_slice(piece).is_err() {
             return Err(count_failure(&mut self.faults));
         }

@@ -15,7 +15,7 @@ ghost use Rattle.std.specs.Prelude.{
   OnErr,
 };
 ghost use Rattle.failure.specs.Counts.{HasCause};
-ghost use Rattle.wt_io.specs.Streams.{Gave, AtEnd, Took, TookFront};
+ghost use Rattle.wt_io.specs.Streams.{Gave, AtEnd, Took, TookPart};
 
 use crate::Failed;
 
@@ -64,10 +64,10 @@ pub trait Sink {
         ensures cause { HasCause (fault_count self.old) (fault_count self.new) result };
 }
 
-/// Writes all the bytes. Where the sink fails, a front of them is written.
+/// Writes all the bytes. Where the sink fails, a front of them is written, and not all.
 pub fn write_all<K: Sink>(sink: &mut K, bytes: &[u8]) -> Result<(), Failed>
     ensures ok { OnOk result (Took (K.written sink.old) (K.written sink.new) bytes.now) }
-    ensures err { OnErr result (TookFront (K.written sink.old) (K.written sink.new) bytes.now) }
+    ensures err { OnErr result (TookPart (K.written sink.old) (K.written sink.new) bytes.now) }
     ensures cause { HasCause (K.fault_count sink.old) (K.fault_count sink.new) result }
 {
     let mut done = 0;

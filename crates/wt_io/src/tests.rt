@@ -1,4 +1,4 @@
-// What streams in memory do at the calls that fail.
+// What streams in memory do at the calls that fail, and after them.
 use crate::{MemSink, MemSource, Sink, Source, write_all};
 
 #[test]

@@ -1,9 +1,12 @@
-// A writer as a sink. What it has taken is not told.
-ghost use Rattle.std.specs.Prelude.{◌≡◌, ◌<◌, ◌≤◌, length, take, None, IfNone, IfSome};
+// A writer as a sink. What it has taken is told as far as std tells what the writer holds.
+ghost use Rattle.std.specs.Prelude.{◌≡◌, ◌<◌, ◌≤◌, length, take, None, IfNone, IfSome, IfOk, OnErr};
 ghost use Rattle.std.specs.Io.KnownBytes.{Appends, Keeps};
+ghost use Rattle.failure.specs.Counts.{HasCause};
+ghost use Rattle.wt_std_io.specs.Streams.{WriterState};
 
 use failure::{Failed, count_failure};
 use std::io::{ErrorKind, Write};
+use std::marker::Model;
 use wt_io::Sink;
 
 /// A writer as a sink: the standard output or error stream, or what stands for it.
@@ -17,10 +20,16 @@ pub struct StdSink<W: Write + Drop> {
     faults: u64,
 }
 
+impl<W: Write + Drop> Model for StdSink<W> {
+    ghost Value = { WriterState };
+
+    ghost view = { λ s. record { contents = W.contents s.inner; failures = s.faults } };
+}
+
 impl<W: Write + Drop> StdSink<W> {
-    /// A sink that has not failed.
+    /// A sink over this writer, which has not failed.
     pub fn new(inner: W) -> Self
-        ensures { ⟦<StdSink<W> as Sink>⟧.fault_count result ≡ 0 }
+        ensures { result ≡ record { contents = W.contents inner; failures = 0 } }
     {
         StdSink { inner, faults: 0 }
     }
@@ -32,6 +41,7 @@ fn write_some<W: Write>(inner: &mut W, piece: &[u8]) -> Option<usize>
     ensures some { IfSome result (λ n. 0 < length piece.now → 0 < n) }
     ensures bound { IfSome result (λ n. n ≤ length piece.now) }
     ensures bytes { IfSome result (λ n. Appends (W.contents inner.old) (W.contents inner.new) (take n piece.now)) }
+    ensures failed { IfNone result (Keeps (W.contents inner.old) (W.contents inner.new)) }
 {
     for _ in 0..u64::MAX {
         match inner.write(piece) {
@@ -44,15 +54,22 @@ fn write_some<W: Write>(inner: &mut W, piece: &[u8]) -> Option<usize>
 }
 
 impl<W: Write + Drop> Sink for StdSink<W> {
+    // A sink that tells no bytes never begins to. Of a writer std says no such thing.
     ghost written = { λ s. None };
 
-    ghost fault_count = { λ s. s.faults };
+    ghost fault_count = { λ s. s.failures };
 
     fn faults(&self) -> u64 {
         self.faults
     }
 
-    fn write(&mut self, piece: &[u8]) -> Result<usize, Failed> {
+    fn write(&mut self, piece: &[u8]) -> Result<usize, Failed>
+        ensures some { IfOk result (λ n. 0 < length piece.now → 0 < n) }
+        ensures bound { IfOk result (λ n. n ≤ length piece.now) }
+        ensures bytes { IfOk result (λ n. Appends self.old.contents self.new.contents (take n piece.now)) }
+        ensures err { OnErr result (Keeps self.old.contents self.new.contents) }
+        ensures cause { HasCause self.old.failures self.new.failures result }
+    {
         match write_some(&mut self.inner, piece) {
             Some(n) => Ok(n),
             None => Err(count_failure(&mut self.faults)),

@@ -1,4 +1,4 @@
-use Rattle.std.proofs.Common.{◌≡◌, ◌+◌, ◌-◌, ℕ, List, Option, length, take, drop, arith, subst, sym, length-drop}
+use Rattle.std.proofs.Common.{◌≡◌, ◌∙◌, ◌+◌, ◌-◌, ℕ, List, Option, length, take, drop, arith, subst, sym, length-drop}
 use Rattle.std.proofs.Math.Seq.{take-add}
 use Rattle.std.proofs.lemmas.List.{take_all}
 use Rattle.wt_io.specs.Streams.{Took}
@@ -15,5 +15,5 @@ pub loop-done-preserved : goal.loop-done-preserved
 loop-done-preserved g c = record {
   within = grind (arith, c.in_ok-done.ensures.bound);
   took = step _ _ _ c.args.bytes.now c.loop-done.done c.in_ok-done.field-0 c.loop-done.invariant.took c.in_ok-done.ensures.bytes;
-  later = omega (arith, c.loop-done.invariant.later, c.write.ensures.cause.later);
+  stands = c.in_ok-done.ensures.cause.stands ∙ c.loop-done.invariant.stands;
 }
