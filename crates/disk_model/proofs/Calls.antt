@@ -2,22 +2,14 @@
 use Rattle.std.proofs.Common.{◌≡◌, ◌++◌, [], ◌∷◌, ℕ, List, Vec, length, sym, subst, ap, ◌∙◌, inl, inr, refl, ◌⊎◌}
 use Rattle.std.specs.declared.alloc.Global.{Global}
 use Rattle.disk_model.specs.Disk.{put, Torn, Elapses, Follows, Only, NoMore}
-use Rattle.disk_model.specs.Images.{content_after, content_of, MayLeave, LeftSince, Medium, Same, Went}
+use Rattle.disk_model.specs.Images.{content_after, content_of, MayLeave, LeftSince, Medium, Same, Went, content, May, Time}
 use Rattle.disk_model.specs.Laws.{elapses_grew, looked_leaves, missed_leaves, synced_leaves, synced_no_more, left_push, torn_none, quiet_content, content_push}
+use Rattle.disk_model.specs.declared.call.Look.{Look}
 use Rattle.disk_model.specs.declared.call.Call.{Call}
 use Rattle.disk_model.specs.declared.call.Call.TheVariants.{Wrote, Missed, Synced, Looked}
 
-abbrev pub Time : Medium → Medium → Type 0
-Time old new = Elapses (length old.calls) (length new.calls) (LeftSince old.first old.calls) (LeftSince new.first new.calls) (MayLeave new.first new.calls)
-
-abbrev pub May : Medium → List ℕ → Type 0
-May m = MayLeave m.first m.calls
-
-abbrev pub content : Medium → List ℕ
-content m = content_of m.first m.calls
-
 pub went_of : (old new : Medium) (call : Call) → Same old new → Went old call new
-went_of old new call same = record { first = same.first; grew = inl same.calls; capacity = same.capacity }
+went_of old new call same = record { first = same.first; grew = inl same.calls; capacity = same.capacity; home = same.home }
 
 -- a call between two changes of the counts
 pub went_by : (old mid next new : Medium) (call : Call) → Same old mid → Went mid call next → Same next new → Went old call new
@@ -28,13 +20,14 @@ went_by old mid next new call before went after = record {
     | inr more ↦ inr (after.calls ∙ more ∙ ap (λ (l : List Call). l ++ call ∷ []) before.calls)
   ];
   capacity = after.capacity ∙ went.capacity ∙ before.capacity;
+  home = after.home ∙ went.home ∙ before.home;
 }
 
 pub time : (old new : Medium) (call : Call) → Went old call new → Time old new
 time old new call went = subst (λ (f : List ℕ). Elapses (length old.calls) (length new.calls) (LeftSince old.first old.calls) (LeftSince f new.calls) (MayLeave f new.calls)) (sym went.first) (elapses_grew old.first old.calls new.calls call went.grew)
 
-pub looked : (old new : Medium) → Went old Looked new → NoMore (May old) (May new)
-looked old new went = subst (λ (f : List ℕ). NoMore (May old) (MayLeave f new.calls)) (sym went.first) (looked_leaves old.first old.calls new.calls went.grew)
+pub looked : (old new : Medium) (look : Look) → Went old (Looked look) new → NoMore (May old) (May new)
+looked old new look went = subst (λ (f : List ℕ). NoMore (May old) (MayLeave f new.calls)) (sym went.first) (looked_leaves old.first old.calls new.calls look went.grew)
 
 pub no_more : (old new : Medium) → Went old Synced new → NoMore (May old) (May new)
 no_more old new went = subst (λ (f : List ℕ). NoMore (May old) (MayLeave f new.calls)) (sym went.first) (synced_no_more old.first old.calls new.calls went.grew)
@@ -64,10 +57,10 @@ pub wrote_time : (old new : Medium) (at : ℕ) (v : Vec ℕ Global) → new.firs
 wrote_time old new at v first more = subst (λ (f : List ℕ). Elapses (length old.calls) (length new.calls) (LeftSince old.first old.calls) (LeftSince f new.calls) (MayLeave f new.calls)) (sym first) (elapses_grew old.first old.calls new.calls (Wrote at v) (inr more))
 
 pub same_refl : (m : Medium) → Same m m
-same_refl m = record { first = refl; calls = refl; capacity = refl }
+same_refl m = record { first = refl; calls = refl; capacity = refl; home = refl }
 
 same_trans : (a b c : Medium) → Same a b → Same b c → Same a c
-same_trans a b c one two = record { first = two.first ∙ one.first; calls = two.calls ∙ one.calls; capacity = two.capacity ∙ one.capacity }
+same_trans a b c one two = record { first = two.first ∙ one.first; calls = two.calls ∙ one.calls; capacity = two.capacity ∙ one.capacity; home = two.home ∙ one.home }
 
 -- what is known of a write that failed
 abbrev Tried : Medium → ℕ → List ℕ → Medium → Type 0
@@ -83,6 +76,6 @@ missed_or_not old mid next new at bytes before tried after = elim tried [
 
 pub missed_time : (old mid next new : Medium) (at : ℕ) (bytes : List ℕ) → Same old mid → Tried mid at bytes next → Same next new → Time old new
 missed_time old mid next new at bytes before tried after = elim tried [
-  | inl same ↦ time old new Looked (went_of old new Looked (same_trans old next new (same_trans old mid next before same) after))
+  | inl same ↦ time old new Synced (went_of old new Synced (same_trans old next new (same_trans old mid next before same) after))
   | inr (v, is, went) ↦ time old new (Missed at v) (went_by old mid next new (Missed at v) before went after)
 ]

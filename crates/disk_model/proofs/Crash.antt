@@ -1,36 +1,37 @@
 -- How a run of calls goes on, and what a write keeps.
-use Rattle.std.specs.Prelude.{◌≡◌, ℕ, ◌+◌, ◌≤◌, min, List, length, take, drop, refl, ◌-◌, Bool}
+use Rattle.std.specs.Prelude.{◌≡◌, ℕ, ◌+◌, ◌≤◌, min, List, length, take, drop, refl, ◌-◌}
 use Rattle.std.proofs.Common.{sym, ◌∙◌, ap, inl, inr, ⊎_elim, arith}
 use Rattle.std.proofs.lemmas.List.{drop-drop}
 use Rattle.std.proofs.lemmas.Bool.{cases_lt}
-use Rattle.disk_model.specs.Disk.{NoMore, put, Torn, Elapses}
+use Rattle.disk_model.specs.declared.disk.Disk.{Ghosts}
+use Rattle.disk_model.specs.Disk.{NoMore, put, Torn}
 use Rattle.disk_model.specs.Ranges.{range, range_take, range_torn_after}
 use Rattle.disk_model.specs.Laws.{torn_put}
-use Rattle.disk_model.specs.Crash.{LeavesOnly, Keeps, Alike, Apart, Looked}
+use Rattle.disk_model.specs.Crash.{SameDisk, OneCall, LeavesOnly, Keeps, Alike, Apart, Looked}
 
-module _ {D : Type 0} (moment : D → ℕ) (left_since : D → ℕ → List ℕ → Type 0) where
+module _ {D : Type 0} (g : Ghosts D) where
   -- before the first call
-  pub started : (old : D) (P : List ℕ → Type 0) → ((c : List ℕ) → left_since old (moment old) c → P c) → LeavesOnly moment left_since old old P
+  pub started : (old : D) (P : List ℕ → Type 0) → ((c : List ℕ) → g.left_since old (g.moment old) c → P c) → LeavesOnly g old old P
   started old P here = record { later = omega arith; each = here; before = λ t c le left. inl left }
 
   -- one call more, after which a crash leaves what has P
-  pub goes_on : (old mid new : D) (P may_leave : List ℕ → Type 0) → LeavesOnly moment left_since old mid P → Elapses (moment mid) (moment new) (left_since mid) (left_since new) may_leave
-      → ((c : List ℕ) → may_leave c → P c) → LeavesOnly moment left_since old new P
-  goes_on old mid new P may_leave so_far time here = record {
+  pub goes_on : (old mid new : D) (P : List ℕ → Type 0) → LeavesOnly g old mid P → OneCall g mid new
+      → ((c : List ℕ) → g.may_leave new c → P c) → LeavesOnly g old new P
+  goes_on old mid new P so_far time here = record {
     later = omega (arith, so_far.later, time.later);
-    each = λ c left. ⊎_elim (so_far.each c) (here c) (time.nothing_else (moment old) c so_far.later left);
+    each = λ c left. ⊎_elim (so_far.each c) (here c) (time.nothing_else (g.moment old) c so_far.later left);
     before = λ t c le left. ⊎_elim (so_far.before t c le) (λ now. inr (here c now)) (time.nothing_else t c (omega (arith, le, so_far.later)) left);
   }
 
   -- two runs, one after the other
-  pub joined : (old mid new : D) (P Q : List ℕ → Type 0) → LeavesOnly moment left_since old mid P → LeavesOnly moment left_since mid new Q → ((c : List ℕ) → Q c → P c) → LeavesOnly moment left_since old new P
+  pub joined : (old mid new : D) (P Q : List ℕ → Type 0) → LeavesOnly g old mid P → LeavesOnly g mid new Q → ((c : List ℕ) → Q c → P c) → LeavesOnly g old new P
   joined old mid new P Q first second more = record {
     later = omega (arith, first.later, second.later);
-    each = λ c left. ⊎_elim (first.each c) (more c) (second.before (moment old) c first.later left);
+    each = λ c left. ⊎_elim (first.each c) (more c) (second.before (g.moment old) c first.later left);
     before = λ t c le left. ⊎_elim (first.before t c le) (λ q. inr (more c q)) (second.before t c (omega (arith, le, first.later)) left);
   }
 
-  pub widened : (old new : D) (P Q : List ℕ → Type 0) → LeavesOnly moment left_since old new P → ((c : List ℕ) → P c → Q c) → LeavesOnly moment left_since old new Q
+  pub widened : (old new : D) (P Q : List ℕ → Type 0) → LeavesOnly g old new P → ((c : List ℕ) → P c → Q c) → LeavesOnly g old new Q
   widened old new P Q run more = record {
     later = run.later;
     each = λ c left. more c (run.each c left);
@@ -97,12 +98,20 @@ module _ (kept : ℕ → ℕ → Type 0) where
     part = λ at n is. ((second.part at n is).0 ∙ sym (first.part at n is).0, (second.part at n is).1);
   }
 
-module _ {D : Type 0} (honest : D → Bool) (seen : D → List ℕ) (may_leave : D → List ℕ → Type 0) (room faults moment : D → ℕ) (left_since : D → ℕ → List ℕ → Type 0) where
-  pub looked_since : (old new : D) → Elapses (moment old) (moment new) (left_since old) (left_since new) (may_leave new) → NoMore (may_leave old) (may_leave new)
-      → ((t : ℕ) (c : List ℕ) → t ≤ moment old → may_leave old c → left_since old t c) → (t : ℕ) (c : List ℕ) → t ≤ moment old → left_since new t c → left_since old t c
+module _ {D : Type 0} (g : Ghosts D) where
+  pub same_disk_then : (old mid new : D) → SameDisk g old mid → SameDisk g mid new → SameDisk g old new
+  same_disk_then old mid new one two = record {
+    same = two.same ∙ one.same;
+    room = two.room ∙ one.room;
+    home = two.home ∙ one.home;
+    later = omega (arith, one.later, two.later);
+  }
+
+  pub looked_since : (old new : D) → OneCall g old new → NoMore (g.may_leave old) (g.may_leave new)
+      → ((t : ℕ) (c : List ℕ) → t ≤ g.moment old → g.may_leave old c → g.left_since old t c) → (t : ℕ) (c : List ℕ) → t ≤ g.moment old → g.left_since new t c → g.left_since old t c
   looked_since old new time images counts t c le left = ⊎_elim (λ past. past) (λ now. counts t c le (images c now)) (time.nothing_else t c le left)
 
-  pub looked_then : (old mid new : D) → Looked honest seen may_leave room faults moment left_since old mid → Looked honest seen may_leave room faults moment left_since mid new → Looked honest seen may_leave room faults moment left_since old new
+  pub looked_then : (old mid new : D) → Looked g old mid → Looked g mid new → Looked g old new
   looked_then old mid new one two = record {
     same = two.same ∙ one.same;
     content = two.content ∙ one.content;
@@ -113,9 +122,12 @@ module _ {D : Type 0} (honest : D → Bool) (seen : D → List ℕ) (may_leave :
     since = λ t c le left. one.since t c le (two.since t c (omega (arith, le, one.later)) left);
   }
 
-  pub looked_only : (old new : D) (P : List ℕ → Type 0) → Looked honest seen may_leave room faults moment left_since old new → ((c : List ℕ) → left_since old (moment old) c → P c) → LeavesOnly moment left_since old new P
+  pub looked_same : (old new : D) → Looked g old new → g.home new ≡ g.home old → SameDisk g old new
+  looked_same old new looked home = record { same = looked.same; room = looked.capacity; home = home; later = looked.count }
+
+  pub looked_only : (old new : D) (P : List ℕ → Type 0) → Looked g old new → ((c : List ℕ) → g.left_since old (g.moment old) c → P c) → LeavesOnly g old new P
   looked_only old new P looked here = record {
     later = looked.later;
-    each = λ c left. here c (looked.since (moment old) c (omega arith) left);
+    each = λ c left. here c (looked.since (g.moment old) c (omega arith) left);
     before = λ t c le left. inl (looked.since t c le left);
   }

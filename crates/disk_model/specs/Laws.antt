@@ -7,6 +7,7 @@ use Rattle.std.proofs.lemmas.Bool.{cases_lt}
 use Rattle.std.proofs.lemmas.Grind.{common_steps}
 use Rattle.disk_model.specs.Disk.{put, Torn, Elapses, Follows, Only, NoMore}
 use Rattle.disk_model.specs.Images.{content_after, images_after, content_of, images_of, MayLeave, LeftSince, Grew, Leaves}
+use Rattle.disk_model.specs.declared.call.Look.{Look}
 use Rattle.disk_model.specs.declared.call.Call.{Call}
 use Rattle.disk_model.specs.declared.call.Call.TheVariants.{Wrote, Missed, Synced, Looked}
 
@@ -29,7 +30,7 @@ content_left content images [] is = is
 content_left content images (Wrote at bytes ∷ calls) is = content_left (put content at bytes.items) (images_after content images (Wrote at bytes)) calls (content, is, torn_put at bytes.items content)
 content_left content images (Missed at bytes ∷ calls) is = content_left content (images_after content images (Missed at bytes)) calls (content, is, torn_none at (length bytes.items) content)
 content_left content images (Synced ∷ calls) is = content_left content (images_after content images Synced) calls refl
-content_left content images (Looked ∷ calls) is = content_left content (images_after content images Looked) calls is
+content_left content images (Looked look ∷ calls) is = content_left content (images_after content images (Looked look)) calls is
 
 pub seen_left : (first : List ℕ) (calls : List Call) → MayLeave first calls (content_of first calls)
 seen_left first calls = content_left first (λ c. c ≡ first) calls refl
@@ -91,10 +92,10 @@ elapses_grew first calls later call grew = elim grew [
 pub left_push : (first : List ℕ) (calls later : List Call) (call : Call) (c : List ℕ) → later ≡ calls ++ call ∷ [] → MayLeave first later c → images_after (content_of first calls) (MayLeave first calls) call c
 left_push first calls later call c grows left = images_push first (λ d. d ≡ first) calls call c (subst (λ (l : List Call). MayLeave first l c) grows left)
 
-pub looked_leaves : (first : List ℕ) (calls later : List Call) → Grew calls Looked later → NoMore (MayLeave first calls) (MayLeave first later)
-looked_leaves first calls later grew c left = elim grew [
+pub looked_leaves : (first : List ℕ) (calls later : List Call) (look : Look) → Grew calls (Looked look) later → NoMore (MayLeave first calls) (MayLeave first later)
+looked_leaves first calls later look grew c left = elim grew [
   | inl same ↦ subst (λ (l : List Call). MayLeave first l c) same left
-  | inr more ↦ left_push first calls later Looked c more left
+  | inr more ↦ left_push first calls later (Looked look) c more left
 ]
 
 pub missed_leaves : (first : List ℕ) (calls later : List Call) (at : ℕ) (bytes : Vec ℕ Global) → Grew calls (Missed at bytes) later → Follows (Torn at (length bytes.items)) (MayLeave first calls) (MayLeave first later)
@@ -128,7 +129,7 @@ image_step : (content : List ℕ) (images : List ℕ → Type 0) (call : Call) (
 image_step content images (Wrote at bytes) old new is step = (old, is, step)
 image_step content images (Missed at bytes) old new is step = (old, is, step)
 image_step content images Synced old new is step = step
-image_step content images Looked old new is step = subst images (sym step) is
+image_step content images (Looked look) old new is step = subst images (sym step) is
 
 pub leaves_more : (first content : List ℕ) (calls grown : List Call) (call : Call) (old new : List ℕ) → grown ≡ calls ++ call ∷ [] → content ≡ content_of first calls → MayLeave first calls old → Leaves content call old new → MayLeave first grown new
 leaves_more first content calls grown call old new grows is from step =

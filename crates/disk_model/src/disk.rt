@@ -1,7 +1,7 @@
 // A disk: what a read gives, and what a crash may leave.
-ghost use Rattle.std.specs.Prelude.{◌≡◌, ◌+◌, ◌≤◌, List, ℕ, Bool, IsTrue, length, take, drop, IfOk, IfErr, OnOk};
+ghost use Rattle.std.specs.Prelude.{◌≡◌, ◌+◌, ◌≤◌, List, ℕ, Bool, Option, Some, IsTrue, length, take, drop, IfOk, IfErr, OnOk, OnErr};
 ghost use Rattle.disk_model.specs.Disk.{put, Only, Follows, NoMore, Torn, Elapses};
-ghost use Rattle.failure.specs.Counts.{Rose, HasCause};
+ghost use Rattle.failure.specs.Counts.{Rose, HasCause, count_after};
 
 use failure::Failed;
 use std::alloc::Global;
@@ -45,6 +45,9 @@ pub trait Disk {
     /// How many bytes it may hold.
     ghost capacity: { Self → ℕ };
 
+    /// The place that it was told, where it was told one.
+    ghost home: { Self → Option (List ℕ) };
+
     /// How many bytes it may hold. It never changes.
     fn capacity(&self) -> u64
         ensures { result ≡ capacity self.now };
@@ -58,6 +61,7 @@ pub trait Disk {
         ensures len { IsTrue (honest self.old) → IfOk result (λ n. n ≡ length (seen self.old)) }
         ensures same { honest self.new ≡ honest self.old }
         ensures room { capacity self.new ≡ capacity self.old }
+        ensures home { home self.new ≡ home self.old }
         ensures seen { seen self.new ≡ seen self.old }
         ensures crash { NoMore (may_leave self.old) (may_leave self.new) }
         ensures time { Elapses (moment self.old) (moment self.new) (left_since self.old) (left_since self.new) (may_leave self.new) }
@@ -69,6 +73,7 @@ pub trait Disk {
         ensures bytes { IsTrue (honest self.old) → OnOk result (buffer.new ≡ take (length buffer.old) (drop at (seen self.old))) }
         ensures same { honest self.new ≡ honest self.old }
         ensures room { capacity self.new ≡ capacity self.old }
+        ensures home { home self.new ≡ home self.old }
         ensures seen { seen self.new ≡ seen self.old }
         ensures crash { NoMore (may_leave self.old) (may_leave self.new) }
         ensures time { Elapses (moment self.old) (moment self.new) (left_since self.old) (left_since self.new) (may_leave self.new) }
@@ -80,16 +85,19 @@ pub trait Disk {
         ensures written { IsTrue (honest self.old) → OnOk result (seen self.new ≡ put (seen self.old) at bytes.now) }
         ensures same { honest self.new ≡ honest self.old }
         ensures room { capacity self.new ≡ capacity self.old }
+        ensures home { home self.new ≡ home self.old }
         ensures crash { Follows (Torn at (length bytes.now)) (may_leave self.old) (may_leave self.new) }
         ensures time { Elapses (moment self.old) (moment self.new) (left_since self.old) (left_since self.new) (may_leave self.new) }
         ensures cause { HasCause (faults self.old) (faults self.new) result };
 
-    /// After it, a crash leaves what a read gives.
+    /// After it, a crash leaves what a read gives. Where it failed, what a read gives is not known
+    /// any more, and a crash leaves no image that it could not leave before.
     fn sync(&mut self) -> Result<(), Failed>
         ensures durable { OnOk result (Only (seen self.old) (may_leave self.new)) }
         ensures same { honest self.new ≡ honest self.old }
         ensures room { capacity self.new ≡ capacity self.old }
-        ensures seen { seen self.new ≡ seen self.old }
+        ensures home { home self.new ≡ home self.old }
+        ensures seen { OnOk result (seen self.new ≡ seen self.old) }
         ensures crash { NoMore (may_leave self.old) (may_leave self.new) }
         ensures time { Elapses (moment self.old) (moment self.new) (left_since self.old) (left_since self.new) (may_leave self.new) }
         ensures cause { HasCause (faults self.old) (faults self.new) result };
@@ -110,9 +118,14 @@ pub trait Home: Disk {
     fn attach(&mut self, alloc: Global, home: &str) -> Result<(), Unattached>
         ensures same { Self.honest self.new ≡ Self.honest self.old }
         ensures room { Self.capacity self.new ≡ Self.capacity self.old }
+        ensures told { OnOk result (Self.home self.new ≡ Some home.now) }
+        ensures untold { OnErr result (Self.home self.new ≡ Self.home self.old) }
         ensures seen { Self.seen self.new ≡ Self.seen self.old }
         ensures crash { NoMore (Self.may_leave self.old) (Self.may_leave self.new) }
         ensures time { Elapses (Self.moment self.old) (Self.moment self.new) (Self.left_since self.old) (Self.left_since self.new) (Self.may_leave self.new) }
         ensures later { Self.faults self.old ≤ Self.faults self.new }
-        ensures failed { IfErr result (λ e. e ≡ Unattached.Failed → Rose (Self.faults self.old) (Self.faults self.new)) };
+        ensures failed { IfErr result (λ e. e ≡ Unattached.Failed → Rose (Self.faults self.old) (Self.faults self.new)) }
+        ensures counted { IfErr result (λ e. e ≡ Unattached.Failed → Self.faults self.new ≡ count_after (Self.faults self.old)) }
+        ensures no_memory { IfErr result (λ e. e ≡ Unattached.NoMemory → Self.faults self.new ≡ Self.faults self.old) }
+        ensures stands { OnOk result (Self.faults self.new ≡ Self.faults self.old) };
 }

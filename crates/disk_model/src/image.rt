@@ -4,7 +4,7 @@ ghost use Rattle.disk_model.specs.Disk.{Torn};
 ghost use Rattle.disk_model.specs.Images.{MayLeave, Leaves};
 
 use crate::Call;
-use crate::content::{content_with, placed};
+use crate::content::{content_with, overwrite};
 use failure::NoMemory;
 use std::alloc::Global;
 
@@ -29,7 +29,7 @@ pub(crate) fn image_of(
     let mut digits = pick;
     for call in calls {
         image = image_after(alloc, &content, image, call, digits % OUTCOMES)?;
-        content = content_with(alloc, content, call)?;
+        content = content_with(content, call)?;
         digits = digits_after(call, digits, pick);
     }
     Ok(image)
@@ -41,7 +41,7 @@ fn digits_after(call: &Call, digits: u64, pick: u64) -> u64 {
         Call::Wrote(_, _) => digits / OUTCOMES,
         Call::Missed(_, _) => digits / OUTCOMES,
         Call::Synced => pick,
-        Call::Looked => digits,
+        Call::Looked(_) => digits,
     }
 }
 
@@ -58,7 +58,7 @@ fn image_after(
         Call::Wrote(at, bytes) => torn(alloc, image, *at as usize, bytes, outcome),
         Call::Missed(at, bytes) => torn(alloc, image, *at as usize, bytes, outcome),
         Call::Synced => Ok(Vec::from_slice(alloc, content)?),
-        Call::Looked => Ok(image),
+        Call::Looked(_) => Ok(image),
     }
 }
 
@@ -80,28 +80,29 @@ fn torn(
     let half = bytes.len() / 2;
     let part = match outcome {
         0 => return Ok(image),
-        1 => return patched(alloc, image, at, bytes),
-        2 => return patched(alloc, image, at, &bytes[..half]),
+        1 => return patched(image, at, bytes),
+        2 => return patched(image, at, &bytes[..half]),
         3 => bytes.len(),
-        4 => return patched(alloc, image, at + half, &bytes[half..]),
+        4 => return patched(image, at + half, &bytes[half..]),
         5 => bytes.len().saturating_sub(1),
         6 => bytes.len().min(1),
-        _ => return patched(alloc, image, at + bytes.len(), &[]),
+        _ => return patched(image, at + bytes.len(), &[]),
     };
     let mut other = Vec::new(alloc);
     other.resize(part, GARBAGE)?;
-    patched(alloc, image, at, &other)
+    patched(image, at, &other)
 }
 
 // The image with a part at an offset. Where the image ends before it, zeros lie between.
-fn patched(alloc: Global, image: Vec<u8>, at: usize, part: &[u8]) -> Result<Vec<u8>, NoMemory>
+fn patched(image: Vec<u8>, at: usize, part: &[u8]) -> Result<Vec<u8>, NoMemory>
     ensures { IfOk result (λ v. Torn at (length part.now) image.items v.items) }
 {
-    if at <= image.len() {
-        return placed(alloc, &image, at, part);
-    }
     let mut next = image;
-    next.resize(at, 0)?;
-    next.extend_from_slice(part)?;
+    if at <= next.len() {
+        overwrite(&mut next, at, part)?;
+    } else {
+        next.resize(at, 0)?;
+        next.extend_from_slice(part)?;
+    }
     Ok(next)
 }

@@ -16,8 +16,8 @@ mod steps;
 #[cfg(test)]
 mod tests;
 
-pub use call::Call;
+pub use call::{Call, Look};
 pub use disk::{Disk, Home, Unattached};
-pub use failure::Failed;
+pub use failure::{Failed, Fault};
 pub use mem::MemDisk;
 pub use steps::write_synced;

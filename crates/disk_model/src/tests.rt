@@ -1,7 +1,8 @@
 // What no clause says of a disk in memory: that calls succeed, and that each kind of image is
 // reached.
 
-use crate::{Disk, Home, MemDisk, Unattached, write_synced};
+use crate::{Call, Disk, Home, Look, MemDisk, Unattached, write_synced};
+use failure::Fault;
 use std::alloc::Global;
 use std::process::Abort;
 
@@ -107,12 +108,54 @@ fn a_synced_write_stays(rt: HostRuntime) {
         assert!(rt; write_synced(&mut disk, 4, b"EF").is_ok());
         assert!(rt; leaves(&rt, disk, pick, b"abcdEF"), "at {pick}");
     }
-    // The write fails, or the sync behind it.
-    for failing in 0..2 {
+    let faults = [(0, Fault::Write(4)), (1, Fault::Sync)];
+    for (failing, fault) in faults {
         let mut disk = disk_of(&rt, rt.alloc(), b"abcd", &[failing]);
         assert!(rt; 4 <= disk.bytes().len());
-        assert!(rt; write_synced(&mut disk, 4, b"EF").is_err());
+        assert!(rt; write_synced(&mut disk, 4, b"EF") == Err(fault));
         assert_eq!(rt; disk.faults(), 1, "at {failing}");
         assert!(rt; leaves(&rt, disk, 2, b"abcdE"), "at {failing}");
     }
+}
+
+#[test]
+fn the_record_tells_calls_apart(rt: HostRuntime) {
+    let mut disk = disk_of(&rt, rt.alloc(), b"abcd", &[1, 3, 5]);
+    let mut buffer = [0; 2];
+    assert!(rt; disk.len().is_ok());
+    assert!(rt; disk.len().is_err());
+    assert!(rt; disk.bytes().len() == 4);
+    assert!(rt; disk.read(1, &mut buffer).is_ok());
+    assert!(rt; disk.bytes().len() == 4);
+    assert!(rt; disk.read(2, &mut buffer).is_err());
+    assert!(rt; disk.attach(rt.alloc(), "home").is_ok());
+    assert!(rt; disk.sync().is_err());
+    let looks = [
+        Look::Len,
+        Look::LenFailed,
+        Look::Read(1),
+        Look::ReadFailed(2),
+        Look::Attached,
+        Look::SyncFailed,
+    ];
+    for (call, look) in disk.calls().iter().zip(&looks) {
+        assert!(rt;
+            matches!(call, Call::Looked(found) if found == look),
+            "{look:?}"
+        );
+    }
+    assert_eq!(rt; disk.calls().len(), 6);
+}
+
+#[test]
+fn a_stopped_disk_fails_each_call(rt: HostRuntime) {
+    let mut disk = disk_of(&rt, rt.alloc(), b"abcd", &[]);
+    disk.stop_after(2);
+    assert!(rt; disk.len().is_ok());
+    assert!(rt; writes(&rt, &mut disk, 4, b"ef"));
+    assert!(rt; disk.sync().is_err());
+    assert!(rt; disk.len().is_err());
+    assert!(rt; !writes(&rt, &mut disk, 0, b"x"));
+    assert_eq!(rt; disk.faults(), 3);
+    assert!(rt; has(&disk, b"abcdef"));
 }

@@ -11,7 +11,7 @@ pub returns-then-turn-clause-time : goal.returns-then-turn-clause-time
 returns-then-turn-clause-time c = missed_time _ _ _ _ _ _ c.turn.ensures.same c.miss.ensures.went c.fail.ensures.same
 
 pub returns-in-Ok-clause-written : goal.returns-in-Ok-clause-written
-returns-in-Ok-clause-written c = λ _.
+returns-in-Ok-clause-written c =
     let ok = c.in-Ok.ensures.ok in
     wrote_content c.args.self.now c.place.new.self _ ok.0 _ ok.1 (c.place.ensures.first ∙ c.turn.ensures.same.first) (ok.2 ∙ ap (λ (l : List Call). l ++ Wrote c.args.at ok.0 ∷ []) c.turn.ensures.same.calls)
 
