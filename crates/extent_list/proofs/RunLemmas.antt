@@ -1,106 +1,132 @@
--- Where sorted runs lie, and which bytes joined lists of runs hold.
-use Rattle.std.specs.Prelude.{◌≡◌, ◌⊎◌, ℕ, suc, ◌+◌, ◌<◌, ◌≤◌, List, [], ◌∷◌, ◌++◌, All, refl, length, take, drop, get_or}
-use Rattle.std.proofs.Common.{inl, inr, sym, ◌∙◌, ap, subst, arith}
-use Rattle.std.proofs.Math.Seq.{drop-cons}
-use Rattle.std.proofs.lemmas.List.{take-append-drop}
-use Rattle.std.proofs.lemmas.List.Elements.{All-head, All-tail, All-nil, All-cons, All-weaker, All-more}
-use Rattle.extent_list.specs.declared.run.Run.{Run}
-use Rattle.extent_list.specs.Space.{Free, Sorted}
+-- Which units are there, and what a run says of them.
+use Rattle.std.specs.Prelude.{◌≡◌, ◌⊎◌, ℕ, ◌+◌, ◌-◌, ◌*◌, ◌<◌, ◌≤◌, Bool, false, List, length, get_or}
+use Rattle.std.proofs.Common.{inl, inr, sym, ◌∙◌, arith}
+use Rattle.std.proofs.lemmas.Bool.{cases_lt, false≢true}
+use Rattle.std.proofs.lemmas.List.{get_or_past}
+use Rattle.extent_list.specs.Units.{IsFreeUnit, Run, NoneFits, AtMost, IsLowest, Misses}
 
-pub free_low : (low end b : ℕ) (es : List Run) → Sorted low es end → Free es b → low ≤ b
-free_low low end b [] is free = absurd free
-free_low low end b (e ∷ es) is free = elim free [ inl here ↦ omega (arith, is.0, here.0) | inr there ↦ omega (arith, is.0, free_low (e.at + e.len + 1) end b es is.3 there) ]
-
-pub free_high : (low end b : ℕ) (es : List Run) → Sorted low es end → Free es b → b < end
-free_high low end b [] is free = absurd free
-free_high low end b (e ∷ es) is free = elim free [ inl here ↦ omega (arith, is.2, here.1) | inr there ↦ free_high (e.at + e.len + 1) end b es is.3 there ]
-
-pub free_front : (xs ys : List Run) (b : ℕ) → Free xs b → Free (xs ++ ys) b
-free_front [] ys b free = absurd free
-free_front (x ∷ xs) ys b free = elim free [ inl here ↦ inl here | inr there ↦ inr (free_front xs ys b there) ]
-
-pub free_back : (xs ys : List Run) (b : ℕ) → Free ys b → Free (xs ++ ys) b
-free_back [] ys b free = free
-free_back (x ∷ xs) ys b free = inr (free_back xs ys b free)
-
-pub free_parts : (xs ys : List Run) (b : ℕ) → Free (xs ++ ys) b → Free xs b ⊎ Free ys b
-free_parts [] ys b free = inr free
-free_parts (x ∷ xs) ys b free = elim free [
-  | inl here ↦ inl (inl here)
-  | inr there ↦ elim (free_parts xs ys b there) [ inl front ↦ inl (inr front) | inr back ↦ inr back ]
+-- a unit that is free is there
+pub free_within : (us : List Bool) (u : ℕ) → IsFreeUnit us u → u < length us
+free_within us u free = elim (cases_lt u (length us)) [
+  | inl lt ↦ lt
+  | inr le ↦ absurd (false≢true (sym (get_or_past us u false le) ∙ free))
 ]
 
--- runs that end at a byte or before it do not hold it
-pub not_below : (b : ℕ) (es : List Run) → All (λ e. e.at + e.len ≤ b) es → Free es b → ⊥
-not_below b [] all free = free
-not_below b (e ∷ es) all free = elim free [
-  | inl here ↦ omega (arith, here.1, All-head (λ (x : Run). x.at + x.len ≤ b) e es all)
-  | inr there ↦ not_below b es (All-tail (λ (x : Run). x.at + x.len ≤ b) e es all) there
+-- what is not free and free at once
+pub not_both : (us : List Bool) (u : ℕ) → get_or us u false ≡ false → IsFreeUnit us u → ⊥
+not_both us u held free = false≢true (sym held ∙ free)
+
+-- a run of one unit or more ends within the units
+pub run_within : (us : List Bool) (a m : ℕ) → 1 ≤ m → Run us a m → a + m ≤ length us
+run_within us a m some run =
+    let last : a + m - 1 < length us = free_within us (a + m - 1) (run (a + m - 1) (omega (arith, some)) (omega (arith, some))) in
+    omega (arith, last, some)
+
+pub shorter : (us : List Bool) (a m n : ℕ) → m ≤ n → Run us a n → Run us a m
+shorter us a m n le run u low high = run u low (omega (arith, high, le))
+
+-- nothing begins in an empty range, nor behind the last unit
+pub empty : (us : List Bool) (at to n : ℕ) → to ≤ at → Misses us at to n 0
+empty us at to n le = record {
+  none = λ a low high run. omega (arith, low, high, le);
+  most = λ a m low high few run. absurd (omega (arith, low, high, le));
+}
+
+pub nothing_behind : (us : List Bool) (from to n w : ℕ) → 1 ≤ n → length us ≤ from → Misses us from to n w
+nothing_behind us from to n w some le = record {
+  none = λ a low high run. omega (arith, run_within us a n some run, low, le, some);
+  most = λ a m low high few run. elim (cases_lt 0 m) [
+    | inl more ↦ absurd (omega (arith, run_within us a m more run, low, le, more))
+    | inr none ↦ omega (arith, none)
+  ];
+}
+
+-- two ranges, one behind the other
+pub joined : (us : List Bool) (a b c n v w x : ℕ) → v ≤ x → w ≤ x → Misses us a b n v → Misses us b c n w → Misses us a c n x
+joined us a b c n v w x le_v le_w front back = record {
+  none = λ at low high run. elim (cases_lt at b) [
+    | inl lt ↦ front.none at low lt run
+    | inr le ↦ back.none at le high run
+  ];
+  most = λ at m low high few run. elim (cases_lt at b) [
+    | inl lt ↦ omega (arith, le_v, front.most at m low lt few run)
+    | inr le ↦ omega (arith, le_w, back.most at m le high few run)
+  ];
+}
+
+pub lowest_behind : (us : List Bool) (from mid to n a : ℕ) → from ≤ mid → NoneFits us from mid n → IsLowest us mid to n a → IsLowest us from to n a
+lowest_behind us from mid to n a le none is = record {
+  behind = omega (arith, le, is.behind);
+  before = is.before;
+  fits = is.fits;
+  lowest = λ c low run. elim (cases_lt c mid) [
+    | inl lt ↦ absurd (none c low lt run)
+    | inr ge ↦ is.lowest c ge run
+  ];
+}
+
+pub lowest_wider : (us : List Bool) (from to more n a : ℕ) → to ≤ more → IsLowest us from to n a → IsLowest us from more n a
+lowest_wider us from to more n a le is = record {
+  behind = is.behind;
+  before = omega (arith, le, is.before);
+  fits = is.fits;
+  lowest = is.lowest;
+}
+
+-- a bound that is too small for so many units
+pub too_short : (us : List Bool) (from to n short w : ℕ) → short ≤ n → short ≤ 256 → w < short → AtMost us from to w → Misses us from to n w
+too_short us from to n short w le few lt most = record {
+  none = λ a low high run. omega (arith, lt, most a short low high few (shorter us a short n le run));
+  most = most;
+}
+
+-- a length that counts up to 256 only
+pub capped : (us : List Bool) (from to v w : ℕ) → (v ≤ 256 → w ≡ v) → (256 ≤ v → w ≡ 256) → AtMost us from to v → AtMost us from to w
+capped us from to v w short long most a m low high few run = elim (cases_lt v 257) [
+  | inl small ↦ omega (arith, most a m low high few run, short (omega (arith, small)))
+  | inr large ↦ omega (arith, few, long (omega (arith, large)))
 ]
 
--- runs that start behind a byte do not hold it
-pub not_above : (b : ℕ) (es : List Run) → All (λ e. b < e.at) es → Free es b → ⊥
-not_above b [] all free = free
-not_above b (e ∷ es) all free = elim free [
-  | inl here ↦ omega (arith, here.0, All-head (λ (x : Run). b < x.at) e es all)
-  | inr there ↦ not_above b es (All-tail (λ (x : Run). b < x.at) e es all) there
-]
+-- the groups of a region, of which the last may be missing
+pub whole_region : (us : List Bool) (b f t n w : ℕ) → f ≡ 64 * b → 1 ≤ n → (length us ≤ 64 * t) ⊎ (t ≡ 64 * (b + 1)) → Misses us (64 * f) (64 * t) n w → Misses us (4096 * b) (4096 * (b + 1)) n w
+whole_region us b f t n w first some rest misses = record {
+  none = λ a low high run. elim (cases_lt a (64 * t)) [
+    | inl lt ↦ misses.none a (omega (arith, low, first)) lt run
+    | inr ge ↦ elim rest [
+      | inl past ↦ omega (arith, run_within us a n some run, ge, past, some)
+      | inr all ↦ omega (arith, all, ge, high)
+    ]
+  ];
+  most = λ a m low high few run. elim (cases_lt a (64 * t)) [
+    | inl lt ↦ misses.most a m (omega (arith, low, first)) lt few run
+    | inr ge ↦ elim rest [
+      | inl past ↦ elim (cases_lt 0 m) [
+        | inl more ↦ absurd (omega (arith, run_within us a m more run, ge, past, more))
+        | inr none ↦ omega (arith, none)
+      ]
+      | inr all ↦ absurd (omega (arith, all, ge, high))
+    ]
+  ];
+}
 
-pub head_low : (front : List Run) (e : Run) (rest : List Run) (low end : ℕ) → Sorted low (front ++ e ∷ rest) end → low ≤ e.at
-head_low [] e rest low end is = is.0
-head_low (x ∷ xs) e rest low end is = omega (arith, is.0, head_low xs e rest (x.at + x.len + 1) end is.3)
-
--- the runs before one end before it begins
-pub ends_before : (front : List Run) (e : Run) (rest : List Run) (low end : ℕ) → Sorted low (front ++ e ∷ rest) end → All (λ x. x.at + x.len < e.at) front
-ends_before [] e rest low end is = All-nil (λ (x : Run). x.at + x.len < e.at)
-ends_before (x ∷ xs) e rest low end is = All-cons (λ (x : Run). x.at + x.len < e.at) x xs (omega (arith, head_low xs e rest (x.at + x.len + 1) end is.3)) (ends_before xs e rest (x.at + x.len + 1) end is.3)
-
--- one run among sorted runs, and those behind it
-pub record InPlace (e : Run) (rest : List Run) (end : ℕ) : Type 0 where
-  pub some : 1 ≤ e.len
-  pub within : e.at + e.len ≤ end
-  pub behind : Sorted (e.at + e.len + 1) rest end
-
-pub in_place : (front : List Run) (e : Run) (rest : List Run) (low end : ℕ) → Sorted low (front ++ e ∷ rest) end → InPlace e rest end
-in_place [] e rest low end is = record { some = is.1; within = is.2; behind = is.3 }
-in_place (x ∷ xs) e rest low end is = in_place xs e rest (x.at + x.len + 1) end is.3
-
-pub starts_behind : (low end : ℕ) (es : List Run) → Sorted low es end → All (λ e. low ≤ e.at) es
-starts_behind low end [] is = All-nil (λ (x : Run). low ≤ x.at)
-starts_behind low end (e ∷ es) is = All-cons (λ (x : Run). low ≤ x.at) e es is.0 (All-weaker (λ (x : Run). e.at + e.len + 1 ≤ x.at) (λ (x : Run). low ≤ x.at) (λ x le. omega (arith, is.0, le)) es (starts_behind (e.at + e.len + 1) end es is.3))
-
--- the runs from an index on
-pub behind_index : (front rest : List Run) (low end : ℕ) → Sorted low (front ++ rest) end → (k : ℕ) × Sorted k rest end
-behind_index [] rest low end is = (low, is)
-behind_index (x ∷ xs) rest low end is = behind_index xs rest (x.at + x.len + 1) end is.3
-
--- runs that start at an offset or behind it are sorted from there on
-pub sorted_from : (k low end : ℕ) (es : List Run) → Sorted k es end → All (λ e. low ≤ e.at) es → low ≤ end + 1 → Sorted low es end
-sorted_from k low end [] is all le = le
-sorted_from k low end (e ∷ es) is all le = (All-head (λ (x : Run). low ≤ x.at) e es all, is.1, is.2, is.3)
-
--- a run between those that end before it and those that start behind it
-pub sorted_put : (front rest back : List Run) (m : Run) (low end : ℕ) → Sorted low (front ++ rest) end → low ≤ m.at → All (λ e. e.at + e.len < m.at) front → 1 ≤ m.len → m.at + m.len ≤ end → Sorted (m.at + m.len + 1) back end → Sorted low (front ++ m ∷ back) end
-sorted_put [] rest back m low end is le ends some within behind = (le, some, within, behind)
-sorted_put (x ∷ xs) rest back m low end is le ends some within behind = (is.0, is.1, is.2, sorted_put xs rest back m (x.at + x.len + 1) end is.3 (omega (arith, All-head (λ (e : Run). e.at + e.len < m.at) x xs ends)) (All-tail (λ (e : Run). e.at + e.len < m.at) x xs ends) some within behind)
-
-pub split_at : (es : List Run) (i j : ℕ) (d : Run) → i < length es → j ≡ i + 1 → drop i es ≡ get_or es i d ∷ drop j es
-split_at es i j d within next =
-    let after : suc i ≡ j = omega (arith, next) in
-    drop-cons es i d within ∙ ap (λ (k : ℕ). get_or es i d ∷ drop k es) after
-
-pub parts_at : (es : List Run) (i j : ℕ) (d : Run) → i < length es → j ≡ i + 1 → es ≡ take i es ++ get_or es i d ∷ drop j es
-parts_at es i j d within next = sym (take-append-drop i es) ∙ ap (λ (l : List Run). take i es ++ l) (split_at es i j d within next)
-
--- where the run at an index starts by an offset, so do those before it
-pub starts_by : (es : List Run) (i at end : ℕ) (d : Run) → i < length es → Sorted 8192 es end → (get_or es i d).at ≤ at → All (λ e. e.at ≤ at) (take (i + 1) es)
-starts_by es i at end d within sorted le =
-    let before = ends_before (take i es) (get_or es i d) (drop (i + 1) es) 8192 end (subst (λ (l : List Run). Sorted 8192 l end) (parts_at es i (i + 1) d within refl) sorted) in
-    All-more (λ (e : Run). e.at ≤ at) es i d within (All-weaker (λ (e : Run). e.at + e.len < (get_or es i d).at) (λ (e : Run). e.at ≤ at) (λ e lt. omega (arith, lt, le)) (take i es) before) le
-
--- where the run at an index starts behind an offset, so do those behind it
-pub starts_after : (es : List Run) (i at end : ℕ) (d : Run) → i < length es → Sorted 8192 es end → at < (get_or es i d).at → All (λ e. at < e.at) (drop i es)
-starts_after es i at end d within sorted lt =
-    let stands = in_place (take i es) (get_or es i d) (drop (i + 1) es) 8192 end (subst (λ (l : List Run). Sorted 8192 l end) (parts_at es i (i + 1) d within refl) sorted) in
-    let behind = All-weaker (λ (e : Run). (get_or es i d).at + (get_or es i d).len + 1 ≤ e.at) (λ (e : Run). at < e.at) (λ e le. omega (arith, le, lt)) (drop (i + 1) es) (starts_behind ((get_or es i d).at + (get_or es i d).len + 1) end (drop (i + 1) es) stands.behind) in
-    subst (λ (l : List Run). All (λ e. at < e.at) l) (sym (split_at es i (i + 1) d within refl)) (All-cons (λ (e : Run). at < e.at) (get_or es i d) (drop (i + 1) es) lt behind)
+-- the regions of an area, of which the last may be missing
+pub whole_area : (us : List Bool) (b f t n w : ℕ) → f ≡ 64 * b → 1 ≤ n → (length us ≤ 4096 * t) ⊎ (t ≡ 64 * (b + 1)) → Misses us (4096 * f) (4096 * t) n w → Misses us (262144 * b) (262144 * (b + 1)) n w
+whole_area us b f t n w first some rest misses = record {
+  none = λ a low high run. elim (cases_lt a (4096 * t)) [
+    | inl lt ↦ misses.none a (omega (arith, low, first)) lt run
+    | inr ge ↦ elim rest [
+      | inl past ↦ omega (arith, run_within us a n some run, ge, past, some)
+      | inr all ↦ omega (arith, all, ge, high)
+    ]
+  ];
+  most = λ a m low high few run. elim (cases_lt a (4096 * t)) [
+    | inl lt ↦ misses.most a m (omega (arith, low, first)) lt few run
+    | inr ge ↦ elim rest [
+      | inl past ↦ elim (cases_lt 0 m) [
+        | inl more ↦ absurd (omega (arith, run_within us a m more run, ge, past, more))
+        | inr none ↦ omega (arith, none)
+      ]
+      | inr all ↦ absurd (omega (arith, all, ge, high))
+    ]
+  ];
+}

@@ -2,8 +2,9 @@
 ghost use Rattle.std.specs.Prelude.{
   ◌≡◌,
   ◌↔◌,
+  ◌⊎◌,
   ◌+◌,
-  ◌-◌,
+  ◌*◌,
   ◌^◌,
   ◌≤◌,
   ◌<◌,
@@ -11,172 +12,235 @@ ghost use Rattle.std.specs.Prelude.{
   IsTrue,
   IfOk,
   IfSome,
-  IsOk,
   OnOk,
   OnErr,
   None,
-  vec_len,
-  vec_capacity,
+  List,
+  [],
+  false,
+  length,
 };
 ghost use Rattle.extent_list.specs.Space.{
   Space,
-  Sorted,
-  AreWhole,
-  IsWhole,
+  end_of,
   IsFree,
   IsHeld,
+  IsWhole,
   IsSpot,
+  Took,
   Taken,
   HasNoRoom,
   IsPlace,
   Gave,
+  PutBack,
+  Fits,
 };
+ghost use Rattle.extent_list.specs.Units.{Summed};
 
-use crate::edit::{cut_front, replace};
-use crate::run::Run;
-use crate::search::{first_fit, join_before, join_behind, starting_by};
+use crate::bounds::{GROUP, in_areas};
+use crate::grow::grow;
+use crate::marks::{mark, raise};
+use crate::scan::{are_free, reach};
+use crate::shrink::shrink;
 use failure::NoMemory;
 use std::alloc::Global;
 use std::marker::Model;
+
+// Bytes of a unit, and the offset of the first one.
+const UNIT: u64 = 4096;
+
+const START: u64 = 8192;
 
 /// The free units of a device, and the end up to which it is in use. A unit is 4,096 bytes; units
 /// are free from offset 8,192 on and before the end. Offsets and sizes are in bytes, and each is a
 /// whole number of units.
 #[derive(Drop)]
 pub struct Extents {
-    // The free runs, ascending. No two touch.
-    runs: Vec<Run>,
-    end: u64,
+    // For each unit whether it is free.
+    units: Vec<bool>,
+    // For each 64 units, each 4,096 and each 262,144, how long the free runs are at most that begin
+    // there, counted up to 256.
+    groups: Vec<u16>,
+    regions: Vec<u16>,
+    areas: Vec<u16>,
 }
 
 impl Model for Extents {
     ghost Value = { Space };
 
-    ghost view = { λ s.
-        record {
-          runs = s.runs.items;
-          end = s.end;
-          room = vec_capacity s.runs - vec_len s.runs;
-        } };
+    ghost view = { λ s. record { units = s.units.items } };
 
-    ghost invariant = { λ s.
-        Sorted 8192 s.runs.items s.end
-        × AreWhole s.runs.items
-        × IsWhole s.end
-        × (8192 ≤ s.end)
-        × (s.end < 2 ^ 64) };
+    ghost invariant = { λ s. Summed s.units.items s.groups.items s.regions.items s.areas.items };
 }
 
 impl Extents {
-    /// A device that is in use up to this end, with nothing free before it. Takes no memory.
-    pub fn new(alloc: Global, end: u64) -> Self
-        requires behind { 8192 ≤ end }
-        requires whole { IsWhole end }
-        ensures end { result.end ≡ end }
-        ensures none { (b : ℕ) → IsFree result b → ⊥ }
+    /// A device that is in use up to the slots. Takes no memory.
+    pub fn new(alloc: Global) -> Self
+        ensures { result.units ≡ [] }
     {
         Extents {
-            runs: Vec::new(alloc),
-            end,
+            units: Vec::new(alloc),
+            groups: Vec::new(alloc),
+            regions: Vec::new(alloc),
+            areas: Vec::new(alloc),
         }
     }
 
     /// The offset up to which the device is in use. Each free byte lies before it, and at offset
     /// 8,192 or behind it.
     pub fn end(&self) -> u64
-        ensures end { result ≡ self.now.end }
+        ensures end { result ≡ end_of self.now }
         ensures behind { 8192 ≤ result }
         ensures whole { IsWhole result }
         ensures free { (b : ℕ) → IsFree self.now b → (8192 ≤ b) × (b < result) }
     {
-        self.end
+        START + UNIT * self.units.len() as u64
+    }
+
+    /// Whether the byte at this offset is free. `O(1)`.
+    pub fn holds(&self, at: u64) -> bool
+        ensures { IsTrue result ↔ IsFree self.now at }
+    {
+        if at < START {
+            return false;
+        }
+        let unit = (at - START) / UNIT;
+        unit < self.units.len() as u64 && self.units[unit as usize]
+    }
+
+    /// Where `take` would take `size` bytes; `None` exactly where it would give `None`. Takes no
+    /// memory.
+    pub fn find(&mut self, size: u64, capacity: u64) -> Option<u64>
+        requires some { 1 ≤ size }
+        requires whole { IsWhole size }
+        ensures spot { IfSome result (IsSpot self.old size capacity) }
+        ensures place { IfSome result (λ at. (8192 ≤ at) × (at ≤ end_of self.old) × IsWhole at) }
+        ensures full { result ≡ None → HasNoRoom self.old size capacity }
+        ensures same { self.new ≡ self.old }
+    {
+        let count = (size / UNIT) as usize;
+        let found = in_areas(
+            &self.units,
+            &mut self.groups,
+            &mut self.regions,
+            &mut self.areas,
+            count,
+        );
+        if let Some(unit) = found {
+            return Some(START + UNIT * unit as u64);
+        }
+        let end = START + UNIT * self.units.len() as u64;
+        if has_end(end, size, capacity) {
+            return Some(end);
+        }
+        None
     }
 
     /// Takes `size` bytes: of the lowest free extent that has as many, else at the end, which then
     /// moves on. `None` comes exactly where no extent has as many and the end would move past
-    /// `capacity`. Takes no memory. `O(n)` in the number of extents.
+    /// `capacity`. Takes memory only where the end moves on.
     pub fn take(&mut self, size: u64, capacity: u64) -> Result<Option<u64>, NoMemory>
         requires some { 1 ≤ size }
         requires whole { IsWhole size }
-        ensures sure { IsOk result }
         ensures taken { IfOk result (λ o. IfSome o (Taken self.old self.new size capacity)) }
         ensures place { IfOk result (λ o. IfSome o (λ at. IsPlace self.new at size)) }
         ensures full { IfOk result (λ o. o ≡ None → HasNoRoom self.old size capacity × (self.new ≡ self.old)) }
-        ensures room { self.old.room ≤ self.new.room }
+        ensures err { OnErr result (self.new ≡ self.old) }
     {
-        if let Some(i) = first_fit(&self.runs, size) {
-            return Ok(Some(cut_front(&mut self.runs, i, size)));
+        let count = (size / UNIT) as usize;
+        let found = in_areas(
+            &self.units,
+            &mut self.groups,
+            &mut self.regions,
+            &mut self.areas,
+            count,
+        );
+        if let Some(unit) = found {
+            mark(&mut self.units, unit, unit + count, false);
+            return Ok(Some(START + UNIT * unit as u64));
         }
-        if !has_end(self.end, size, capacity) {
+        let end = START + UNIT * self.units.len() as u64;
+        if !has_end(end, size, capacity) {
             return Ok(None);
         }
-        let at = self.end;
-        self.end += size;
-        Ok(Some(at))
+        grow(
+            &mut self.units,
+            &mut self.groups,
+            &mut self.regions,
+            &mut self.areas,
+            count,
+        )?;
+        Ok(Some(end))
     }
 
-    /// Where `take` would take `size` bytes; `None` exactly where it would give `None`. `O(n)` in
-    /// the number of extents.
-    pub fn find(&self, size: u64, capacity: u64) -> Option<u64>
+    /// Takes `size` bytes from `at` on where all of them are free; else says false, and leaves all as
+    /// it was. Takes no memory. `O(size)`.
+    pub fn take_at(&mut self, at: u64, size: u64) -> bool
         requires some { 1 ≤ size }
         requires whole { IsWhole size }
-        ensures spot { IfSome result (IsSpot self.now size capacity) }
-        ensures place { IfSome result (λ at. (8192 ≤ at) × (at ≤ self.now.end) × IsWhole at) }
-        ensures full { result ≡ None → HasNoRoom self.now size capacity }
+        requires place { IsPlace self.old at size }
+        ensures took { IsTrue result → Fits self.old at size × Took self.old self.new at size }
+        ensures end { end_of self.new ≡ end_of self.old }
+        ensures held { result ≡ false → (b : ℕ) × (at ≤ b) × (b < at + size) × (IsFree self.old b → ⊥) }
+        ensures same { result ≡ false → self.new ≡ self.old }
     {
-        if let Some(i) = first_fit(&self.runs, size) {
-            return Some(self.runs[i].at);
+        let first = ((at - START) / UNIT) as usize;
+        let behind = first + (size / UNIT) as usize;
+        if !are_free(&self.units, first, behind) {
+            return false;
         }
-        if !has_end(self.end, size, capacity) {
-            return None;
-        }
-        Some(self.end)
+        mark(&mut self.units, first, behind, false);
+        true
     }
 
     /// Makes `size` bytes from `at` on free. They lie before the end, and none of them is free.
-    /// Where there is room for one more extent, no memory is wanted. `O(log n)` to find their
-    /// place among the extents, and one move of those behind it.
-    pub fn give(&mut self, at: u64, size: u64) -> Result<(), NoMemory>
+    /// Takes no memory.
+    pub fn give(&mut self, at: u64, size: u64)
         requires some { 1 ≤ size }
         requires whole { IsWhole size }
         requires place { IsPlace self.old at size }
         requires held { IsHeld self.old at size }
-        ensures gave { OnOk result (Gave self.old.runs self.new.runs at size) }
-        ensures err { OnErr result (self.new.runs ≡ self.old.runs) }
-        ensures end { self.new.end ≡ self.old.end }
-        ensures sure { 0 < self.old.room → IsOk result }
-        ensures room { self.old.room ≤ self.new.room + 1 }
+        ensures gave { Gave self.old self.new at size }
+        ensures end { end_of self.new ≡ end_of self.old }
     {
-        let i = starting_by(&self.runs, at);
-        let (first, start) = join_before(&self.runs, i, at);
-        let (last, stop) = join_behind(&self.runs, i, at + size);
-        let run = Run {
-            at: start,
-            len: stop - start,
-        };
-        replace(&mut self.runs, first, last, run)
+        let unit = ((at - START) / UNIT) as usize;
+        let stop = unit + (size / UNIT) as usize;
+        mark(&mut self.units, unit, stop, true);
+        let (first, length) = reach(&self.units, unit, stop);
+        let length = length as u16;
+        let group = first / GROUP;
+        let behind = (stop - 1) / GROUP + 1;
+        raise(&mut self.groups, group, behind, length);
+        let region = group / GROUP;
+        let behind = (behind - 1) / GROUP + 1;
+        raise(&mut self.regions, region, behind, length);
+        let area = region / GROUP;
+        let behind = (behind - 1) / GROUP + 1;
+        raise(&mut self.areas, area, behind, length);
     }
 
-    /// Whether the byte at this offset is free. `O(log n)` in the number of extents.
-    pub fn holds(&self, at: u64) -> bool
-        ensures { IsTrue result ↔ IsFree self.now at }
+    /// Undoes a take: makes `size` bytes from `at` on free, and sets the end back to where it was.
+    /// Where it moves, nothing lies behind it but these bytes. Takes no memory.
+    pub fn put_back(&mut self, at: u64, size: u64, end: u64)
+        requires some { 1 ≤ size }
+        requires whole { IsWhole size }
+        requires place { IsPlace self.old at size }
+        requires held { IsHeld self.old at size }
+        requires end { (end ≡ end_of self.old) ⊎ ((end ≡ at) × (at + size ≡ end_of self.old)) }
+        ensures { PutBack self.old self.new at size end }
     {
-        let i = starting_by(&self.runs, at);
-        if i == 0 {
-            return false;
+        if end == self.end() {
+            self.give(at, size);
+            return;
         }
-        let run = self.runs[i - 1];
-        at - run.at < run.len
-    }
-
-    /// Makes room for this many more extents, so that as many gives take no memory.
-    pub fn reserve(&mut self, more: usize) -> Result<(), NoMemory>
-        ensures runs { self.new.runs ≡ self.old.runs }
-        ensures end { self.new.end ≡ self.old.end }
-        ensures ok { OnOk result (more ≤ self.new.room) }
-        ensures room { self.old.room ≤ self.new.room }
-    {
-        Ok(self.runs.reserve(more)?)
+        let unit = ((at - START) / UNIT) as usize;
+        shrink(
+            &mut self.units,
+            &mut self.groups,
+            &mut self.regions,
+            &mut self.areas,
+            unit,
+        );
     }
 }
 

@@ -1,10 +1,9 @@
-use Rattle.std.proofs.Common.{sym, subst}
-use Rattle.extent_list.specs.Space.{Space, Free}
-use Rattle.extent_list.proofs.RunLemmas.{free_low, free_high}
+use Rattle.std.proofs.Common.{◌≡◌, length, ap, arith}
+use Rattle.extent_list.specs.Space.{Space}
+use Rattle.extent_list.proofs.SpaceLemmas.{free_before_end}
 use Rattle.extent_list.proofs.extents.Extents.end.Goals as goal
 
 pub returns-clause-free : goal.returns-clause-free
 returns-clause-free c b free =
-    let es = c.self.inside.runs.items in
-    let inside = subst (λ (s : Space). Free s.runs b) (sym c.self.view_is) free in
-    (free_low 8192 c.self.inside.end b es c.self.invariant.0 inside, free_high 8192 c.self.inside.end b es c.self.invariant.0 inside)
+    let same : length c.self.inside.units.items ≡ length c.args.self.now.units = ap (λ (s : Space). length s.units) c.self.view_is in
+    (free.0, omega (arith, free_before_end c.args.self.now b free, same, c.len.ensures))
