@@ -6,7 +6,7 @@ use Rattle.std.proofs.lemmas.Nat.{from_le_bytes-to_le_bytes_8, from_le_bytes-to_
 use Rattle.std.proofs.lemmas.List.{drop-drop, take_all}
 use Rattle.std.proofs.Math.Seq.{take-add}
 use Rattle.disk_model.specs.Ranges.{range, range_take}
-use Rattle.turtle.specs.declared.slot.Slot.{Slot}
+use Rattle.device_layout.specs.declared.slot.Slot.{Slot}
 use Rattle.turtle.specs.Slots.{slot_image, fields_of, IsSlot, IsSequence, IsShut, HasSlot, StandsAt, IsOutOfForm, HaveOneSequence, IsCorruptAt, IsBelow, IsNewer, Chooses}
 
 abbrev with_fields : (sequence offset size sum : ℕ) → Slot
@@ -36,7 +36,7 @@ stands_same bytes at (Some s) None one two = absurd (two one.gate)
 stands_same bytes at (Some s) (Some t) one two = ap Some (has_same bytes at s t one two)
 
 -- a part of a text that stands in a device
-part_of : (bytes text : List ℕ) (at i n : ℕ) → range bytes at 36 ≡ text → i + n ≤ 36 → range bytes (at + i) n ≡ range text i n
+pub part_of : (bytes text : List ℕ) (at i n : ℕ) → range bytes at 36 ≡ text → i + n ≤ 36 → range bytes (at + i) n ≡ range text i n
 part_of bytes text at i n same le =
     sym (range_take (drop at bytes) 36 i n le ∙ ap (λ (l : List ℕ). take n l) (drop-drop i at bytes) ∙ ap (λ k. range bytes k n) (omega arith)) ∙ ap (λ (l : List ℕ). range l i n) same
 

@@ -1,3 +1,4 @@
 pub mod Choice
+mod Errors
 pub mod Runs
 pub mod Slots

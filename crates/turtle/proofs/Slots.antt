@@ -13,7 +13,7 @@ use Rattle.disk_model.specs.Ranges.{range, range_take, range_put_same}
 use Rattle.disk_model.specs.Laws.{torn_put}
 use Rattle.disk_model.specs.Crash.{Apart}
 use Rattle.disk_model.proofs.Crash.{range_torn_apart}
-use Rattle.turtle.specs.declared.slot.Slot.{Slot}
+use Rattle.device_layout.specs.declared.slot.Slot.{Slot}
 use Rattle.turtle.specs.Slots.{slot_image, sequence_at, IsSlot, IsOpen, IsShut, HasSlot, ChosenAt, Chooses, IsPlace, IsTarget, IsNext}
 
 -- a part of the slots is told by the slots
@@ -228,6 +228,10 @@ sequence_is b at s has =
     ap (λ (l : List ℕ). from_le_bytes w64 l) (deep ∙ ap (λ (l : List ℕ). range l 11 8) has.fields ∙ field) ∙ from_le_bytes-to_le_bytes_8 s.sequence (omega (arith, has.is.sequence.1))
 
 -- with both gates open the lesser of the two numbers tells the place
+pub target_second : (b : List ℕ) (chosen : Option Slot) → IsOpen b 0 → IsShut b 4096 → IsTarget b chosen 4096
+target_second b None first shut = λ both. absurd (both.0 first)
+target_second b (Some s) first shut = λ chosen. elim chosen [ inl here ↦ here | inr there ↦ absurd (shut there.0.gate) ]
+
 pub target_both : (b : List ℕ) (chosen : Option Slot) (t : ℕ) → IsOpen b 0 → IsOpen b 4096
     → ((t ≡ 4096) × (sequence_at b 4096 < sequence_at b 0)) ⊎ ((t ≡ 0) × (sequence_at b 0 ≤ sequence_at b 4096)) → IsTarget b chosen t
 target_both b None t first second which = λ shut. absurd (shut.0 first)

@@ -1,10 +1,14 @@
 -- The two slots of a device, at 0 and at 4,096, the chosen one, and what an install leaves.
 use Rattle.std.specs.Prelude.{◌≡◌, ◌≢◌, ◌⊎◌, ℕ, ◌+◌, ◌-◌, ◌<◌, ◌≤◌, ◌^◌, List, [], ◌∷◌, ◌++◌, length, take, drop, Bool, IsTrue, codes, Option, Some, None}
 use Rattle.std.specs.Int.{to_le_bytes, from_le_bytes, w32, w64}
-use Rattle.disk_model.specs.Disk.{Torn, Only}
+use Rattle.failure.specs.declared.Fault.{Fault}
+use Rattle.failure.specs.declared.Fault.TheVariants.{Write, Sync}
+use Rattle.disk_model.specs.declared.disk.Disk.{Ghosts}
+use Rattle.disk_model.specs.Disk.{Only}
 use Rattle.disk_model.specs.Ranges.{range}
-use Rattle.disk_model.specs.Crash.{Each}
-use Rattle.turtle.specs.declared.slot.Slot.{Slot}
+use Rattle.disk_model.specs.Crash.{Each, LeavesOnly}
+use Rattle.disk_model.specs.Steps.{OneWrite}
+use Rattle.device_layout.specs.declared.slot.Slot.{Slot}
 
 -- what stands behind the gate: seven letters, version 1, and the fields
 abbrev pub slot_image : Slot → List ℕ
@@ -97,6 +101,10 @@ pub record Before (seen : List ℕ) (images : List ℕ → Type 0) (chosen : Opt
   pub next : IsNext chosen slot
   pub small : slot.sequence < 2 ^ 62
 
+-- On an honest disk that stands so, this holds of the slot that is chosen there.
+abbrev pub WhereReady : {D : Type 0} → Ghosts D → D → Slot → (Option Slot → Type 0) → Type 0
+WhereReady g old slot P = IsTrue (g.honest old) → (chosen : Option Slot) → Before (g.seen old) (g.may_leave old) chosen slot → P chosen
+
 -- all behind the slots is that of an image from before
 abbrev pub Behind : (List ℕ → Type 0) → List ℕ → Type 0
 Behind images c = (d : List ℕ) × images d × (8192 ≤ length c) × (drop 8192 c ≡ drop 8192 d)
@@ -122,9 +130,30 @@ pub record Installed (seen : List ℕ) (slot : Slot) (new : List ℕ) (images : 
   pub behind : drop 8192 new ≡ drop 8192 seen
   pub long : 8192 ≤ length new
 
--- a write that may have been cut short, in an image from before
-abbrev pub OneStep : ℕ → ℕ → (List ℕ → Type 0) → List ℕ → Type 0
-OneStep at n images c = (d : List ℕ) × images d × Torn at n d c
+-- a write that may have been cut short, where there was one
+abbrev pub MaybeWrite : Bool → ℕ → ℕ → (List ℕ → Type 0) → List ℕ → Type 0
+MaybeWrite done at n images c = images c ⊎ (IsTrue done × OneWrite at n images c)
 
-abbrev pub MaybeStep : Bool → ℕ → ℕ → (List ℕ → Type 0) → List ℕ → Type 0
-MaybeStep done at n images c = images c ⊎ (IsTrue done × OneStep at n images c)
+-- the slot stands in the place that was not chosen, in slot A where none was
+abbrev pub StandsInPlace : List ℕ → Option Slot → Slot → List ℕ → Type 0
+StandsInPlace seen chosen slot new = (at : ℕ) × IsPlace at × IsTarget seen chosen at × HasSlot new at slot
+
+-- ---- what failed
+
+-- the write at this offset, or a sync
+abbrev pub FailsAt : ℕ → Fault → Type 0
+FailsAt at (Write offset) = offset ≡ at
+FailsAt at Sync = Unit {0}
+
+-- The gate was being shut or the body written, and a crash at any moment leaves the old slot alone.
+abbrev pub StoppedBefore : {D : Type 0} → Ghosts D → ℕ → Option Slot → D → D → Fault → Type 0
+StoppedBefore g at chosen old new fault = (FailsAt at fault ⊎ FailsAt (at + 1) fault) × LeavesOnly g old new (LeftOld (g.may_leave old) chosen)
+
+-- The gate was being opened, and the body is on the disk.
+abbrev pub StoppedAtGate : {D : Type 0} → Ghosts D → ℕ → Option Slot → Slot → D → D → Fault → Type 0
+StoppedAtGate g at chosen slot old new fault = FailsAt at fault × Each (g.may_leave new) (AtGate (g.may_leave old) chosen slot)
+
+-- A write or a sync failed, in the place that is not chosen: before its gate was being opened, or at the gate.
+abbrev pub Stopped : {D : Type 0} → Ghosts D → Option Slot → Slot → D → D → Fault → Type 0
+Stopped g chosen slot old new fault =
+    (at : ℕ) × IsPlace at × IsTarget (g.seen old) chosen at × (StoppedBefore g at chosen old new fault ⊎ StoppedAtGate g at chosen slot old new fault)

@@ -4,9 +4,10 @@ ghost use Rattle.failure.specs.Counts.{Rose};
 ghost use Rattle.disk_model.specs.Crash.{Looked};
 ghost use Rattle.turtle.specs.Slots.{Chooses, StandsAt, IsOutOfForm, IsCorruptAt, IsNewer, HaveOneSequence};
 
-use crate::place::{SLOT_A, SLOT_B, SLOTS_END};
-use crate::slot::{Slot, slot_of};
+use crate::slot::slot_of;
+use device_layout::Slot;
 use disk_model::Disk;
+use limits::{SLOT_A, SLOT_B, SLOTS_END};
 use wt_code::Refusal;
 
 /// The open slot with the greater sequence; None where none is open.
@@ -19,7 +20,8 @@ pub fn choose<D: Disk>(disk: &mut D) -> Result<Option<Slot>, Refusal>
     ensures chosen { IsTrue (D.honest disk.old) → IfOk result (λ slot. (8192 ≤ length (D.seen disk.old)) × Chooses (D.seen disk.old) slot) }
     ensures corrupt { IsTrue (D.honest disk.old) → IfErr result (λ r. (r ≡ Refusal.DiskFault) ⊎ ((at : ℕ) × IsCorruptAt (D.seen disk.old) at × (r ≡ Refusal.Corrupt at 0 0))) }
     ensures fault { IfErr result (λ r. ((r ≡ Refusal.DiskFault) × Rose (D.faults disk.old) (D.faults disk.new)) ⊎ ((at : ℕ) × (r ≡ Refusal.Corrupt at 0 0))) }
-    ensures looked { Looked D.honest D.seen D.may_leave D.capacity D.faults D.moment D.left_since disk.old disk.new }
+    ensures looked { Looked D.Disk disk.old disk.new }
+    ensures home { D.home disk.new ≡ D.home disk.old }
 {
     let length = length_of(disk)?;
     if length < SLOTS_END {
@@ -33,7 +35,8 @@ pub fn choose<D: Disk>(disk: &mut D) -> Result<Option<Slot>, Refusal>
 fn length_of<D: Disk>(disk: &mut D) -> Result<u64, Refusal>
     ensures length { IsTrue (D.honest disk.old) → IfOk result (λ n. n ≡ length (D.seen disk.old)) }
     ensures fault { IfErr result (λ r. (r ≡ Refusal.DiskFault) × Rose (D.faults disk.old) (D.faults disk.new)) }
-    ensures looked { Looked D.honest D.seen D.may_leave D.capacity D.faults D.moment D.left_since disk.old disk.new }
+    ensures looked { Looked D.Disk disk.old disk.new }
+    ensures home { D.home disk.new ≡ D.home disk.old }
 {
     match disk.len() {
         Ok(length) => Ok(length),
@@ -47,7 +50,8 @@ fn slot_at<D: Disk>(disk: &mut D, at: u64) -> Result<Option<Slot>, Refusal>
     requires long { IsTrue (D.honest disk.old) → 8192 ≤ length (D.seen disk.old) }
     ensures slot { IsTrue (D.honest disk.old) → IfOk result (λ slot. StandsAt (D.seen disk.old) at slot) }
     ensures err { IfErr result (λ r. ((r ≡ Refusal.DiskFault) × Rose (D.faults disk.old) (D.faults disk.new)) ⊎ ((r ≡ Refusal.Corrupt at 0 0) × (IsTrue (D.honest disk.old) → IsOutOfForm (D.seen disk.old) at))) }
-    ensures looked { Looked D.honest D.seen D.may_leave D.capacity D.faults D.moment D.left_since disk.old disk.new }
+    ensures looked { Looked D.Disk disk.old disk.new }
+    ensures home { D.home disk.new ≡ D.home disk.old }
 {
     let mut text = [0; 36];
     match disk.read(at, &mut text) {

@@ -16,6 +16,6 @@ mod slot;
 mod tests;
 
 pub use choosing::choose;
+pub use device_layout::Slot;
 pub use installing::install;
 pub use law::{a_slot_is_its_bytes, one_slot_is_chosen};
-pub use slot::Slot;

@@ -1,44 +1,29 @@
-// A slot, and its bytes.
+// The bytes of a slot.
 ghost use Rattle.std.specs.Prelude.{◌≡◌, ◌↔◌, ◌<◌, ◌^◌, IsTrue, IfOk, IfErr, length};
 ghost use Rattle.std.specs.Int.{from_le_bytes, w32, w64};
 ghost use Rattle.turtle.specs.Slots.{slot_image, fields_of, IsSequence, StandsAt, IsOutOfForm};
 
 use crate::place::OPEN;
-
-/// What names the record of a checkpoint.
-#[derive(Clone, Copy, Debug, PartialEq, Eq)]
-pub struct Slot {
-    /// The checkpoint's number, from 1 to 2^62 - 1.
-    pub sequence: u64,
-    /// Where the record's block begins, in bytes.
-    pub offset: u64,
-    /// The size of the record's block, in bytes.
-    pub size: u32,
-    /// The sum of the record's block.
-    pub sum: u32,
-}
+use device_layout::Slot;
+use limits::NUMBER_MAX;
 
 /// An open slot whose bytes are not those of a slot.
 #[derive(Clone, Copy)]
 pub(crate) struct OutOfForm;
 
-const LAST_SEQUENCE: u64 = (1 << 62) - 1;
-
-impl Slot {
-    /// The bytes behind the gate.
-    pub(crate) fn body(self) -> [u8; 35]
-        ensures spelled { result ≡ slot_image self }
-        ensures fits { (self.offset < 2 ^ 64) × (self.size < 2 ^ 32) × (self.sum < 2 ^ 32) }
-    {
-        let mut body = [0; 35];
-        body[..7].copy_from_slice(b"WTTURTL");
-        body[7..11].copy_from_slice(&1u32.to_le_bytes());
-        body[11..19].copy_from_slice(&self.sequence.to_le_bytes());
-        body[19..27].copy_from_slice(&self.offset.to_le_bytes());
-        body[27..31].copy_from_slice(&self.size.to_le_bytes());
-        body[31..35].copy_from_slice(&self.sum.to_le_bytes());
-        body
-    }
+/// The bytes of a slot behind its gate.
+pub(crate) fn body_of(slot: Slot) -> [u8; 35]
+    ensures spelled { result ≡ slot_image slot }
+    ensures fits { (slot.offset < 2 ^ 64) × (slot.size < 2 ^ 32) × (slot.sum < 2 ^ 32) }
+{
+    let mut body = [0; 35];
+    body[..7].copy_from_slice(b"WTTURTL");
+    body[7..11].copy_from_slice(&1u32.to_le_bytes());
+    body[11..19].copy_from_slice(&slot.sequence.to_le_bytes());
+    body[19..27].copy_from_slice(&slot.offset.to_le_bytes());
+    body[27..31].copy_from_slice(&slot.size.to_le_bytes());
+    body[31..35].copy_from_slice(&slot.sum.to_le_bytes());
+    body
 }
 
 /// The slot of these 36 bytes; None where its gate is shut.
@@ -61,8 +46,8 @@ pub(crate) fn slot_of(text: &[u8; 36]) -> Result<Option<Slot>, OutOfForm>
 fn is_spelled(slot: Slot, body: &[u8]) -> bool
     ensures { IsTrue result ↔ ((body.now ≡ slot_image slot) × IsSequence slot.sequence) }
 {
-    let spelling = slot.body();
-    body == spelling.as_slice() && 1 <= slot.sequence && slot.sequence <= LAST_SEQUENCE
+    let spelling = body_of(slot);
+    body == spelling.as_slice() && 1 <= slot.sequence && slot.sequence <= NUMBER_MAX
 }
 
 // The fields behind the magic and the version.
@@ -78,7 +63,8 @@ fn fields(body: &[u8]) -> Slot
     }
 }
 
-fn number_8(field: &[u8]) -> u64
+/// The number in 8 bytes, the lowest first.
+pub(crate) fn number_8(field: &[u8]) -> u64
     requires { length field.now ≡ 8 }
     ensures { result ≡ from_le_bytes w64 field.now }
 {

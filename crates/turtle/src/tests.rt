@@ -1,5 +1,6 @@
 // What no clause says of the slots: their bytes, that calls succeed, and which calls are made.
 
+use crate::slot::body_of;
 use crate::{Slot, choose, install};
 use disk_model::{Disk, MemDisk};
 use std::alloc::Global;
@@ -30,7 +31,7 @@ fn puts(rt: &impl Abort, content: &mut [u8], at: usize, slot: Slot) {
     assert!(rt; content.len() == 8192);
     assert!(rt; at <= 4096);
     content[at] = 0xa5;
-    content[at + 1..at + 36].copy_from_slice(&slot.body());
+    content[at + 1..at + 36].copy_from_slice(&body_of(slot));
 }
 
 fn installs(rt: &impl Abort, disk: &mut MemDisk, slot: Slot) -> bool {
@@ -108,7 +109,7 @@ fn chosen_after(rt: &impl Abort, alloc: Global, failing: u64, pick: u64) -> Opti
     let mut disk = disk_of(rt, alloc, content, failing);
     assert_eq!(rt;
         installs(rt, &mut disk, slot(3)),
-        failing == 10,
+        failing == 8,
         "at {failing}"
     );
     let mut left = disk.crash(pick).expect(rt, "there is memory");
@@ -117,8 +118,8 @@ fn chosen_after(rt: &impl Abort, alloc: Global, failing: u64, pick: u64) -> Opti
 
 #[test]
 fn a_crash_around_any_failing_call_leaves_the_old_slot_or_the_new(rt: HostRuntime) {
-    // Calls 0 to 3 look, 4 and 5 shut the gate, 6 and 7 put the body, 8 and 9 open the gate.
-    for failing in 0..11 {
+    // Calls 0 and 1 look, 2 and 3 shut the gate, 4 and 5 put the body, 6 and 7 open the gate.
+    for failing in 0..9 {
         let mut is_old_left = false;
         let mut is_new_left = false;
         for pick in 0..16 {
@@ -129,7 +130,7 @@ fn a_crash_around_any_failing_call_leaves_the_old_slot_or_the_new(rt: HostRuntim
             is_old_left = is_old_left || is_old;
             is_new_left = is_new_left || is_new;
         }
-        assert_eq!(rt; is_old_left, failing < 10, "at {failing}");
-        assert_eq!(rt; is_new_left, 8 <= failing, "at {failing}");
+        assert_eq!(rt; is_old_left, failing < 8, "at {failing}");
+        assert_eq!(rt; is_new_left, 6 <= failing, "at {failing}");
     }
 }
