@@ -1,7 +1,7 @@
-pub mod FreeLemmas
-pub mod LaidLemmas
+pub mod AdmitLemmas
+pub mod HasLemmas
+pub mod HolderLemmas
 pub mod LiveLemmas
 pub mod OpenLemmas
-pub mod PlaceLemmas
-pub mod SweepLemmas
+pub mod UnitLemmas
 pub mod WriteLemmas

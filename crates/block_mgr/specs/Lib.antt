@@ -1,5 +1,6 @@
 pub mod Blocks
+pub mod Cells
+pub mod Found
 pub mod Open
 pub mod Places
-pub mod Search
 pub mod Writes

@@ -1,19 +1,60 @@
 -- The blocks of a device that is opened.
-use Rattle.std.specs.Prelude.{ℕ, ◌+◌, List, [], ◌∷◌, All, map, true, false}
-use Rattle.block_mgr.specs.declared.addr.Addr.{Addr}
-use Rattle.block_mgr.specs.declared.block.Block.{Block}
-use Rattle.block_mgr.specs.Blocks.{Laid}
+use Rattle.std.specs.Prelude.{◌≡◌, ◌⊎◌, ℕ, ◌+◌, ◌*◌, ◌/◌, ◌<◌, ◌≤◌, ◌||◌, ◌==◌, max, false, List, length, slice_index_or, if◌then◌else◌}
+use Rattle.std.specs.List.{fold}
+use Rattle.device_layout.specs.declared.addr.Addr.{Addr}
+use Rattle.block_mgr.specs.declared.cell.Cell.{Cell}
+use Rattle.block_mgr.specs.declared.found.Found.{Found}
+use Rattle.block_mgr.specs.declared.found.Holder.TheVariants.{Tree}
+use Rattle.block_mgr.specs.Cells.{nothing}
+use Rattle.block_mgr.specs.Found.{lasts, lives, name_count}
 use Rattle.block_mgr.specs.Places.{IsPlace}
 
--- the block at an address, which the live tree and the last completed checkpoint have
-abbrev pub stored : Addr → Block
-stored a = record { offset = a.offset; size = a.size; is_live = true; is_running = false; is_last = true }
+abbrev pub no_found : Found
+no_found = record { addr = record { offset = 0; size = 0; sum = 0 }; holder = Tree }
 
--- addresses of blocks one behind the other, within a device of this length
-abbrev pub AreStored : List Addr → ℕ → Type 0
-AreStored addrs len = All IsPlace addrs × Laid 8192 (map stored addrs) len
+-- the address of an index
+abbrev pub found_at : List Found → ℕ → Found
+found_at found i = slice_index_or found i no_found
 
--- where the last block ends, or this offset where there is none
-abbrev pub last_end : ℕ → List Block → ℕ
-last_end low [] = low
-last_end low (x ∷ xs) = last_end (x.offset + x.size) xs
+-- the cell of a block, once an address of it was found
+abbrev pub joined : Cell → Found → Cell
+joined c f = record { units = f.addr.size / 4096; is_live = lives f.holder || c.is_live; is_running = false; is_last = lasts f.holder || c.is_last; names = c.names + name_count f.holder }
+
+-- the same, where the address is at a unit
+abbrev pub with_found : ℕ → Cell → Found → Cell
+with_found u c f = if f.addr.offset == 8192 + 4096 * u then joined c f else c
+
+-- the cell at a unit: that of the addresses there, one after the other
+abbrev pub found_cell : List Found → ℕ → Cell
+found_cell found u = fold (with_found u) nothing found
+
+-- where the last block ends; the slots' end where there is none
+abbrev pub last_end : List Found → ℕ
+last_end found = fold {A = Found} {B = ℕ} (λ end f. max end (f.addr.offset + f.addr.size)) 8192 found
+
+-- two blocks do not meet
+abbrev pub AreApart : Addr → Addr → Type 0
+AreApart x y = (x.offset + x.size ≤ y.offset) ⊎ (y.offset + y.size ≤ x.offset)
+
+-- one block, which a named checkpoint shares
+pub record AreShared (x y : Found) : Type 0 where
+  pub offset : x.addr.offset ≡ y.addr.offset
+  pub size : x.addr.size ≡ y.addr.size
+  pub shared : (lasts x.holder ≡ false) ⊎ (lasts y.holder ≡ false)
+
+-- both can be in use
+abbrev pub Agree : Found → Found → Type 0
+Agree x y = AreApart x.addr y.addr ⊎ AreShared x y
+
+-- a block can stand there, within a device of this length
+abbrev pub Fits : Found → ℕ → Type 0
+Fits f len = IsPlace f.addr × (f.addr.offset + f.addr.size ≤ len)
+
+-- the first k addresses agree, any two of them
+abbrev pub AgreeUpTo : List Found → ℕ → Type 0
+AgreeUpTo found k = (i j : ℕ) → i < j → j < k → Agree (found_at found i) (found_at found j)
+
+-- addresses that can all be in use
+pub record AreStored (found : List Found) (len : ℕ) : Type 0 where
+  pub fit : (i : ℕ) → i < length found → Fits (found_at found i) len
+  pub agree : AgreeUpTo found (length found)

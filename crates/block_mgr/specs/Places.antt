@@ -2,7 +2,7 @@
 use Rattle.std.specs.Prelude.{◌≡◌, ◌⊎◌, ℕ, ◌+◌, ◌<◌, ◌≤◌, ◌%◌, ◌^◌, List, length}
 use Rattle.disk_model.specs.Ranges.{range}
 use Rattle.block_sum.specs.Sum.{sum_of}
-use Rattle.block_mgr.specs.declared.addr.Addr.{Addr}
+use Rattle.device_layout.specs.declared.addr.Addr.{Addr}
 
 -- an address that a block can have
 pub record IsPlace (addr : Addr) : Type 0 where

@@ -1,13 +1,15 @@
 -- What the write of a block leaves.
-use Rattle.std.specs.Prelude.{◌≡◌, ◌⊎◌, ℕ, Bool, true, false, List, length, ◌+◌, ◌≤◌}
-use Rattle.le_codec.specs.Images.{block_of, block_size}
+use Rattle.std.specs.Prelude.{◌≡◌, ◌⊎◌, ℕ, Bool, true, false, List, length, ◌+◌, ◌*◌, ◌≤◌}
+use Rattle.failure.specs.declared.Fault.{Fault}
+use Rattle.failure.specs.declared.Fault.TheVariants.{Write, Sync}
 use Rattle.block_sum.specs.Sum.{sum_of}
+use Rattle.disk_model.specs.declared.disk.Disk.{Ghosts}
 use Rattle.disk_model.specs.Disk.{Torn}
-use Rattle.disk_model.specs.Ranges.{range}
-use Rattle.disk_model.specs.Crash.{Keeps}
-use Rattle.block_mgr.specs.declared.block.Block.{Block}
-use Rattle.block_mgr.specs.declared.addr.Addr.{Addr}
-use Rattle.block_mgr.specs.Blocks.{Has}
+use Rattle.disk_model.specs.Crash.{LeavesOnly}
+use Rattle.device_layout.specs.declared.addr.Addr.{Addr}
+use Rattle.extent_list.specs.Space.{IsSpot}
+use Rattle.block_mgr.specs.Cells.{Put, cell_at, nothing, fresh}
+use Rattle.block_mgr.specs.Blocks.{Books}
 use Rattle.block_mgr.specs.Places.{IsPlace}
 
 -- what a write may begin with: an image from before, or, where a sync comes first, what is read
@@ -15,28 +17,34 @@ abbrev pub Base : Bool → List ℕ → (List ℕ → Type 0) → List ℕ → T
 Base true seen images d = images d
 Base false seen images d = d ≡ seen
 
--- such an image after a write that a crash cut short
+-- such an image after a write of n bytes that a crash cut short, or that it did not
 abbrev pub FromBase : Bool → ℕ → ℕ → List ℕ → (List ℕ → Type 0) → List ℕ → Type 0
 FromBase is_synced at n seen images c = (d : List ℕ) × Base is_synced seen images d × Torn at n d c
 
+-- at any moment of a store: an image from before, or such a one
 abbrev pub Stored : Bool → ℕ → ℕ → List ℕ → (List ℕ → Type 0) → List ℕ → Type 0
 Stored is_synced at n seen images c = images c ⊎ FromBase is_synced at n seen images c
 
--- such an image after a write that keeps what stood in the blocks in use
-abbrev pub WroteImage : List Block → Bool → List ℕ → (List ℕ → Type 0) → List ℕ → Type 0
-WroteImage blocks is_synced seen images c = (d : List ℕ) × Base is_synced seen images d × Keeps (Has blocks) d c
+-- at any moment of the write of a block of n bytes: an image from before, or one with any part of a write at the place that the books give to the block, and there alone
+abbrev pub Wrote : Books → ℕ → ℕ → List ℕ → (List ℕ → Type 0) → List ℕ → Type 0
+Wrote books n capacity seen images c = images c ⊎ ((at : ℕ) × IsSpot books.space n capacity at × FromBase books.is_synced at n seen images c)
 
-abbrev pub Wrote : List Block → Bool → List ℕ → (List ℕ → Type 0) → List ℕ → Type 0
-Wrote blocks is_synced seen images c = images c ⊎ WroteImage blocks is_synced seen images c
+-- which call of a store failed: the write at its offset; or the sync before it, where the disk was not synced yet and nothing was written
+abbrev pub StoreFault : {D : Type 0} → Ghosts D → Bool → ℕ → D → D → Fault → Type 0
+StoreFault g is_synced at old new (Write offset) = offset ≡ at
+StoreFault g is_synced at old new Sync = (is_synced ≡ false) × LeavesOnly g old new (g.may_leave old)
 
--- the block stands where the address says, and what stood in the blocks in use is as it was
-pub record Written (blocks : List Block) (old new image : List ℕ) (addr : Addr) : Type 0 where
-  pub is : range new addr.offset addr.size ≡ block_of image
-  pub within : addr.offset + addr.size ≤ length new
-  pub keeps : Keeps (Has blocks) old new
-
--- the address of an image: a place, the image's size in whole units, and the sum of its block
-pub record IsAddress (image : List ℕ) (addr : Addr) : Type 0 where
+-- the address of a block: a place of its size, and the sum of its bytes
+pub record IsAddress (block : List ℕ) (addr : Addr) : Type 0 where
   pub place : IsPlace addr
-  pub size : addr.size ≡ block_size (length image)
-  pub sum : addr.sum ≡ sum_of (block_of image)
+  pub size : addr.size ≡ length block
+  pub sum : addr.sum ≡ sum_of block
+
+-- the live tree alone has a block at the address, where none was, and the other blocks are as they were
+pub record Added (old new : Books) (addr : Addr) : Type 0 where
+  pub unit : ℕ
+  pub units : ℕ
+  pub offset : addr.offset ≡ 8192 + 4096 * unit
+  pub size : addr.size ≡ 4096 * units
+  pub none : cell_at old.cells unit ≡ nothing
+  pub put : Put old.cells new.cells (length new.space.units) unit (fresh units)

@@ -1,76 +1,43 @@
 // The blocks in use, and the free units between them.
-ghost use Rattle.std.specs.Prelude.{
-  ◌≡◌,
-  ◌⊎◌,
-  ◌↔◌,
-  ◌≤◌,
-  ◌^◌,
-  ℕ,
-  List,
-  [],
-  length,
-  true,
-  false,
-  IfOk,
-  IfSome,
-  None,
-  IfErr,
-  IsOk,
-  OnOk,
-  OnErr,
-  IsTrue,
-};
-ghost use Rattle.std.specs.List.{filter};
-ghost use Rattle.std.specs.Prelude.{map};
+ghost use Rattle.std.specs.Prelude.{◌≡◌, ◌⊎◌, ◌↔◌, ◌+◌, ◌<◌, ◌≤◌, ◌^◌, ◌%◌, ℕ, [], length, true, false, IfOk, IfErr, OnOk, OnErr, IsTrue};
+ghost use Rattle.failure.specs.declared.Fault.TheVariants.{Write, Sync};
 ghost use Rattle.failure.specs.Counts.{Rose};
-ghost use Rattle.disk_model.specs.Crash.{LeavesOnly, Each, Alike, Looked};
+ghost use Rattle.wt_code.specs.declared.store_error.StoreError.TheVariants.{NoMemory as WantOfMemory, NoSpace, Read, Down};
+ghost use Rattle.disk_model.specs.Disk.{put};
+ghost use Rattle.disk_model.specs.Crash.{SameDisk, LeavesOnly, Each, Looked};
 ghost use Rattle.disk_model.specs.Ranges.{range};
-ghost use Rattle.extent_list.specs.Space.{Taken, HasNoRoom};
-ghost use Rattle.le_codec.specs.Images.{block_size};
-ghost use Rattle.block_mgr.specs.Blocks.{
-  Books,
-  AreUnits,
-  Has,
-  HasLive,
-  Added,
-  placed,
-  freed,
-  is_used,
-  with_live,
-  with_running,
-  without_running,
-};
-ghost use Rattle.block_mgr.specs.Open.{AreStored, stored, last_end};
+ghost use Rattle.extent_list.specs.Space.{space_of, end_of, IsSpot, Taken, HasNoRoom};
+ghost use Rattle.le_codec.specs.Images.{block_of};
+ghost use Rattle.block_mgr.specs.Cells.{AreUnits, cell_at, captured, freed, done, dropped};
+ghost use Rattle.block_mgr.specs.Blocks.{Books, HasLive, unit_of};
+ghost use Rattle.block_mgr.specs.declared.found.OpenError.TheVariants.{NoPlace, Clash};
+ghost use Rattle.block_mgr.specs.Open.{AreStored, Fits, Agree, AgreeUpTo, found_at, found_cell, last_end};
 ghost use Rattle.block_mgr.specs.Places.{IsThere, Spoils};
-ghost use Rattle.block_mgr.specs.Writes.{Wrote, WroteImage, Written, IsAddress};
+ghost use Rattle.block_mgr.specs.Writes.{FromBase, Wrote, IsAddress, Added};
 
-use crate::Addr;
-use crate::block::Block;
 use crate::fill::fill;
-use crate::open::{end_of, give_gaps, lay};
+use crate::found::{Found, OpenError};
+use crate::holders::Holders;
+use crate::open::{admit_all, end_within};
 use crate::read::read_block;
-use crate::search::{is_live_at, starting_before};
 use crate::store::store;
-use crate::sweep::{complete, give_block, has_use, let_go, sweep, take_live};
-use crate::take::{add_block, find_place};
 use block_sum::sum;
+use device_layout::Addr;
 use disk_model::Disk;
-use extent_list::Extents;
 use failure::NoMemory;
+use limits::{SLOTS_END, UNIT};
 use std::alloc::Global;
 use std::marker::Model;
-use wt_code::Refusal;
+use wt_code::{Refusal, StoreError};
 
 /// The blocks in use on a device, and its free units. Contracts see it as `Books`. A block is in
-/// use while the live tree, the running checkpoint or the last completed one has it; a checkpoint
-/// that runs has each block that the live tree had when it began or has got since.
+/// use while the live tree, the running checkpoint, the last completed one or a named one has it.
+/// The running checkpoint has what it captured, and nothing else.
 #[derive(Drop)]
 pub struct Blocks {
-    // By offset.
-    blocks: Vec<Block>,
-    space: Extents,
-    is_synced: bool,
-    is_held: bool,
+    pub(crate) holders: Holders,
+    pub(crate) is_synced: bool,
+    pub(crate) is_held: bool,
 }
 
 impl Model for Blocks {
@@ -78,122 +45,177 @@ impl Model for Blocks {
 
     ghost view = { λ s.
         record {
-          blocks = s.blocks.items;
-          space = s.space;
+          cells = s.holders.cells;
+          space = s.holders.space;
           is_synced = s.is_synced;
           is_held = s.is_held;
         } };
-
-    ghost invariant = { λ s. AreUnits s.blocks.items s.space × (length s.blocks.items ≤ s.space.room) };
 }
 
 impl Blocks {
     /// A device with no block, that was not synced yet. Takes no memory.
     pub fn new(alloc: Global) -> Self
-        ensures blocks { result.blocks ≡ [] }
-        ensures end { result.space.end ≡ 8192 }
+        ensures cells { result.cells ≡ [] }
+        ensures space { result.space ≡ space_of [] }
+        ensures units { AreUnits result.cells result.space }
         ensures synced { result.is_synced ≡ false }
         ensures held { result.is_held ≡ false }
     {
         Blocks {
-            blocks: Vec::new(alloc),
-            space: Extents::new(alloc, 8192),
+            holders: Holders::new(alloc),
             is_synced: false,
             is_held: false,
         }
     }
 
-    /// The blocks of a device of this length that is opened: those at the addresses, which the live
-    /// tree and the last completed checkpoint have. Units between them are free. `None` comes
-    /// exactly where a block cannot stand at an address, or where the addresses do not ascend, one
-    /// block behind the other, within the device.
-    pub fn open(alloc: Global, addrs: &[Addr], len: u64) -> Result<Option<Self>, NoMemory>
-        ensures blocks { IfOk result (λ o. IfSome o (λ s. s.blocks ≡ map stored addrs.now)) }
-        ensures end { IfOk result (λ o. IfSome o (λ s. s.space.end ≡ last_end 8192 (map stored addrs.now))) }
-        ensures fresh { IfOk result (λ o. IfSome o (λ s. (s.is_synced ≡ false) × (s.is_held ≡ false))) }
-        ensures stored { IfOk result (λ o. IfSome o (λ s. AreStored addrs.now len)) }
-        ensures none { IfOk result (λ o. o ≡ None → AreStored addrs.now len → ⊥) }
+    /// The blocks of a device of this length that is opened: those found, each with its holders, and
+    /// the units between them free. Two addresses of one place are one block, where at most one of
+    /// them is the last completed checkpoint's; a read judges their sums.
+    ///
+    /// `NoPlace` comes exactly where no block can stand at an address, within the device: at the
+    /// first such one. `Clash` comes exactly where two blocks meet that are not one: the second is
+    /// the first address that does not agree with one before it. `O(n)` in the addresses, and in
+    /// the units of the device up to the last block.
+    pub fn open(alloc: Global, found: &[Found], len: u64) -> Result<Self, OpenError>
+        requires few { length found.now < 2 ^ 32 }
+        ensures cells { IfOk result (λ s. (u : ℕ) → cell_at s.cells u ≡ found_cell found.now u) }
+        ensures end { IfOk result (λ s. end_of s.space ≡ last_end found.now) }
+        ensures units { IfOk result (λ s. AreUnits s.cells s.space) }
+        ensures synced { IfOk result (λ s. s.is_synced ≡ false) }
+        ensures held { IfOk result (λ s. s.is_held ≡ false) }
+        ensures stored { OnOk result (AreStored found.now len) }
+        ensures no_place { (i : ℕ) → IfErr result (λ e. e ≡ NoPlace i → (i < length found.now) × (Fits (found_at found.now i) len → ⊥)) }
+        ensures clash { (i j : ℕ) → IfErr result (λ e. e ≡ Clash i j → (i < j) × (j < length found.now) × (Agree (found_at found.now i) (found_at found.now j) → ⊥)) }
+        ensures first { (i j : ℕ) → IfErr result (λ e. e ≡ Clash i j → AgreeUpTo found.now j) }
     {
-        let blocks = match lay(alloc, addrs, len)? {
-            Some(blocks) => blocks,
-            None => return Ok(None),
+        let end = match end_within(found, len) {
+            Ok(end) => end,
+            Err(error) => return Err(error),
         };
-        let mut space = Extents::new(alloc, end_of(&blocks, len));
-        give_gaps(&mut space, &blocks)?;
-        space.reserve(blocks.len())?;
-        Ok(Some(Blocks {
-            blocks,
-            space,
-            is_synced: false,
-            is_held: false,
-        }))
+        match admit_all(alloc, found, end) {
+            Ok(holders) => Ok(Blocks {
+                holders,
+                is_synced: false,
+                is_held: false,
+            }),
+            Err(error) => Err(error),
+        }
     }
 
     /// The offset up to which the device is in use. Each unit before it and behind the slots is
-    /// free or in one block.
+    /// free or in exactly one block, which someone has. `O(1)`.
     pub fn end(&self) -> u64
-        ensures end { result ≡ self.now.space.end }
-        ensures units { AreUnits self.now.blocks self.now.space }
+        ensures end { result ≡ end_of self.now.space }
+        ensures units { AreUnits self.now.cells self.now.space }
     {
-        self.space.end()
+        self.holders.end()
     }
 
-    /// Writes an image as a new block of the live tree, and of a checkpoint that runs: into free
-    /// units, or else at the end. It touches no block in use, at any moment of a crash. `NoSpace`
-    /// comes exactly where no free extent has room and the end would move past the capacity.
-    /// After a refusal the blocks and the free units are as they were, also after a disk fault,
-    /// which may leave any part of the block on the disk.
+    /// Whether a checkpoint runs. `O(1)`.
+    pub fn is_held(&self) -> bool
+        ensures { result ≡ self.now.is_held }
+    {
+        self.is_held
+    }
+
+    /// Writes an image as a new block of the live tree, with zero bytes up to the next whole unit:
+    /// as `write_block` writes the bytes of that block. Copies the image once.
     pub fn write<D: Disk>(
         &mut self,
         alloc: Global,
         disk: &mut D,
         image: &[u8],
-    ) -> Result<Addr, Refusal>
+    ) -> Result<Addr, StoreError>
         requires some { 1 ≤ length image.now }
         requires most { length image.now ≤ 2 ^ 20 }
-        requires ready { IsTrue (D.honest disk.old) → self.old.space.end ≤ length (D.seen disk.old) }
-        ensures leaves { LeavesOnly D.moment D.left_since disk.old disk.new (Wrote self.old.blocks self.old.is_synced (D.seen disk.old) (D.may_leave disk.old)) }
-
-        // Where each image has the slots and the blocks in use as they are read, so has each that a
-        // crash since the call began might have left.
-        ensures in_use { IsTrue (D.honest disk.old) → Each (D.may_leave disk.old) (Alike (Has self.old.blocks) (D.seen disk.old)) → LeavesOnly D.moment D.left_since disk.old disk.new (Alike (Has self.old.blocks) (D.seen disk.old)) }
-        ensures images { OnOk result (Each (D.may_leave disk.new) (WroteImage self.old.blocks self.old.is_synced (D.seen disk.old) (D.may_leave disk.old))) }
-        ensures written { IsTrue (D.honest disk.old) → IfOk result (Written self.old.blocks (D.seen disk.old) (D.seen disk.new) image.now) }
-        ensures address { IfOk result (IsAddress image.now) }
+        requires ready { IsTrue (D.honest disk.old) → end_of self.old.space ≤ length (D.seen disk.old) }
+        ensures written { IsTrue (D.honest disk.old) → IfOk result (λ a. D.seen disk.new ≡ put (D.seen disk.old) a.offset (block_of image.now)) }
+        ensures images { IfOk result (λ a. Each (D.may_leave disk.new) (FromBase self.old.is_synced a.offset a.size (D.seen disk.old) (D.may_leave disk.old))) }
+        ensures leaves { LeavesOnly D.Disk disk.old disk.new (Wrote self.old (length (block_of image.now)) (D.capacity disk.old) (D.seen disk.old) (D.may_leave disk.old)) }
+        ensures address { IfOk result (IsAddress (block_of image.now)) }
         ensures taken { IfOk result (λ a. Taken self.old.space self.new.space a.size (D.capacity disk.old) a.offset) }
-        ensures added { IfOk result (λ a. Added self.old.blocks self.new.blocks (placed a.offset a.size self.old.is_held)) }
-        ensures ready { IsTrue (D.honest disk.old) → OnOk result (self.new.space.end ≤ length (D.seen disk.new)) }
+        ensures added { IfOk result (Added self.old self.new) }
+
+        // Where the disk was touched, each unit was free or in exactly one block.
+        ensures before { OnErr result ((disk.new ≡ disk.old) ⊎ AreUnits self.old.cells self.old.space) }
+        ensures units { OnOk result (AreUnits self.old.cells self.old.space × AreUnits self.new.cells self.new.space) }
+        ensures ready { IsTrue (D.honest disk.old) → OnOk result (end_of self.new.space ≤ length (D.seen disk.new)) }
         ensures synced { OnOk result (self.new.is_synced ≡ true) }
         ensures held { self.new.is_held ≡ self.old.is_held }
-        ensures same_blocks { OnErr result (self.new.blocks ≡ self.old.blocks) }
-        ensures same_space { OnErr result ((self.new.space.runs ≡ self.old.space.runs) × (self.new.space.end ≡ self.old.space.end)) }
-        ensures same_sync { OnErr result (self.new.is_synced ≡ self.old.is_synced) }
-        ensures err { IfErr result (λ r. ((r ≡ Refusal.NoMemory) × (disk.new ≡ disk.old)) ⊎ ((r ≡ Refusal.NoSpace) × (disk.new ≡ disk.old) × HasNoRoom self.old.space (block_size (length image.now)) (D.capacity disk.old)) ⊎ ((r ≡ Refusal.DiskFault) × Rose (D.faults disk.old) (D.faults disk.new))) }
-        ensures full { HasNoRoom self.old.space (block_size (length image.now)) (D.capacity disk.old) → IfErr result (λ r. (r ≡ Refusal.NoMemory) ⊎ (r ≡ Refusal.NoSpace)) }
-        ensures later { D.faults disk.old ≤ D.faults disk.new }
-        ensures same { D.honest disk.new ≡ D.honest disk.old }
-        ensures capacity { D.capacity disk.new ≡ D.capacity disk.old }
+        ensures same { OnErr result (self.new ≡ self.old) }
+        ensures no_memory { IfErr result (λ e. e ≡ WantOfMemory → disk.new ≡ disk.old) }
+        ensures no_space { IfErr result (λ e. e ≡ NoSpace → (disk.new ≡ disk.old) × HasNoRoom self.old.space (length (block_of image.now)) (D.capacity disk.old)) }
+        ensures full { HasNoRoom self.old.space (length (block_of image.now)) (D.capacity disk.old) → IfErr result (λ e. (e ≡ WantOfMemory) ⊎ (e ≡ NoSpace)) }
+        ensures write_fault { (at : ℕ) → IfErr result (λ e. e ≡ Down (Write at) → IsSpot self.old.space (length (block_of image.now)) (D.capacity disk.old) at) }
+        ensures sync_fault { IfErr result (λ e. e ≡ Down Sync → (self.old.is_synced ≡ false) × LeavesOnly D.Disk disk.old disk.new (D.may_leave disk.old)) }
+        ensures no_read { IfErr result (λ e. e ≡ Read → ⊥) }
+        ensures rose { IfErr result (λ e. (e ≡ WantOfMemory) ⊎ ((e ≡ NoSpace) ⊎ Rose (D.faults disk.old) (D.faults disk.new))) }
+        ensures disk { SameDisk D.Disk disk.old disk.new }
     {
-        let bytes = fill(alloc, image)?;
-        let size = bytes.len() as u32;
-        self.blocks.reserve(1)?;
-        self.space.reserve(self.blocks.len() + 1)?;
-        let capacity = disk.capacity();
-        let at = find_place(&self.space, size, capacity)?;
-        store(disk, self.is_synced, at, &bytes)?;
-        self.is_synced = true;
-        let block = Block {
-            offset: at,
-            size,
-            is_live: true,
-            is_running: self.is_held,
-            is_last: false,
+        let bytes = match fill(alloc, image) {
+            Ok(bytes) => bytes,
+            Err(_) => return Err(StoreError::NoMemory),
         };
-        add_block(&mut self.blocks, &mut self.space, block, capacity);
+        self.write_block(disk, &bytes)
+    }
+
+    /// Writes the bytes of a block, a whole number of units, as a new block of the live tree: into
+    /// free units, or else at the end. The first write since the opening syncs before it. Takes
+    /// memory only where the end moves on, and copies nothing.
+    ///
+    /// `NoSpace` comes exactly where no free extent has room and the end would move past the
+    /// capacity. After any error the blocks and the free units are as they were; after a fault any
+    /// part of the block may stand on the disk, in units that are free or behind the end.
+    /// `O(log n)` in the free extents, and `O(bytes)`.
+    pub fn write_block<D: Disk>(&mut self, disk: &mut D, block: &[u8]) -> Result<Addr, StoreError>
+        requires some { 1 ≤ length block.now }
+        requires most { length block.now ≤ 2 ^ 20 }
+        requires whole { length block.now % 4096 ≡ 0 }
+        requires ready { IsTrue (D.honest disk.old) → end_of self.old.space ≤ length (D.seen disk.old) }
+        ensures written { IsTrue (D.honest disk.old) → IfOk result (λ a. D.seen disk.new ≡ put (D.seen disk.old) a.offset block.now) }
+        ensures images { IfOk result (λ a. Each (D.may_leave disk.new) (FromBase self.old.is_synced a.offset a.size (D.seen disk.old) (D.may_leave disk.old))) }
+
+        // At any moment of the call, also of one that failed.
+        ensures leaves { LeavesOnly D.Disk disk.old disk.new (Wrote self.old (length block.now) (D.capacity disk.old) (D.seen disk.old) (D.may_leave disk.old)) }
+        ensures address { IfOk result (IsAddress block.now) }
+        ensures taken { IfOk result (λ a. Taken self.old.space self.new.space a.size (D.capacity disk.old) a.offset) }
+        ensures added { IfOk result (Added self.old self.new) }
+        ensures before { AreUnits self.old.cells self.old.space }
+        ensures units { AreUnits self.new.cells self.new.space }
+        ensures ready { IsTrue (D.honest disk.old) → OnOk result (end_of self.new.space ≤ length (D.seen disk.new)) }
+        ensures synced { OnOk result (self.new.is_synced ≡ true) }
+        ensures held { self.new.is_held ≡ self.old.is_held }
+        ensures same { OnErr result (self.new ≡ self.old) }
+        ensures no_memory { IfErr result (λ e. e ≡ WantOfMemory → disk.new ≡ disk.old) }
+        ensures no_space { IfErr result (λ e. e ≡ NoSpace → (disk.new ≡ disk.old) × HasNoRoom self.old.space (length block.now) (D.capacity disk.old)) }
+        ensures full { HasNoRoom self.old.space (length block.now) (D.capacity disk.old) → IfErr result (λ e. (e ≡ WantOfMemory) ⊎ (e ≡ NoSpace)) }
+        ensures write_fault { (at : ℕ) → IfErr result (λ e. e ≡ Down (Write at) → IsSpot self.old.space (length block.now) (D.capacity disk.old) at) }
+        ensures sync_fault { IfErr result (λ e. e ≡ Down Sync → (self.old.is_synced ≡ false) × LeavesOnly D.Disk disk.old disk.new (D.may_leave disk.old)) }
+        ensures no_read { IfErr result (λ e. e ≡ Read → ⊥) }
+        ensures rose { IfErr result (λ e. (e ≡ WantOfMemory) ⊎ ((e ≡ NoSpace) ⊎ Rose (D.faults disk.old) (D.faults disk.new))) }
+        ensures disk { SameDisk D.Disk disk.old disk.new }
+    {
+        let units = (block.len() as u64 / UNIT) as u16;
+        let end = self.holders.end();
+        let capacity = disk.capacity();
+        let unit = match self.holders.place(units, capacity) {
+            Ok(Some(unit)) => unit,
+            Ok(None) => return Err(StoreError::NoSpace),
+            Err(_) => return Err(StoreError::NoMemory),
+        };
+        let offset = SLOTS_END + UNIT * unit as u64;
+        match store(disk, self.is_synced, offset, block) {
+            Ok(()) => {}
+            Err(fault) => {
+                self.holders.withdraw(unit, units, end);
+                return Err(StoreError::Down(fault));
+            }
+        }
+        self.is_synced = true;
         Ok(Addr {
-            offset: at,
-            size,
-            sum: sum(&bytes),
+            offset,
+            size: block.len() as u32,
+            sum: sum(block),
         })
     }
 
@@ -202,88 +224,97 @@ impl Blocks {
         ensures bytes { IsTrue (D.honest disk.old) → IfOk result (λ v. IsThere (D.seen disk.old) addr × (v.items ≡ range (D.seen disk.old) addr.offset addr.size)) }
         ensures corrupt { IsTrue (D.honest disk.old) → (offset want found : ℕ) → IfErr result (λ r. r ≡ Refusal.Corrupt offset want found → (offset ≡ addr.offset) × (want ≡ addr.sum) × Spoils (D.seen disk.old) addr found) }
         ensures err { IfErr result (λ r. (r ≡ Refusal.NoMemory) ⊎ ((r ≡ Refusal.DiskFault) × Rose (D.faults disk.old) (D.faults disk.new)) ⊎ ((found : ℕ) × (r ≡ Refusal.Corrupt addr.offset addr.sum found))) }
-        ensures looked { Looked D.honest D.seen D.may_leave D.capacity D.faults D.moment D.left_since disk.old disk.new }
+        ensures looked { Looked D.Disk disk.old disk.new }
+        ensures home { D.home disk.new ≡ D.home disk.old }
     {
         read_block(alloc, disk, addr)
     }
 
-    /// Whether the live tree has a block of this place and size: what `free` asks for.
-    /// `O(log n)` in the number of blocks.
+    /// Whether the live tree has a block of this place and size: what `capture` and `free` ask for.
+    /// `O(1)`.
     pub fn is_live(&self, addr: Addr) -> bool
-        ensures { IsTrue result ↔ HasLive self.now.blocks addr.offset addr.size }
+        ensures { IsTrue result ↔ HasLive self.now.cells addr.offset addr.size }
     {
-        let i = starting_before(&self.blocks, addr.offset);
-        if i == self.blocks.len() {
+        let size = addr.size as u64;
+        if addr.offset < SLOTS_END || addr.offset % UNIT != 0 || size % UNIT != 0 {
             return false;
         }
-        is_live_at(self.blocks[i], addr)
+        let unit = (addr.offset - SLOTS_END) / UNIT;
+        self.holders.is_live(unit, (size / UNIT) as u32)
     }
 
-    /// The live tree lets go of a block. Its units are free where no checkpoint has it. Takes no
-    /// memory. `O(log n)` in the number of blocks to find it.
-    pub fn free(&mut self, addr: Addr) -> Result<(), NoMemory>
-        requires { HasLive self.old.blocks addr.offset addr.size }
-        ensures sure { IsOk result }
-        ensures blocks { self.new.blocks ≡ freed addr.offset self.old.blocks }
-        ensures end { self.new.space.end ≡ self.old.space.end }
-        ensures synced { self.new.is_synced ≡ self.old.is_synced }
-        ensures held { self.new.is_held ≡ self.old.is_held }
-    {
-        let i = starting_before(&self.blocks, addr.offset);
-        let block = Block {
-            is_live: false,
-            ..self.blocks[i]
-        };
-        if has_use(&block) {
-            self.blocks[i] = block;
-        } else {
-            self.blocks.remove(i);
-            give_block(&mut self.space, block);
-        }
-        Ok(())
-    }
-
-    /// A checkpoint begins to run: it has the blocks that the live tree has now, and those that
-    /// are written until it ends. Takes no memory.
-    pub fn ckpt_hold(&mut self) -> Result<(), NoMemory>
-        ensures sure { IsOk result }
-        ensures blocks { self.new.blocks ≡ map with_live self.old.blocks }
-        ensures end { self.new.space.end ≡ self.old.space.end }
+    /// A checkpoint begins to run. It has no block before it captures one. Takes no memory. `O(1)`.
+    pub fn ckpt_hold(&mut self)
+        requires idle { self.old.is_held ≡ false }
+        ensures cells { self.new.cells ≡ self.old.cells }
+        ensures space { self.new.space ≡ self.old.space }
         ensures synced { self.new.is_synced ≡ self.old.is_synced }
         ensures held { self.new.is_held ≡ true }
     {
-        take_live(&mut self.blocks);
         self.is_held = true;
-        Ok(())
     }
 
-    /// The running checkpoint is the last completed one now. The units of blocks that neither it
-    /// nor the live tree has are free. Takes no memory.
-    pub fn ckpt_done(&mut self) -> Result<(), NoMemory>
-        ensures sure { IsOk result }
-        ensures blocks { self.new.blocks ≡ filter is_used (map with_running self.old.blocks) }
-        ensures end { self.new.space.end ≡ self.old.space.end }
+    /// The running checkpoint captures a block of the live tree: it has the block from now on, also
+    /// after the live tree lets go of it. Takes no memory. `O(1)`.
+    pub fn capture(&mut self, addr: Addr)
+        requires live { HasLive self.old.cells addr.offset addr.size }
+        requires held { self.old.is_held ≡ true }
+        ensures cells { self.new.cells ≡ captured self.old.cells (unit_of addr.offset) }
+        ensures space { self.new.space ≡ self.old.space }
+        ensures synced { self.new.is_synced ≡ self.old.is_synced }
+        ensures held { self.new.is_held ≡ self.old.is_held }
+    {
+        let unit = unit_at(addr.offset);
+        self.holders.capture(unit);
+    }
+
+    /// The live tree lets go of a block. Its units are free at once where no checkpoint has it,
+    /// also while one runs. Takes no memory. `O(1)` in the number of blocks.
+    pub fn free(&mut self, addr: Addr)
+        requires { HasLive self.old.cells addr.offset addr.size }
+        ensures cells { self.new.cells ≡ freed self.old.cells (unit_of addr.offset) }
+        ensures end { end_of self.new.space ≡ end_of self.old.space }
+        ensures units { AreUnits self.new.cells self.new.space }
+        ensures synced { self.new.is_synced ≡ self.old.is_synced }
+        ensures held { self.new.is_held ≡ self.old.is_held }
+    {
+        let unit = unit_at(addr.offset);
+        self.holders.free(unit);
+    }
+
+    /// The running checkpoint is the last completed one now. The units of blocks that nobody has
+    /// any more are free. Takes no memory. One pass over the units of the device.
+    pub fn ckpt_done(&mut self)
+        requires held { self.old.is_held ≡ true }
+        ensures cells { self.new.cells ≡ done self.old.cells }
+        ensures end { end_of self.new.space ≡ end_of self.old.space }
+        ensures units { AreUnits self.new.cells self.new.space }
         ensures synced { self.new.is_synced ≡ self.old.is_synced }
         ensures held { self.new.is_held ≡ false }
     {
-        complete(&mut self.blocks);
-        sweep(&mut self.blocks, &mut self.space);
+        self.holders.complete();
         self.is_held = false;
-        Ok(())
     }
 
-    /// The running checkpoint is given up. The units of blocks that neither the live tree nor the
-    /// last completed checkpoint has are free. Takes no memory.
-    pub fn ckpt_drop(&mut self) -> Result<(), NoMemory>
-        ensures sure { IsOk result }
-        ensures blocks { self.new.blocks ≡ filter is_used (map without_running self.old.blocks) }
-        ensures end { self.new.space.end ≡ self.old.space.end }
+    /// The running checkpoint is given up. The units of blocks that nobody has any more are free.
+    /// Takes no memory. One pass over the units of the device.
+    pub fn ckpt_drop(&mut self)
+        requires held { self.old.is_held ≡ true }
+        ensures cells { self.new.cells ≡ dropped self.old.cells }
+        ensures end { end_of self.new.space ≡ end_of self.old.space }
+        ensures units { AreUnits self.new.cells self.new.space }
         ensures synced { self.new.is_synced ≡ self.old.is_synced }
         ensures held { self.new.is_held ≡ false }
     {
-        let_go(&mut self.blocks);
-        sweep(&mut self.blocks, &mut self.space);
+        self.holders.let_go();
         self.is_held = false;
-        Ok(())
     }
+}
+
+// The unit at an offset behind the slots.
+fn unit_at(offset: u64) -> usize
+    requires { 8192 ≤ offset }
+    ensures { result ≡ unit_of offset }
+{
+    ((offset - SLOTS_END) / UNIT) as usize
 }

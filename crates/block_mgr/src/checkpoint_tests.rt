@@ -1,12 +1,10 @@
-// Which units are used again, and when: blocks freed, checkpoints held, done and given up.
-
-use crate::{Addr, Blocks};
-use disk_model::{Call, Disk, MemDisk};
+// Which units are used again, and when: blocks freed and captured, checkpoints done and given up.
+use crate::{Addr, Blocks, Found, Holder};
+use disk_model::{Disk, MemDisk};
 use std::alloc::Global;
 use std::process::Abort;
-use wt_code::Refusal;
+use wt_code::StoreError;
 
-// A new device with two slots of zeros.
 fn new_disk(rt: &impl Abort, alloc: Global, capacity: u64, failing: &[u64]) -> MemDisk {
     let mut content = Vec::new(alloc);
     content.resize(8192, 0).expect(rt, "there is memory");
@@ -14,161 +12,178 @@ fn new_disk(rt: &impl Abort, alloc: Global, capacity: u64, failing: &[u64]) -> M
     MemDisk::new(alloc, content, capacity, failing).expect(rt, "there is memory")
 }
 
-// Where a block for so many bytes goes, or why it goes nowhere.
+// Where a block of so many units goes, or why it goes nowhere.
 fn writes(
     rt: &impl Abort,
     alloc: Global,
     blocks: &mut Blocks,
     disk: &mut MemDisk,
-    length: usize,
-) -> Result<Addr, Refusal> {
+    units: usize,
+) -> Result<Addr, StoreError> {
     assert!(rt; blocks.end() <= disk.bytes().len() as u64);
-    assert!(rt; 1 <= length && length <= 1_048_576);
-    let mut image = Vec::new(alloc);
-    image.resize(length, 1).expect(rt, "there is memory");
-    blocks.write(alloc, disk, &image)
+    assert!(rt; 1 <= units && units <= 256);
+    let mut block = Vec::new(alloc);
+    block.resize(units * 4096, 1).expect(rt, "there is memory");
+    blocks.write_block(disk, &block)
 }
 
-// The address of a block that fits.
-fn block(rt: &impl Abort, alloc: Global, blocks: &mut Blocks, disk: &mut MemDisk) -> Addr {
+// A block of one unit that fits.
+fn unit(rt: &impl Abort, alloc: Global, blocks: &mut Blocks, disk: &mut MemDisk) -> Addr {
     writes(rt, alloc, blocks, disk, 1).expect(rt, "it fits")
+}
+
+fn captures(rt: &impl Abort, blocks: &mut Blocks, addr: Addr) {
+    assert!(rt; blocks.is_held() && blocks.is_live(addr));
+    blocks.capture(addr);
 }
 
 fn frees(rt: &impl Abort, blocks: &mut Blocks, addr: Addr) {
     assert!(rt; blocks.is_live(addr));
-    assert!(rt; blocks.free(addr).is_ok());
+    blocks.free(addr);
     assert!(rt; !blocks.is_live(addr));
 }
 
-#[test]
-fn a_block_freed_is_used_again(rt: HostRuntime) {
-    let mut disk = new_disk(&rt, rt.alloc(), 1_048_576, &[]);
-    let mut blocks = Blocks::new(rt.alloc());
-    let first = block(&rt, rt.alloc(), &mut blocks, &mut disk);
-    let second = block(&rt, rt.alloc(), &mut blocks, &mut disk);
-    assert_eq!(rt; first.offset, 8192);
-    assert_eq!(rt; second.offset, 12288);
-    let longer = Addr {
-        size: 8192,
-        ..second
-    };
-    assert!(rt; !blocks.is_live(longer));
-    frees(&rt, &mut blocks, first);
-    assert!(rt; blocks.is_live(second));
-    let third = block(&rt, rt.alloc(), &mut blocks, &mut disk);
-    assert_eq!(rt; third.offset, 8192);
-    let fourth = block(&rt, rt.alloc(), &mut blocks, &mut disk);
-    assert_eq!(rt; fourth.offset, 16384);
-    assert_eq!(rt; blocks.end(), 20480);
+fn begins(rt: &impl Abort, blocks: &mut Blocks) {
+    assert!(rt; !blocks.is_held());
+    blocks.ckpt_hold();
 }
 
-#[test]
-fn a_block_of_the_last_checkpoint_is_kept_until_the_next_is_complete(rt: HostRuntime) {
-    let mut disk = new_disk(&rt, rt.alloc(), 1_048_576, &[]);
-    let mut blocks = Blocks::new(rt.alloc());
-    let first = block(&rt, rt.alloc(), &mut blocks, &mut disk);
-    assert!(rt; blocks.ckpt_hold().is_ok());
-    assert!(rt; blocks.ckpt_done().is_ok());
-    // The first is the last checkpoint's, and the live tree's no longer.
-    frees(&rt, &mut blocks, first);
-    let second = block(&rt, rt.alloc(), &mut blocks, &mut disk);
-    assert_eq!(rt; second.offset, 12288);
-    // The next checkpoint has the second and the third. The second is freed while it runs.
-    assert!(rt; blocks.ckpt_hold().is_ok());
-    let third = block(&rt, rt.alloc(), &mut blocks, &mut disk);
-    assert_eq!(rt; third.offset, 16384);
-    frees(&rt, &mut blocks, second);
-    let fourth = block(&rt, rt.alloc(), &mut blocks, &mut disk);
-    assert_eq!(rt; fourth.offset, 20480);
-    assert!(rt; blocks.ckpt_done().is_ok());
-    // The first is free now. The second is the last checkpoint's.
-    let fifth = block(&rt, rt.alloc(), &mut blocks, &mut disk);
-    assert_eq!(rt; fifth.offset, 8192);
-    let sixth = block(&rt, rt.alloc(), &mut blocks, &mut disk);
-    assert_eq!(rt; sixth.offset, 24576);
-    assert!(rt; blocks.ckpt_hold().is_ok());
-    assert!(rt; blocks.ckpt_done().is_ok());
-    let seventh = block(&rt, rt.alloc(), &mut blocks, &mut disk);
-    assert_eq!(rt; seventh.offset, 12288);
-}
-
-#[test]
-fn a_checkpoint_given_up_gives_its_blocks_back(rt: HostRuntime) {
-    let mut disk = new_disk(&rt, rt.alloc(), 1_048_576, &[]);
-    let mut blocks = Blocks::new(rt.alloc());
-    let first = block(&rt, rt.alloc(), &mut blocks, &mut disk);
-    assert!(rt; blocks.ckpt_hold().is_ok());
-    assert!(rt; blocks.ckpt_done().is_ok());
-    frees(&rt, &mut blocks, first);
-    assert!(rt; blocks.ckpt_hold().is_ok());
-    let second = block(&rt, rt.alloc(), &mut blocks, &mut disk);
-    assert_eq!(rt; second.offset, 12288);
-    frees(&rt, &mut blocks, second);
-    let third = block(&rt, rt.alloc(), &mut blocks, &mut disk);
-    assert_eq!(rt; third.offset, 16384);
-    assert!(rt; blocks.ckpt_drop().is_ok());
-    // The second is free. The third is the live tree's, and the first the last checkpoint's.
-    let fourth = block(&rt, rt.alloc(), &mut blocks, &mut disk);
-    assert_eq!(rt; fourth.offset, 12288);
-    let fifth = block(&rt, rt.alloc(), &mut blocks, &mut disk);
-    assert_eq!(rt; fifth.offset, 20480);
-    assert!(rt; blocks.is_live(third));
-}
-
-#[test]
-fn no_space_takes_nothing(rt: HostRuntime) {
-    let mut disk = new_disk(&rt, rt.alloc(), 16384, &[]);
-    let mut blocks = Blocks::new(rt.alloc());
-    let first = block(&rt, rt.alloc(), &mut blocks, &mut disk);
-    let long = writes(&rt, rt.alloc(), &mut blocks, &mut disk, 4097);
-    assert!(rt; matches!(long, Err(Refusal::NoSpace)));
-    assert_eq!(rt; blocks.end(), 12288);
-    let second = block(&rt, rt.alloc(), &mut blocks, &mut disk);
-    assert_eq!(rt; second.offset, 12288);
-    let full = writes(&rt, rt.alloc(), &mut blocks, &mut disk, 1);
-    assert!(rt; matches!(full, Err(Refusal::NoSpace)));
-    frees(&rt, &mut blocks, first);
-    let long_still = writes(&rt, rt.alloc(), &mut blocks, &mut disk, 4097);
-    assert!(rt; matches!(long_still, Err(Refusal::NoSpace)));
-    let third = writes(&rt, rt.alloc(), &mut blocks, &mut disk, 4096);
-    assert!(rt; matches!(third, Ok(addr) if addr.offset == 8192 && addr.size == 4096));
-    assert_eq!(rt; disk.faults(), 0);
-}
-
-fn is_write_at(call: &Call, offset: u64) -> bool {
-    match call {
-        Call::Wrote(at, _) => *at == offset,
-        Call::Missed(_, _) => false,
-        Call::Synced => false,
-        Call::Looked => false,
+fn ends(rt: &impl Abort, blocks: &mut Blocks, is_complete: bool) {
+    assert!(rt; blocks.is_held());
+    if is_complete {
+        blocks.ckpt_done();
+    } else {
+        blocks.ckpt_drop();
     }
 }
 
 #[test]
-fn the_first_write_after_an_opening_is_behind_a_sync(rt: HostRuntime) {
-    let mut disk = new_disk(&rt, rt.alloc(), 1_048_576, &[]);
-    let opened = Blocks::open(rt.alloc(), &[], 8192).expect(&rt, "there is memory");
-    let mut blocks = opened.expect(&rt, "no block is out of place");
-    block(&rt, rt.alloc(), &mut blocks, &mut disk);
-    block(&rt, rt.alloc(), &mut blocks, &mut disk);
-    assert!(rt; disk.calls().len() == 3);
-    assert!(rt; matches!(&disk.calls()[0], Call::Synced));
-    assert!(rt; is_write_at(&disk.calls()[1], 8192));
-    assert!(rt; is_write_at(&disk.calls()[2], 12288));
+fn a_block_of_a_checkpoint_stays_until_the_next_is_complete(rt: HostRuntime) {
+    let alloc = rt.alloc();
+    let mut disk = new_disk(&rt, alloc, 1_048_576, &[]);
+    let mut blocks = Blocks::new(alloc);
+    let first = unit(&rt, alloc, &mut blocks, &mut disk);
+    let second = unit(&rt, alloc, &mut blocks, &mut disk);
+    assert!(rt; first.offset == 8192 && second.offset == 12288);
+    begins(&rt, &mut blocks);
+    captures(&rt, &mut blocks, first);
+    // Nobody else has the second one: its unit is used again at once.
+    frees(&rt, &mut blocks, second);
+    let third = unit(&rt, alloc, &mut blocks, &mut disk);
+    assert_eq!(rt; third.offset, 12288);
+    ends(&rt, &mut blocks, true);
+    frees(&rt, &mut blocks, first);
+    let fourth = unit(&rt, alloc, &mut blocks, &mut disk);
+    assert_eq!(rt; fourth.offset, 16384);
+    // One that is given up lets go of what it captured alone.
+    begins(&rt, &mut blocks);
+    captures(&rt, &mut blocks, fourth);
+    frees(&rt, &mut blocks, fourth);
+    let fifth = unit(&rt, alloc, &mut blocks, &mut disk);
+    assert_eq!(rt; fifth.offset, 20480);
+    ends(&rt, &mut blocks, false);
+    let sixth = unit(&rt, alloc, &mut blocks, &mut disk);
+    assert_eq!(rt; sixth.offset, 16384);
+    // The next one has the third alone, so the unit of the first is free.
+    begins(&rt, &mut blocks);
+    captures(&rt, &mut blocks, third);
+    ends(&rt, &mut blocks, true);
+    let seventh = unit(&rt, alloc, &mut blocks, &mut disk);
+    assert_eq!(rt; seventh.offset, 8192);
 }
 
 #[test]
-fn a_fault_takes_nothing(rt: HostRuntime) {
+fn a_leaf_that_each_checkpoint_writes_anew_takes_two_units(rt: HostRuntime) {
+    let alloc = rt.alloc();
+    let mut disk = new_disk(&rt, alloc, 16384, &[]);
+    let mut blocks = Blocks::new(alloc);
+    let mut leaf = unit(&rt, alloc, &mut blocks, &mut disk);
+    for _ in 0..1000 {
+        begins(&rt, &mut blocks);
+        captures(&rt, &mut blocks, leaf);
+        ends(&rt, &mut blocks, true);
+        frees(&rt, &mut blocks, leaf);
+        leaf = unit(&rt, alloc, &mut blocks, &mut disk);
+    }
+    assert_eq!(rt; blocks.end(), 16384);
+}
+
+#[test]
+fn a_write_that_is_refused_takes_nothing(rt: HostRuntime) {
+    let alloc = rt.alloc();
     // Calls 0 and 1 are the first sync and the write behind it.
     for failing in 0..2 {
-        let mut disk = new_disk(&rt, rt.alloc(), 1_048_576, &[failing]);
-        let mut blocks = Blocks::new(rt.alloc());
-        let fault = writes(&rt, rt.alloc(), &mut blocks, &mut disk, 1);
-        assert!(rt; matches!(fault, Err(Refusal::DiskFault)), "at {failing}");
-        assert_eq!(rt; disk.faults(), 1, "at {failing}");
+        let mut disk = new_disk(&rt, alloc, 16384, &[failing]);
+        let mut blocks = Blocks::new(alloc);
+        let fault = writes(&rt, alloc, &mut blocks, &mut disk, 1);
+        assert!(rt; matches!(fault, Err(StoreError::Down(_))), "at {failing}");
         assert_eq!(rt; blocks.end(), 8192, "at {failing}");
-        let again = block(&rt, rt.alloc(), &mut blocks, &mut disk);
+        let again = unit(&rt, alloc, &mut blocks, &mut disk);
         assert_eq!(rt; again.offset, 8192, "at {failing}");
+        let long = writes(&rt, alloc, &mut blocks, &mut disk, 2);
+        assert!(rt; matches!(long, Err(StoreError::NoSpace)), "at {failing}");
         assert_eq!(rt; blocks.end(), 12288, "at {failing}");
+        let last = unit(&rt, alloc, &mut blocks, &mut disk);
+        assert_eq!(rt; last.offset, 12288, "at {failing}");
+    }
+}
+
+// A device with two slots of bytes 17 and one block of bytes 178 at 8,192, of the last checkpoint.
+// The live tree lets go of the block; a checkpoint is given up, and the next one writes its block.
+fn run(rt: &impl Abort, alloc: Global, failing: u64) -> MemDisk {
+    let mut content = Vec::new(alloc);
+    content.resize(8192, 17).expect(rt, "there is memory");
+    content.resize(12288, 178).expect(rt, "there is memory");
+    let calls = Vec::from_slice(alloc, &[failing]).expect(rt, "there is memory");
+    let made = MemDisk::new(alloc, content, 1_048_576, calls);
+    let mut disk = made.expect(rt, "there is memory");
+    let addr = Addr {
+        offset: 8192,
+        size: 4096,
+        sum: 0,
+    };
+    let holder = Holder::Tree;
+    let opened = Blocks::open(alloc, &[Found { addr, holder }], 12288);
+    let mut blocks = match opened {
+        Ok(blocks) => blocks,
+        Err(_) => return disk,
+    };
+    begins(rt, &mut blocks);
+    frees(rt, &mut blocks, addr);
+    let Ok(first) = writes(rt, alloc, &mut blocks, &mut disk, 1) else {
+        return disk;
+    };
+    captures(rt, &mut blocks, first);
+    frees(rt, &mut blocks, first);
+    ends(rt, &mut blocks, false);
+    begins(rt, &mut blocks);
+    let Ok(second) = writes(rt, alloc, &mut blocks, &mut disk, 2) else {
+        return disk;
+    };
+    captures(rt, &mut blocks, second);
+    assert!(rt; first.offset == 12288 && second.offset == 16384);
+    disk
+}
+
+#[test]
+fn a_crash_around_any_failing_call_leaves_the_last_checkpoint(rt: HostRuntime) {
+    for failing in 0..4 {
+        for pick in 0..16 {
+            let disk = run(&rt, rt.alloc(), failing);
+            let left = disk.crash(pick).expect(&rt, "there is memory");
+            assert!(rt; left.bytes().len() >= 12288, "at {failing}, {pick}");
+            assert!(rt;
+                left.bytes().iter().take(8192).all(|byte| *byte == 17),
+                "at {failing}, {pick}"
+            );
+            assert!(rt;
+                left.bytes()
+                    .iter()
+                    .skip(8192)
+                    .take(4096)
+                    .all(|byte| *byte == 178),
+                "at {failing}, {pick}"
+            );
+        }
     }
 }

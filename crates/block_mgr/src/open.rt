@@ -1,118 +1,105 @@
-// The blocks of a device that is opened, and the gaps between them.
-ghost use Rattle.std.specs.Prelude.{
-  ◌≡◌,
-  ◌+◌,
-  ◌-◌,
-  ◌≤◌,
-  ℕ,
-  All,
-  map,
-  IfOk,
-  IfSome,
-  None,
-  OnOk,
-};
-ghost use Rattle.extent_list.specs.Space.{Free, Gave, IsFree, IsWhole};
-ghost use Rattle.block_mgr.specs.Blocks.{AreUnits, Laid};
-ghost use Rattle.block_mgr.specs.Open.{AreStored, stored, last_end};
+// The blocks of a device that is opened.
+ghost use Rattle.std.specs.Prelude.{◌≡◌, ◌⊎◌, ◌↔◌, ◌+◌, ◌<◌, ◌≤◌, ◌^◌, ℕ, false, length, IfOk, IfErr, OnOk, IsTrue, max};
+ghost use Rattle.extent_list.specs.Space.{end_of, IsWhole};
+ghost use Rattle.block_mgr.specs.declared.found.OpenError.TheVariants.{NoMemory as WantOfMemory, NoPlace, Clash};
+ghost use Rattle.block_mgr.specs.Cells.{AreUnits, cell_at};
+ghost use Rattle.block_mgr.specs.Open.{Fits, Agree, AgreeUpTo, found_at, found_cell, last_end};
 
 use crate::Addr;
-use crate::block::Block;
-use crate::place::follows;
-use extent_list::Extents;
-use failure::NoMemory;
+use crate::admit::{admit, all_free, no_blocks};
+use crate::found::{Found, OpenError, is_of_last};
+use crate::holders::Holders;
+use crate::place::{is_place, is_within};
+use limits::SLOTS_END;
 use std::alloc::Global;
 
-// The blocks at these addresses, where they stand one behind the other.
-pub(crate) fn lay(alloc: Global, addrs: &[Addr], len: u64) -> Result<Option<Vec<Block>>, NoMemory>
-    ensures laid { IfOk result (λ o. IfSome o (λ v. (v.items ≡ map stored addrs.now) × AreStored addrs.now len)) }
-    ensures whole { IfOk result (λ o. IfSome o (λ v. All (λ x. IsWhole x.offset × IsWhole x.size) v.items)) }
-    ensures none { IfOk result (λ o. o ≡ None → AreStored addrs.now len → ⊥) }
+// Where the last block ends; each can stand within a device of this length.
+pub(crate) fn end_within(found: &[Found], len: u64) -> Result<u64, OpenError>
+    ensures end { IfOk result (λ e. e ≡ last_end found.now) }
+    ensures behind { IfOk result (λ e. 8192 ≤ e) }
+    ensures whole { IfOk result (λ e. IsWhole e) }
+    ensures before { IfOk result (λ e. (i : ℕ) → i < length found.now → (found_at found.now i).addr.offset + (found_at found.now i).addr.size ≤ e) }
+    ensures fit { OnOk result ((i : ℕ) → i < length found.now → Fits (found_at found.now i) len) }
+    ensures err { IfErr result (λ e. (i : ℕ) × (e ≡ NoPlace i) × (i < length found.now) × (Fits (found_at found.now i) len → ⊥)) }
 {
-    let mut blocks = Vec::new(alloc);
-    let mut end: u64 = 8192;
-    for i in 0..addrs.len() {
-        let addr = addrs[i];
-        if !follows(addr, end, len) {
-            return Ok(None);
+    let mut end: u64 = SLOTS_END;
+    for i in 0..found.len() {
+        let addr = found[i].addr;
+        if !is_place(addr) || !is_within(addr, len) {
+            return Err(OpenError::NoPlace(i));
         }
-        if blocks.push(stored_block(addr)).is_err() {
-            return Err(NoMemory);
+        end = later_end(end, addr, len);
+    }
+    Ok(end)
+}
+
+// The greater one of an offset and the end of a block.
+fn later_end(end: u64, addr: Addr, len: u64) -> u64
+    requires { addr.offset + addr.size ≤ len }
+    ensures { result ≡ max end (addr.offset + addr.size) }
+{
+    let room = len - addr.offset;
+    prove!(addr.size as u64 <= room);
+    end.max(addr.offset + addr.size as u64)
+}
+
+// The blocks found, each in its units.
+pub(crate) fn admit_all(alloc: Global, found: &[Found], end: u64) -> Result<Holders, OpenError>
+    requires few { length found.now < 2 ^ 32 }
+    requires behind { 8192 ≤ end }
+    requires whole { IsWhole end }
+    requires fit { (i : ℕ) → i < length found.now → Fits (found_at found.now i) end }
+    ensures cells { IfOk result (λ h. (u : ℕ) → cell_at h.cells u ≡ found_cell found.now u) }
+    ensures end { IfOk result (λ h. end_of h.space ≡ end) }
+    ensures units { IfOk result (λ h. AreUnits h.cells h.space) }
+    ensures agree { OnOk result (AgreeUpTo found.now (length found.now)) }
+    ensures err { IfErr result (λ e. (e ≡ WantOfMemory) ⊎ ((i : ℕ) × (j : ℕ) × (e ≡ Clash i j) × (i < j) × (j < length found.now) × AgreeUpTo found.now j × (Agree (found_at found.now i) (found_at found.now j) → ⊥))) }
+{
+    let mut cells = match no_blocks(alloc, end) {
+        Ok(cells) => cells,
+        Err(_) => return Err(OpenError::NoMemory),
+    };
+    let mut space = match all_free(alloc, end) {
+        Ok(space) => space,
+        Err(_) => return Err(OpenError::NoMemory),
+    };
+    for i in 0..found.len() {
+        if !admit(&mut cells, &mut space, found[i]) {
+            return Err(OpenError::Clash(first_clash(found, i), i));
         }
-        end = addr.offset + addr.size as u64;
     }
-    if len < end {
-        return Ok(None);
-    }
-    Ok(Some(blocks))
+    Ok(Holders { cells, space })
 }
 
-// The block at an address, which the live tree and the last completed checkpoint have.
-fn stored_block(addr: Addr) -> Block
-    ensures { result ≡ stored addr }
+// The first address that does not agree with the one of this index. There is one before it.
+fn first_clash(found: &[Found], i: usize) -> usize
+    requires within { i < length found.now }
+    requires one { (j : ℕ) × (j < i) × (Agree (found_at found.now j) (found_at found.now i) → ⊥) }
+    ensures before { result < i }
+    ensures clash { Agree (found_at found.now result) (found_at found.now i) → ⊥ }
 {
-    Block {
-        offset: addr.offset,
-        size: addr.size,
-        is_live: true,
-        is_running: false,
-        is_last: true,
+    for j in 0..i {
+        if !agree(found[j], found[i]) {
+            return j;
+        }
     }
+    unreachable!()
 }
 
-// Where the last block ends.
-pub(crate) fn end_of(blocks: &[Block], len: u64) -> u64
-    requires laid { Laid 8192 blocks.now len }
-    requires whole { All (λ x. IsWhole x.offset × IsWhole x.size) blocks.now }
-    ensures end { result ≡ last_end 8192 blocks.now }
-    ensures behind { 8192 ≤ result }
-    ensures whole { IsWhole result }
-    ensures laid { Laid 8192 blocks.now result }
+// Whether both can be in use.
+fn agree(x: Found, y: Found) -> bool
+    ensures yes { IsTrue result → Agree x y }
+    ensures no { result ≡ false → Agree x y → ⊥ }
 {
-    let mut end: u64 = 8192;
-    for i in 0..blocks.len() {
-        end = block_end(blocks[i], len);
+    if ends_before(x.addr, y.addr) || ends_before(y.addr, x.addr) {
+        return true;
     }
-    end
+    let is_one = x.addr.offset == y.addr.offset && x.addr.size == y.addr.size;
+    is_one && !(is_of_last(x.holder) && is_of_last(y.holder))
 }
 
-fn block_end(block: Block, len: u64) -> u64
-    requires { block.offset + block.size ≤ len }
-    ensures { result ≡ block.offset + block.size }
+fn ends_before(x: Addr, y: Addr) -> bool
+    ensures { IsTrue result ↔ (x.offset + x.size ≤ y.offset) }
 {
-    let _most = len;
-    block.offset + block.size as u64
-}
-
-// Makes the units between the blocks free, where none is free yet.
-pub(crate) fn give_gaps(space: &mut Extents, blocks: &[Block]) -> Result<(), NoMemory>
-    requires none { (b : ℕ) → Free space.old.runs b → ⊥ }
-    requires laid { Laid 8192 blocks.now space.old.end }
-    requires whole { All (λ x. IsWhole x.offset × IsWhole x.size) blocks.now }
-    ensures end { space.new.end ≡ space.old.end }
-    ensures units { space.old.end ≡ last_end 8192 blocks.now → OnOk result (AreUnits blocks.now space.new) }
-{
-    let len = space.end();
-    let mut low: u64 = 8192;
-    for i in 0..blocks.len() {
-        give_gap(space, low, blocks[i].offset)?;
-        low = block_end(blocks[i], len);
-    }
-    Ok(())
-}
-
-// Makes the units from an offset on up to another free.
-fn give_gap(space: &mut Extents, low: u64, stop: u64) -> Result<(), NoMemory>
-    requires order { low ≤ stop }
-    requires whole { IsWhole low × IsWhole stop }
-    requires behind { 8192 ≤ low }
-    requires within { stop ≤ space.old.end }
-    requires held { (b : ℕ) → low ≤ b → Free space.old.runs b → ⊥ }
-    ensures gave { OnOk result (Gave space.old.runs space.new.runs low (stop - low)) }
-    ensures end { space.new.end ≡ space.old.end }
-{
-    if low == stop {
-        return Ok(());
-    }
-    space.give(low, stop - low)
+    x.offset <= y.offset && x.size as u64 <= y.offset - x.offset
 }

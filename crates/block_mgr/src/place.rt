@@ -2,25 +2,24 @@
 ghost use Rattle.std.specs.Prelude.{◌↔◌, ◌+◌, ◌≤◌, IsTrue};
 ghost use Rattle.block_mgr.specs.Places.{IsPlace};
 
-use crate::Addr;
+use device_layout::Addr;
+use limits::{BLOCK_MAX, SLOTS_END, UNIT};
 
-// Whether a block can stand at an address.
-pub(crate) fn is_place(addr: Addr) -> bool
+/// Whether a block can stand at an address: behind the slots, in whole units, 2^20 bytes at most.
+pub fn is_place(addr: Addr) -> bool
     ensures { IsTrue result ↔ IsPlace addr }
 {
-    8192 <= addr.offset
-        && addr.offset % 4096 == 0
-        && 4096 <= addr.size
-        && addr.size % 4096 == 0
-        && addr.size <= 1_048_576
+    let size = addr.size as u64;
+    SLOTS_END <= addr.offset
+        && addr.offset % UNIT == 0
+        && UNIT <= size
+        && size % UNIT == 0
+        && size <= BLOCK_MAX
 }
 
-// Whether a block can stand there, behind this end and within a device of this length.
-pub(crate) fn follows(addr: Addr, end: u64, len: u64) -> bool
-    ensures { IsTrue result ↔ (IsPlace addr × (end ≤ addr.offset) × (addr.offset + addr.size ≤ len)) }
+// Whether the block ends within a device of this length.
+pub(crate) fn is_within(addr: Addr, len: u64) -> bool
+    ensures { IsTrue result ↔ (addr.offset + addr.size ≤ len) }
 {
-    is_place(addr)
-        && end <= addr.offset
-        && addr.offset <= len
-        && addr.size as u64 <= len - addr.offset
+    addr.offset <= len && addr.size as u64 <= len - addr.offset
 }

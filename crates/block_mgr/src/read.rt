@@ -5,9 +5,9 @@ ghost use Rattle.disk_model.specs.Ranges.{range};
 ghost use Rattle.disk_model.specs.Crash.{Looked};
 ghost use Rattle.block_mgr.specs.Places.{IsPlace, IsThere, Spoils};
 
-use crate::Addr;
 use crate::place::is_place;
 use block_sum::sum;
+use device_layout::Addr;
 use disk_model::Disk;
 use std::alloc::Global;
 use wt_code::Refusal;
@@ -19,7 +19,8 @@ pub fn read_block<D: Disk>(alloc: Global, disk: &mut D, addr: Addr) -> Result<Ve
     ensures bytes { IsTrue (D.honest disk.old) → IfOk result (λ v. IsThere (D.seen disk.old) addr × (v.items ≡ range (D.seen disk.old) addr.offset addr.size)) }
     ensures corrupt { IsTrue (D.honest disk.old) → (offset want found : ℕ) → IfErr result (λ r. r ≡ Refusal.Corrupt offset want found → (offset ≡ addr.offset) × (want ≡ addr.sum) × Spoils (D.seen disk.old) addr found) }
     ensures err { IfErr result (λ r. (r ≡ Refusal.NoMemory) ⊎ ((r ≡ Refusal.DiskFault) × Rose (D.faults disk.old) (D.faults disk.new)) ⊎ ((found : ℕ) × (r ≡ Refusal.Corrupt addr.offset addr.sum found))) }
-    ensures looked { Looked D.honest D.seen D.may_leave D.capacity D.faults D.moment D.left_since disk.old disk.new }
+    ensures looked { Looked D.Disk disk.old disk.new }
+    ensures home { D.home disk.new ≡ D.home disk.old }
 {
     let spoilt = Refusal::Corrupt {
         offset: addr.offset,

@@ -1,25 +1,52 @@
-// A block that is written and read on a disk in memory.
-use crate::{Addr, Blocks};
+// Blocks that are written, read and found on a disk in memory.
+use crate::{Addr, Blocks, Found, Holder, OpenError};
 use disk_model::{Disk, MemDisk};
-use wt_code::Refusal;
+use std::alloc::Global;
+use std::process::Abort;
+use wt_code::{Refusal, StoreError};
+
+// A disk of so many zeros.
+fn zeros(rt: &impl Abort, alloc: Global, len: usize, capacity: u64) -> MemDisk {
+    let mut content = Vec::new(alloc);
+    content.resize(len, 0).expect(rt, "there is memory");
+    let made = MemDisk::new(alloc, content, capacity, Vec::new(alloc));
+    made.expect(rt, "there is memory")
+}
+
+fn found(offset: u64, size: u32, holder: Holder) -> Found {
+    let addr = Addr {
+        offset,
+        size,
+        sum: 0,
+    };
+    Found { addr, holder }
+}
+
+// Where an image goes, or why it goes nowhere.
+fn writes(
+    rt: &impl Abort,
+    alloc: Global,
+    blocks: &mut Blocks,
+    disk: &mut MemDisk,
+    image: &[u8],
+) -> Result<Addr, StoreError> {
+    assert!(rt; blocks.end() <= disk.bytes().len() as u64);
+    assert!(rt; 1 <= image.len() && image.len() <= 1_048_576);
+    blocks.write(alloc, disk, image)
+}
 
 #[test]
 fn a_block_is_read_as_it_was_written(rt: HostRuntime) {
-    let mut content = Vec::new(rt.alloc());
-    content.resize(8192, 0).expect(&rt, "there is memory");
-    let made = MemDisk::new(rt.alloc(), content, 1_048_576, Vec::new(rt.alloc()));
-    let mut disk = made.expect(&rt, "there is memory");
+    let mut disk = zeros(&rt, rt.alloc(), 8192, 1_048_576);
     let mut blocks = Blocks::new(rt.alloc());
-    let addr = blocks
-        .write(rt.alloc(), &mut disk, &[1, 2, 3])
-        .expect(&rt, "it fits");
-    assert!(rt;
-        addr == Addr {
-            offset: 8192,
-            size: 4096,
-            sum: 14
-        }
-    );
+    let addr = writes(&rt, rt.alloc(), &mut blocks, &mut disk, &[1, 2, 3]);
+    let addr = addr.expect(&rt, "it fits");
+    let want = Addr {
+        offset: 8192,
+        size: 4096,
+        sum: 14,
+    };
+    assert!(rt; addr == want);
     assert_eq!(rt; blocks.end(), 12288);
     let bytes = blocks
         .read(rt.alloc(), &mut disk, addr)
@@ -35,34 +62,49 @@ fn a_block_is_read_as_it_was_written(rt: HostRuntime) {
     assert!(rt;
         matches!(blocks.read(rt.alloc(), &mut disk, other), Err(refusal) if refusal == want)
     );
-    assert_eq!(rt; disk.faults(), 0);
 }
 
 #[test]
 fn a_gap_of_an_opened_device_is_taken_first(rt: HostRuntime) {
-    let mut content = Vec::new(rt.alloc());
-    content.resize(16384, 0).expect(&rt, "there is memory");
-    let made = MemDisk::new(rt.alloc(), content, 16384, Vec::new(rt.alloc()));
-    let mut disk = made.expect(&rt, "there is memory");
-    let addrs = [Addr {
-        offset: 12288,
-        size: 4096,
-        sum: 0,
-    }];
-    let opened = Blocks::open(rt.alloc(), &addrs, 16384).expect(&rt, "there is memory");
-    let mut blocks = opened.expect(&rt, "a block can stand there");
+    let mut disk = zeros(&rt, rt.alloc(), 16384, 16384);
+    let tree = found(12288, 4096, Holder::Tree);
+    let opened = Blocks::open(rt.alloc(), &[tree], 16384);
+    let mut blocks = match opened {
+        Ok(blocks) => blocks,
+        Err(_) => Blocks::new(rt.alloc()),
+    };
     assert_eq!(rt; blocks.end(), 16384);
-    let addr = blocks
-        .write(rt.alloc(), &mut disk, &[1])
-        .expect(&rt, "it fits");
-    assert!(rt;
-        addr == Addr {
-            offset: 8192,
-            size: 4096,
-            sum: 1
-        }
-    );
-    let full = blocks.write(rt.alloc(), &mut disk, &[1]);
-    assert!(rt; matches!(full, Err(refusal) if refusal == Refusal::NoSpace));
-    assert!(rt; matches!(Blocks::open(rt.alloc(), &addrs, 16383), Ok(None)));
+    assert!(rt; blocks.is_live(tree.addr));
+    let addr = writes(&rt, rt.alloc(), &mut blocks, &mut disk, &[1]);
+    assert!(rt; matches!(addr, Ok(addr) if addr.offset == 8192));
+    let full = writes(&rt, rt.alloc(), &mut blocks, &mut disk, &[1]);
+    assert!(rt; matches!(full, Err(error) if error == StoreError::NoSpace));
+}
+
+// Why addresses cannot all be in use on a device of 40,960 bytes.
+fn why_not(alloc: Global, found: &[Found]) -> Option<OpenError> {
+    if found.len() > 100 {
+        return None;
+    }
+    match Blocks::open(alloc, found, 40_960) {
+        Ok(_) => None,
+        Err(error) => Some(error),
+    }
+}
+
+#[test]
+fn addresses_that_cannot_all_be_in_use_are_named(rt: HostRuntime) {
+    let tree = found(12288, 8192, Holder::Tree);
+    let record = found(8192, 4096, Holder::Last);
+    let name = found(12288, 8192, Holder::Named);
+    let over = found(16384, 4096, Holder::Named);
+    let past = found(36864, 8192, Holder::Tree);
+    let slots = found(4096, 4096, Holder::Tree);
+    let alloc = rt.alloc();
+    assert!(rt; why_not(alloc, &[tree, record, name, name]).is_none());
+    assert!(rt; why_not(alloc, &[record, tree, tree]) == Some(OpenError::Clash(1, 2)));
+    assert!(rt; why_not(alloc, &[tree, record, name, over]) == Some(OpenError::Clash(0, 3)));
+    assert!(rt; why_not(alloc, &[over, name]) == Some(OpenError::Clash(0, 1)));
+    assert!(rt; why_not(alloc, &[tree, tree, past]) == Some(OpenError::NoPlace(2)));
+    assert!(rt; why_not(alloc, &[record, slots]) == Some(OpenError::NoPlace(1)));
 }
