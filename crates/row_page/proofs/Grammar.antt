@@ -6,6 +6,7 @@ use Rattle.std.proofs.lemmas.Bool.{eqb-true, leb-true, le-leb}
 use Rattle.std.proofs.lemmas.Option.{cond_some}
 use Rattle.std.proofs.lemmas.List.{append-nil, nil_from_length}
 use Rattle.le_codec.specs.Fields.{IsBytes}
+use Rattle.le_codec.specs.Images.{first_format}
 use Rattle.le_codec.specs.Combine.{Chained}
 use Rattle.le_codec.specs.Images.{framed, block_of, block_size, HoldsImage}
 use Rattle.le_codec.proofs.Opened.{text_bytes}
@@ -58,33 +59,33 @@ leaf_again rows ok =
     rw (all, small) refl
 
 -- a block's image says the rows
-pub page_takes : (block : List ℕ) (count level : ℕ) (text : List ℕ) (rows : List Row) → block ≡ block_of (framed 1 count level text) → Says count level text rows → IsPage block rows
+pub page_takes : (block : List ℕ) (count level : ℕ) (text : List ℕ) (rows : List Row) → block ≡ block_of (framed 1 first_format count level text) → Says count level text rows → IsPage block rows
 page_takes block count level text rows is s = record {
   admitted = s.admitted;
-  spelled = is ∙ ap (λ (n : ℕ). block_of (framed 1 n level text)) s.count_is ∙ ap (λ (n : ℕ). block_of (framed 1 (length rows) n text)) s.level_is ∙ ap (λ (l : List ℕ). block_of (framed 1 (length rows) 0 l)) s.text_is;
+  spelled = is ∙ ap (λ (n : ℕ). block_of (framed 1 first_format n level text)) s.count_is ∙ ap (λ (n : ℕ). block_of (framed 1 first_format (length rows) n text)) s.level_is ∙ ap (λ (l : List ℕ). block_of (framed 1 first_format (length rows) 0 l)) s.text_is;
 }
 
-pub found : (block : List ℕ) (count level : ℕ) (text : List ℕ) (r : Option (List Row)) → IsBytes block → HoldsImage 1 block count level text → r ≡ leaf_at count level text → IfSome r (λ rows. IsPage block rows)
+pub found : (block : List ℕ) (count level : ℕ) (text : List ℕ) (r : Option (List Row)) → IsBytes block → HoldsImage 1 first_format block count level text → r ≡ leaf_at count level text → IfSome r (λ rows. IsPage block rows)
 found block count level text None fits holds given = tt
-found block count level text (Some rows) fits holds given = page_takes block count level text rows holds.spelled (leaf_takes count level text rows (text_bytes 1 count level text block fits holds.spelled) (sym given))
+found block count level text (Some rows) fits holds given = page_takes block count level text rows holds.spelled (leaf_takes count level text rows (text_bytes 1 first_format count level text block fits holds.spelled) (sym given))
 
 -- what a leaf's image says
-says_image : (block : List ℕ) (rows : List Row) → IsPage block rows → HoldsImage 1 block (length rows) 0 (cells rows)
+says_image : (block : List ℕ) (rows : List Row) → IsPage block rows → HoldsImage 1 first_format block (length rows) 0 (cells rows)
 says_image block rows page = record { spelled = page.spelled; count_fits = omega (arith, count_upto rows, page.admitted.size); level_fits = omega arith; text_fits = omega (arith, page.admitted.size) }
 
 -- no image: no leaf
-pub no_image : (block : List ℕ) → ((count level : ℕ) (text : List ℕ) → HoldsImage 1 block count level text → ⊥) → (rows : List Row) → IsPage block rows → ⊥
+pub no_image : (block : List ℕ) → ((count level : ℕ) (text : List ℕ) → HoldsImage 1 first_format block count level text → ⊥) → (rows : List Row) → IsPage block rows → ⊥
 no_image block none rows page = none (length rows) 0 (cells rows) (says_image block rows page)
 
 -- an image that says no rows: no leaf
-no_rows : (block : List ℕ) (count level : ℕ) (text : List ℕ) → HoldsImage 1 block count level text → None ≡ leaf_at count level text → (rows : List Row) → IsPage block rows → ⊥
+pub no_rows : (block : List ℕ) (count level : ℕ) (text : List ℕ) → HoldsImage 1 first_format block count level text → None ≡ leaf_at count level text → (rows : List Row) → IsPage block rows → ⊥
 no_rows block count level text h given rows page =
     let k = says_image block rows page in
-    let s = same_framed 1 level 0 count (length rows) text (cells rows) (block_size (length (framed 1 count level text))) (block_size (length (image rows))) (omega arith) h.level_fits k.level_fits h.count_fits k.count_fits h.text_fits k.text_fits (sym h.spelled ∙ k.spelled) in
+    let s = same_framed 1 first_format level 0 count (length rows) text (cells rows) (block_size (length (framed 1 first_format count level text))) (block_size (length (image rows))) (omega arith) (omega arith) h.level_fits k.level_fits h.count_fits k.count_fits h.text_fits k.text_fits (sym h.spelled ∙ k.spelled) in
     let same : leaf_at count level text ≡ Some rows = ap (λ (n : ℕ). leaf_at n level text) s.0 ∙ ap (λ (n : ℕ). leaf_at (length rows) n text) s.1 ∙ ap (λ (l : List ℕ). leaf_at (length rows) 0 l) s.2 ∙ leaf_again rows page.admitted in
     nothing_some (given ∙ same)
 
-pub none : (block : List ℕ) (count level : ℕ) (text : List ℕ) (r : Option (List Row)) → HoldsImage 1 block count level text → r ≡ leaf_at count level text → IfNone r ((rows : List Row) → IsPage block rows → ⊥)
+pub none : (block : List ℕ) (count level : ℕ) (text : List ℕ) (r : Option (List Row)) → HoldsImage 1 first_format block count level text → r ≡ leaf_at count level text → IfNone r ((rows : List Row) → IsPage block rows → ⊥)
 none block count level text None h given = no_rows block count level text h given
 none block count level text (Some rows) h given = tt
 

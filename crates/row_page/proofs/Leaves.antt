@@ -5,6 +5,7 @@ use Rattle.std.proofs.lemmas.List.{length-append, append-nil, take_more}
 use Rattle.std.proofs.lemmas.List.Concat.{flat_map-append}
 use Rattle.std.proofs.lemmas.List.Folds.{length-flat_map-take}
 use Rattle.le_codec.specs.Combine.{Chained}
+use Rattle.le_codec.specs.Images.{first_format}
 use Rattle.le_codec.specs.Images.{padded, block_size}
 use Rattle.le_codec.proofs.Laws.{length_8, length_16, length_32, length_64}
 use Rattle.le_codec.proofs.Combined.{one_value}
@@ -23,7 +24,7 @@ count_upto [] = omega arith
 count_upto (r ∷ rows) = omega (arith, count_upto rows, length-append (cell r) (cells rows), length-cell r)
 
 pub length-image : (rows : List Row) → length (image rows) ≡ 16 + length (cells rows)
-length-image rows = length-framed 1 (length rows) 0 (cells rows)
+length-image rows = length-framed 1 first_format (length rows) 0 (cells rows)
 
 -- a chain of rows is a list that fits and ascends
 pub chained : (before : Option (List ℕ)) (rows : List Row) → AllByRecursion (λ (r : Row). RowFits [] key_most r) rows → Ascends before rows → Chained (After [] key_most) key_of before rows
@@ -33,7 +34,7 @@ chained before (r ∷ rows) fit ascend = ((fit.0, ascend.0), chained (Some r.0) 
 -- two leaves that are filled up to the same bytes have the same rows
 pub leaf_exact : (size other : ℕ) (p q : List Row) → AreRows p → AreRows q → padded (image p) size ≡ padded (image q) other → p ≡ q
 leaf_exact size other p q hp hq same =
-    let both = same_framed 1 0 0 (length p) (length q) (cells p) (cells q) size other (omega arith) (omega arith) (omega arith) (omega (arith, count_upto p, hp.size)) (omega (arith, count_upto q, hq.size)) (omega (arith, hp.size)) (omega (arith, hq.size)) same in
+    let both = same_framed 1 first_format 0 0 (length p) (length q) (cells p) (cells q) size other (omega arith) (omega arith) (omega arith) (omega arith) (omega (arith, count_upto p, hp.size)) (omega (arith, count_upto q, hq.size)) (omega (arith, hp.size)) (omega (arith, hq.size)) same in
     let texts : cells p ++ [] ≡ cells q ++ [] = ap (λ (l : List ℕ). l ++ []) both.2 in
     (one_value (rows_field [] key_most (omega arith) (length p) None) p q [] [] (refl, chained None p hp.fit hp.ascend) (sym both.0, chained None q hq.fit hq.ascend) texts).0
 

@@ -15,7 +15,7 @@ use Rattle.le_codec.specs.Fields.{◌>>=◌, Gives}
 use Rattle.le_codec.specs.Combine.{try_at, chain_at, with_front}
 use Rattle.le_codec.proofs.Laws.{bind_some, some_is}
 use Rattle.le_codec.proofs.Chains.{parted}
-use Rattle.row_page.specs.declared.page.Cell.{Cell}
+use Rattle.row_page.specs.declared.cell.Cell.{Cell}
 use Rattle.row_page.specs.Rows.{Row, is_below, comes_after, key_of, key_most}
 use Rattle.row_page.specs.Reading.{cell_at, row_at, rows_at, rows_of}
 use Rattle.row_page.specs.Views.{row_seen, Splits}

@@ -1,3 +1,6 @@
 pub mod Rows
 pub mod Reading
 pub mod Views
+pub mod Greatest
+pub mod Places
+pub mod Writing

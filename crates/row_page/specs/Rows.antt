@@ -10,6 +10,7 @@ use Rattle.stamp.specs.declared.name.Name.{Name}
 use Rattle.stamp.specs.declared.version.Window.{Window}
 use Rattle.stamp.specs.declared.version.Version.{Version}
 use Rattle.le_codec.specs.Fields.{le}
+use Rattle.le_codec.specs.Images.{first_format}
 use Rattle.le_codec.specs.Images.{framed, block_of}
 
 -- a row is a key and a version of it
@@ -108,7 +109,7 @@ pub record AreRows (rows : List Row) : Type 0 where
 
 -- the bytes of a leaf without what fills up its block
 abbrev pub image : List Row → List ℕ
-image rows = framed 1 (length rows) 0 (cells rows)
+image rows = framed 1 first_format (length rows) 0 (cells rows)
 
 pub record IsImage (bytes : List ℕ) (rows : List Row) : Type 0 where
   pub admitted : AreRows rows

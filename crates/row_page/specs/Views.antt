@@ -3,8 +3,8 @@ use Rattle.std.specs.Prelude.{◌≡◌, ℕ, ◌≤◌, IsTrue, length, take, d
 use Rattle.std.specs.List.{AllByRecursion}
 use Rattle.item.specs.declared.change.Change.{Change}
 use Rattle.item.specs.declared.change.Change.TheVariants.{Put, Remove}
-use Rattle.row_page.specs.declared.page.Cell.{Cell}
-use Rattle.row_page.specs.declared.page.Parts.{Parts}
+use Rattle.row_page.specs.declared.cell.Cell.{Cell}
+use Rattle.row_page.specs.declared.cell.Parts.{Parts}
 use Rattle.row_page.specs.Rows.{Row, Raw, is_below}
 
 -- a value that was written, or a removal

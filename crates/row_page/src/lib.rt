@@ -10,10 +10,16 @@
 ghost use Rattle.std.specs.Prelude.{◌≡◌, ℕ, List};
 ghost use Rattle.row_page.specs.Rows.{Row, IsPage};
 
+mod cell;
+mod leaf;
+mod leaf_writer;
 mod page;
 mod write;
 
-pub use page::{Cell, Page};
+pub use cell::Cell;
+pub use leaf::Leaf;
+pub use leaf_writer::LeafWriter;
+pub use page::Page;
 pub use write::{encode, size_of};
 
 #[cfg(test)]

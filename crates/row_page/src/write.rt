@@ -1,9 +1,10 @@
-ghost use Rattle.std.specs.Prelude.{◌≡◌, ◌++◌, ◌+◌, ◌≤◌, ◌<◌, ◌^◌, [], length, OnOk, IfOk};
-ghost use Rattle.row_page.specs.Rows.{Row, cell, cells, code_of, value_of, window_text, key_most, RowFits, image, AreRows, IsImage};
+ghost use Rattle.std.specs.Prelude.{◌≡◌, ◌++◌, ◌<◌, ◌^◌, [], length, OnOk, IfOk};
+ghost use Rattle.row_page.specs.Rows.{cell, code_of, value_of, window_text, key_most, RowFits, image, AreRows, IsImage};
 
+use crate::page::LEAF_KIND;
 use failure::NoMemory;
 use item::{Change, Item};
-use le_codec::{Writer, write_header};
+use le_codec::{FIRST_FORMAT, Writer, write_header};
 use stamp::{Version, Window};
 use std::alloc::Global;
 
@@ -68,7 +69,14 @@ pub fn encode(alloc: Global, rows: &[(Item, Version<Change>)]) -> Result<Vec<u8>
 {
     let mut out = Writer::new(alloc);
     let used = size_of(rows);
-    write_header(&mut out, 1, rows.len() as u16, used as u32, 0)?;
+    write_header(
+        &mut out,
+        LEAF_KIND,
+        FIRST_FORMAT,
+        rows.len() as u16,
+        used as u32,
+        0,
+    )?;
     for row in rows {
         put_cell(&mut out, &row.0, &row.1)?;
     }

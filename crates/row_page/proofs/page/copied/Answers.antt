@@ -1,4 +1,4 @@
-use Rattle.std.proofs.Common.{◌≡◌, ℕ, [], ◌∷◌, ◌++◌, List, None, Some, sym, ap, ◌∙◌, subst, arith, take, refl}
+use Rattle.std.proofs.Common.{[], ◌∷◌, ◌++◌, List, None, Some, sym, ap, ◌∙◌, arith, take}
 use Rattle.std.proofs.lemmas.List.{take_all}
 use Rattle.row_page.specs.Rows.{Row, key_most}
 use Rattle.row_page.specs.Reading.{cell_at, rows_in}

@@ -16,14 +16,14 @@ pub returns-in-Equal : goal.returns-in-Equal
 returns-in-Equal c =
     let rows = rows_in c.args.count c.args.text.now in
     let a = at_cell c.args.count c.loop-i.i c.loop-i.invariant.rest.0 c.loop-i.reader rows c.args.key.now c.cell_of-cell.result c.unwrap-cell.result c.cell_of-cell.new.reader c.loop-i-test.true c.loop-i.invariant.rest.1 c.cell_of-cell.ensures c.unwrap-cell.ensures in
-    (row_seen c.unwrap-cell.result, a.here, equal_is c.unwrap-cell.result.key.now c.args.key.now (sym c.cmp.ensures ∙ c.in-Equal.is))
+    (row_seen c.unwrap-cell.result, a.here, equal_is c.unwrap-cell.result.key.now c.args.key.now (sym c.order.ensures ∙ c.in-Equal.is))
 
 pub returns-in-Greater : goal.returns-in-Greater
 returns-in-Greater c =
     let rows = rows_in c.args.count c.args.text.now in
     let a = at_cell c.args.count c.loop-i.i c.loop-i.invariant.rest.0 c.loop-i.reader rows c.args.key.now c.cell_of-cell.result c.unwrap-cell.result c.cell_of-cell.new.reader c.loop-i-test.true c.loop-i.invariant.rest.1 c.cell_of-cell.ensures c.unwrap-cell.ensures in
     let n = count_is c.args.count None c.args.text.now rows [] c.requires.whole in
-    let up = greater_is c.unwrap-cell.result.key.now c.args.key.now (sym c.cmp.ensures ∙ c.in-Greater.is) in
+    let up = greater_is c.unwrap-cell.result.key.now c.args.key.now (sym c.order.ensures ∙ c.in-Greater.is) in
     splits_here a.n c.loop-i.i rows c.args.key.now a.after a.step (omega (arith, n, c.loop-i-test.true)) c.loop-i.invariant.below (ap (λ (r : Row). is_below c.args.key.now r.0) a.is ∙ up)
 
 pub loop-i-preserved : goal.loop-i-preserved
@@ -32,7 +32,7 @@ loop-i-preserved c =
     let a = at_cell c.args.count c.loop-i.i c.loop-i.invariant.rest.0 c.loop-i.reader rows c.args.key.now c.cell_of-cell.result c.unwrap-cell.result c.cell_of-cell.new.reader c.loop-i-test.true c.loop-i.invariant.rest.1 c.cell_of-cell.ensures c.unwrap-cell.ensures in
     record {
       rest = (Some c.unwrap-cell.result.key.now, a.rest);
-      below = below_next c.args.key.now c.loop-i.i rows (row_seen c.unwrap-cell.result) a.here c.loop-i.invariant.below (ap is_lt (sym c.cmp.ensures ∙ c.in-Less.is));
+      below = below_next c.args.key.now c.loop-i.i rows (row_seen c.unwrap-cell.result) a.here c.loop-i.invariant.below (ap is_lt (sym c.order.ensures ∙ c.in-Less.is));
     }
 
 pub returns : goal.returns

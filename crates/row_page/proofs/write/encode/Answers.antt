@@ -2,6 +2,7 @@ use Rattle.std.proofs.Common.{◌+◌, ◌++◌, ℕ, List, length, ap, sym, ◌
 use Rattle.std.proofs.lemmas.Grind.{common_steps}
 use Rattle.std.proofs.lemmas.List.{append-nil}
 use Rattle.le_codec.specs.Images.{header}
+use Rattle.le_codec.specs.Images.{first_format}
 use Rattle.row_page.specs.Rows.{cells}
 use Rattle.row_page.proofs.Leaves.{cells_more, length-image, count_upto}
 use Rattle.row_page.proofs.write.encode.Goals as goal
@@ -20,6 +21,6 @@ loop-row-preserved c = grind (arith, common_steps, cells_more c.args.rows.now c.
 
 pub loop-row-init : goal.loop-row-init
 loop-row-init c =
-    let start : List ℕ = header 1 (length c.args.rows.now) (16 + length (cells c.args.rows.now)) 0 in
+    let start : List ℕ = header 1 first_format (length c.args.rows.now) (16 + length (cells c.args.rows.now)) 0 in
     let used = c.size_of-used.ensures ∙ length-image c.args.rows.now in
-    c.in_ok-write_header.ensures ∙ ap (λ (l : List ℕ). l ++ header 1 (length c.args.rows.now) c.size_of-used.result 0) c.new-out.ensures ∙ ap (λ (n : ℕ). header 1 (length c.args.rows.now) n 0) used ∙ sym (append-nil start)
+    c.in_ok-write_header.ensures.written ∙ ap (λ (l : List ℕ). l ++ header 1 first_format (length c.args.rows.now) c.size_of-used.result 0) c.new-out.ensures ∙ ap (λ (n : ℕ). header 1 first_format (length c.args.rows.now) n 0) used ∙ sym (append-nil start)
