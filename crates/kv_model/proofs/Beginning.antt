@@ -1,19 +1,19 @@
 -- Sessions, begins and ids keep a machine valid.
-use Rattle.std.proofs.Common.{◌≡◌, ◌⊎◌, ◌<◌, ◌≤◌, ◌+◌, ℕ, refl, ap, sym, ◌∙◌, true, false, List, [], ◌∷◌, ◌++◌, length, inl, inr, subst, arith, zero, suc, length-append}
+use Rattle.std.proofs.Common.{◌≡◌, ◌⊎◌, ◌<◌, ◌≤◌, ◌+◌, ℕ, refl, ap, sym, ◌∙◌, true, false, List, [], ◌∷◌, ◌++◌, length, inl, inr, subst, arith, zero, suc}
 use Rattle.std.specs.Prelude.{Option, Some, None, slice_index_or, slice_set, option_map}
-use Rattle.std.proofs.lemmas.List.{length-set}
 use Rattle.stamp.specs.declared.Name.{Name}
-use Rattle.kv_model.specs.History.{released}
-use Rattle.kv_model.specs.Machine.{Machine, Transaction, Running, transaction_of, with_transaction, no_cursors, after, begun, OpenSession, BeginAt, DrawId, EndTransaction}
+use Rattle.kv_model.specs.History.{Entry, Create, Commit, Prepare, Resolve, Undo, Rts, released}
+use Rattle.kv_model.specs.Machine.{Machine, Transaction, Running, transaction_of, with_transaction, after, begun, OpenSession, BeginAt, DrawId, EndTransaction}
 use Rattle.kv_model.specs.Reads.{own_write, is_own, IsEnding}
-use Rattle.kv_model.specs.Valid.{Valid, ValidTransaction, ValidSessions, PhaseStands}
+use Rattle.kv_model.specs.Valid.{Valid, ValidTransaction, ValidSessions, PhaseStands, NoRollbackSince}
 use Rattle.kv_model.proofs.Releases.{false-from, released-whole}
 use Rattle.kv_model.proofs.Growing.{more-ids}
 use Rattle.kv_model.proofs.Seats.{seat-inside, seats-set, beside-none, beside-kin}
+use Rattle.kv_model.proofs.Cursors.{cursors-taken, cursors-left, cursors-opened}
 
 -- one session's transaction is another
-pub seated : (m : Machine) (s : ℕ) (o : Option Transaction) → Valid m → ValidSessions m.run m.next m.history (slice_set m.sessions s o) → Valid (with_transaction m s o)
-seated m s o v sessions = record {
+pub seated : (m : Machine) (s : ℕ) (t : Transaction) → s < length m.sessions → Valid m → ValidSessions m.run m.next m.history (slice_set m.sessions s (Some t)) → Valid (with_transaction m s (Some t))
+seated m s t inside v sessions = record {
   run = v.run;
   next = v.next;
   orderly = v.orderly;
@@ -21,16 +21,13 @@ seated m s o v sessions = record {
   stamps = v.stamps;
   sessions = sessions;
   checkpoint = v.checkpoint;
-  seats = v.seats ∙ sym (length-set m.sessions s o);
+  cursors = cursors-taken m.sessions m.cursors s t inside v.cursors;
 }
-
-pub unseated-seats : (m : Machine) (s : ℕ) → Valid m → length (slice_set m.cursors s no_cursors) ≡ length (slice_set m.sessions s None)
-unseated-seats m s v = length-set m.cursors s no_cursors ∙ (v.seats ∙ sym (length-set m.sessions s None))
 
 -- another transaction in place of one, over the same history
 pub replaced : (m : Machine) (s : ℕ) (t u : Transaction) → Valid m → transaction_of m s ≡ Some t → u.id ≡ t.id → u.writes ≡ t.writes → (IsEnding t.phase → IsEnding u.phase)
     → ValidTransaction m.run m.next m.history u → Valid (with_transaction m s (Some u))
-replaced m s t u v there id writes ending now = seated m s (Some u) v
+replaced m s t u v there id writes ending now = seated m s u (seat-inside m.sessions s t there) v
     (seats-set m.run m.next m.history m.run m.next m.history m.sessions s (Some u) (seat-inside m.sessions s t there) v.sessions
     (λ r x other at. v.sessions.each r x at)
     (λ x is. let same : u ≡ x = cc in subst (λ z. ValidTransaction m.run m.next m.history z) same now)
@@ -48,10 +45,10 @@ valid-end m s t v there = record {
       (λ x is. let none : None ≡ Some x = is in absurd (cc))
       (beside-none m.sessions s);
   checkpoint = v.checkpoint;
-  seats = unseated-seats m s v;
+  cursors = cursors-left m.sessions m.cursors s (seat-inside m.sessions s t there) v.cursors;
 }
 
-append-none : {A : Type 0} (xs : List (Option A)) (s : ℕ) → slice_index_or (xs ++ None ∷ []) s None ≡ slice_index_or xs s None
+pub append-none : {A : Type 0} (xs : List (Option A)) (s : ℕ) → slice_index_or (xs ++ None ∷ []) s None ≡ slice_index_or xs s None
 append-none [] zero = refl
 append-none [] (suc s) = refl
 append-none (x ∷ xs) zero = refl
@@ -70,7 +67,7 @@ valid-open m v = record {
     apart = λ s r t u table key e f. v.sessions.apart s r t u table key (sym (append-none m.sessions s) ∙ e) (sym (append-none m.sessions r) ∙ f);
   };
   checkpoint = v.checkpoint;
-  seats = let a = length-append m.cursors (no_cursors ∷ []) in let b = length-append m.sessions (None ∷ []) in let c = v.seats in omega arith;
+  cursors = cursors-opened m.sessions m.cursors v.cursors;
 }
 
 -- an id that is not drawn yet
@@ -80,10 +77,21 @@ undrawn-unreleased m v id out = false-from (released m.history (length m.history
   | inr now ↦ elim out [ inl none ↦ let low = now.1 in omega arith | inr late ↦ let high = now.2 in omega arith ]
 ])
 
+-- above all of a history nothing stands
+none-since : (history : List Entry) (n : ℕ) → length history ≤ n → NoRollbackSince n history
+none-since [] n le = tt
+none-since (Create table ∷ older) n le = none-since older n (omega arith)
+none-since (Commit name writes ∷ older) n le = none-since older n (omega arith)
+none-since (Prepare name stamp ∷ older) n le = none-since older n (omega arith)
+none-since (Resolve name writes ∷ older) n le = none-since older n (omega arith)
+none-since (Undo name ∷ older) n le = none-since older n (omega arith)
+none-since (Rts stable ∷ older) n le = omega arith
+
 begun-valid : (m : Machine) (read : ℕ) → Valid m → ValidTransaction m.run m.next m.history (begun m read)
 begun-valid m read v = record {
   id = v.next;
   start = omega arith;
+  kept = none-since m.history (length m.history) (omega arith);
   sight = λ x e run drawn. absurd (omega arith);
   undrawn = λ e. refl;
   single = λ table key. refl;
@@ -93,7 +101,7 @@ begun-valid m read v = record {
 }
 
 pub valid-begin : (m : Machine) (s read : ℕ) → s < length m.sessions → Valid m → Valid (after m (BeginAt s read))
-valid-begin m s read inside v = seated m s (Some (begun m read)) v
+valid-begin m s read inside v = seated m s (begun m read) inside v
     (seats-set m.run m.next m.history m.run m.next m.history m.sessions s (Some (begun m read)) inside v.sessions
     (λ r x other at. v.sessions.each r x at)
     (λ x is. let same : begun m read ≡ x = cc in subst (λ z. ValidTransaction m.run m.next m.history z) same (begun-valid m read v))
@@ -111,6 +119,7 @@ drawn-valid : (m : Machine) (t : Transaction) → Valid m → t.id ≡ 0 → t.p
 drawn-valid m t v none running old = record {
   id = omega arith;
   start = old.start;
+  kept = old.kept;
   sight = λ x e run drawn. elim (v.names x (whole x e)) [ inl earlier ↦ absurd (omega arith) | inr now ↦ now.2 ];
   undrawn = λ e. old.undrawn none;
   single = old.single;
@@ -138,5 +147,5 @@ valid-draw m s t v there running none = subst (λ o. Valid (record m { sessions 
             elim (v.sessions.apart s r t x table key there e (λ q. other (sym q)) own one) [ inl mine ↦ inr (subst (λ (z : Transaction). IsEnding z.phase) same mine) | inr theirs ↦ inl theirs ];
       });
   checkpoint = v.checkpoint;
-  seats = v.seats ∙ sym (length-set m.sessions s (Some (drawing m.next t)));
+  cursors = cursors-taken m.sessions m.cursors s (drawing m.next t) (seat-inside m.sessions s t there) v.cursors;
 })

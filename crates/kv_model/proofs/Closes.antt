@@ -3,12 +3,15 @@ use Rattle.std.proofs.Common.{◌≡◌, ◌≢◌, ◌⊎◌, ◌<◌, ◌+◌,
 use Rattle.std.specs.Prelude.{Option, Some, None, nat_le, slice_index_or}
 use Rattle.std.proofs.lemmas.Bool.{cases_Bool, cases_eq, leb-true}
 use Rattle.std.proofs.lemmas.List.{get_or-set_same, get_or-set_other}
+use Rattle.std.proofs.Common.{append-nil}
 use Rattle.kv_model.specs.History.{Entry}
-use Rattle.kv_model.specs.Machine.{Machine, Transaction, Phase, Running, Failed, Prepared, Resolving, Leaving, Fault, Event, StartLeaving, EndTransaction, transaction_of, with_transaction, of_some, in_phase, left, after}
+use Rattle.kv_model.specs.Machine.{Machine, Transaction, Phase, Running, Failed, Prepared, Resolving, Leaving, Event, StartLeaving, EndTransaction, transaction_of, with_transaction, of_some, in_phase, left, after}
 use Rattle.kv_model.specs.Reads.{IsEnding}
 use Rattle.kv_model.specs.Allowed.{HasTransaction}
 use Rattle.kv_model.specs.Outside.{Storing, Stored, NoPlace, ReadFailed, Damaged, WriteFailed, Unfinished}
-use Rattle.kv_model.specs.Refusals.{Busy, IsBusy, Panic}
+use Rattle.failure.specs.declared.Fault.{Fault}
+use Rattle.wt_code.specs.declared.refusals.Refusal.TheVariants as told
+use Rattle.wt_code.specs.declared.refusals.Busy.{Busy}
 use Rattle.kv_model.specs.Decisions.{is_there, count_max}
 use Rattle.kv_model.specs.Closing.{close_busy, rolling_back, last_stored, last_checkpoint, closing, close_refused, close_decision, after_all}
 use Rattle.kv_model.specs.DecisionLaws.{EachMayCome}
@@ -132,7 +135,16 @@ closing-ends m number storing idle = rolls (last_checkpoint number storing).1 (l
   idle = idle;
 })
 
-idle-close : (m : Machine) (u : Unfinished) → close_busy m u ≡ None → m.checkpoint ≡ None
+-- the rollbacks alone may come
+pub may-roll : (m : Machine) → m.checkpoint ≡ None → EachMayCome m (rolling_back 0 m.sessions)
+unfolding Ends
+may-roll m idle = subst (EachMayCome m) (append-nil (rolling_back 0 m.sessions)) (rolls [] (λ n q. (tt, q.nobody)) m.sessions 0 m (record {
+  below = λ s lt. absurd (omega arith);
+  above = λ s. ap (transaction_of m) (let e : 0 + s ≡ s = omega arith in e);
+  idle = idle;
+})).0
+
+pub idle-close : (m : Machine) (u : Unfinished) → close_busy m u ≡ None → m.checkpoint ≡ None
 idle-close m u e = by (is_there m.checkpoint) refl where
   by : (b : Bool) → is_there m.checkpoint ≡ b → m.checkpoint ≡ None
   by true is = let f = rw is at e in absurd (cc)
@@ -141,11 +153,11 @@ idle-close m u e = by (is_there m.checkpoint) refl where
 pub may-close : (m : Machine) (u : Unfinished) (number : ℕ) (storing : Storing) → EachMayCome m (close_decision m u number storing).1
 unfolding Ends
 may-close m u number storing = fault m.fault where
-  busy : (o : Option Busy) → close_busy m u ≡ o → EachMayCome m (of_some (closing m (last_checkpoint number storing)) (λ busy. close_refused (IsBusy busy)) o).1
+  busy : (o : Option Busy) → close_busy m u ≡ o → EachMayCome m (of_some (closing m (last_checkpoint number storing)) (λ busy. close_refused (told.Busy busy)) o).1
   busy None e = (closing-ends m number storing (idle-close m u e)).0
   busy (Some b) e = tt
 
-  fault : (o : Option Fault) → EachMayCome m (of_some (of_some (closing m (last_checkpoint number storing)) (λ busy. close_refused (IsBusy busy)) (close_busy m u)) (λ fault. close_refused (Panic fault)) o).1
+  fault : (o : Option Fault) → EachMayCome m (of_some (of_some (closing m (last_checkpoint number storing)) (λ busy. close_refused (told.Busy busy)) (close_busy m u)) (λ fault. close_refused (told.Panic fault)) o).1
   fault None = busy (close_busy m u) refl
   fault (Some f) = tt
 
@@ -154,5 +166,5 @@ pub close-ends : (m : Machine) (u : Unfinished) (number : ℕ) (storing : Storin
 unfolding Ends
 close-ends m u number storing up free session = subst (λ d. transaction_of (after_all m d.1) session ≡ None) (sym goes) ((closing-ends m number storing (idle-close m u free)).1 session) where
   goes : close_decision m u number storing ≡ closing m (last_checkpoint number storing)
-  goes = ap (of_some (of_some (closing m (last_checkpoint number storing)) (λ (busy : Busy). close_refused (IsBusy busy)) (close_busy m u)) (λ (fault : Fault). close_refused (Panic fault))) up
-      ∙ ap (of_some (closing m (last_checkpoint number storing)) (λ (busy : Busy). close_refused (IsBusy busy))) free
+  goes = ap (of_some (of_some (closing m (last_checkpoint number storing)) (λ (busy : Busy). close_refused (told.Busy busy)) (close_busy m u)) (λ (fault : Fault). close_refused (told.Panic fault))) up
+      ∙ ap (of_some (closing m (last_checkpoint number storing)) (λ (busy : Busy). close_refused (told.Busy busy))) free

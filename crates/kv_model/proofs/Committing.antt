@@ -2,7 +2,6 @@
 use Rattle.std.proofs.Common.{◌≡◌, ◌≢◌, ◌<◌, ◌≤◌, ℕ, refl, ap, sym, ◌∙◌, true, false, List, [], ◌∷◌, ◌++◌, length, inl, inr, subst, arith, map}
 use Rattle.std.specs.Prelude.{Option, Some, None, slice_set, filter}
 use Rattle.std.proofs.lemmas.Bool.{cases_Bool}
-use Rattle.std.proofs.lemmas.List.{length-set}
 use Rattle.item.specs.declared.Change.{Change}
 use Rattle.stamp.specs.declared.Version.{Version}
 use Rattle.kv_model.specs.Holds.{Member}
@@ -11,13 +10,14 @@ use Rattle.kv_model.specs.History.{Entry, Commit, Resolve, Undo, Write, line, re
 use Rattle.kv_model.specs.Machine.{Machine, Transaction, Phase, Running, Failed, Prepared, Resolving, Leaving, transaction_of, name_in, with_transaction, without_transaction, no_cursors, after, of_some, in_phase, decided, left, appended, stamped, CommitAt, StartLeaving}
 use Rattle.kv_model.specs.Reads.{own_write, is_own, IsEnding}
 use Rattle.kv_model.specs.Allowed.{CommitsAt}
-use Rattle.kv_model.specs.Valid.{Valid, ValidTransaction, PhaseStands, PreparedStands}
+use Rattle.kv_model.specs.Valid.{Valid, ValidTransaction, PhaseStands, PreparedStands, NoRollbackSince}
 use Rattle.kv_model.proofs.Ordering.{line-writes}
 use Rattle.kv_model.proofs.Releases.{released-whole, released-mono, released-later, unreleased}
 use Rattle.kv_model.proofs.Growing.{is-released-older, table-older}
-use Rattle.kv_model.proofs.Seats.{beside-none, beside-kin}
+use Rattle.kv_model.proofs.Seats.{beside-none, beside-kin, seat-inside}
+use Rattle.kv_model.proofs.Cursors.{cursors-taken, cursors-left}
 use Rattle.kv_model.proofs.OwnWrites.{filter-unwritten, stamped-at, member-stamped, stamped-single, stamped-own}
-use Rattle.kv_model.proofs.Beginning.{replaced, unseated-seats, valid-end}
+use Rattle.kv_model.proofs.Beginning.{replaced, valid-end}
 use Rattle.kv_model.proofs.Writing.{rephased, running-busy}
 use Rattle.kv_model.proofs.Releasing.{drawn-by-write, Extends, extended, fresh-in, never-committed}
 
@@ -41,7 +41,7 @@ follows-own m s t commit durable v there busy drawn le later = record {
   }
 
 -- the lines of the keys that others hold stay
-lines-apart : (m : Machine) (s : ℕ) (t : Transaction) (commit durable : ℕ) → Valid m → transaction_of m s ≡ Some t → (IsEnding t.phase → ⊥)
+pub lines-apart : (m : Machine) (s : ℕ) (t : Transaction) (commit durable : ℕ) → Valid m → transaction_of m s ≡ Some t → (IsEnding t.phase → ⊥)
     → (r : ℕ) (x : Transaction) → r ≢ s → transaction_of m r ≡ Some x → (IsEnding x.phase → ⊥) → (table : ℕ) (key : List ℕ) → is_own (own_write x table key) ≡ true
     → map (version_of (name_in m.run t)) (filter (writes_at table key) (stamped commit durable t.writes)) ++ line m.history table key ≡ line m.history table key
 lines-apart m s t commit durable v there busy r x other at alive table key own = elim (cases_Bool (is_own (own_write t table key))) [
@@ -66,11 +66,12 @@ valid-commit-running m s commit durable t v there running stamps = by-writes t.w
         release = λ x e. e;
         commit = λ x e. e;
         lines = λ r x other at alive table key own. line-writes (name_in m.run t) (stamped commit durable t.writes) m.history table key ∙ lines-apart m s t commit durable v there (running-busy t running) r x other at alive table key own;
+        kept = λ n k. k;
         may = λ news start whole. fresh-in m.history news start (name_in m.run t) (never-committed m t v none) whole;
       })
       (λ u is. let gone : None ≡ Some u = is in absurd (cc))
       (beside-none m.sessions s)
-      (unseated-seats m s v)
+      (cursors-left m.sessions m.cursors s (seat-inside m.sessions s t there) v.cursors)
 
   by-writes : (writes : List Write) → t.writes ≡ writes → Valid (record (without_transaction m s) { history = appended t.writes (Commit (name_in m.run t) (stamped commit durable t.writes)) m.history })
   by-writes [] is = subst (λ l. Valid (record (without_transaction m s) { history = appended l (Commit (name_in m.run t) (stamped commit durable t.writes)) m.history })) (sym is) (valid-end m s t v there)
@@ -82,19 +83,20 @@ prepared-busy p t is e = subst IsEnding is e
 -- of a prepared transaction: what it leaves where it wrote nothing
 resolving-empty : (m : Machine) (s p : ℕ) (t : Transaction) → Valid m → transaction_of m s ≡ Some t → t.phase ≡ Prepared p → t.writes ≡ [] → Valid (with_transaction m s (Some (in_phase Resolving t)))
 resolving-empty m s p t v there is empty = replaced m s t (in_phase Resolving t) v there refl refl (λ e. absurd (prepared-busy p t is e))
-    (rephased m.run m.next m.history t Resolving (v.sessions.each s t there) (λ b e. b tt) (λ w at. absurd (subst (λ l. Member w l) empty at)))
+    (rephased m.run m.next m.history t Resolving (v.sessions.each s t there) (λ b e. b tt) (subst (λ q. PhaseStands q m.history (name_in m.run t) t) is (v.sessions.each s t there).phase).released)
 
 -- and with one more entry
-resolving-now : (m : Machine) (s p : ℕ) (t : Transaction) (entry : Entry) → Valid m → transaction_of m s ≡ Some t → t.phase ≡ Prepared p → ValidTransaction m.run m.next (entry ∷ m.history) (in_phase Resolving t)
-resolving-now m s p t entry v there is = record {
+resolving-now : (m : Machine) (s p : ℕ) (t : Transaction) (entry : Entry) (w : Write) (writes : List Write) → Valid m → transaction_of m s ≡ Some t → t.phase ≡ Prepared p → t.writes ≡ w ∷ writes → ((n : ℕ) → NoRollbackSince n m.history → NoRollbackSince n (entry ∷ m.history)) → ValidTransaction m.run m.next (entry ∷ m.history) (in_phase Resolving t)
+resolving-now m s p t entry w writes v there is some keeps = record {
   id = old.id;
   start = (let low = old.start in omega arith);
+  kept = keeps t.start old.kept;
   sight = λ x e. old.sight x (sym (released-later entry m.history t.start x old.start) ∙ e);
   undrawn = old.undrawn;
   single = old.single;
-  placed = λ w at. table-older entry m.history w.table (old.placed w at);
+  placed = λ o at. table-older entry m.history o.table (old.placed o at);
   above = λ busy table key own x at. absurd (busy tt);
-  phase = is-released-older entry m.history (name_in m.run t) t (subst (λ q. PhaseStands q m.history (name_in m.run t) t) is old.phase).released;
+  phase = is-released-older entry m.history (name_in m.run t) t (λ e. let both = sym some ∙ e in absurd (cc)) (subst (λ q. PhaseStands q m.history (name_in m.run t) t) is old.phase).released;
 } where
   old : ValidTransaction m.run m.next m.history t
   old = v.sessions.each s t there
@@ -102,9 +104,9 @@ resolving-now m s p t entry v there is = record {
 resolved : (m : Machine) (s p : ℕ) (t : Transaction) (entry : Entry) (w : Write) (writes : List Write) → Valid m → transaction_of m s ≡ Some t → t.phase ≡ Prepared p → t.writes ≡ w ∷ writes → Extends m s t entry
     → Valid (record m { history = entry ∷ m.history; sessions = slice_set m.sessions s (Some (in_phase Resolving t)); cursors = m.cursors })
 resolved m s p t entry w writes v there is some x = extended m s t (Some (in_phase Resolving t)) m.cursors entry v there (drawn-by-write m.run m.next m.history t w writes (v.sessions.each s t there) some) x
-    (λ u e. let same : in_phase Resolving t ≡ u = cc in subst (λ z. ValidTransaction m.run m.next (entry ∷ m.history) z) same (resolving-now m s p t entry v there is))
+    (λ u e. let same : in_phase Resolving t ≡ u = cc in subst (λ z. ValidTransaction m.run m.next (entry ∷ m.history) z) same (resolving-now m s p t entry w writes v there is some x.kept))
     (beside-kin m.run m.next m.history m.sessions s t (in_phase Resolving t) v.sessions there refl refl (λ e. absurd (prepared-busy p t is e)))
-    (v.seats ∙ sym (length-set m.sessions s (Some (in_phase Resolving t))))
+    (cursors-taken m.sessions m.cursors s (in_phase Resolving t) (seat-inside m.sessions s t there) v.cursors)
 
 valid-commit-prepared : (m : Machine) (s p commit durable : ℕ) (t : Transaction) → Valid m → transaction_of m s ≡ Some t → t.phase ≡ Prepared p → commit ≤ durable → Valid (decided (Prepared p) m s commit durable t)
 valid-commit-prepared m s p commit durable t v there is le = by-writes t.writes refl where
@@ -118,10 +120,11 @@ valid-commit-prepared m s p commit durable t v there is le = by-writes t.writes 
       → Valid (record m { history = Resolve (name_in m.run t) (stamped commit durable t.writes) ∷ m.history; sessions = slice_set m.sessions s (Some (in_phase Resolving t)); cursors = m.cursors })
   full w writes some = let drawn = drawn-by-write m.run m.next m.history t w writes old some in
       resolved m s p t (Resolve (name_in m.run t) (stamped commit durable t.writes)) w writes v there is some (record {
-        orderly = ((follows-own m s t commit durable v there (prepared-busy p t is) drawn le stands.later, stands.released w (subst (λ l. Member w l) (sym some) (inl refl))), v.orderly);
+        orderly = ((follows-own m s t commit durable v there (prepared-busy p t is) drawn le stands.later, stands.released.writes w (subst (λ l. Member w l) (sym some) (inl refl))), v.orderly);
         release = λ x e. absurd (cc);
         commit = λ x e. e;
         lines = λ r x other at alive table key own. line-writes (name_in m.run t) (stamped commit durable t.writes) m.history table key ∙ lines-apart m s t commit durable v there (prepared-busy p t is) r x other at alive table key own;
+        kept = λ n k. k;
         may = λ news start whole. fresh-in m.history news start (name_in m.run t) stands.uncommitted whole;
       })
 
@@ -133,7 +136,7 @@ pub valid-commit : (m : Machine) (s commit durable : ℕ) (t : Transaction) → 
 valid-commit m s commit durable t v there at = subst (λ o. Valid (of_some m (λ (x : Transaction). decided x.phase m s commit durable x) o)) (sym there) (by-phase t.phase refl at) where
   by-phase : (p : Phase) → t.phase ≡ p → CommitsAt p commit durable → Valid (decided t.phase m s commit durable t)
   by-phase Running is at = subst (λ q. Valid (decided q m s commit durable t)) (sym is) (valid-commit-running m s commit durable t v there is at)
-  by-phase (Prepared p) is at = subst (λ q. Valid (decided q m s commit durable t)) (sym is) (valid-commit-prepared m s p commit durable t v there is at)
+  by-phase (Prepared p) is at = subst (λ q. Valid (decided q m s commit durable t)) (sym is) (valid-commit-prepared m s p commit durable t v there is at.1)
   by-phase Failed is at = absurd at
   by-phase Resolving is at = absurd at
   by-phase Leaving is at = absurd at
@@ -148,6 +151,7 @@ valid-undo m s p t v there is = by-writes t.writes refl where
     release = λ x e. absurd (cc);
     commit = λ x e. absurd (cc);
     lines = λ r x other at alive table key own. refl;
+    kept = λ n k. k;
     may = λ news start whole. tt;
   })
 

@@ -18,7 +18,7 @@ use Rattle.kv_model.proofs.Capturing.{member-out}
 use Rattle.kv_model.proofs.Finishing.{member-append, older-order}
 
 -- a version of these writes is the version of one of them
-version-from : (name : Name) (writes : List Write) (v : Version Change) → Member v (map (version_of name) writes) → (w : Write) × Member w writes × (v ≡ version_of name w)
+pub version-from : (name : Name) (writes : List Write) (v : Version Change) → Member v (map (version_of name) writes) → (w : Write) × Member w writes × (v ≡ version_of name w)
 version-from name [] v there = absurd there
 version-from name (w ∷ writes) v (inl same) = (w, inl refl, same)
 version-from name (w ∷ writes) v (inr there) = let later = version-from name writes v there in (later.0, inr later.1, later.2)

@@ -1,14 +1,15 @@
 -- Every event that may come keeps a machine valid.
-use Rattle.std.proofs.Common.{◌≡◌, ℕ, refl, sym, ◌∙◌, List, [], ◌∷◌, length, inl, inr, subst, arith}
-use Rattle.std.specs.Prelude.{Option, Some, None, slice_set, ◌==◌, ◌+◌, max, if◌then◌else◌}
+use Rattle.std.proofs.Common.{◌≡◌, ℕ, refl, sym, List, [], ◌∷◌, length, inl, inr, subst, arith}
+use Rattle.std.specs.Prelude.{Option, Some, None, ◌==◌, ◌+◌, max, if◌then◌else◌}
 use Rattle.std.proofs.lemmas.Bool.{cases_Bool}
-use Rattle.std.proofs.lemmas.List.{length-set}
 use Rattle.kv_model.specs.Ordered.{IsNewTable}
-use Rattle.kv_model.specs.History.{Entry, Create, Rts, Table, tables}
-use Rattle.kv_model.specs.Machine.{Machine, Checkpoint, Position, Event, transaction_of, cursors_of, after, of_some, finished, OpenSession, BeginAt, DrawId, AcceptWrite, RefuseWrite, PrepareAt, CommitAt, StartLeaving, EndTransaction, PlaceCursor, CreateTable, SetStamps, RollbackToStable, CheckpointStart, CheckpointFinish, CheckpointDrop, GoDown, Nothing}
+use Rattle.kv_model.specs.History.{Entry, Create, Rts, Table}
+use Rattle.kv_model.specs.Machine.{Machine, Transaction, Checkpoint, Position, Event, transaction_of, after, of_some, finished, OpenSession, BeginAt, DrawId, AcceptWrite, RefuseWrite, PrepareAt, CommitAt, StartLeaving, EndTransaction, PlaceCursor, CreateTable, SetStamps, RollbackToStable, CheckpointStart, CheckpointFinish, CheckpointDrop, GoDown, Nothing}
 use Rattle.kv_model.specs.Allowed.{Allowed, StampsFit}
 use Rattle.kv_model.specs.Valid.{Valid, ValidSessions, ValidCheckpoint}
 use Rattle.kv_model.proofs.Releases.{released-whole, released-cases}
+use Rattle.kv_model.proofs.Seats.{seat-inside}
+use Rattle.kv_model.proofs.Cursors.{cursors-placed}
 use Rattle.kv_model.proofs.Growing.{grown, grown-checkpoint}
 use Rattle.kv_model.proofs.Beginning.{valid-end, valid-open, valid-begin, valid-draw}
 use Rattle.kv_model.proofs.Writing.{valid-accept, valid-refuse}
@@ -19,7 +20,7 @@ use Rattle.kv_model.proofs.Committing.{valid-commit, valid-leave}
 undisturbed : (m : Machine) (history : List Entry) (oldest stable : ℕ) → (c : Checkpoint) → None ≡ Some c → ValidCheckpoint history oldest stable c
 undisturbed m history oldest stable c is = absurd (cc)
 
-valid-create : (m : Machine) (table : Table) → Valid m → IsNewTable table (tables m.history) → Valid (after m (CreateTable table))
+valid-create : (m : Machine) (table : Table) → Valid m → IsNewTable table m.history → Valid (after m (CreateTable table))
 valid-create m table v new = record {
   run = v.run;
   next = v.next;
@@ -30,12 +31,12 @@ valid-create m table v new = record {
   ];
   stamps = v.stamps;
   sessions = record {
-    each = λ s t there. grown m.run m.next (Create table) m.history t (record { release = refl; commit = refl; lines = λ busy table key own. refl }) (v.sessions.each s t there);
+    each = λ s t there. grown m.run m.next (Create table) m.history t (record { release = refl; commit = refl; kept = λ n k. k; lines = λ busy table key own. refl }) (v.sessions.each s t there);
     distinct = v.sessions.distinct;
     apart = v.sessions.apart;
   };
   checkpoint = λ c runs. grown-checkpoint (Create table) m.history m.oldest m.stable c (λ news start whole. tt) (v.checkpoint c runs);
-  seats = v.seats;
+  cursors = v.cursors;
 }
 
 valid-set : (m : Machine) (oldest stable : ℕ) → Valid m → StampsFit (max m.oldest oldest) (max m.stable stable) → Valid (after m (SetStamps oldest stable))
@@ -56,7 +57,7 @@ valid-set m oldest stable v fit = record {
     stable = (let low = k.stable in omega arith);
     stamps = k.stamps;
   };
-  seats = v.seats;
+  cursors = v.cursors;
 }
 
 -- nobody is active
@@ -77,7 +78,7 @@ valid-rollback m v none quiet = elim (cases_Bool (m.stable == 0)) [
     stamps = v.stamps;
     sessions = v.sessions;
     checkpoint = v.checkpoint;
-    seats = v.seats;
+    cursors = v.cursors;
   })
   | inr is ↦ subst (λ b. Valid (record m { history = if b then m.history else Rts m.stable ∷ m.history; rollbacks = m.rollbacks + 1 })) (sym is) (record {
     run = v.run;
@@ -90,7 +91,7 @@ valid-rollback m v none quiet = elim (cases_Bool (m.stable == 0)) [
     stamps = v.stamps;
     sessions = nobody m (Rts m.stable ∷ m.history) none;
     checkpoint = λ c runs. absurd (cc);
-    seats = v.seats;
+    cursors = v.cursors;
   })
 ]
 
@@ -112,7 +113,7 @@ valid-start m v = record {
     stable = omega arith;
     stamps = v.stamps;
   });
-  seats = v.seats;
+  cursors = v.cursors;
 } where
   start : Checkpoint
   start = record { prefix = length m.history; oldest = m.oldest; stable = m.stable }
@@ -129,7 +130,7 @@ valid-finish m v = by-run m.checkpoint refl where
     stamps = v.stamps;
     sessions = v.sessions;
     checkpoint = λ k runs. undisturbed m m.history m.oldest m.stable k runs;
-    seats = v.seats;
+    cursors = v.cursors;
   })
 
 valid-drop : (m : Machine) → Valid m → Valid (after m CheckpointDrop)
@@ -141,11 +142,11 @@ valid-drop m v = record {
   stamps = v.stamps;
   sessions = v.sessions;
   checkpoint = λ k runs. undisturbed m m.history m.oldest m.stable k runs;
-  seats = v.seats;
+  cursors = v.cursors;
 }
 
-valid-place : (m : Machine) (s cursor : ℕ) (position : Option Position) → Valid m → Valid (after m (PlaceCursor s cursor position))
-valid-place m s cursor position v = record {
+valid-place : (m : Machine) (s cursor : ℕ) (position : Option Position) (t : Transaction) → Valid m → transaction_of m s ≡ Some t → Valid (after m (PlaceCursor s cursor position))
+valid-place m s cursor position t v there = record {
   run = v.run;
   next = v.next;
   orderly = v.orderly;
@@ -153,7 +154,7 @@ valid-place m s cursor position v = record {
   stamps = v.stamps;
   sessions = v.sessions;
   checkpoint = v.checkpoint;
-  seats = length-set m.cursors s (slice_set (cursors_of m s) cursor position) ∙ v.seats;
+  cursors = cursors-placed m.sessions m.cursors s cursor t position there (seat-inside m.sessions s t there) v.cursors;
 }
 
 pub valid-after : (m : Machine) (event : Event) → Valid m → Allowed m event → Valid (after m event)
@@ -166,7 +167,7 @@ valid-after m (PrepareAt s stamp) v may = valid-prepare m s stamp may.0.0 v may.
 valid-after m (CommitAt s commit durable) v may = valid-commit m s commit durable may.0 v may.1 may.2
 valid-after m (StartLeaving s) v may = valid-leave m s v
 valid-after m (EndTransaction s) v may = valid-end m s may.0 v may.1
-valid-after m (PlaceCursor s cursor position) v may = valid-place m s cursor position v
+valid-after m (PlaceCursor s cursor position) v may = valid-place m s cursor position may.0 v may.1
 valid-after m (CreateTable table) v may = valid-create m table v may.0
 valid-after m (SetStamps oldest stable) v may = valid-set m oldest stable v may
 valid-after m RollbackToStable v may = valid-rollback m v may.0 may.1
@@ -181,6 +182,6 @@ valid-after m (GoDown fault) v may = record {
   stamps = v.stamps;
   sessions = v.sessions;
   checkpoint = v.checkpoint;
-  seats = v.seats;
+  cursors = v.cursors;
 }
 valid-after m Nothing v may = v

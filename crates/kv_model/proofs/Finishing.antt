@@ -9,7 +9,7 @@ use Rattle.stamp.specs.declared.Name.{Name}
 use Rattle.stamp.specs.declared.Version.{Version}
 use Rattle.kv_model.specs.Holds.{Member, Descends, IsOrder}
 use Rattle.kv_model.specs.Ordered.{Older, NameBelow, IsOrderly}
-use Rattle.kv_model.specs.History.{Entry, Create, Commit, Prepare, Resolve, Undo, Rts, Table, Placed, Write, line, standing, version_of, commit_of, is_at, is_by, is_stable, of_key, history_of, committed, ends, writes_at, core, cut, first, Agree, tables, name_eq}
+use Rattle.kv_model.specs.History.{Entry, Create, Commit, Prepare, Resolve, Undo, Rts, Table, Placed, Write, line, standing, version_of, commit_of, is_at, is_by, is_stable, of_key, history_of, committed, ends, writes_at, core, cut, first, Agree, tables, created, name_eq}
 use Rattle.kv_model.specs.Machine.{Machine, Checkpoint, of_some}
 use Rattle.kv_model.specs.Droppable.{covers, pin, read_stamps, seen_by}
 use Rattle.kv_model.specs.Captures.{both, IsKeyContent, is_in, AllFollow, KeyCaptured, keeps}
@@ -57,6 +57,17 @@ tables-creates (t ∷ known) = ap (λ l. t ∷ l) (tables-creates known)
 
 pub tables-base : (known : List Table) (kept : List Placed) → tables (history_of known kept) ≡ known
 tables-base known kept = tables-commits kept (map Create known) ∙ tables-creates known
+
+created-commits : (kept : List Placed) (rest : List Entry) → created (map commit_of kept ++ rest) ≡ created rest
+created-commits [] rest = refl
+created-commits (p ∷ kept) rest = created-commits kept rest
+
+created-creates : (known : List Table) → created (map Create known) ≡ known
+created-creates [] = refl
+created-creates (t ∷ known) = ap (λ l. t ∷ l) (created-creates known)
+
+pub created-base : (known : List Table) (kept : List Placed) → created (history_of known kept) ≡ known
+created-base known kept = created-commits kept (map Create known) ∙ created-creates known
 
 -- a test of versions passes over the choice of a key
 of_key-filter : (f : Version Change → Bool) (table : ℕ) (key : List ℕ) (l : List Placed) → of_key table key (filter (λ (p : Placed). f p.version) l) ≡ filter f (of_key table key l)
@@ -132,7 +143,7 @@ line-committed (Undo name ∷ older) table key v there = committed-older (Undo n
 line-committed (Rts s ∷ older) table key v there = committed-older (Rts s) older v.window.name
     (line-committed older table key v (member-out (is_by s) (line older table key) v (rw (line-rts s older table key) at there)).0)
 
-filter-all : {A : Type 0} (f : A → Bool) (l : List A) → ((x : A) → Member x l → f x ≡ true) → filter f l ≡ l
+pub filter-all : {A : Type 0} (f : A → Bool) (l : List A) → ((x : A) → Member x l → f x ≡ true) → filter f l ≡ l
 filter-all f [] all = refl
 filter-all f (x ∷ xs) all = rw (all x (inl refl)) (ap (λ l. x ∷ l) (filter-all f xs (λ y there. all y (inr there))))
 

@@ -1,5 +1,5 @@
 -- What one more entry of the history leaves of a transaction that has not ended, and of a running checkpoint.
-use Rattle.std.proofs.Common.{◌≡◌, ◌≤◌, ℕ, ap, sym, ◌∙◌, true, false, List, ◌∷◌, ◌++◌, length, inl, inr, subst, arith}
+use Rattle.std.proofs.Common.{◌≡◌, ◌≤◌, ℕ, ap, sym, ◌∙◌, true, false, List, [], ◌∷◌, ◌++◌, length, inl, inr, subst, arith}
 use Rattle.std.specs.Prelude.{◌==◌}
 use Rattle.std.proofs.lemmas.Bool.{both_ways, or_right}
 use Rattle.stamp.specs.declared.Name.{Name}
@@ -8,13 +8,14 @@ use Rattle.kv_model.specs.History.{Entry, Create, Commit, Prepare, Resolve, Undo
 use Rattle.kv_model.specs.Machine.{Transaction, Phase, Running, Failed, Prepared, Resolving, Leaving, Checkpoint, name_in}
 use Rattle.kv_model.specs.Captures.{MayFollow}
 use Rattle.kv_model.specs.Reads.{own_write, is_own, IsEnding}
-use Rattle.kv_model.specs.Valid.{PhaseStands, IsReleased, ValidTransaction, ValidCheckpoint}
+use Rattle.kv_model.specs.Valid.{PhaseStands, IsReleased, NoRollbackSince, ValidTransaction, ValidCheckpoint}
 use Rattle.kv_model.proofs.Releases.{released-later, released-older, released-whole, released-cases, still-unreleased, still-uncommitted}
 
 -- what the entry leaves alone
 pub record Leaves (run : ℕ) (entry : Entry) (history : List Entry) (t : Transaction) : Type 0 where
   pub release : releases entry (name_in run t) ≡ false
   pub commit : ends entry (name_in run t) ≡ false
+  pub kept : (n : ℕ) → NoRollbackSince n history → NoRollbackSince n (entry ∷ history)
   pub lines : (IsEnding t.phase → ⊥) → (table : ℕ) (key : List ℕ) → is_own (own_write t table key) ≡ true → line (entry ∷ history) table key ≡ line history table key
 
 pub table-older : (entry : Entry) (history : List Entry) (number : ℕ) → has_table (tables history) number ≡ true → has_table (tables (entry ∷ history)) number ≡ true
@@ -25,8 +26,11 @@ table-older (Resolve name writes) history number e = e
 table-older (Undo name) history number e = e
 table-older (Rts s) history number e = e
 
-pub is-released-older : (entry : Entry) (history : List Entry) (name : Name) (t : Transaction) → IsReleased history name t → IsReleased (entry ∷ history) name t
-is-released-older entry history name t each w there = released-whole (entry ∷ history) (length history) name (released-older entry history (length history) name (each w there))
+pub is-released-older : (entry : Entry) (history : List Entry) (name : Name) (t : Transaction) → (t.writes ≡ [] → releases entry name ≡ false) → IsReleased history name t → IsReleased (entry ∷ history) name t
+is-released-older entry history name t none is = record {
+  writes = λ w there. released-whole (entry ∷ history) (length history) name (released-older entry history (length history) name (is.writes w there));
+  empty = λ e. still-unreleased entry history name (none e) (is.empty e);
+}
 
 phase-older : (phase : Phase) (run : ℕ) (entry : Entry) (history : List Entry) (t : Transaction) → releases entry (name_in run t) ≡ false → ends entry (name_in run t) ≡ false
     → PhaseStands phase history (name_in run t) t → PhaseStands phase (entry ∷ history) (name_in run t) t
@@ -36,10 +40,10 @@ phase-older (Prepared stamp) run entry history t none other p = record {
   marked = p.marked;
   uncommitted = still-uncommitted entry history (name_in run t) other p.uncommitted;
   later = λ n e. elim (released-cases entry history n (name_in run t) e) [ inl here ↦ absurd (both_ways (releases entry (name_in run t)) none here.0) | inr old ↦ p.later n old ];
-  released = is-released-older entry history (name_in run t) t p.released;
+  released = is-released-older entry history (name_in run t) t (λ e. none) p.released;
   prepared = λ w there. inr (none, p.prepared w there);
 }
-phase-older Resolving run entry history t none other p = is-released-older entry history (name_in run t) t p
+phase-older Resolving run entry history t none other p = is-released-older entry history (name_in run t) t (λ e. none) p
 phase-older Leaving run entry history t none other p = still-unreleased entry history (name_in run t) none p
 
 -- the same transaction over the longer history
@@ -47,6 +51,7 @@ pub grown : (run next : ℕ) (entry : Entry) (history : List Entry) (t : Transac
 grown run next entry history t l v = record {
   id = v.id;
   start = (let low = v.start in omega arith);
+  kept = l.kept t.start v.kept;
   sight = λ x e. v.sight x (sym (released-later entry history t.start x v.start) ∙ e);
   undrawn = v.undrawn;
   single = v.single;
@@ -60,6 +65,7 @@ pub more-ids : (run next more : ℕ) (history : List Entry) (t : Transaction) �
 more-ids run next more history t le v = record {
   id = (let low = v.id in omega arith);
   start = v.start;
+  kept = v.kept;
   sight = v.sight;
   undrawn = v.undrawn;
   single = v.single;

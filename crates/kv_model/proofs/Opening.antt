@@ -15,13 +15,13 @@ use Rattle.item.specs.declared.Change.{Change}
 use Rattle.stamp.specs.declared.Name.{Name}
 use Rattle.stamp.specs.declared.Version.{Version}
 use Rattle.kv_model.specs.Holds.{Member, Descends}
-use Rattle.kv_model.specs.Ordered.{NameBelow, Under, Follows, IsNewTable, IsOrderly}
+use Rattle.kv_model.specs.Ordered.{NameBelow, Under, Follows, IsOrderly}
 use Rattle.kv_model.specs.History.{Entry, Create, Table, Placed, Write, of_key, history_of, commit_of, write_of, is_at, writes_at, released, name_eq, tables, has_table, is_stable}
 use Rattle.kv_model.specs.Machine.{Transaction}
 use Rattle.kv_model.specs.Content.{Content, base, start, kept, kept_cells, is_kept_version, is_again, sees_name, sees_id, descending, placed_cmp, placed_lt, table_lt}
 use Rattle.kv_model.specs.Regular.{AllApart, SameNumber, SameKey, SameVersion, IsRegular, IsVersionOf}
 use Rattle.kv_model.specs.Valid.{Valid}
-use Rattle.kv_model.proofs.Finishing.{line-base, tables-base, name_eq-refl, member-append}
+use Rattle.kv_model.proofs.Finishing.{line-base, tables-base, created-base, name_eq-refl, member-append}
 use Rattle.std.specs.Option.{option_to_list}
 use Rattle.kv_model.proofs.Releases.{released-whole, released-older, released-cases, released-mono, name_eq-same}
 use Rattle.kv_model.proofs.Capturing.{member-out}
@@ -151,14 +151,14 @@ released-under known (r ∷ placed) d q (inr there) x below n e = elim (released
 
 -- ---- the history is orderly
 
-of-key-from : (table : ℕ) (key : List ℕ) (placed : List Placed) (v : Version Change) → Member v (of_key table key placed) → (q : Placed) × Member q placed × (is_at table key q ≡ true) × (v ≡ q.version)
+pub of-key-from : (table : ℕ) (key : List ℕ) (placed : List Placed) (v : Version Change) → Member v (of_key table key placed) → (q : Placed) × Member q placed × (is_at table key q ≡ true) × (v ≡ q.version)
 of-key-from table key placed v there = let p = from (filter (is_at table key) placed) there in let o = member-out (is_at table key) placed p.0 p.1 in (p.0, o.0, o.1, p.2) where
   from : (l : List Placed) → Member v (map {A = Placed} (λ p. p.version) l) → (q : Placed) × Member q l × (v ≡ q.version)
   from [] there = absurd there
   from (q ∷ l) (inl same) = (q, inl refl, same)
   from (q ∷ l) (inr later) = let p = from l later in (p.0, inr p.1, p.2)
 
-at-placed : (table : ℕ) (key : List ℕ) (q : Placed) → is_at table key q ≡ true → (q.table ≡ table) × (q.key ≡ key)
+pub at-placed : (table : ℕ) (key : List ℕ) (q : Placed) → is_at table key q ≡ true → (q.table ≡ table) × (q.key ≡ key)
 at-placed table key q e = let p = and_parts (q.table == table) (bytes_eq q.key key) e in (eqb-true q.table table p.0, (bytes_eq-Decides q.key key).0 p.1)
 
 one-write : (w : Write) (table : ℕ) (key : List ℕ) → (found : Option Write) × (filter (writes_at table key) (w ∷ []) ≡ option_to_list found)
@@ -191,10 +191,10 @@ commit-follows known p placed d stamps has = record {
 creates-orderly : (known : List Table) → Descends (Lt table_lt) known → ((t u : Table) → Member t known → Member u known → t.name ≡ u.name → t.number ≡ u.number) → IsOrderly (map Create known)
 creates-orderly [] d names = tt
 creates-orderly (t ∷ known) d names = (
-  subst (λ l. IsNewTable t l) (sym (tables-base known [])) (record {
-    number = λ u there. ltb-true u.number t.number (d.0 u there);
-    name = λ u there same. let e = names u t (inr there) (inl refl) same in let l = ltb-true u.number t.number (d.0 u there) in omega arith;
-  }),
+  record {
+    number = λ u there. ltb-true u.number t.number (d.0 u (subst (Member u) (created-base known []) there));
+    name = λ u at same. let there = subst (Member u) (tables-base known []) at in let e = names u t (inr there) (inl refl) same in let l = ltb-true u.number t.number (d.0 u there) in omega arith;
+  },
   creates-orderly known d.1 (λ a b at there. names a b (inr at) (inr there)),
 )
 
@@ -205,7 +205,7 @@ commits-orderly known (p ∷ placed) d each creates = (commit-follows known p pl
 
 -- ---- what is kept
 
-table-kept : (lt : Table → Table → Bool) (l : List Table) (number : ℕ) → has_table l number ≡ true → has_table (descending lt l) number ≡ true
+pub table-kept : (lt : Table → Table → Bool) (l : List Table) (number : ℕ) → has_table l number ≡ true → has_table (descending lt l) number ≡ true
 table-kept lt l number e = let t = from l e in to (descending lt l) t.0 (descending-member lt l t.0 t.1) t.2 where
   from : (l : List Table) → has_table l number ≡ true → (t : Table) × Member t l × ((t.number == number) ≡ true)
   from [] e = absurd (cc)
@@ -232,12 +232,12 @@ again-from p q s = and_from (is_at p.table p.key q) (name_eq q.version.window.na
     (and_from (q.table == p.table) (bytes_eq q.key p.key) (eq-eqb q.table p.table (sym s.0.0)) ((bytes_eq-Decides q.key p.key).1 (sym s.0.1)))
     (and_from (q.version.window.name.run == p.version.window.name.run) (q.version.window.name.id == p.version.window.name.id) (eq-eqb q.version.window.name.run p.version.window.name.run (sym s.1)) (eq-eqb q.version.window.name.id p.version.window.name.id (sym s.2)))
 
-any-there : {A : Type 0} (test : A → Bool) (l : List A) (x : A) → Member x l → test x ≡ true → list_any test l ≡ true
+pub any-there : {A : Type 0} (test : A → Bool) (l : List A) (x : A) → Member x l → test x ≡ true → list_any test l ≡ true
 any-there test [] x there e = absurd there
 any-there test (y ∷ ys) x (inl same) e = or_left (test y) (list_any test ys) (subst (λ z. test z ≡ true) same e)
 any-there test (y ∷ ys) x (inr there) e = or_right (test y) (list_any test ys) (any-there test ys x there e)
 
-abbrev is_other : Content → Placed → Bool
+abbrev pub is_other : Content → Placed → Bool
 is_other c p = is_kept_version c p && not (list_any (is_again p) (kept_cells c))
 
 kept-apart : (c : Content) → IsRegular c → AllApart SameVersion (kept c)
@@ -250,7 +250,7 @@ kept-apart c r = apart-append SameVersion (kept_cells c) (filter (is_other c) c.
       not_both true e f = absurd (cc)
       not_both false e f = absurd (cc)
 
-kept-from : (c : Content) (p : Placed) → Member p (kept c) → IsVersionOf c p × (is_kept_version c p ≡ true)
+pub kept-from : (c : Content) (p : Placed) → Member p (kept c) → IsVersionOf c p × (is_kept_version c p ≡ true)
 kept-from c p there = elim (member-append p (kept_cells c) (filter (is_other c) c.records) there) [
   | inl at ↦ let o = member-out (is_kept_version c) c.cells p at in (inl o.0, o.1)
   | inr at ↦ let o = member-out (is_other c) c.records p at in (inr o.0, (and_parts (is_kept_version c p) (not (list_any (is_again p) (kept_cells c))) o.1).0)
@@ -272,7 +272,7 @@ table-sorts = record {
   ];
 }
 
-no-seat : (s : ℕ) (t : Transaction) → slice_index_or [] s None ≡ Some t → ⊥
+pub no-seat : (s : ℕ) (t : Transaction) → slice_index_or [] s None ≡ Some t → ⊥
 no-seat s t e = absurd (cc)
 
 pub start-valid : (c : Content) → IsRegular c → Valid (start c)
@@ -296,5 +296,9 @@ start-valid c r = record {
     apart = λ s q t u table key there. absurd (no-seat s t there);
   };
   checkpoint = λ k runs. let none : None ≡ Some k = runs in absurd (cc);
-  seats = refl;
+  cursors = record {
+    seats = refl;
+    four = λ s lt. absurd (omega arith);
+    reset = λ s cursor none. refl;
+  };
 }

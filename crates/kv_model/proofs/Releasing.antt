@@ -3,7 +3,6 @@ use Rattle.std.proofs.Common.{◌≡◌, ◌≢◌, ◌<◌, ℕ, refl, sym, ◌
 use Rattle.std.specs.Prelude.{Option, Some, slice_set}
 use Rattle.std.proofs.lemmas.Bool.{cases_eq, both_ways, or_left, and_from, lt-ltb}
 use Rattle.std.specs.Prelude.{nat_lt, ◌&&◌}
-use Rattle.std.proofs.lemmas.List.{length-set}
 use Rattle.stamp.specs.declared.Name.{Name}
 use Rattle.kv_model.specs.Holds.{Member}
 use Rattle.kv_model.specs.Ordered.{IsOrderly}
@@ -11,11 +10,12 @@ use Rattle.kv_model.specs.History.{Entry, Prepare, Write, line, released, releas
 use Rattle.kv_model.specs.Machine.{Machine, Transaction, Running, Prepared, Position, transaction_of, name_in, with_transaction, after, of_some, in_phase, prepared, appended, PrepareAt}
 use Rattle.kv_model.specs.Captures.{MayFollow}
 use Rattle.kv_model.specs.Reads.{own_write, is_own, IsEnding}
-use Rattle.kv_model.specs.Valid.{Valid, ValidTransaction, PhaseStands}
+use Rattle.kv_model.specs.Valid.{Valid, ValidTransaction, ValidCursors, PhaseStands, NoRollbackSince}
 use Rattle.kv_model.proofs.Finishing.{committed-start, name_eq-refl}
 use Rattle.kv_model.proofs.Releases.{false-from, released-whole, released-cases, released-later, unreleased, still-uncommitted, committed-whole, committed-released, name_eq-same}
 use Rattle.kv_model.proofs.Growing.{grown, grown-checkpoint}
 use Rattle.kv_model.proofs.Seats.{seat-inside, seats-set, Beside, beside-kin}
+use Rattle.kv_model.proofs.Cursors.{cursors-taken}
 use Rattle.kv_model.proofs.Beginning.{replaced}
 use Rattle.kv_model.proofs.Writing.{rephased, running-busy}
 
@@ -32,12 +32,13 @@ pub record Extends (m : Machine) (s : ℕ) (t : Transaction) (entry : Entry) : T
   pub release : (x : Name) → releases entry x ≡ true → name_eq (name_in m.run t) x ≡ true
   pub commit : (x : Name) → ends entry x ≡ true → name_eq (name_in m.run t) x ≡ true
   pub lines : (r : ℕ) (x : Transaction) → r ≢ s → transaction_of m r ≡ Some x → (IsEnding x.phase → ⊥) → (table : ℕ) (key : List ℕ) → is_own (own_write x table key) ≡ true → line (entry ∷ m.history) table key ≡ line m.history table key
+  pub kept : (n : ℕ) → NoRollbackSince n m.history → NoRollbackSince n (entry ∷ m.history)
   pub may : (news start : List Entry) → m.history ≡ news ++ start → MayFollow start entry
 
 pub extended : (m : Machine) (s : ℕ) (t : Transaction) (o : Option Transaction) (cursors : List (List (Option Position))) (entry : Entry) → Valid m → transaction_of m s ≡ Some t → 0 < t.id → Extends m s t entry
-    → ((u : Transaction) → o ≡ Some u → ValidTransaction m.run m.next (entry ∷ m.history) u) → Beside m.sessions s o → length cursors ≡ length (slice_set m.sessions s o)
+    → ((u : Transaction) → o ≡ Some u → ValidTransaction m.run m.next (entry ∷ m.history) u) → Beside m.sessions s o → ValidCursors (slice_set m.sessions s o) cursors
     → Valid (record m { history = entry ∷ m.history; sessions = slice_set m.sessions s o; cursors = cursors })
-extended m s t o cursors entry v there drawn x now beside seats = record {
+extended m s t o cursors entry v there drawn x now beside placed = record {
   run = v.run;
   next = v.next;
   orderly = x.orderly;
@@ -50,11 +51,12 @@ extended m s t o cursors entry v there drawn x now beside seats = record {
       (λ r y other at. grown m.run m.next entry m.history y (record {
         release = false-from (releases entry (name_in m.run y)) (λ e. apart r y other at (name_eq-same (name_in m.run t) (name_in m.run y) (x.release (name_in m.run y) e)).1);
         commit = false-from (ends entry (name_in m.run y)) (λ e. apart r y other at (name_eq-same (name_in m.run t) (name_in m.run y) (x.commit (name_in m.run y) e)).1);
+        kept = x.kept;
         lines = x.lines r y other at;
       }) (v.sessions.each r y at))
       now beside;
   checkpoint = λ c runs. grown-checkpoint entry m.history m.oldest m.stable c x.may (v.checkpoint c runs);
-  seats = seats;
+  cursors = placed;
 } where
   apart : (r : ℕ) (y : Transaction) → r ≢ s → transaction_of m r ≡ Some y → t.id ≡ y.id → ⊥
   apart r y other at ids = v.sessions.distinct s r t y there at (λ q. other (sym q)) drawn ids
@@ -98,14 +100,15 @@ valid-prepare m s stamp t v there running late = subst (λ o. Valid (of_some m (
         marked = omega arith;
         uncommitted = never-committed m t v none;
         later = λ n e. absurd (unreleased m.history n name none e);
-        released = λ w there. absurd (subst (λ l. Member w l) is there);
+        released = record { writes = λ w there. absurd (subst (λ l. Member w l) is there); empty = λ e. none };
         prepared = λ w there. absurd (subst (λ l. Member w l) is there);
       }))
 
-  now : ValidTransaction m.run m.next (Prepare (name_in m.run t) stamp ∷ m.history) (in_phase (Prepared stamp) t)
-  now = record {
+  now : (w : Write) (writes : List Write) → t.writes ≡ w ∷ writes → ValidTransaction m.run m.next (Prepare (name_in m.run t) stamp ∷ m.history) (in_phase (Prepared stamp) t)
+  now o writes some = record {
     id = old.id;
     start = (let low = old.start in omega arith);
+    kept = old.kept;
     sight = λ x e. old.sight x (sym (released-later (Prepare (name_in m.run t) stamp) m.history t.start x old.start) ∙ e);
     undrawn = old.undrawn;
     single = old.single;
@@ -115,7 +118,10 @@ valid-prepare m s stamp t v there running late = subst (λ o. Valid (of_some m (
       marked = omega arith;
       uncommitted = still-uncommitted (Prepare (name_in m.run t) stamp) m.history name refl (never-committed m t v none);
       later = λ n e. elim (released-cases (Prepare (name_in m.run t) stamp) m.history n name e) [ inl here ↦ let after = here.1 in let low = old.start in omega arith | inr before ↦ absurd (unreleased m.history n name none before) ];
-      released = λ w at. released-now (Prepare (name_in m.run t) stamp) m.history name (name_eq-refl name);
+      released = record {
+        writes = λ w at. released-now (Prepare (name_in m.run t) stamp) m.history name (name_eq-refl name);
+        empty = λ e. let both = sym some ∙ e in absurd (cc);
+      };
       prepared = λ w at. inl ((name_eq-refl name, refl), none);
     };
   }
@@ -127,11 +133,12 @@ valid-prepare m s stamp t v there running late = subst (λ o. Valid (of_some m (
         release = λ x e. e;
         commit = λ x e. absurd (cc);
         lines = λ r x other at busy table key own. refl;
+        kept = λ n k. k;
         may = λ news start whole. tt;
       })
-      (λ x is. let same : in_phase (Prepared stamp) t ≡ x = cc in subst (λ z. ValidTransaction m.run m.next (Prepare (name_in m.run t) stamp ∷ m.history) z) same now)
+      (λ x e. let same : in_phase (Prepared stamp) t ≡ x = cc in subst (λ z. ValidTransaction m.run m.next (Prepare (name_in m.run t) stamp ∷ m.history) z) same (now w writes is))
       (beside-kin m.run m.next m.history m.sessions s t (in_phase (Prepared stamp) t) v.sessions there refl refl (λ e. absurd (running-busy t running e)))
-      (v.seats ∙ sym (length-set m.sessions s (Some (in_phase (Prepared stamp) t))))
+      (cursors-taken m.sessions m.cursors s (in_phase (Prepared stamp) t) (seat-inside m.sessions s t there) v.cursors)
 
   by-writes : (writes : List Write) → t.writes ≡ writes → Valid (prepared m s stamp t)
   by-writes [] is = subst (λ l. Valid (record (with_transaction m s (Some (in_phase (Prepared stamp) t))) { history = appended l (Prepare (name_in m.run t) stamp) m.history })) (sym is) (empty is)

@@ -1,33 +1,43 @@
 -- Short runs of the machine, with their answers written out.
-use Rattle.std.proofs.Common.{◌≡◌, ◌≢◌, ℕ, refl, ap, sym, subst, inl, inr, zero, suc, Bool, true, false, List, [], ◌∷◌, ◌++◌}
+use Rattle.std.proofs.Common.{◌≡◌, ◌≢◌, ℕ, refl, ap, sym, subst, inl, inr, zero, suc, Bool, true, false, List, [], ◌∷◌, ◌++◌, map}
 use Rattle.std.specs.Prelude.{Option, Some, None, ◌^◌, ◌-◌, bytes_eq}
 use Rattle.std.proofs.lemmas.Bool.{cases_Bool}
 use Rattle.std.proofs.lemmas.Slice.Eq.{bytes_eq-Decides}
+use Rattle.item.specs.declared.Change.{Change}
 use Rattle.item.specs.declared.Change.TheVariants.{Put}
+use Rattle.stamp.specs.declared.Name.{Name}
+use Rattle.stamp.specs.declared.Version.{Version}
 use Rattle.item.specs.declared.Format.TheVariants.{S, U}
-use Rattle.kv_model.specs.History.{Create, Undo, value, line, cut}
-use Rattle.kv_model.specs.Machine.{Machine, after, Event, OpenSession, BeginAt, DrawId, AcceptWrite, PrepareAt, CommitAt, StartLeaving, EndTransaction, PlaceCursor, CreateTable, SetStamps, RollbackToStable, CheckpointStart, CheckpointFinish, CheckpointDrop, GoDown, SyncFault, Nothing, Transaction, Position, begun, transaction_of, of_some}
+use Rattle.wt_code.specs.declared.answers.Answer.TheVariants as answers
+use Rattle.failure.specs.declared.Fault.TheVariants.{Sync}
+use Rattle.wt_code.specs.declared.refusals.Refusal.TheVariants.{Exists, Panic, NoSpace, DiskFault, NotFound, PrepareConflict}
+use Rattle.wt_code.specs.declared.refusals.Refusal.TheVariants as told
+use Rattle.wt_code.specs.declared.refusals.Invalid.TheVariants as why
+use Rattle.wt_code.specs.declared.refusals.Busy.TheVariants as who
+use Rattle.wt_code.specs.declared.refusals.Limit.TheVariants as counted
+use Rattle.kv_model.specs.History.{Entry, Create, Commit, Prepare, Resolve, Undo, Rts, Write, value, line, cut, Placed, Table}
+use Rattle.kv_model.specs.Machine.{Machine, after, Event, OpenSession, BeginAt, DrawId, AcceptWrite, PrepareAt, CommitAt, StartLeaving, EndTransaction, PlaceCursor, CreateTable, SetStamps, RollbackToStable, CheckpointStart, CheckpointFinish, CheckpointDrop, GoDown, Nothing, Transaction, Position, begun, transaction_of, of_some}
 use Rattle.kv_model.specs.Outside.{Stored, NoPlace, ReadFailed, WriteFailed, Unfinished}
 use Rattle.kv_model.specs.Reads.{Value, Meets, ReadAnswer, Wrote, IsEnding, is_own, own_write, prepared_in, may_follow}
-use Rattle.kv_model.specs.Refusals.{Invalid, BeforeOldest, Order, NoStampAfterStamp, InTransaction, Exists, IsBusy, ActiveSession, CheckpointRuns, Evicting, ResolvingSession, Panic, NoCheckpoint, CheckpointLeft, Limit, Checkpoints, NoSpace, DiskFault, NotFound, PrepareConflict}
-use Rattle.kv_model.specs.Decisions.{Done, GivesRow, Left, End, Refused, decision, BeginCall, CommitCall, CreateCall, RtsCall, StartCall, StepCall, CaptureCall, FinishCall}
+use Rattle.kv_model.specs.Decisions.{Done, GivesRow, Left, End, Refused, decision, OpenCall, BeginCall, CommitCall, RollbackCall, EndCall, HistoryCall, CreateCall, RtsCall, StartCall, StepCall, CaptureCall, FinishCall}
 use Rattle.kv_model.specs.Closing.{close_decision, after_all}
-use Rattle.kv_model.specs.Rows.{Up, Down, key_lt, NextAnswer}
-use Rattle.kv_model.specs.Content.{nothing, start}
+use Rattle.kv_model.specs.Rows.{Up, Down, key_lt, NextAnswer, reset_decision}
+use Rattle.kv_model.specs.Calls.{Around, Session, Rollback, Answers}
+use Rattle.kv_model.specs.Content.{nothing, start, Content, base, kept}
 
-abbrev run : Machine → List Event → Machine
+abbrev pub run : Machine → List Event → Machine
 run m [] = m
 run m (event ∷ later) = run (after m event) later
 
-abbrev a : List ℕ
+abbrev pub a : List ℕ
 a = 97 ∷ []
 
 -- four sessions and the table 1, named t
-abbrev ready : Machine
+abbrev pub ready : Machine
 ready = run (start nothing) (OpenSession ∷ OpenSession ∷ OpenSession ∷ OpenSession ∷ CreateTable (record { number = 1; name = 116 ∷ []; formats = record { key = U; value = U } }) ∷ [])
 
 -- a transaction of session 0 that puts v under a, and its commit
-abbrev set : ℕ → ℕ → List Event
+abbrev pub set : ℕ → ℕ → List Event
 set v commit = BeginAt 0 0 ∷ DrawId 0 ∷ AcceptWrite 0 1 a (Put (v ∷ [])) ∷ CommitAt 0 commit commit ∷ []
 
 -- what a session reads of a
@@ -53,7 +63,7 @@ reader-stale : of_some true (λ t. may_follow later t (line later.history 1 a)) 
 reader-stale = refl
 
 -- a = 8 at 10, a = 9 at 20
-abbrev stamped : Machine
+abbrev pub stamped : Machine
 stamped = run ready (set 8 10 ++ set 9 20)
 
 before-both : sees_at stamped 9 ≡ None
@@ -126,10 +136,10 @@ cut-at-30 = refl
 abbrev writing : Machine
 writing = run stamped (BeginAt 0 0 ∷ DrawId 0 ∷ AcceptWrite 0 1 a (Put (7 ∷ [])) ∷ [])
 
-order-at-19 : (decision writing 0 (CommitCall (Some 19) None)).0 ≡ Refused (Invalid (Order 19 20))
+order-at-19 : (decision writing 0 (CommitCall (Some 19) None)).0 ≡ Refused (told.Invalid (why.Order 19 20))
 order-at-19 = refl
 
-order-at-none : (decision writing 0 (CommitCall None None)).0 ≡ Refused (Invalid (NoStampAfterStamp 20))
+order-at-none : (decision writing 0 (CommitCall None None)).0 ≡ Refused (told.Invalid (why.NoStampAfterStamp 20))
 order-at-none = refl
 
 order-at-20 : decision writing 0 (CommitCall (Some 20) None) ≡ (Done, CommitAt 0 20 20)
@@ -139,13 +149,13 @@ order-at-oldest : (decision (after writing (SetStamps 20 20)) 0 (CommitCall None
 order-at-oldest = refl
 
 -- a read stamp before oldest; a session that has a transaction; a rollback to stable under way of one
-begin-old : (decision (after stamped (SetStamps 5 0)) 1 (BeginCall (Some 4))).0 ≡ Refused (Invalid (BeforeOldest 4 5))
+begin-old : (decision (after stamped (SetStamps 5 0)) 1 (BeginCall (Some 4))).0 ≡ Refused (told.Invalid (why.BeforeOldest 4 5))
 begin-old = refl
 
-begin-twice : (decision writing 0 (BeginCall None)).0 ≡ Refused (Invalid InTransaction)
+begin-twice : (decision writing 0 (BeginCall None)).0 ≡ Refused (told.Invalid why.InTxn)
 begin-twice = refl
 
-rts-active : (decision writing 0 RtsCall).0 ≡ Refused (IsBusy (ActiveSession 0))
+rts-active : (decision writing 0 RtsCall).0 ≡ Refused (told.Busy (who.Active 0))
 rts-active = refl
 
 -- a table of the same name: the same formats are no fault
@@ -156,7 +166,7 @@ create-other : (decision ready 0 (CreateCall (record { number = 2; name = 116 �
 create-other = refl
 
 -- the start of a checkpoint: the last number is a limit, and comes after a checkpoint that runs
-start-last : (decision ready 0 (StartCall (2 ^ 62 - 1))).0 ≡ Refused (Limit Checkpoints)
+start-last : (decision ready 0 (StartCall (2 ^ 62 - 1))).0 ≡ Refused (told.Limit counted.Checkpoints)
 start-last = refl
 
 start-before : decision ready 0 (StartCall (2 ^ 62 - 2)) ≡ (Done, CheckpointStart)
@@ -165,17 +175,17 @@ start-before = refl
 abbrev started : Machine
 started = after ready CheckpointStart
 
-start-again : (decision started 0 (StartCall (2 ^ 62 - 1))).0 ≡ Refused (IsBusy CheckpointRuns)
+start-again : (decision started 0 (StartCall (2 ^ 62 - 1))).0 ≡ Refused (told.Busy who.Checkpoint)
 start-again = refl
 
 -- a step and a finish without a checkpoint, a finish with a leaf that is left
-step-none : decision ready 0 (StepCall true) ≡ (Refused (Invalid NoCheckpoint), Nothing)
+step-none : decision ready 0 (StepCall true) ≡ (Refused (told.Invalid why.NoCkpt), Nothing)
 step-none = refl
 
-finish-none : (decision ready 0 (FinishCall true Stored)).0 ≡ Refused (Invalid NoCheckpoint)
+finish-none : (decision ready 0 (FinishCall true Stored)).0 ≡ Refused (told.Invalid why.NoCkpt)
 finish-none = refl
 
-finish-left : decision started 0 (FinishCall true Stored) ≡ (Refused (Invalid CheckpointLeft), Nothing)
+finish-left : decision started 0 (FinishCall true Stored) ≡ (Refused (told.Invalid why.CkptLeft), Nothing)
 finish-left = refl
 
 -- steps, with two leaves
@@ -198,14 +208,52 @@ finish-done = refl
 capture-full : decision started 0 (CaptureCall true NoPlace) ≡ (Refused NoSpace, CheckpointDrop)
 capture-full = refl
 
-finish-fault : decision started 0 (FinishCall false (WriteFailed SyncFault)) ≡ (Refused DiskFault, GoDown SyncFault)
+finish-fault : decision started 0 (FinishCall false (WriteFailed Sync)) ≡ (Refused DiskFault, GoDown Sync)
 finish-fault = refl
 
 finish-unread : decision started 0 (FinishCall false ReadFailed) ≡ (Refused DiskFault, Nothing)
 finish-unread = refl
 
-finish-down : (decision (after started (GoDown SyncFault)) 0 (FinishCall true Stored)).0 ≡ Refused (Panic SyncFault)
+finish-down : (decision (after started (GoDown Sync)) 0 (FinishCall true Stored)).0 ≡ Refused (Panic Sync)
 finish-down = refl
+
+-- nothing outside the machine is in the way
+abbrev calm : Around
+calm = record {
+  in_call = false;
+  unfinished = record { eviction = None; calls = [] };
+  IsNumber = λ n. ⊥;
+  uncaptured = 0;
+  MayTake = λ m storing. ⊥;
+  MayKeepOut = λ refusal. ⊥;
+}
+
+-- a machine that is down refuses the event that opens a session, and one that looks in the history
+abbrev down : Machine
+down = after writing (GoDown Sync)
+
+open-down : decision down 0 OpenCall ≡ (Refused (Panic Sync), Nothing)
+open-down = refl
+
+history-down : decision down 0 HistoryCall ≡ (Refused (Panic Sync), Nothing)
+history-down = refl
+
+-- A rollback there takes the updates out of their pages before it meets the fault, and leaves its transaction failed.
+rollback-down : decision down 0 RollbackCall ≡ (Done, StartLeaving 0)
+rollback-down = refl
+
+end-down : (decision (after down (StartLeaving 0)) 0 (EndCall Done)).0 ≡ Refused (Panic Sync)
+end-down = refl
+
+rolls-back-down : Answers calm down (Session 0) Rollback (answers.Refused (Panic Sync)) (after down (StartLeaving 0))
+rolls-back-down = inl (Refused (Panic Sync), refl, refl)
+
+reset-down : reset_decision (after down (StartLeaving 0)) 0 0 ≡ (Refused (told.Invalid why.FailedTxn), Nothing)
+reset-down = refl
+
+-- one without writes has nothing to take out, and stays as it is
+unwritten-down : decision (run ready (BeginAt 0 0 ∷ GoDown Sync ∷ [])) 0 RollbackCall ≡ (Refused (Panic Sync), Nothing)
+unwritten-down = refl
 
 -- Close: session 0 is prepared, session 1 runs
 abbrev idle : Unfinished
@@ -234,23 +282,23 @@ close-content = refl
 close-full : close_decision two_open idle 0 NoPlace ≡ (Refused NoSpace, StartLeaving 0 ∷ EndTransaction 0 ∷ StartLeaving 1 ∷ EndTransaction 1 ∷ [])
 close-full = refl
 
-close-last : (close_decision two_open idle (2 ^ 62 - 1) Stored).0 ≡ Refused (Limit Checkpoints)
+close-last : (close_decision two_open idle (2 ^ 62 - 1) Stored).0 ≡ Refused (told.Limit counted.Checkpoints)
 close-last = refl
 
 -- busy: a checkpoint, then an eviction, then the lowest session with a call
-close-checkpoint : close_decision started (record { eviction = Some 7; calls = true ∷ [] }) 0 Stored ≡ (Refused (IsBusy CheckpointRuns), [])
+close-checkpoint : close_decision started (record { eviction = Some 7; calls = true ∷ [] }) 0 Stored ≡ (Refused (told.Busy who.Checkpoint), [])
 close-checkpoint = refl
 
-close-eviction : (close_decision two_open (record { eviction = Some 7; calls = true ∷ [] }) 0 Stored).0 ≡ Refused (IsBusy (Evicting 7))
+close-eviction : (close_decision two_open (record { eviction = Some 7; calls = true ∷ [] }) 0 Stored).0 ≡ Refused (told.Busy (who.Evicting 7))
 close-eviction = refl
 
-close-call : (close_decision two_open (record { eviction = None; calls = false ∷ true ∷ [] }) 0 Stored).0 ≡ Refused (IsBusy (ResolvingSession 1))
+close-call : (close_decision two_open (record { eviction = None; calls = false ∷ true ∷ [] }) 0 Stored).0 ≡ Refused (told.Busy (who.Resolving 1))
 close-call = refl
 
-close-ending : (close_decision (after two_open (StartLeaving 1)) idle 0 Stored).0 ≡ Refused (IsBusy (ResolvingSession 1))
+close-ending : (close_decision (after two_open (StartLeaving 1)) idle 0 Stored).0 ≡ Refused (told.Busy (who.Resolving 1))
 close-ending = refl
 
-close-down : close_decision (after started (GoDown SyncFault)) idle 0 Stored ≡ (Refused (Panic SyncFault), [])
+close-down : close_decision (after started (GoDown Sync)) idle 0 Stored ≡ (Refused (Panic Sync), [])
 close-down = refl
 
 -- the next row and the previous one: a = 1 and b = 2
@@ -334,8 +382,105 @@ next-conflict = (
   (
     a,
     refl,
-    (0, _, record { another = λ e. cc; writer = (refl, refl); before = refl }, refl),
+    (0, _, record { another = λ e. cc; writer = (refl, refl); before = refl }, (λ e. absurd e), refl),
     λ k past before. (rw (not-below a k before refl) refl, λ other x m. absurd (others-of other x k (not-below a k before refl) m.writer)),
   ),
   refl,
 )
+
+-- session 0 is resolving, session 1 wrote the key over it and committed: who sees that commit reads its value, and may write
+abbrev overtaken : Machine
+overtaken = run ready (set 1 0 ++ BeginAt 0 0 ∷ DrawId 0 ∷ AcceptWrite 0 1 a (Put (2 ∷ [])) ∷ PrepareAt 0 30 ∷ CommitAt 0 30 30 ∷ BeginAt 1 0 ∷ DrawId 1 ∷ AcceptWrite 1 1 a (Put (3 ∷ [])) ∷ CommitAt 1 40 40 ∷ BeginAt 3 0 ∷ [])
+
+overtaken-sees : sees overtaken 3 ≡ Some (3 ∷ [])
+overtaken-sees = refl
+
+overtaken-follows : of_some false (λ t. may_follow overtaken t (line overtaken.history 1 a)) (transaction_of overtaken 3) ≡ true
+overtaken-follows = refl
+
+-- ---- openings
+
+abbrev one_table : Table
+one_table = record { number = 1; name = 116 ∷ []; formats = record { key = U; value = U } }
+
+-- a version of a by this run and id, at this stamp
+abbrev put_at : ℕ → ℕ → ℕ → ℕ → Placed
+put_at runs id stamp v = record { table = 1; key = a; version = record { window = record { name = record { run = runs; id = id }; commit = stamp; durable = stamp }; change = Put (v ∷ []) } }
+
+-- at stable 10 the cell of 20 is hidden, and the record of 10 is what stands
+abbrev hidden : Content
+hidden = record { run = 1; oldest = 0; stable = 10; snapshot = record { min = 3; max = 3; ids = [] }; tables = one_table ∷ []; cells = put_at 1 2 20 9 ∷ []; records = put_at 1 1 10 8 ∷ [] }
+
+hidden-sees : sees_at (run (start hidden) (OpenSession ∷ OpenSession ∷ OpenSession ∷ OpenSession ∷ [])) 0 ≡ Some (8 ∷ [])
+hidden-sees = refl
+
+hidden-cut : base hidden ≡ cut stamped.history 3 10
+hidden-cut = refl
+
+-- a listed id is hidden, and an earlier run is seen at any id
+abbrev listed : Content
+listed = record { run = 2; oldest = 0; stable = 0; snapshot = record { min = 1; max = 3; ids = 1 ∷ [] }; tables = one_table ∷ []; cells = put_at 2 1 0 9 ∷ []; records = put_at 1 77 0 8 ∷ [] }
+
+listed-hidden : kept listed ≡ put_at 1 77 0 8 ∷ []
+listed-hidden = refl
+
+-- a record that is the cell again counts once
+abbrev twice : Content
+twice = record { run = 2; oldest = 0; stable = 0; snapshot = record { min = 3; max = 3; ids = [] }; tables = one_table ∷ []; cells = put_at 1 77 0 8 ∷ []; records = put_at 1 77 0 8 ∷ [] }
+
+twice-once : kept twice ≡ put_at 1 77 0 8 ∷ []
+twice-once = refl
+
+-- an id at max is hidden, one below it is seen
+at-max : kept (record twice { cells = put_at 2 3 0 9 ∷ [] }) ≡ put_at 1 77 0 8 ∷ []
+at-max = refl
+
+below-max : kept (record twice { cells = put_at 2 2 0 9 ∷ [] }) ≡ put_at 2 2 0 9 ∷ put_at 1 77 0 8 ∷ []
+below-max = refl
+
+-- ---- one history, entry by entry: two commits, a prepare, its commit, a rollback to stable at 20
+
+abbrev puts : ℕ → ℕ → ℕ → List Write
+puts v commit durable = record { table = 1; key = a; change = Put (v ∷ []); commit = commit; durable = durable } ∷ []
+
+abbrev named : ℕ → Name
+named id = record { run = 1; id = id }
+
+abbrev told_4 : List Entry
+told_4 = Prepare (named 3) 30 ∷ Commit (named 2) (puts 2 20 20) ∷ Commit (named 1) (puts 1 10 10) ∷ Create (record { number = 1; name = 116 ∷ []; formats = record { key = U; value = U } }) ∷ []
+
+abbrev told_5 : List Entry
+told_5 = Resolve (named 3) (puts 3 30 35) ∷ told_4
+
+abbrev told_6 : List Entry
+told_6 = Rts 20 ∷ told_5
+
+start-2 : value told_5 2 0 1 a ≡ Some (1 ∷ [])
+start-2 = refl
+
+start-3 : value told_5 3 0 1 a ≡ Some (2 ∷ [])
+start-3 = refl
+
+start-3-at-13 : value told_5 3 13 1 a ≡ Some (1 ∷ [])
+start-3-at-13 = refl
+
+start-3-at-9 : value told_5 3 9 1 a ≡ None
+start-3-at-9 = refl
+
+start-4-met : prepared_in told_4 4 0 (named 3) ≡ true
+start-4-met = refl
+
+start-4 : value told_5 4 0 1 a ≡ Some (3 ∷ [])
+start-4 = refl
+
+start-4-at-29 : (prepared_in told_4 4 29 (named 3) ≡ false) × (value told_5 4 29 1 a ≡ Some (2 ∷ []))
+start-4-at-29 = (refl, refl)
+
+start-6 : value told_6 6 0 1 a ≡ Some (2 ∷ [])
+start-6 = refl
+
+told-line : map (λ (v : Version Change). v.window.name.id) (line told_5 1 a) ≡ 3 ∷ 2 ∷ 1 ∷ []
+told-line = refl
+
+told-kept : map (λ (v : Version Change). v.window.name.id) (line (cut told_5 5 30) 1 a) ≡ 2 ∷ 1 ∷ []
+told-kept = refl

@@ -50,6 +50,7 @@ written-valid : (m : Machine) (s table : ℕ) (key : List ℕ) (change : Change)
 written-valid m s table key change t v there running drawn may has = record {
   id = old.id;
   start = old.start;
+  kept = old.kept;
   sight = old.sight;
   undrawn = λ e. absurd (omega arith);
   single = λ table2 key2. joined-single (unstamped table key change) t.writes table2 key2 (old.single table2 key2);
@@ -69,7 +70,7 @@ written-valid m s table key change t v there running drawn may has = record {
 pub valid-accept : (m : Machine) (s table : ℕ) (key : List ℕ) (change : Change) (t : Transaction) → Valid m → transaction_of m s ≡ Some t → t.phase ≡ Running → 0 < t.id → MayWrite m s t table key → has_table (tables m.history) table ≡ true
     → Valid (after m (AcceptWrite s table key change))
 valid-accept m s table key change t v there running drawn may has = subst (λ o. Valid (with_transaction m s o)) (sym (ap (option_map (written table key change)) there))
-    (seated m s (Some u) v (seats-set m.run m.next m.history m.run m.next m.history m.sessions s (Some u) (seat-inside m.sessions s t there) v.sessions
+    (seated m s u (seat-inside m.sessions s t there) v (seats-set m.run m.next m.history m.run m.next m.history m.sessions s (Some u) (seat-inside m.sessions s t there) v.sessions
     (λ r x other at. v.sessions.each r x at)
     (λ x is. let same : u ≡ x = cc in subst (λ z. ValidTransaction m.run m.next m.history z) same (written-valid m s table key change t v there running drawn may has))
     (record {
@@ -97,6 +98,7 @@ pub rephased : (run next : ℕ) (history : List Entry) (t : Transaction) (phase 
 rephased run next history t phase v busy stands = record {
   id = v.id;
   start = v.start;
+  kept = v.kept;
   sight = v.sight;
   undrawn = v.undrawn;
   single = v.single;

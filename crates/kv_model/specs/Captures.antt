@@ -5,6 +5,7 @@ use Rattle.stamp.specs.declared.Version.{Version}
 use Rattle.kv_model.specs.Holds.{Member, Covered, Picks}
 use Rattle.kv_model.specs.Ordered.{Older}
 use Rattle.kv_model.specs.History.{Entry, Commit, Resolve, Rts, committed, is_by, is_stable, line}
+use Rattle.kv_model.specs.Machine.{Machine, Checkpoint}
 
 -- the same version, or an older one
 abbrev pub UpTo : {A : Type 0} → (A → A → Type 0) → A → A → Type 0
@@ -57,6 +58,10 @@ is_in history n v = committed history n v.window.name
 abbrev pub KeyCaptured : List Entry → List Entry → ℕ → ℕ → List ℕ → Option (Version Change) → (Version Change → Type 0) → Type 0
 KeyCaptured news start oldest table key cell History =
     Captured Older (is_in (news ++ start) (length start)) (is_by oldest) (line (news ++ start) table key) cell History
+
+-- what the running checkpoint holds of one key
+abbrev pub CapturedIn : Machine → Checkpoint → ℕ → List ℕ → Option (Version Change) → (Version Change → Type 0) → Type 0
+CapturedIn m c table key cell History = Captured Older (is_in m.history c.prefix) (is_by c.oldest) (line m.history table key) cell History
 
 -- it is kept by that checkpoint, at its recorded stable stamp
 abbrev pub keeps : List Entry → List Entry → ℕ → Version Change → Bool

@@ -1,8 +1,12 @@
 -- Close: what it answers, and the events that it makes.
 use Rattle.std.specs.Prelude.{ℕ, ◌+◌, Bool, true, false, ◌||◌, nat_le, List, [], ◌∷◌, ◌++◌, Option, Some, None, option_map, slice_index_or, if◌then◌else◌}
+use Rattle.wt_code.specs.declared.refusals.Refusal.{Refusal}
+use Rattle.wt_code.specs.declared.refusals.Refusal.TheVariants as told
+use Rattle.wt_code.specs.declared.refusals.Busy.{Busy}
+use Rattle.wt_code.specs.declared.refusals.Busy.TheVariants as who
+use Rattle.wt_code.specs.declared.refusals.Limit.TheVariants as counted
 use Rattle.kv_model.specs.Machine.{Machine, Transaction, Phase, Resolving, Leaving, of_some, Event, StartLeaving, EndTransaction, CheckpointStart, CheckpointFinish, GoDown, after}
 use Rattle.kv_model.specs.Outside.{Storing, Stored, NoPlace, ReadFailed, Damaged, WriteFailed, Unfinished}
-use Rattle.kv_model.specs.Refusals.{Busy, CheckpointRuns, Evicting, ResolvingSession, Checkpoints, Cause, Panic, IsBusy, Limit, NoSpace, DiskFault, Corrupt}
 use Rattle.kv_model.specs.Decisions.{Outcome, Done, Refused, is_there, count_max}
 
 -- its commit or rollback was decided and has not ended
@@ -23,8 +27,8 @@ first_held calls at (t ∷ later) = if is_held calls at t then Some at else firs
 -- who keeps a Close from its work, in the order of refusals
 abbrev pub close_busy : Machine → Unfinished → Option Busy
 close_busy m u =
-    if is_there m.checkpoint then Some CheckpointRuns
-    else of_some (option_map ResolvingSession (first_held u.calls 0 m.sessions)) (λ place. Some (Evicting place)) u.eviction
+    if is_there m.checkpoint then Some who.Checkpoint
+    else of_some (option_map who.Resolving (first_held u.calls 0 m.sessions)) (λ place. Some (who.Evicting place)) u.eviction
 
 -- the events that roll back the transaction of each session, the lowest first
 abbrev pub rolling_back : ℕ → List (Option Transaction) → List Event
@@ -35,26 +39,26 @@ rolling_back at (Some t ∷ later) = StartLeaving at ∷ EndTransaction at ∷ r
 -- the checkpoint of a Close, by how the device took it
 abbrev pub last_stored : Storing → Outcome × List Event
 last_stored Stored = (Done, CheckpointStart ∷ CheckpointFinish ∷ [])
-last_stored NoPlace = (Refused NoSpace, [])
-last_stored ReadFailed = (Refused DiskFault, [])
-last_stored (Damaged offset want found) = (Refused (Corrupt offset want found), [])
-last_stored (WriteFailed fault) = (Refused DiskFault, GoDown fault ∷ [])
+last_stored NoPlace = (Refused told.NoSpace, [])
+last_stored ReadFailed = (Refused told.DiskFault, [])
+last_stored (Damaged offset want found) = (Refused (told.Corrupt offset want found), [])
+last_stored (WriteFailed fault) = (Refused told.DiskFault, GoDown fault ∷ [])
 
 -- number: that of the last completed checkpoint, 0 where there is none
 abbrev pub last_checkpoint : ℕ → Storing → Outcome × List Event
-last_checkpoint number storing = if nat_le count_max number then (Refused (Limit Checkpoints), []) else last_stored storing
+last_checkpoint number storing = if nat_le count_max number then (Refused (told.Limit counted.Checkpoints), []) else last_stored storing
 
 -- the transactions are rolled back first
 abbrev pub closing : Machine → Outcome × List Event → Outcome × List Event
 closing m last = (last.0, rolling_back 0 m.sessions ++ last.1)
 
-abbrev pub close_refused : Cause → Outcome × List Event
-close_refused cause = (Refused cause, [])
+abbrev pub close_refused : Refusal → Outcome × List Event
+close_refused refusal = (Refused refusal, [])
 
 -- the answer to Close, and its events in order
 abbrev pub close_decision : Machine → Unfinished → ℕ → Storing → Outcome × List Event
 close_decision m u number storing =
-    of_some (of_some (closing m (last_checkpoint number storing)) (λ busy. close_refused (IsBusy busy)) (close_busy m u)) (λ fault. close_refused (Panic fault)) m.fault
+    of_some (of_some (closing m (last_checkpoint number storing)) (λ busy. close_refused (told.Busy busy)) (close_busy m u)) (λ fault. close_refused (told.Panic fault)) m.fault
 
 -- what events leave, one after the other
 abbrev pub after_all : Machine → List Event → Machine

@@ -1,17 +1,19 @@
 -- What decides a call may come.
 use Rattle.std.specs.Prelude.{◌≡◌, ℕ, ◌<◌, List, [], ◌∷◌, length, None}
 use Rattle.kv_model.specs.Holds.{Member}
-use Rattle.kv_model.specs.History.{Table, tables}
+use Rattle.kv_model.specs.History.{Table, created}
 use Rattle.kv_model.specs.Machine.{Machine, Event, after, transaction_of}
+use Rattle.kv_model.specs.Reads.{IsEnding}
 use Rattle.kv_model.specs.Outside.{Storing, Unfinished}
-use Rattle.kv_model.specs.Allowed.{Allowed}
-use Rattle.kv_model.specs.Decisions.{Request, BeginCall, CreateCall, decision}
+use Rattle.kv_model.specs.Allowed.{Allowed, HasTransaction}
+use Rattle.kv_model.specs.Decisions.{Request, BeginCall, EndCall, CreateCall, decision}
 use Rattle.kv_model.specs.Closing.{close_busy, close_decision, after_all}
 
--- what the caller knows: the session is open, and a new table's number is above all others
+-- what the caller knows: the session is open, a new table's number is above all that were made, and a transaction whose last event comes is ending
 abbrev pub Suits : Machine → ℕ → Request → Type 0
 Suits m session (BeginCall read) = session < length m.sessions
-Suits m session (CreateCall table) = ((t : Table) → Member t (tables m.history) → t.number < table.number) × (0 < table.number)
+Suits m session (CreateCall table) = ((t : Table) → Member t (created m.history) → t.number < table.number) × (0 < table.number)
+Suits m session (EndCall decided) = HasTransaction m session (λ t. IsEnding t.phase)
 Suits m session _ = Unit {0}
 
 -- the event of each decision may come

@@ -78,6 +78,12 @@ tables [] = []
 tables (Create table ∷ older) = table ∷ tables older
 tables (_ ∷ older) = tables older
 
+-- each table that was ever made, newest first
+abbrev pub created : List Entry → List Table
+created [] = []
+created (Create table ∷ older) = table ∷ created older
+created (_ ∷ older) = created older
+
 -- a table of this number is among them
 abbrev pub has_table : List Table → ℕ → Bool
 has_table known number = list_any (λ (t : Table). t.number == number) known

@@ -22,3 +22,17 @@ pub mod StoreLaws
 pub mod CaptureLaws
 pub mod Regular
 pub mod DecisionLaws
+pub mod GoingOnLaws
+pub mod Reconciling
+pub mod ReconcileLaws
+pub mod Elsewhere
+pub mod Passing
+pub mod PassingLaws
+pub mod Marks
+pub mod MarkLaws
+pub mod StableLaws
+pub mod SweepLaws
+pub mod OpeningLaws
+pub mod Told
+pub mod Calls
+pub mod CallLaws

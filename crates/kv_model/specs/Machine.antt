@@ -2,6 +2,7 @@
 use Rattle.std.specs.Prelude.{ℕ, ◌+◌, not, ◌==◌, max, List, [], ◌∷◌, ◌++◌, length, map, filter, replicate, Option, Some, None, if◌then◌else◌, option_map, slice_index_or, slice_set}
 use Rattle.item.specs.declared.Change.{Change}
 use Rattle.stamp.specs.declared.Name.{Name}
+use Rattle.failure.specs.declared.Fault.{Fault}
 use Rattle.kv_model.specs.History.{Entry, Create, Commit, Prepare, Resolve, Undo, Rts, Write, Table, writes_at, cut}
 
 pub data Phase : Type 0 where
@@ -40,11 +41,6 @@ pub record Completed : Type 0 where
   pub oldest : ℕ
   pub stable : ℕ
 
--- a write or sync of the device that failed
-pub data Fault : Type 0 where
-  WriteFault : (offset : ℕ) → Fault
-  SyncFault : Fault
-
 pub record Machine : Type 0 where
   pub history : List Entry
   pub run : ℕ
@@ -61,7 +57,7 @@ pub record Machine : Type 0 where
   pub completed : Completed
   -- the rollbacks to stable that were done
   pub rollbacks : ℕ
-  -- None: up
+  -- the write or sync of the device that failed; None: up
   pub fault : Option Fault
 
 abbrev pub of_some : {A B : Type 0} → B → (A → B) → Option A → B

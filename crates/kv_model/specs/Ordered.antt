@@ -5,7 +5,7 @@ use Rattle.item.specs.declared.Change.{Change}
 use Rattle.stamp.specs.declared.Name.{Name}
 use Rattle.stamp.specs.declared.Version.{Version}
 use Rattle.kv_model.specs.Holds.{Member}
-use Rattle.kv_model.specs.History.{Entry, Create, Commit, Resolve, Table, Write, line, writes_at, released, tables, has_table}
+use Rattle.kv_model.specs.History.{Entry, Create, Commit, Resolve, Table, Write, line, writes_at, released, tables, created, has_table}
 
 -- names are ordered by run, then by id
 abbrev pub NameBelow : Name → Name → Type 0
@@ -27,14 +27,14 @@ pub record Follows (name : Name) (writes : List Write) (older : List Entry) : Ty
   pub stamps : (w : Write) → Member w writes → w.commit ≤ w.durable
   pub placed : (w : Write) → Member w writes → has_table (tables older) w.table ≡ true
 
--- a new table has a name of its own and a number above all others
-pub record IsNewTable (table : Table) (known : List Table) : Type 0 where
-  pub number : (t : Table) → Member t known → t.number < table.number
-  pub name : (t : Table) → Member t known → t.name ≡ table.name → ⊥
+-- a new table has a number above all that were ever made, and a name that none has which is there
+pub record IsNewTable (table : Table) (history : List Entry) : Type 0 where
+  pub number : (t : Table) → Member t (created history) → t.number < table.number
+  pub name : (t : Table) → Member t (tables history) → t.name ≡ table.name → ⊥
 
 abbrev pub IsOrderly : List Entry → Type 0
 IsOrderly [] = Unit {0}
-IsOrderly (Create table ∷ older) = IsNewTable table (tables older) × IsOrderly older
+IsOrderly (Create table ∷ older) = IsNewTable table older × IsOrderly older
 IsOrderly (Commit name writes ∷ older) = Follows name writes older × IsOrderly older
 IsOrderly (Resolve name writes ∷ older) = (Follows name writes older × (released older (length older) name ≡ true)) × IsOrderly older
 IsOrderly (_ ∷ older) = IsOrderly older

@@ -1,6 +1,6 @@
 -- Facts of the outside on which answers rest: how the device took a checkpoint, and which calls are unfinished.
 use Rattle.std.specs.Prelude.{ℕ, Bool, List, Option}
-use Rattle.kv_model.specs.Machine.{Fault}
+use Rattle.failure.specs.declared.Fault.{Fault}
 
 -- how the device took what a step or the finish of a checkpoint wrote
 pub data Storing : Type 0 where

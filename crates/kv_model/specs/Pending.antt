@@ -30,9 +30,13 @@ MarkStands _ history name u = Unit {0}
 abbrev pub IsOutcome : Name → Update → Version Change → Type 0
 IsOutcome name u v = (v.window.name ≡ name) × (u.prepared ≤ v.window.commit)
 
+-- no version of the name is among these
+abbrev pub NoneOf : Name → List (Version Change) → Type 0
+NoneOf name versions = (v : Version Change) → Member v versions → v.window.name ≡ name → ⊥
+
 -- the versions below the update: all that stand, but for the update's own one where it is resolved and not stamped yet
 abbrev pub BelowStands : Phase → Name → Update → List (Version Change) → List (Version Change) → Type 0
-BelowStands Resolving name u stands below = (stands ≡ below) ⊎ ((v : Version Change) × IsOutcome name u v × (stands ≡ v ∷ below))
+BelowStands Resolving name u stands below = ((stands ≡ below) × NoneOf name stands) ⊎ ((v : Version Change) × IsOutcome name u v × (stands ≡ v ∷ below))
 BelowStands _ name u stands below = stands ≡ below
 
 -- the update is the write of this transaction, and of the others that wrote the key each is ending
@@ -47,6 +51,8 @@ pub record IsTop (m : Machine) (table : ℕ) (key : List ℕ) (u : Update) (belo
   pub mark : MarkStands transaction.phase m.history (name_of m transaction) u
   pub rest : BelowStands transaction.phase (name_of m transaction) u (line m.history table key) below
   pub alone : OthersEnding m session table key
+  -- it is above what lies below
+  pub above : (v : Version Change) → Member v below → Older v u.version
 
 -- no transaction holds an update of the key, but one that is ending
 abbrev pub NoneHolds : Machine → ℕ → List ℕ → Type 0
@@ -61,6 +67,10 @@ TopStands m table key (u ∷ (v ∷ rest)) below = ⊥
 abbrev pub InFrame : List (Version Change) → Option (Version Change) → Version Change → Type 0
 InFrame held cell v = Member v held ⊎ (cell ≡ Some v)
 
+-- no transaction that has not ended has this name
+abbrev pub HasEnded : Machine → Name → Type 0
+HasEnded m x = (s : ℕ) (t : Transaction) → transaction_of m s ≡ Some t → x ≡ name_of m t → ⊥
+
 -- one key: chain and cell are the frame's, records the history's; below is what top leaves of the line
 pub record KeyStands (m : Machine) (table : ℕ) (key : List ℕ) (chain : List Update) (cell : Option (Version Change)) (InHistory : Version Change → Type 0) : Type 0 where
   pub top : List Update
@@ -72,4 +82,4 @@ pub record KeyStands (m : Machine) (table : ℕ) (key : List ℕ) (chain : List 
   pub topped : TopStands m table key top below
   pub stores : Stores Older (covers m) below (InFrame held cell) InHistory
   -- each record has a version of an ended transaction at or above it in the frame
-  pub layered : (v : Version Change) → InHistory v → (w : Version Change) × InFrame held cell w × UpTo Older v w
+  pub layered : (v : Version Change) → InHistory v → (w : Version Change) × InFrame held cell w × HasEnded m w.window.name × UpTo Older v w

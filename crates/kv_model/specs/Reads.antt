@@ -3,6 +3,8 @@ use Rattle.std.specs.Prelude.{◌≡◌, ◌≢◌, ℕ, ◌⊎◌, Bool, true, 
 use Rattle.item.specs.declared.Change.{Change}
 use Rattle.stamp.specs.declared.Name.{Name}
 use Rattle.stamp.specs.declared.Version.{Version}
+use Rattle.kv_model.specs.Holds.{Member}
+use Rattle.kv_model.specs.Ordered.{NameBelow}
 use Rattle.kv_model.specs.History.{Entry, Prepare, Write, line, writes_at, admits, name_eq, reads_at, released, releases, value, put_of}
 use Rattle.kv_model.specs.Machine.{Machine, Transaction, Phase, Resolving, Leaving, transaction_of, name_of}
 
@@ -46,6 +48,15 @@ IsEnding Resolving = Unit {0}
 IsEnding Leaving = Unit {0}
 IsEnding _ = ⊥
 
+-- no other transaction holds an update of the key, but one that is ending
+abbrev pub OthersEnding : Machine → ℕ → ℕ → List ℕ → Type 0
+OthersEnding m session table key = (other : ℕ) (x : Transaction) → other ≢ session → Wrote m other table key x → IsEnding x.phase
+
+-- no version that stands is of a greater name, and of the others that wrote the key each is ending
+pub record IsNewestUpdate (m : Machine) (table : ℕ) (key : List ℕ) (other : ℕ) (x : Transaction) : Type 0 where
+  pub stands : (v : Version Change) → Member v (line m.history table key) → NameBelow (name_of m x) v.window.name → ⊥
+  pub alone : OthersEnding m other table key
+
 pub data Found : Type 0 where
   -- None is absent
   Value : (value : Option (List ℕ)) → Found
@@ -57,7 +68,7 @@ ReadOthers m session t table key (Value v) =
     (v ≡ value m.history t.start t.read table key)
     × ((other : ℕ) (x : Transaction) → Meets m session t table key other x → IsEnding x.phase)
 ReadOthers m session t table key (Conflict id) =
-    (other : ℕ) × (x : Transaction) × Meets m session t table key other x × (id ≡ x.id)
+    (other : ℕ) × (x : Transaction) × Meets m session t table key other x × (IsEnding x.phase → IsNewestUpdate m table key other x) × (id ≡ x.id)
 
 abbrev pub ReadAs : Option Write → Machine → ℕ → Transaction → ℕ → List ℕ → Found → Type 0
 ReadAs (Some w) m session t table key found = found ≡ Value (put_of w.change)
@@ -72,10 +83,6 @@ abbrev pub may_follow : Machine → Transaction → List (Version Change) → Bo
 may_follow m t [] = true
 may_follow m t (v ∷ older) = admits m.history t.start t.read v
 
--- no other transaction holds an update of the key, but one that is ending
-abbrev pub OthersEnding : Machine → ℕ → ℕ → List ℕ → Type 0
-OthersEnding m session table key = (other : ℕ) (x : Transaction) → other ≢ session → Wrote m other table key x → IsEnding x.phase
-
 pub record Accepts (m : Machine) (session : ℕ) (t : Transaction) (table : ℕ) (key : List ℕ) : Type 0 where
   pub others : OthersEnding m session table key
   pub newest : may_follow m t (line m.history table key) ≡ true
@@ -87,7 +94,7 @@ names_newest name (v ∷ older) = name_eq v.window.name name
 -- name is of the newest update: another's that has not ended, or a version that is not admitted
 abbrev pub Refuses : Machine → ℕ → Transaction → ℕ → List ℕ → Name → Type 0
 Refuses m session t table key name =
-    ((other : ℕ) × (x : Transaction) × (other ≢ session) × Wrote m other table key x × (name ≡ name_of m x))
+    ((other : ℕ) × (x : Transaction) × (other ≢ session) × Wrote m other table key x × (IsEnding x.phase → IsNewestUpdate m table key other x) × (name ≡ name_of m x))
     ⊎ (OthersEnding m session table key × (names_newest name (line m.history table key) ≡ true) × (may_follow m t (line m.history table key) ≡ false))
 
 abbrev pub MayWriteAs : Option Write → Machine → ℕ → Transaction → ℕ → List ℕ → Type 0

@@ -1,66 +1,11 @@
--- Why a call is refused, with the numbers that each refusal carries, and the stamp rules in their order.
+-- The stamp rules, each a list of checks in the order of refusals, over the two stamps that bound the history; 0 is an unset one.
 use Rattle.std.specs.Prelude.{ℕ, Bool, false, not, ◌&&◌, ◌||◌, ◌==◌, nat_lt, nat_le, max, List, [], ◌∷◌, Option, Some, None, if◌then◌else◌}
 use Rattle.item.specs.declared.Change.{Change}
-use Rattle.stamp.specs.declared.Name.{Name}
 use Rattle.stamp.specs.declared.Version.{Version}
+use Rattle.wt_code.specs.declared.refusals.Invalid.{Invalid}
+use Rattle.wt_code.specs.declared.refusals.Invalid.TheVariants.{ZeroStamp, BeforeOldest, NotAfterStable, OldestAfterStable, NoCommitStamp, DurableGiven, BeforePrepare, DurableBeforeCommit, Order, NoStampAfterStamp}
 use Rattle.kv_model.specs.History.{Write, line}
-use Rattle.kv_model.specs.Machine.{Machine, Transaction, Fault}
-
--- the call does not fit the state or the stamps, or an argument is none
-pub data Reason : Type 0 where
-  NoTransaction : Reason
-  InTransaction : Reason
-  IsPrepared : Reason
-  FailedTransaction : Reason
-  BadName : Reason
-  ZeroStamp : Reason
-  KeyLong : (length : ℕ) → Reason
-  ValueLong : (length : ℕ) → Reason
-  BeforeOldest : (given oldest : ℕ) → Reason
-  NotAfterStable : (given stable : ℕ) → Reason
-  OldestAfterStable : (oldest stable : ℕ) → Reason
-  NoCommitStamp : Reason
-  DurableGiven : Reason
-  BeforePrepare : (given prepare : ℕ) → Reason
-  DurableBeforeCommit : (durable commit : ℕ) → Reason
-  Order : (given prev : ℕ) → Reason
-  NoStampAfterStamp : (prev : ℕ) → Reason
-  NoCheckpoint : Reason
-  CheckpointLeft : Reason
-
--- who is busy, and with what
-pub data Busy : Type 0 where
-  ActiveSession : (session : ℕ) → Busy
-  CheckpointRuns : Busy
-  -- an eviction has begun, in this place
-  Evicting : (place : ℕ) → Busy
-  -- a session's call is unfinished, or its commit or rollback was decided and has not ended
-  ResolvingSession : (session : ℕ) → Busy
-
-pub data Counted : Type 0 where
-  Sessions : Counted
-  Tables : Counted
-  Ids : Counted
-  Checkpoints : Counted
-  Rollbacks : Counted
-
-pub data Cause : Type 0 where
-  -- of a write, with the newest update's name
-  RollBack : (name : Name) → Cause
-  DuplicateKey : Cause
-  NotFound : Cause
-  Panic : (fault : Fault) → Cause
-  PrepareConflict : (id : ℕ) → Cause
-  NoTable : Cause
-  IsBusy : (busy : Busy) → Cause
-  Exists : Cause
-  Invalid : (reason : Reason) → Cause
-  Limit : (of : Counted) → Cause
-  -- the device has no room for a block
-  NoSpace : Cause
-  DiskFault : Cause
-  -- a block is damaged, with the numbers that the refusal carries
-  Corrupt : (offset want found : ℕ) → Cause
+use Rattle.kv_model.specs.Machine.{Machine}
 
 -- the first check that holds
 abbrev pub first_of : {A : Type 0} → List (Bool × A) → Option A
@@ -89,40 +34,42 @@ abbrev pub durable_below : Machine → List Write → ℕ
 durable_below m [] = 0
 durable_below m (w ∷ writes) = max (newest_durable (line m.history w.table w.key)) (durable_below m writes)
 
--- after a durable stamp that is later than oldest, a commit stamp is not before it and not absent
-abbrev pub order_rule : Machine → Transaction → ℕ → List (Bool × Reason)
-order_rule m t commit = let prev = durable_below m t.writes in
-    (nat_lt m.oldest prev && (commit == 0), NoStampAfterStamp prev)
-    ∷ (nat_lt m.oldest prev && nat_lt commit prev, Order commit prev) ∷ []
+-- of a read stamp
+abbrev pub begin_rules : (oldest : ℕ) (read : Option ℕ) → List (Bool × Invalid)
+begin_rules oldest read = let r = stamp_of read in
+    (is_zero read, ZeroStamp) ∷ (not (r == 0) && nat_lt r oldest, BeforeOldest r oldest) ∷ []
 
-abbrev pub begin_rules : Machine → Option ℕ → List (Bool × Reason)
-begin_rules m read = let r = stamp_of read in
-    (is_zero read, ZeroStamp) ∷ (not (r == 0) && nat_lt r m.oldest, BeforeOldest r m.oldest) ∷ []
+abbrev pub prepare_rules : (stable prepare : ℕ) → List (Bool × Invalid)
+prepare_rules stable prepare = (prepare == 0, ZeroStamp) ∷ (nat_le prepare stable, NotAfterStable prepare stable) ∷ []
 
-abbrev pub prepare_rules : Machine → ℕ → List (Bool × Reason)
-prepare_rules m stamp = (stamp == 0, ZeroStamp) ∷ (nat_le stamp m.stable, NotAfterStable stamp m.stable) ∷ []
+-- after a durable stamp that is later than oldest, a commit stamp is not absent and not before it; prev: the greatest durable stamp below the writes
+abbrev pub order_rule : (oldest commit prev : ℕ) → List (Bool × Invalid)
+order_rule oldest commit prev =
+    (nat_lt oldest prev && (commit == 0), NoStampAfterStamp prev)
+    ∷ (nat_lt oldest prev && nat_lt commit prev, Order commit prev) ∷ []
 
 -- of a transaction that is not prepared
-abbrev pub commit_rules : Machine → Transaction → Option ℕ → Option ℕ → List (Bool × Reason)
-commit_rules m t commit durable = let c = stamp_of commit in
+abbrev pub commit_rules : (oldest stable : ℕ) (commit durable : Option ℕ) (prev : ℕ) → List (Bool × Invalid)
+commit_rules oldest stable commit durable prev = let c = stamp_of commit in
     (is_zero commit || is_zero durable, ZeroStamp)
     ∷ (not (stamp_of durable == 0), DurableGiven)
-    ∷ (not (c == 0) && nat_lt c m.oldest, BeforeOldest c m.oldest)
-    ∷ (not (c == 0) && nat_le c m.stable, NotAfterStable c m.stable)
-    ∷ order_rule m t c
+    ∷ (not (c == 0) && nat_lt c oldest, BeforeOldest c oldest)
+    ∷ (not (c == 0) && nat_le c stable, NotAfterStable c stable)
+    ∷ order_rule oldest c prev
 
--- of a transaction that is prepared at p; the durable stamp, where none is given, is the commit stamp
-abbrev pub resolve_rules : Machine → Transaction → ℕ → Option ℕ → Option ℕ → List (Bool × Reason)
-resolve_rules m t p commit durable = let c = stamp_of commit in let d = or_stamp (stamp_of durable) c in
+-- of a prepared transaction; the durable stamp, where none is given, is the commit stamp
+abbrev pub resolve_rules : (oldest stable prepare : ℕ) (commit durable : Option ℕ) (prev : ℕ) → List (Bool × Invalid)
+resolve_rules oldest stable prepare commit durable prev = let c = stamp_of commit in let d = or_stamp (stamp_of durable) c in
     (is_zero commit || is_zero durable, ZeroStamp)
     ∷ (c == 0, NoCommitStamp)
-    ∷ (nat_lt c p, BeforePrepare c p)
+    ∷ (nat_lt c prepare, BeforePrepare c prepare)
     ∷ (nat_lt d c, DurableBeforeCommit d c)
-    ∷ (nat_lt d m.oldest, BeforeOldest d m.oldest)
-    ∷ (nat_le d m.stable, NotAfterStable d m.stable)
-    ∷ order_rule m t c
+    ∷ (nat_lt d oldest, BeforeOldest d oldest)
+    ∷ (nat_le d stable, NotAfterStable d stable)
+    ∷ order_rule oldest c prev
 
-abbrev pub set_rules : Machine → Option ℕ → Option ℕ → List (Bool × Reason)
-set_rules m oldest stable = let o = max m.oldest (stamp_of oldest) in let s = max m.stable (stamp_of stable) in
-    (is_zero oldest || is_zero stable, ZeroStamp)
+-- of stamps that are given to raise the two: neither falls, and oldest is not later than stable where both are set
+abbrev pub set_rules : (oldest stable : ℕ) (given_oldest given_stable : Option ℕ) → List (Bool × Invalid)
+set_rules oldest stable given_oldest given_stable = let o = max oldest (stamp_of given_oldest) in let s = max stable (stamp_of given_stable) in
+    (is_zero given_oldest || is_zero given_stable, ZeroStamp)
     ∷ (not (o == 0) && (not (s == 0) && nat_lt s o), OldestAfterStable o s) ∷ []

@@ -2,9 +2,9 @@
 use Rattle.std.specs.Prelude.{◌≡◌, ℕ, Bool, true, ◌==◌, List, Option, Some, None, if◌then◌else◌}
 use Rattle.std.specs.Ordering.{nat_cmp, is_lt}
 use Rattle.std.specs.Cmp.Lexicographic.{slice_cmp}
+use Rattle.wt_code.specs.declared.refusals.Refusal.TheVariants.{NotFound, PrepareConflict}
 use Rattle.kv_model.specs.Machine.{Machine, Transaction, Position, cursor_of, Event, PlaceCursor, Nothing}
 use Rattle.kv_model.specs.Reads.{Found, Value, Conflict, ReadAnswer}
-use Rattle.kv_model.specs.Refusals.{NotFound, PrepareConflict}
 use Rattle.kv_model.specs.Decisions.{Outcome, Done, Gives, GivesRow, Refused, GetAnswer, running_session}
 
 -- by unsigned bytes, a proper prefix first

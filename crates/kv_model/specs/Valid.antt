@@ -1,24 +1,34 @@
 -- What every machine has that is reached from an opening by events that may come.
-use Rattle.std.specs.Prelude.{◌≡◌, ◌≢◌, ◌⊎◌, ◌<◌, ◌≤◌, ℕ, true, false, List, [], ◌++◌, length, filter, Option, Some, None, slice_index_or}
+use Rattle.std.specs.Prelude.{◌≡◌, ◌≢◌, ◌⊎◌, ◌<◌, ◌≤◌, ℕ, true, false, List, [], ◌∷◌, ◌++◌, length, filter, Option, Some, None, slice_index_or}
 use Rattle.std.specs.Option.{option_to_list}
 use Rattle.item.specs.declared.Change.{Change}
 use Rattle.stamp.specs.declared.Name.{Name}
 use Rattle.stamp.specs.declared.Version.{Version}
 use Rattle.kv_model.specs.Holds.{Member}
-use Rattle.kv_model.specs.History.{Entry, Write, line, released, committed, tables, has_table, writes_at}
+use Rattle.kv_model.specs.History.{Entry, Rts, Write, line, released, committed, tables, has_table, writes_at}
 use Rattle.kv_model.specs.Ordered.{IsOrderly}
-use Rattle.kv_model.specs.Machine.{Machine, Transaction, Phase, Prepared, Resolving, Checkpoint, name_in}
+use Rattle.kv_model.specs.Machine.{Machine, Transaction, Phase, Prepared, Resolving, Position, Checkpoint, name_in}
 use Rattle.kv_model.specs.Captures.{AllFollow}
 use Rattle.kv_model.specs.Reads.{own_write, is_own, IsEnding, PreparedAt}
 use Rattle.kv_model.specs.Allowed.{StampsFit}
+
+-- no rollback to stable stands above the first n entries
+abbrev pub NoRollbackSince : ℕ → List Entry → Type 0
+NoRollbackSince n [] = Unit {0}
+NoRollbackSince n (Rts stable ∷ older) = length older < n
+NoRollbackSince n (_ ∷ older) = NoRollbackSince n older
 
 -- of an earlier run, or drawn in this one
 abbrev pub IsDrawn : ℕ → ℕ → Name → Type 0
 IsDrawn run next x = (x.run < run) ⊎ ((x.run ≡ run) × (0 < x.id) × (x.id < next))
 
--- a transaction with writes was released
+-- the name was released, where there are writes, and never, where there are none
+pub record ReleasedWith (history : List Entry) (name : Name) (written : List Write) : Type 0 where
+  pub writes : (w : Write) → Member w written → released history (length history) name ≡ true
+  pub empty : written ≡ [] → released history (length history) name ≡ false
+
 abbrev pub IsReleased : List Entry → Name → Transaction → Type 0
-IsReleased history name t = (w : Write) → Member w t.writes → released history (length history) name ≡ true
+IsReleased history name t = ReleasedWith history name t.writes
 
 pub record PreparedStands (stamp : ℕ) (history : List Entry) (name : Name) (t : Transaction) : Type 0 where
   pub marked : 0 < stamp
@@ -39,6 +49,8 @@ PhaseStands _ history name t = released history (length history) name ≡ false
 pub record ValidTransaction (run next : ℕ) (history : List Entry) (t : Transaction) : Type 0 where
   pub id : t.id < next
   pub start : t.start ≤ length history
+  -- what stood when it began stands
+  pub kept : NoRollbackSince t.start history
   -- what its snapshot sees is of older names
   pub sight : (x : Name) → released history t.start x ≡ true → x.run ≡ run → 0 < t.id → x.id < t.id
   pub undrawn : t.id ≡ 0 → t.writes ≡ []
@@ -68,6 +80,12 @@ pub record ValidCheckpoint (history : List Entry) (now_oldest now_stable : ℕ) 
   pub stable : c.stable ≤ now_stable
   pub stamps : StampsFit c.oldest c.stable
 
+-- each session has four cursors, none of which is positioned where it has no transaction
+pub record ValidCursors (sessions : List (Option Transaction)) (cursors : List (List (Option Position))) : Type 0 where
+  pub seats : length cursors ≡ length sessions
+  pub four : (s : ℕ) → s < length cursors → length (slice_index_or cursors s []) ≡ 4
+  pub reset : (s cursor : ℕ) → slice_index_or sessions s None ≡ None → slice_index_or (slice_index_or cursors s []) cursor None ≡ None
+
 pub record Valid (m : Machine) : Type 0 where
   pub run : 0 < m.run
   pub next : 0 < m.next
@@ -76,4 +94,4 @@ pub record Valid (m : Machine) : Type 0 where
   pub stamps : StampsFit m.oldest m.stable
   pub sessions : ValidSessions m.run m.next m.history m.sessions
   pub checkpoint : (c : Checkpoint) → m.checkpoint ≡ Some c → ValidCheckpoint m.history m.oldest m.stable c
-  pub seats : length m.cursors ≡ length m.sessions
+  pub cursors : ValidCursors m.sessions m.cursors

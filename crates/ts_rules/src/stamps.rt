@@ -1,17 +1,8 @@
 //! The oldest and the stable stamp, and what they allow.
 
 ghost use Rattle.std.specs.Prelude.{◌≡◌, OnOk, OnErr};
-ghost use Rattle.kv_model.specs.Refusals.{is_zero};
-ghost use Rattle.ts_rules.specs.Rules.{
-  answer_by,
-  order_at,
-  read_at,
-  prepare_at,
-  commit_at,
-  resolve_at,
-  set_at,
-  raised,
-};
+ghost use Rattle.kv_model.specs.Refusals.{is_zero, begin_rules, prepare_rules, order_rule, commit_rules, resolve_rules, set_rules};
+ghost use Rattle.ts_rules.specs.Rules.{answer_by, raised};
 
 use wt_code::Invalid;
 
@@ -28,7 +19,7 @@ impl Stamps {
     /// nothing is changed, where a stamp that is given is zero, or where both stamps would be set
     /// and oldest would lie after stable.
     pub fn set(&mut self, oldest: Option<u64>, stable: Option<u64>) -> Result<(), Invalid>
-        ensures answer { result ≡ answer_by (set_at self.old oldest stable) }
+        ensures answer { result ≡ answer_by (set_rules self.old.oldest self.old.stable oldest stable) }
         ensures raised { OnOk result (self.new ≡ raised self.old oldest stable) }
         ensures kept { OnErr result (self.new ≡ self.old) }
     {
@@ -52,7 +43,7 @@ impl Stamps {
     /// Whether a transaction may begin at this read stamp: one that is given is not zero and not
     /// before oldest.
     pub fn check_read(&self, read: Option<u64>) -> Result<(), Invalid>
-        ensures { result ≡ answer_by (read_at self.now read) }
+        ensures { result ≡ answer_by (begin_rules self.now.oldest read) }
     {
         if is_given_zero(read) {
             return Err(Invalid::ZeroStamp);
@@ -69,7 +60,7 @@ impl Stamps {
 
     /// Whether a transaction may be prepared at this stamp: it is not zero, and after stable.
     pub fn check_prepare(&self, prepare: u64) -> Result<(), Invalid>
-        ensures { result ≡ answer_by (prepare_at self.now prepare) }
+        ensures { result ≡ answer_by (prepare_rules self.now.stable prepare) }
     {
         if prepare == 0 {
             return Err(Invalid::ZeroStamp);
@@ -92,7 +83,7 @@ impl Stamps {
         durable: Option<u64>,
         prev: u64,
     ) -> Result<(), Invalid>
-        ensures { result ≡ answer_by (commit_at self.now commit durable prev) }
+        ensures { result ≡ answer_by (commit_rules self.now.oldest self.now.stable commit durable prev) }
     {
         if is_given_zero(commit) || is_given_zero(durable) {
             return Err(Invalid::ZeroStamp);
@@ -125,7 +116,7 @@ impl Stamps {
         durable: Option<u64>,
         prev: u64,
     ) -> Result<(), Invalid>
-        ensures { result ≡ answer_by (resolve_at self.now prepare commit durable prev) }
+        ensures { result ≡ answer_by (resolve_rules self.now.oldest self.now.stable prepare commit durable prev) }
     {
         if is_given_zero(commit) || is_given_zero(durable) {
             return Err(Invalid::ZeroStamp);
@@ -160,7 +151,7 @@ impl Stamps {
 
     // The order rule, with a commit stamp of 0 for none.
     fn in_order(&self, commit: u64, prev: u64) -> Result<(), Invalid>
-        ensures { result ≡ answer_by (order_at self.now commit prev) }
+        ensures { result ≡ answer_by (order_rule self.now.oldest commit prev) }
     {
         if self.oldest >= prev {
             return Ok(());
