@@ -83,6 +83,14 @@ ending (Prepared stamp) e = absurd (cc)
 ending Resolving e = tt
 ending Leaving e = tt
 
+-- who is not ending is not
+alive : (p : Phase) → is_ending p ≡ false → IsEnding p → ⊥
+alive Running e is = is
+alive Failed e is = is
+alive (Prepared stamp) e is = is
+alive Resolving e is = cc
+alive Leaving e is = cc
+
 not-true : (b : Bool) → not b ≡ true → b ≡ false
 not-true true e = absurd (cc)
 not-true false e = refl
@@ -126,7 +134,7 @@ reads-others m session t table key (Some id) e =
     let p = first-found (is_met m session t table key) m.sessions id e in
     let q = and_parts (is_holding session table key p.session p.transaction) (prepared_in m.history t.start t.read (name_of m p.transaction)) p.passes in
     let h = holds m session table key p.session p.transaction q.0 in
-    (p.session, p.transaction, record { another = h.another; writer = (p.there, h.wrote); before = q.1 }, p.named)
+    (p.session, p.transaction, record { another = h.another; writer = (p.there, h.wrote); before = q.1 }, (λ e. absurd (alive p.transaction.phase h.undecided e)), p.named)
 
 pub read-answers : (m : Machine) (session : ℕ) (t : Transaction) (table : ℕ) (key : List ℕ) → ReadAnswer m session t table key (read_of m session t table key)
 read-answers m session t table key = by (own_write t table key) where
@@ -152,7 +160,7 @@ write-answers m session t table key = by (own_write t table key) where
   held (Some id) e =
       let p = first-found (is_holding session table key) m.sessions id e in
       let h = holds m session table key p.session p.transaction p.passes in
-      inl (p.session, p.transaction, h.another, (p.there, h.wrote), ap (λ i. record { run = m.run; id = i }) p.named)
+      inl (p.session, p.transaction, h.another, (p.there, h.wrote), (λ e. absurd (alive p.transaction.phase h.undecided e)), ap (λ i. record { run = m.run; id = i }) p.named)
 
   by : (o : Option Write) → Told o m session t table key (unless_own o (held_or m (holder m session table key) (unseen m t (line m.history table key))))
   by (Some w) = tt

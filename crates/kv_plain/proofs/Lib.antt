@@ -2,8 +2,7 @@ pub mod PlainLooks
 pub mod PlainStanding
 pub mod Choosing
 pub mod Walking
-pub mod Creating
-pub mod Pinning
 pub mod Changing
 pub mod Calling
-pub mod Counting
+pub mod Creating
+pub mod Placing

@@ -5,8 +5,7 @@ use Rattle.std.proofs.lemmas.Bool.{cases_Bool}
 use Rattle.std.proofs.lemmas.List.Elements.{filter-append}
 use Rattle.item.specs.declared.Change.{Change}
 use Rattle.stamp.specs.declared.Version.{Version}
-use Rattle.kv_model.specs.History.{Entry, Create, Commit, Prepare, Resolve, Undo, Rts, Placed, standing, placed_of, is_by, is_stable, first, cut, tables}
-use Rattle.kv_model.proofs.Finishing.{standing-base}
+use Rattle.kv_model.specs.History.{Entry, Create, Commit, Prepare, Resolve, Undo, Rts, Placed, standing, placed_of, is_by, is_stable}
 use Rattle.kv_plain.specs.Plain.{is_within, lower, standing_by, standing_of, bound_under}
 use Rattle.kv_plain.proofs.PlainLooks.{within-lower}
 
@@ -59,8 +58,7 @@ pub ok_each : {T E : Type 0} (P Q : T → Type 0) (r : Result T E) → IfOk r P 
 ok_each P Q (Ok x) h more = more x h
 ok_each P Q (Err e) h more = tt
 
--- the versions of a cut
-pub cut-stands : (placed : List Placed) (prefix history : List Entry) (n stable : ℕ) → prefix ≡ first n history → placed ≡ filter (λ (p : Placed). is_stable stable p.version) (standing prefix) → placed ≡ standing (cut history n stable)
-cut-stands placed prefix history n stable is e =
-    e ∙ (ap (λ h. filter (λ (p : Placed). is_stable stable p.version) (standing h)) is
-    ∙ sym (standing-base (tables (first n history)) (filter (λ (p : Placed). is_stable stable p.version) (standing (first n history)))))
+-- all are durable where no stable stamp is set
+pub all-stable : (l : List Placed) → filter (λ (p : Placed). is_stable 0 p.version) l ≡ l
+all-stable [] = refl
+all-stable (p ∷ l) = ap (λ t. p ∷ t) (all-stable l)

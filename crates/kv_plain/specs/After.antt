@@ -1,11 +1,6 @@
 -- Parts of what events leave.
-use Rattle.std.specs.Prelude.{ℕ, ◌≤◌, ◌^◌, Some}
+use Rattle.std.specs.Prelude.{ℕ, Some}
 use Rattle.kv_model.specs.Machine.{Machine, Transaction, Phase, Resolving, with_transaction, left}
-
--- the counts stand where a decision of the model may leave them
-pub record Counts (m : Machine) : Type 0 where
-  pub next : m.next ≤ 2 ^ 62
-  pub rollbacks : m.rollbacks ≤ 2 ^ 62
 
 -- what the first event of a rollback leaves, put into the session's place
 abbrev pub left_taken : Phase → Machine → ℕ → Transaction → Machine

@@ -1,154 +1,162 @@
--- Whole calls, with no other call unfinished: what each answers, and the machine that it leaves.
-use Rattle.std.specs.Prelude.{◌≡◌, ℕ, Bool, true, false, List, Option, Some, None, option_map, if◌then◌else◌}
+-- What the plain calls stand for, and what each answers on a machine, with the outside as it is given, no page kept from it and no memory short.
+use Rattle.std.specs.Prelude.{◌≡◌, ℕ, true, false, nat_lt, List, Some, None, Result, IfOk, MatchBool, if◌then◌else◌}
 use Rattle.item.specs.declared.Change.{Change}
-use Rattle.item.specs.declared.Change.TheVariants as change
+use Rattle.wt_code.specs.declared.answers.Answer.{Answer}
+use Rattle.wt_code.specs.declared.answers.Answer.TheVariants.{Refused as Not}
+use Rattle.wt_code.specs.declared.refusals.Refusal.TheVariants.{NotFound, PrepareConflict, Invalid as NotValid}
+use Rattle.wt_code.specs.declared.refusals.Invalid.TheVariants.{InCall}
+use Rattle.failure.specs.declared.NoMemory.{NoMemory}
 use Rattle.kv_model.specs.History.{Table, tables, named}
-use Rattle.kv_model.specs.Machine.{Machine, Transaction, of_some, transaction_of, Event, CommitAt, StartLeaving, EndTransaction, after}
-use Rattle.kv_model.specs.Outside.{Stored}
-use Rattle.kv_model.specs.Closing.{is_ending}
+use Rattle.kv_model.specs.Machine.{Machine, Transaction, transaction_of, Event, Nothing, after}
+use Rattle.kv_model.specs.Outside as outside
 use Rattle.kv_model.specs.Reads.{Found, Value, Conflict}
-use Rattle.kv_model.specs.Refusals.{NotFound, PrepareConflict}
-use Rattle.kv_model.specs.Decisions.{Outcome, Done, Gives, Resumes, Refused, OpenCall, BeginCall, PrepareCall, CommitCall, RollbackCall, FindKey, FindRow, FindToWrite, CreateCall, SetCall, RtsCall, StartCall, FinishCall, decision, is_there, GetAnswer, Demand, Anything, Vacant, Occupied, WriteAnswer}
-use Rattle.kv_model.specs.Rows.{Way, NextAnswer, SeekAnswer, reset_decision}
-use Rattle.kv_plain.specs.declared.calls.Call.{Call as PlainCall}
+use Rattle.kv_model.specs.Decisions.{Outcome, Gives, Refused, Request, FindToWrite, CreateCall, SetCall, RtsCall, StartCall, StepCall, CaptureCall, FinishCall, Demand, Anything, Vacant, Occupied, GetAnswer, WriteAnswer, is_there}
+use Rattle.kv_model.specs.Rows.{Way, NextAnswer, SeekAnswer}
+use Rattle.kv_model.specs.Closing.{close_decision, after_all}
+use Rattle.kv_model.specs.Told.{Tells}
+use Rattle.kv_model.specs.Calls as model
+use Rattle.kv_model.specs.Calls.{Finds, AtPlace, Judged, Decided, IsTableFor, evict_decision}
+use Rattle.kv_plain.specs.declared.calls.SessionCall.{SessionCall}
+use Rattle.kv_plain.specs.declared.calls.SessionCall.TheVariants as session
+use Rattle.kv_plain.specs.declared.calls.SystemCall.{SystemCall}
+use Rattle.kv_plain.specs.declared.calls.SystemCall.TheVariants as system
+use Rattle.kv_plain.specs.declared.calls.Call.{Call}
 use Rattle.kv_plain.specs.declared.calls.Call.TheVariants as plain
+use Rattle.kv_plain.specs.declared.calls.Unfinished.{Unfinished}
+use Rattle.kv_plain.specs.declared.calls.Around.{Around}
 use Rattle.kv_plain.specs.declared.key_calls.Demand.{Demand as PlainDemand}
 use Rattle.kv_plain.specs.declared.key_calls.Demand.TheVariants as demand
-use Rattle.kv_plain.specs.Plain.{table_in}
+use Rattle.kv_plain.specs.declared.event.Turn.{Turn}
+use Rattle.kv_plain.specs.Machine.{machine_in}
+use Rattle.kv_plain.specs.Outcome.{outcome_in}
 use Rattle.kv_plain.specs.Walk.{way_in}
+use Rattle.kv_plain.specs.Decisions.{storing_in}
 
--- names and keys are texts of bytes
-pub data Call : Type 0 where
-  -- a new session
-  Open : Call
-  Begin : (read : Option ℕ) → Call
-  Get : (table key : List ℕ) → Call
-  -- without overwrite the key must have no value
-  Put : (table key value : List ℕ) (overwrite : Bool) → Call
-  Remove : (table key : List ℕ) → Call
-  -- of a cursor: to the next row of the table, or to the previous one
-  NextRow : (cursor : ℕ) (table : List ℕ) (way : Way) → Call
-  Seek : (cursor : ℕ) (table key : List ℕ) → Call
-  Reset : (cursor : ℕ) → Call
-  Prepare : (stamp : ℕ) → Call
-  Commit : (commit durable : Option ℕ) → Call
-  Rollback : Call
-  Create : (table : Table) → Call
-  SetStamps : (oldest stable : Option ℕ) → Call
-  Rts : Call
-  -- number: that of the last completed checkpoint, 0 where there is none
-  Checkpoint : (number : ℕ) → Call
-
--- the answer at an event, and the machine that the event leaves
-abbrev pub Takes : Machine → Outcome × Event → Outcome → Machine → Type 0
-Takes m d outcome next = (outcome ≡ d.0) × (next ≡ after m d.1)
-
--- a transaction that was decided ends
-abbrev pub ended : ℕ → Machine → Machine
-ended session m = if of_some false (λ t. is_ending t.phase) (transaction_of m session) then after m (EndTransaction session) else m
-
--- what the event of a commit or rollback leaves in the end
-abbrev pub left_by : ℕ → Machine → Event → Machine
-left_by session m (StartLeaving s) = after (after m (StartLeaving s)) (EndTransaction session)
-left_by session m (CommitAt s commit durable) = ended session (after m (CommitAt s commit durable))
-left_by session m event = after m event
-
--- the same where one that was decided before goes on
-abbrev pub settled : ℕ → Machine → Outcome → Event → Machine
-settled session m Resumes event = after m (EndTransaction session)
-settled session m _ event = left_by session m event
-
-abbrev pub Settles : ℕ → Machine → Outcome × Event → Outcome → Machine → Type 0
-Settles session m d outcome next = (outcome ≡ d.0) × (next ≡ settled session m d.0 d.1)
-
--- a call whose first event was answered so, and left this machine, goes on there, or answers the same
-abbrev pub GoesOn : Outcome → Machine → (Machine → Outcome → Machine → Type 0) → Outcome → Machine → Type 0
-GoesOn Done found Later outcome next = Later found outcome next
-GoesOn answer found Later outcome next = (outcome ≡ answer) × (next ≡ found)
-
--- the session's transaction, and the number of the table of this name
-pub record Finds (m : Machine) (session : ℕ) (name : List ℕ) (t : Transaction) (number : ℕ) : Type 0 where
-  pub transaction : transaction_of m session ≡ Some t
-  pub numbered : option_map (λ (table : Table). table.number) (named name (tables m.history)) ≡ Some number
-
--- a read of a leaf that was found
-abbrev pub Reads : ℕ → List ℕ → List ℕ → Machine → Outcome → Machine → Type 0
-Reads session name key m outcome next = (t : Transaction) × (number : ℕ) × Finds m session name t number × GetAnswer m session t number key outcome × (next ≡ m)
-
--- the answer to a write of a leaf that was found, and its event
-abbrev pub Judges : ℕ → List ℕ → List ℕ → Change → Demand → Machine → Outcome → Event → Type 0
-Judges session name key change demand m outcome event = (t : Transaction) × (number : ℕ) × Finds m session name t number × WriteAnswer m session t number key change demand outcome event
-
-abbrev pub Writes : ℕ → List ℕ → List ℕ → Change → Demand → Machine → Outcome → Machine → Type 0
-Writes session name key change demand m outcome next = (event : Event) × Judges session name key change demand m outcome event × (next ≡ after m event)
-
--- Put, or Remove
-abbrev pub Changes : Machine → ℕ → List ℕ → List ℕ → Change → Demand → Outcome → Machine → Type 0
-Changes m session name key change demand outcome next = let d = decision m session (FindToWrite name key change) in GoesOn d.0 (after m d.1) (Writes session name key change demand) outcome next
-
--- the answer to the next row of a table that was found, and its event
-abbrev pub Steps : ℕ → ℕ → List ℕ → Way → Machine → Outcome → Event → Type 0
-Steps session cursor name way m outcome event = (t : Transaction) × (number : ℕ) × Finds m session name t number × NextAnswer m session t cursor number way outcome event
-
--- and to a seek of a leaf that was found
-abbrev pub Seeks : ℕ → ℕ → List ℕ → List ℕ → Machine → Outcome → Event → Type 0
-Seeks session cursor name key m outcome event = (t : Transaction) × (number : ℕ) × Finds m session name t number × SeekAnswer m session t cursor number key outcome event
-
--- with the machine that the event leaves
-abbrev pub Moves : (Machine → Outcome → Event → Type 0) → Machine → Outcome → Machine → Type 0
-Moves Judged m outcome next = (event : Event) × Judged m outcome event × (next ≡ after m event)
-
--- the finish of a checkpoint that takes in each leaf, and that the device stores
-abbrev pub Finishes : ℕ → Machine → Outcome → Machine → Type 0
-Finishes session m outcome next = Takes m (decision m session (FinishCall false Stored)) outcome next
-
--- what a call answers on a machine, and the machine that it leaves
-abbrev pub Answers : Machine → ℕ → Call → Outcome → Machine → Type 0
-Answers m session Open outcome next = Takes m (decision m session OpenCall) outcome next
-Answers m session (Begin read) outcome next = Takes m (decision m session (BeginCall read)) outcome next
-Answers m session (Get name key) outcome next = let d = decision m session (FindKey name key) in GoesOn d.0 (after m d.1) (Reads session name key) outcome next
-Answers m session (Put name key value overwrite) outcome next = Changes m session name key (change.Put value) (if overwrite then Anything else Vacant) outcome next
-Answers m session (Remove name key) outcome next = Changes m session name key change.Remove Occupied outcome next
-Answers m session (NextRow cursor name way) outcome next = let d = decision m session (FindRow name) in GoesOn d.0 (after m d.1) (Moves (Steps session cursor name way)) outcome next
-Answers m session (Seek cursor name key) outcome next = let d = decision m session (FindKey name key) in GoesOn d.0 (after m d.1) (Moves (Seeks session cursor name key)) outcome next
-Answers m session (Reset cursor) outcome next = Takes m (reset_decision m session cursor) outcome next
-Answers m session (Prepare stamp) outcome next = Takes m (decision m session (PrepareCall stamp)) outcome next
-Answers m session (Commit commit durable) outcome next = Settles session m (decision m session (CommitCall commit durable)) outcome next
-Answers m session Rollback outcome next = Settles session m (decision m session RollbackCall) outcome next
-Answers m session (Create table) outcome next = Takes m (decision m session (CreateCall table)) outcome next
-Answers m session (SetStamps oldest stable) outcome next = Takes m (decision m session (SetCall oldest stable)) outcome next
-Answers m session Rts outcome next = Takes m (decision m session RtsCall) outcome next
-Answers m session (Checkpoint number) outcome next = let d = decision m session (StartCall number) in GoesOn d.0 (after m d.1) (Finishes session) outcome next
-
--- what the calls of the plain program stand for
-abbrev pub call_in : PlainCall → Call
-call_in plain.Open = Open
-call_in (plain.Begin read) = Begin read
-call_in (plain.Get table key) = Get table key
-call_in (plain.Put table key value overwrite) = Put table key value overwrite
-call_in (plain.Remove table key) = Remove table key
-call_in (plain.NextRow cursor table way) = NextRow cursor table (way_in way)
-call_in (plain.Seek cursor table key) = Seek cursor table key
-call_in (plain.Reset cursor) = Reset cursor
-call_in (plain.Prepare stamp) = Prepare stamp
-call_in (plain.Commit commit durable) = Commit commit durable
-call_in plain.Rollback = Rollback
-call_in (plain.Create table) = Create (table_in table)
-call_in (plain.SetStamps oldest stable) = SetStamps oldest stable
-call_in plain.Rts = Rts
-call_in (plain.Checkpoint number) = Checkpoint number
+-- ---- calls
 
 abbrev pub demand_in : PlainDemand → Demand
 demand_in demand.Anything = Anything
 demand_in demand.Vacant = Vacant
 demand_in demand.Occupied = Occupied
 
+abbrev pub session_call_in : SessionCall → model.Call
+session_call_in (session.Begin read) = model.Begin read
+session_call_in (session.Get table key) = model.GetKey table key
+session_call_in (session.Put table key value demand) = model.PutKey table key value (demand_in demand)
+session_call_in (session.Remove table key) = model.RemoveKey table key
+session_call_in (session.Seek cursor table key) = model.SeekKey cursor table key
+session_call_in (session.Step cursor table way) = model.NextRow cursor table (way_in way)
+session_call_in (session.Reset cursor) = model.Reset cursor
+session_call_in (session.Prepare stamp) = model.Prepare stamp
+session_call_in (session.Commit commit durable) = model.Commit commit durable
+session_call_in session.Rollback = model.Rollback
+
+abbrev pub system_call_in : SystemCall → model.Call
+system_call_in (system.Create table formats) = model.Create table formats
+system_call_in (system.SetStamps oldest stable) = model.Set oldest stable
+system_call_in system.RollbackToStable = model.Rts
+system_call_in system.StartCheckpoint = model.CkptStart
+system_call_in system.StepCheckpoint = model.CkptStep
+system_call_in system.FinishCheckpoint = model.CkptFinish
+system_call_in (system.Evict table key) = model.Evict table key
+system_call_in system.Close = model.Close
+
+abbrev pub actor_in : Call → model.Actor
+actor_in (plain.Session number call) = model.Session number
+actor_in (plain.System number call) = model.System number
+
+abbrev pub call_in : Call → model.Call
+call_in (plain.Session number call) = session_call_in call
+call_in (plain.System number call) = system_call_in call
+
+-- ---- what lies outside
+
+abbrev pub unfinished_in : Unfinished → outside.Unfinished
+unfinished_in u = record { eviction = u.eviction; calls = u.calls.items }
+
+-- no page is kept from a call
+abbrev pub around_in : Around → model.Around
+around_in a = record {
+  in_call = a.in_call;
+  unfinished = unfinished_in a.unfinished;
+  IsNumber = λ number. number ≡ a.number;
+  uncaptured = a.uncaptured;
+  MayTake = λ m storing. storing ≡ storing_in a.storing;
+  MayKeepOut = λ refusal. ⊥;
+}
+
+-- ---- answers
+
+-- a step of a checkpoint that has so many leaves left, by how the device takes the next
+abbrev pub step_request : ℕ → outside.Storing → Request
+step_request left storing = if nat_lt 0 left then CaptureCall (nat_lt 1 left) storing else StepCall false
+
+-- a call of the system
+abbrev pub SystemDecided : Around → Machine → model.Call → Outcome → Machine → Type 0
+SystemDecided a m (model.Create name formats) outcome next = (table : Table) × IsTableFor m name formats table × Judged m 0 (CreateCall table) outcome next
+SystemDecided a m (model.Set oldest stable) outcome next = Judged m 0 (SetCall oldest stable) outcome next
+SystemDecided a m model.Rts outcome next = Judged m 0 RtsCall outcome next
+SystemDecided a m model.CkptStart outcome next = Judged m 0 (StartCall a.number) outcome next
+SystemDecided a m model.CkptStep outcome next = Judged m 0 (step_request a.uncaptured (storing_in a.storing)) outcome next
+SystemDecided a m model.CkptFinish outcome next = Judged m 0 (FinishCall (nat_lt 0 a.uncaptured) (storing_in a.storing)) outcome next
+SystemDecided a m (model.Evict name key) outcome next = (evict_decision m name key ≡ (outcome, Nothing)) × (next ≡ m)
+SystemDecided a m model.Close outcome next =
+    (events : List Event) × (close_decision m (unfinished_in a.unfinished) a.number (storing_in a.storing) ≡ (outcome, events)) × (next ≡ after_all m events)
+SystemDecided a m _ outcome next = ⊥
+
+-- by who calls
+abbrev pub Decides : Around → Machine → model.Actor → model.Call → Outcome → Machine → Type 0
+Decides a m (model.Session session) call outcome next = Decided m session call outcome next
+Decides a m (model.System number) call outcome next = SystemDecided a m call outcome next
+
+-- exactly what the call answers and leaves
+abbrev pub IsExact : Around → Machine → model.Actor → model.Call → Answer (List ℕ) → Machine → Type 0
+IsExact a m actor call answer next =
+    MatchBool a.in_call ((answer ≡ Not (NotValid InCall)) × (next ≡ m)) ((outcome : Outcome) × Decides a m actor call outcome next × Tells outcome answer)
+
 -- ---- parts of answers
+
+-- the outcome, and the machine that is left
+abbrev pub Leads : (Outcome → Machine → Type 0) → Result Turn NoMemory → Type 0
+Leads Next turn = IfOk turn (λ t. Next (outcome_in t.outcome) (machine_in t.machine))
+
+-- an event, with its outcome
+abbrev pub Makes : Machine → Outcome × Event → Outcome → Machine → Type 0
+Makes m d outcome next = (e : Event) × (d ≡ (outcome, e)) × (next ≡ after m e)
+
+-- the end of a transaction that was decided
+abbrev pub Ends : ℕ → Machine → Outcome → Outcome → Machine → Type 0
+Ends session m decided outcome next = model.ended m session decided ≡ (outcome, next)
+
+-- a commit or a rollback
+abbrev pub Settles : ℕ → Machine → Outcome × Event → Outcome → Machine → Type 0
+Settles session m d outcome next = model.settled m session d.0 d.1 ≡ (outcome, next)
 
 -- the session has a transaction, and there is a table of this name
 pub record IsFound (m : Machine) (session : ℕ) (name : List ℕ) : Type 0 where
   pub transaction : is_there (transaction_of m session) ≡ true
   pub table : is_there (named name (tables m.history)) ≡ true
+
+-- a read of a leaf that was found
+abbrev pub LooksUp : ℕ → List ℕ → List ℕ → Machine → Outcome → Type 0
+LooksUp session name key m outcome = (t : Transaction) × (table : Table) × Finds m session name t table × GetAnswer m session t table.number key outcome
+
+-- a write of a leaf that was found, with its event
+abbrev pub Changes : ℕ → List ℕ → List ℕ → Change → Demand → Machine → Outcome → Event → Type 0
+Changes session name key change demand m outcome event = (t : Transaction) × (table : Table) × Finds m session name t table × WriteAnswer m session t table.number key change demand outcome event
+
+-- the next row of a table that was found
+abbrev pub Steps : ℕ → ℕ → List ℕ → Way → Machine → Outcome → Event → Type 0
+Steps session cursor name way m outcome event = (t : Transaction) × (table : Table) × Finds m session name t table × NextAnswer m session t cursor table.number way outcome event
+
+-- a seek of a leaf that was found
+abbrev pub Seeks : ℕ → ℕ → List ℕ → List ℕ → Machine → Outcome → Event → Type 0
+Seeks session cursor name key m outcome event = (t : Transaction) × (table : Table) × Finds m session name t table × SeekAnswer m session t cursor table.number key outcome event
+
+-- Put, or Remove
+abbrev pub WritesKey : Machine → ℕ → List ℕ → List ℕ → Change → Demand → Outcome → Machine → Type 0
+WritesKey m session name key change demand outcome next =
+    AtPlace m session name (FindToWrite name key change) (λ n t table o event. WriteAnswer n session t table.number key change demand o event) outcome next
 
 -- the answer to a read
 abbrev pub read_answer : Found → Outcome

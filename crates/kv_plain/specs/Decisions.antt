@@ -4,14 +4,14 @@ use Rattle.item.specs.declared.Formats.{Formats}
 use Rattle.kv_model.specs.History.{Table}
 use Rattle.kv_model.specs.Machine as model
 use Rattle.kv_model.specs.Outside as outside
-use Rattle.kv_model.specs.Refusals as why
+use Rattle.wt_code.specs.declared.refusals.Refusal.TheVariants as told
+use Rattle.wt_code.specs.declared.refusals.Invalid.{Invalid}
+use Rattle.wt_code.specs.declared.refusals.Limit.TheVariants as counted
 use Rattle.kv_model.specs.Decisions as answer
 use Rattle.kv_plain.specs.declared.decisions.Storing.{Storing}
 use Rattle.kv_plain.specs.declared.decisions.Storing.TheVariants as storing
 use Rattle.kv_plain.specs.declared.machine.Transaction.{Transaction}
-use Rattle.kv_plain.specs.declared.outcome.Reason.{Reason}
-use Rattle.kv_plain.specs.Machine.{fault_in, transaction_in}
-use Rattle.kv_plain.specs.Outcome.{reason_in}
+use Rattle.kv_plain.specs.Machine.{transaction_in}
 use denote.Bor.{Bor}
 
 abbrev pub storing_in : Storing → outside.Storing
@@ -19,14 +19,14 @@ storing_in storing.Stored = outside.Stored
 storing_in storing.NoPlace = outside.NoPlace
 storing_in storing.ReadFailed = outside.ReadFailed
 storing_in (storing.Damaged offset want found) = outside.Damaged offset want found
-storing_in (storing.WriteFailed fault) = outside.WriteFailed (fault_in fault)
+storing_in (storing.WriteFailed fault) = outside.WriteFailed fault
 
 -- a call that goes on with a running transaction, or is refused by the state of its session
-abbrev pub run_or : (model.Transaction → answer.Outcome × model.Event) → Result (Bor Transaction) Reason → answer.Outcome × model.Event
+abbrev pub run_or : (model.Transaction → answer.Outcome × model.Event) → Result (Bor Transaction) Invalid → answer.Outcome × model.Event
 run_or go (Ok t) = go (transaction_in t.now)
-run_or go (Err reason) = answer.invalid (reason_in reason)
+run_or go (Err reason) = answer.invalid reason
 
 -- Create, where so many tables are known, of which the one of its name has these formats
 abbrev pub created_with : ℕ → Table → Option Formats → answer.Outcome × model.Event
-created_with known table None = answer.checked ((nat_le answer.tables_max known, why.Limit why.Tables) ∷ []) (answer.Done, model.CreateTable table)
-created_with known table (Some formats) = if answer.same_formats table.formats formats then (answer.Done, model.Nothing) else answer.refused why.Exists
+created_with known table None = answer.checked ((nat_le answer.tables_max known, told.Limit counted.Tables) ∷ []) (answer.Done, model.CreateTable table)
+created_with known table (Some formats) = if answer.same_formats table.formats formats then (answer.Done, model.Nothing) else answer.refused told.Exists

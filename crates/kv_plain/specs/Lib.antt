@@ -6,6 +6,7 @@ pub mod Walk
 pub mod Outcome
 pub mod Checks
 pub mod Decisions
-pub mod Covers
 pub mod After
+pub mod Opening
+pub mod Closing
 pub mod Calls

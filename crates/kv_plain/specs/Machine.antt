@@ -1,15 +1,13 @@
 -- What the plain machine stands for.
 use Rattle.std.specs.Prelude.{List, Vec, Option, map, option_map}
 use Rattle.std.specs.declared.alloc.Global.{Global}
-use Rattle.kv_model.specs.Machine.{Machine, Transaction, Phase, Running, Failed, Prepared, Resolving, Leaving, Position, Checkpoint, Completed, Fault, WriteFault, SyncFault}
+use Rattle.kv_model.specs.Machine.{Machine, Transaction, Phase, Running, Failed, Prepared, Resolving, Leaving, Position, Checkpoint, Completed}
 use Rattle.kv_plain.specs.declared.machine.Phase.{Phase as PlainPhase}
 use Rattle.kv_plain.specs.declared.machine.Phase.TheVariants as phase
 use Rattle.kv_plain.specs.declared.machine.Transaction.{Transaction as PlainTransaction}
 use Rattle.kv_plain.specs.declared.machine.Position.{Position as PlainPosition}
 use Rattle.kv_plain.specs.declared.machine.Checkpoint.{Checkpoint as PlainCheckpoint}
 use Rattle.kv_plain.specs.declared.machine.Completed.{Completed as PlainCompleted}
-use Rattle.kv_plain.specs.declared.machine.Fault.{Fault as PlainFault}
-use Rattle.kv_plain.specs.declared.machine.Fault.TheVariants as fault
 use Rattle.kv_plain.specs.declared.machine.Machine.{Machine as PlainMachine}
 use Rattle.kv_plain.specs.Plain.{write_in, history_in}
 
@@ -32,10 +30,6 @@ checkpoint_in c = record { prefix = c.prefix; oldest = c.oldest; stable = c.stab
 abbrev pub completed_in : PlainCompleted → Completed
 completed_in c = record { content = history_in c.content.items; oldest = c.oldest; stable = c.stable }
 
-abbrev pub fault_in : PlainFault → Fault
-fault_in (fault.Write offset) = WriteFault offset
-fault_in fault.Sync = SyncFault
-
 abbrev pub sessions_in : List (Option PlainTransaction) → List (Option Transaction)
 sessions_in sessions = map (option_map transaction_in) sessions
 
@@ -54,5 +48,5 @@ machine_in m = record {
   checkpoint = option_map checkpoint_in m.checkpoint;
   completed = completed_in m.completed;
   rollbacks = m.rollbacks;
-  fault = option_map fault_in m.fault;
+  fault = m.fault;
 }

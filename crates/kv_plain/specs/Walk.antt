@@ -3,7 +3,7 @@ use Rattle.std.specs.Prelude.{ℕ, Bool, true, false, ◌&&◌, List, [], ◌∷
 use Rattle.kv_model.specs.History.{Entry, Commit, Resolve, Write}
 use Rattle.kv_model.specs.Machine.{Machine, Transaction}
 use Rattle.kv_model.specs.Reads.{Found, Value, Conflict}
-use Rattle.kv_model.specs.Refusals.{NotFound, PrepareConflict}
+use Rattle.wt_code.specs.declared.refusals.Refusal.TheVariants.{NotFound, PrepareConflict}
 use Rattle.kv_model.specs.Decisions.{Outcome, GivesRow, Refused}
 use Rattle.kv_model.specs.Rows.{Way, Up, Down, comes_after, is_past}
 use Rattle.kv_plain.specs.declared.walk.Way.{Way as PlainWay}

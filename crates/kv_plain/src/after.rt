@@ -1,17 +1,16 @@
-//! What each event leaves.
+// What each event leaves.
 
-ghost use Rattle.std.specs.Prelude.{◌≡◌, ◌∷◌, length, option_map, IfOk, ◌==◌, if◌then◌else◌, IsTrue, ◌↔◌};
+ghost use Rattle.std.specs.Prelude.{◌≡◌, ◌∷◌, length, option_map, IfOk, ◌==◌, if◌then◌else◌, ◌+◌};
 ghost use Rattle.kv_model.specs.History.{Rts};
 ghost use Rattle.kv_model.specs.Machine as model;
 ghost use Rattle.kv_plain.specs.Plain.{table_in, history_in};
 ghost use Rattle.kv_plain.specs.Outcome.{event_in};
-ghost use Rattle.kv_plain.specs.Machine.{fault_in, position_in, machine_in};
-ghost use Rattle.kv_plain.specs.After.{Counts};
+ghost use Rattle.kv_plain.specs.Machine.{position_in, machine_in};
 
 use crate::cuts::cut;
 use crate::event::Event;
 use crate::history::{Entry, Table};
-use crate::machine::{Checkpoint, Completed, Fault, Machine, Phase, Position, Transaction};
+use crate::machine::{Checkpoint, Completed, Machine, Phase, Position, Transaction};
 use crate::seats::{
     fail_session, no_cursors, number_session, place_cursor, push_row, push_session, set_session,
     write_session,
@@ -20,6 +19,7 @@ use crate::settling::{commit, prepare, put_on, start_leaving, without_transactio
 use failure::NoMemory;
 use item::{Change, Item};
 use std::alloc::Global;
+use wt_code::Fault;
 
 fn entry_count(history: &[Entry]) -> usize
     ensures { result ≡ length (history_in history.now) }
@@ -52,15 +52,24 @@ fn begin(alloc: Global, m: Machine, session: usize, read: u64) -> Machine
     m
 }
 
-fn draw_id(m: Machine, session: usize) -> Machine
-    requires { Counts (machine_in m) }
-    ensures { machine_in result ≡ model.after (machine_in m) (model.DrawId session) }
+/// One more, where there is room for it.
+fn count_after(count: u64) -> Result<u64, NoMemory>
+    ensures { IfOk result (λ r. r ≡ count + 1) }
+{
+    match count.checked_add(1) {
+        None => Err(NoMemory),
+        Some(next) => Ok(next),
+    }
+}
+
+fn draw_id(m: Machine, session: usize) -> Result<Machine, NoMemory>
+    ensures { IfOk result (λ r. machine_in r ≡ model.after (machine_in m) (model.DrawId session)) }
 {
     let mut m = m;
     let id = m.next;
+    m.next = count_after(id)?;
     number_session(&mut m.sessions, session, id);
-    m.next = id + 1;
-    m
+    Ok(m)
 }
 
 fn accept_write(
@@ -122,13 +131,12 @@ fn put_on_if_stable(history: &mut Vec<Entry>, stable: u64) -> Result<(), NoMemor
 }
 
 fn roll_back_to_stable(m: Machine) -> Result<Machine, NoMemory>
-    requires { Counts (machine_in m) }
     ensures { IfOk result (λ r. machine_in r ≡ model.after (machine_in m) model.RollbackToStable) }
 {
     let mut m = m;
     let stable = m.stable;
+    m.rollbacks = count_after(m.rollbacks)?;
     put_on_if_stable(&mut m.history, stable)?;
-    m.rollbacks += 1;
     Ok(m)
 }
 
@@ -153,7 +161,7 @@ fn drop_checkpoint(m: Machine) -> Machine
 }
 
 fn go_down(m: Machine, fault: Fault) -> Machine
-    ensures { machine_in result ≡ model.after (machine_in m) (model.GoDown (fault_in fault)) }
+    ensures { machine_in result ≡ model.after (machine_in m) (model.GoDown fault) }
 {
     let mut m = m;
     m.fault = Some(fault);
@@ -180,14 +188,13 @@ fn finish_checkpoint(alloc: Global, m: Machine) -> Result<Machine, NoMemory>
 }
 
 /// The machine after the event. The machine that was there is gone where memory is wanted.
-pub fn apply(alloc: Global, m: Machine, event: Event) -> Result<Machine, NoMemory>
-    requires { Counts (machine_in m) }
+pub(crate) fn apply(alloc: Global, m: Machine, event: Event) -> Result<Machine, NoMemory>
     ensures { IfOk result (λ r. machine_in r ≡ model.after (machine_in m) (event_in event)) }
 {
     match event {
         Event::OpenSession => open_session(alloc, m),
         Event::Begin(session, read) => Ok(begin(alloc, m, session, read)),
-        Event::DrawId(session) => Ok(draw_id(m, session)),
+        Event::DrawId(session) => draw_id(m, session),
         Event::AcceptWrite(session, table, key, change) => {
             accept_write(alloc, m, session, table, key, change)
         }
@@ -208,11 +215,4 @@ pub fn apply(alloc: Global, m: Machine, event: Event) -> Result<Machine, NoMemor
         Event::GoDown(fault) => Ok(go_down(m, fault)),
         Event::Nothing => Ok(m),
     }
-}
-
-/// Whether the counts of ids and of rollbacks to stable stand where a decision may leave them.
-pub fn can_count(m: &Machine) -> bool
-    ensures { IsTrue result ↔ Counts (machine_in m.now) }
-{
-    m.next <= 1 << 62 && m.rollbacks <= 1 << 62
 }

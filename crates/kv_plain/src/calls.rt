@@ -1,312 +1,350 @@
-//! Whole calls, one after the other, with no other call unfinished.
+// Whole calls, with nobody between their events.
 
-ghost use Rattle.std.specs.Prelude.{◌≡◌, ℕ, IfOk, if◌then◌else◌};
-ghost use Rattle.kv_model.specs.Machine.{after, EndTransaction};
-ghost use Rattle.kv_plain.specs.Plain.{table_in};
+ghost use Rattle.std.specs.Prelude.{◌≡◌, IfOk};
+ghost use Rattle.kv_model.specs.Decisions as answer;
+ghost use Rattle.kv_model.specs.Calls as model;
+ghost use Rattle.kv_model.specs.Calls.{Answers, OpensSession};
 ghost use Rattle.kv_plain.specs.Machine.{machine_in};
-ghost use Rattle.kv_plain.specs.Outcome.{outcome_in, event_in, decision_in};
-ghost use Rattle.kv_plain.specs.After.{Counts};
-ghost use Rattle.kv_plain.specs.Calls as calls;
-ghost use Rattle.kv_plain.specs.Calls.{Takes, ended as ended_in, left_by, Settles, Finishes, Answers, call_in};
+ghost use Rattle.kv_plain.specs.Decisions.{storing_in};
+ghost use Rattle.kv_plain.specs.Outcome.{outcome_in, decision_in};
+ghost use Rattle.kv_plain.specs.Calls.{Leads, Makes, Ends, Settles, step_request, Decides, SystemDecided, IsExact, actor_in, call_in, session_call_in, system_call_in, around_in};
 
 use crate::after::apply;
+use crate::closing::close;
 use crate::cursor_calls::{seek_key, step};
 use crate::decisions::{
-    Storing, decide_begin, decide_commit, decide_create, decide_finish, decide_open,
-    decide_prepare, decide_reset, decide_rollback, decide_rts, decide_set, decide_start,
-    transaction_at,
+    Storing, decide_begin, decide_capture, decide_commit, decide_create, decide_end, decide_evict,
+    decide_finish, decide_open, decide_prepare, decide_reset, decide_rollback, decide_rts,
+    decide_set, decide_start, decide_step, new_table, transaction_at,
 };
-use crate::event::{Answered, Decision, Event};
-use crate::history::Table;
-use crate::key_calls::{get, put, remove};
+use crate::event::{Answered, Decision, Event, Turn};
+use crate::key_calls::{Demand, get, put, remove};
 use crate::machine::Machine;
-use crate::outcome::Outcome;
-use crate::reads::is_ending;
-use crate::settling::without_transaction;
+use crate::outcome::{Outcome, told};
 use crate::walk::Way;
 use failure::NoMemory;
-use item::Item;
+use item::{Formats, Item};
 use std::alloc::Global;
+use wt_code::{Answer, Invalid, Refusal};
 
-/// A call of a session, or of the system.
+/// A call of a session. Tables are named by their bytes; a stamp that is not given is none.
 #[derive(Drop)]
-pub enum Call {
-    /// Of a new session, which takes the next number.
-    Open,
-    /// At a read stamp.
+pub enum SessionCall {
+    /// Begin a transaction, at this read stamp.
     Begin(Option<u64>),
+    /// Read the key.
     Get {
         table: Item,
         key: Item,
     },
-    /// Without `overwrite` the key must have no value.
+    /// Give the key this value, where it meets the demand.
     Put {
         table: Item,
         key: Item,
         value: Item,
-        overwrite: bool,
+        demand: Demand,
     },
+    /// Remove the key, which must have a value.
     Remove {
         table: Item,
         key: Item,
     },
-    /// Of a cursor, to the next row of the table or to the previous one.
-    NextRow {
-        cursor: usize,
-        table: Item,
-        way: Way,
-    },
-    /// Of a cursor, to a key.
+    /// Take this cursor, from 0 upwards, to the key.
     Seek {
-        cursor: usize,
+        cursor: u32,
         table: Item,
         key: Item,
     },
-    /// Of this cursor.
-    Reset(usize),
-    /// At a stamp.
+    /// Take this cursor to the next row of the table, or to the previous one.
+    Step {
+        cursor: u32,
+        table: Item,
+        way: Way,
+    },
+    /// Let this cursor stand nowhere.
+    Reset(u32),
+    /// Prepare the transaction at this stamp.
     Prepare(u64),
+    /// Commit the transaction, at these stamps.
     Commit {
         commit: Option<u64>,
         durable: Option<u64>,
     },
+    /// Roll the transaction back.
     Rollback,
-    /// Of this table, which bears the number that a new one would have.
-    Create(Table),
+}
+
+/// A call of the system.
+#[derive(Drop)]
+pub enum SystemCall {
+    /// Make a table of this name; its number is one above the greatest that was ever made.
+    Create {
+        table: Item,
+        formats: Formats,
+    },
+    /// Raise the oldest and the stable stamp.
     SetStamps {
         oldest: Option<u64>,
         stable: Option<u64>,
     },
-    Rts,
-    /// A whole checkpoint; the number of the last completed one, 0 where there is none.
-    Checkpoint(u64),
+    /// Take out what is durable after the stable stamp.
+    RollbackToStable,
+    /// Start a checkpoint of what is there now.
+    StartCheckpoint,
+    /// Capture one leaf of the running checkpoint.
+    StepCheckpoint,
+    /// Complete the running checkpoint, whose leaves are all captured.
+    FinishCheckpoint,
+    /// Evict the leaf of the key.
+    Evict {
+        table: Item,
+        key: Item,
+    },
+    /// Roll back what is open, prepared too, and take a checkpoint of all that stands.
+    Close,
+}
+
+/// A call with who makes it, by number: a session, or an actor of the system.
+#[derive(Drop)]
+pub enum Call {
+    /// Of this session, from 0 upwards.
+    Session(u32, SessionCall),
+    /// Of this actor of the system.
+    System(u32, SystemCall),
+}
+
+/// The calls that have begun and have not answered.
+#[derive(Drop)]
+pub struct Unfinished {
+    /// The place of an eviction that has found what it evicts.
+    pub eviction: Option<u32>,
+    /// By session: whether it has such a call. A session past the end has none.
+    pub calls: Vec<bool>,
+}
+
+/// What a call rests on outside the machine.
+#[derive(Drop)]
+pub struct Around {
+    /// Who calls has a call that is not finished.
+    pub in_call: bool,
+    /// The calls of the others that are not.
+    pub unfinished: Unfinished,
+    /// The number of the last completed checkpoint, 0 where there is none.
+    pub number: u64,
+    /// The leaves of the running checkpoint's tables that are not captured yet, as the call begins.
+    pub uncaptured: u64,
+    /// How the device takes what the call writes for a checkpoint.
+    pub storing: Storing,
 }
 
 /// A call of one event.
-fn once(alloc: Global, m: Machine, d: Decision) -> Result<Answered, NoMemory>
-    requires { Counts (machine_in m) }
-    ensures { IfOk result (λ r. Takes (machine_in m) (decision_in d) (outcome_in r.outcome) (machine_in r.machine)) }
+fn once(alloc: Global, m: Machine, d: Decision) -> Result<Turn, NoMemory>
+    ensures { Leads (Makes (machine_in m) (decision_in d)) result }
 {
     let Decision { outcome, event } = d;
     let machine = apply(alloc, m, event)?;
-    Ok(Answered { outcome, machine })
+    Ok(Turn { outcome, machine })
 }
 
-fn does_end(m: &Machine, session: usize) -> bool
-    ensures { ended_in session (machine_in m.now) ≡ (if result then after (machine_in m.now) (EndTransaction session) else machine_in m.now) }
+/// Ends the session's transaction, if it has one, with the answer that was decided; a fault may
+/// keep it from its end.
+fn ended(alloc: Global, m: Machine, session: usize, decided: Outcome) -> Result<Turn, NoMemory>
+    ensures { Leads (Ends session (machine_in m) (outcome_in decided)) result }
 {
-    match transaction_at(m, session) {
-        None => false,
-        Some(t) => is_ending(t.phase),
+    if transaction_at(&m, session).is_none() {
+        return Ok(Turn {
+            outcome: decided,
+            machine: m,
+        });
     }
+    let d = decide_end(&m, session, decided);
+    once(alloc, m, d)
 }
 
-/// Ends the session's transaction.
-fn end(alloc: Global, m: Machine, session: usize) -> Result<Machine, NoMemory>
-    ensures { IfOk result (λ r. machine_in r ≡ after (machine_in m) (EndTransaction session)) }
+/// A commit or a rollback, from the event that decides it.
+fn settle(alloc: Global, m: Machine, session: usize, d: Decision) -> Result<Turn, NoMemory>
+    ensures { Leads (Settles session (machine_in m) (decision_in d)) result }
 {
-    without_transaction(alloc, m, session)
-}
-
-/// Ends it where it was decided.
-fn ended(alloc: Global, m: Machine, session: usize) -> Result<Machine, NoMemory>
-    ensures { IfOk result (λ r. machine_in r ≡ ended_in session (machine_in m)) }
-{
-    if does_end(&m, session) {
-        end(alloc, m, session)
-    } else {
-        Ok(m)
-    }
-}
-
-fn leave(alloc: Global, m: Machine, session: usize, event: Event) -> Result<Machine, NoMemory>
-    requires { Counts (machine_in m) }
-    ensures { IfOk result (λ r. machine_in r ≡ left_by session (machine_in m) (event_in event)) }
-{
+    let Decision { outcome, event } = d;
     match event {
         Event::StartLeaving(s) => {
             let leaving = apply(alloc, m, Event::StartLeaving(s))?;
-            end(alloc, leaving, session)
+            ended(alloc, leaving, session, outcome)
         }
         Event::Commit(s, commit, durable) => {
             let committed = apply(alloc, m, Event::Commit(s, commit, durable))?;
-            ended(alloc, committed, session)
+            ended(alloc, committed, session, outcome)
         }
-        other => apply(alloc, m, other),
-    }
-}
-
-/// A commit, or a rollback.
-fn settle(alloc: Global, m: Machine, session: usize, d: Decision) -> Result<Answered, NoMemory>
-    requires { Counts (machine_in m) }
-    ensures { IfOk result (λ r. Settles session (machine_in m) (decision_in d) (outcome_in r.outcome) (machine_in r.machine)) }
-{
-    let Decision { outcome, event } = d;
-    match outcome {
-        Outcome::Resumes => {
-            let machine = end(alloc, m, session)?;
-            Ok(Answered {
-                outcome: Outcome::Resumes,
-                machine,
-            })
-        }
-        outcome => {
-            let machine = leave(alloc, m, session, event)?;
-            Ok(Answered { outcome, machine })
+        other => {
+            let machine = apply(alloc, m, other)?;
+            Ok(Turn { outcome, machine })
         }
     }
 }
 
-fn finish(alloc: Global, m: Machine) -> Result<Answered, NoMemory>
-    requires { Counts (machine_in m) }
-    ensures { (session : ℕ) → IfOk result (λ r. Finishes session (machine_in m) (outcome_in r.outcome) (machine_in r.machine)) }
-{
-    let d = decide_finish(&m, false, Storing::Stored);
-    once(alloc, m, d)
-}
-
-fn checkpoint(alloc: Global, m: Machine, number: u64) -> Result<Answered, NoMemory>
-    requires { Counts (machine_in m) }
-    ensures { (session : ℕ) → IfOk result (λ r. Answers (machine_in m) session (calls.Checkpoint number) (outcome_in r.outcome) (machine_in r.machine)) }
-{
-    let Decision { outcome, event } = decide_start(&m, number);
-    let started = apply(alloc, m, event)?;
-    match outcome {
-        Outcome::Done => finish(alloc, started),
-        outcome => Ok(Answered {
-            outcome,
-            machine: started,
-        }),
-    }
-}
-
-fn open_session(alloc: Global, m: Machine) -> Result<Answered, NoMemory>
-    requires { Counts (machine_in m) }
-    ensures { (session : ℕ) → IfOk result (λ r. Answers (machine_in m) session calls.Open (outcome_in r.outcome) (machine_in r.machine)) }
-{
-    let d = decide_open(&m);
-    once(alloc, m, d)
-}
-
-fn begin(alloc: Global, m: Machine, session: usize, read: Option<u64>) -> Result<Answered, NoMemory>
-    requires { Counts (machine_in m) }
-    ensures { IfOk result (λ r. Answers (machine_in m) session (calls.Begin read) (outcome_in r.outcome) (machine_in r.machine)) }
-{
-    let d = decide_begin(&m, session, read);
-    once(alloc, m, d)
-}
-
-fn reset(alloc: Global, m: Machine, session: usize, cursor: usize) -> Result<Answered, NoMemory>
-    requires { Counts (machine_in m) }
-    ensures { IfOk result (λ r. Answers (machine_in m) session (calls.Reset cursor) (outcome_in r.outcome) (machine_in r.machine)) }
-{
-    let d = decide_reset(&m, session, cursor);
-    once(alloc, m, d)
-}
-
-fn prepare(alloc: Global, m: Machine, session: usize, stamp: u64) -> Result<Answered, NoMemory>
-    requires { Counts (machine_in m) }
-    ensures { IfOk result (λ r. Answers (machine_in m) session (calls.Prepare stamp) (outcome_in r.outcome) (machine_in r.machine)) }
-{
-    let d = decide_prepare(&m, session, stamp);
-    once(alloc, m, d)
-}
-
-fn commit(
+/// The outcome of a session's call.
+fn session_turn(
     alloc: Global,
     m: Machine,
     session: usize,
-    commit: Option<u64>,
-    durable: Option<u64>,
-) -> Result<Answered, NoMemory>
-    requires { Counts (machine_in m) }
-    ensures { IfOk result (λ r. Answers (machine_in m) session (calls.Commit commit durable) (outcome_in r.outcome) (machine_in r.machine)) }
+    call: SessionCall,
+) -> Result<Turn, NoMemory>
+    ensures { Leads (model.Decided (machine_in m) session (session_call_in call)) result }
 {
-    let d = decide_commit(&m, session, commit, durable);
-    settle(alloc, m, session, d)
+    match call {
+        SessionCall::Begin(read) => {
+            let d = decide_begin(&m, session, read);
+            once(alloc, m, d)
+        }
+        SessionCall::Get { table, key } => get(alloc, m, session, table, key),
+        SessionCall::Put {
+            table,
+            key,
+            value,
+            demand,
+        } => { put(alloc, m, session, table, key, value, demand) }
+        SessionCall::Remove { table, key } => remove(alloc, m, session, table, key),
+        SessionCall::Seek { cursor, table, key } => {
+            seek_key(alloc, m, session, cursor as usize, table, key)
+        }
+        SessionCall::Step { cursor, table, way } => {
+            step(alloc, m, session, cursor as usize, table, way)
+        }
+        SessionCall::Reset(cursor) => {
+            let d = decide_reset(&m, session, cursor as usize);
+            once(alloc, m, d)
+        }
+        SessionCall::Prepare(stamp) => {
+            let d = decide_prepare(&m, session, stamp);
+            once(alloc, m, d)
+        }
+        SessionCall::Commit { commit, durable } => {
+            let d = decide_commit(&m, session, commit, durable);
+            settle(alloc, m, session, d)
+        }
+        SessionCall::Rollback => {
+            let d = decide_rollback(&m, session);
+            settle(alloc, m, session, d)
+        }
+    }
 }
 
-fn rollback(alloc: Global, m: Machine, session: usize) -> Result<Answered, NoMemory>
-    requires { Counts (machine_in m) }
-    ensures { IfOk result (λ r. Answers (machine_in m) session calls.Rollback (outcome_in r.outcome) (machine_in r.machine)) }
+fn create(alloc: Global, m: Machine, name: Item, formats: Formats) -> Result<Turn, NoMemory>
+    ensures { (around : Around) → Leads (SystemDecided around (machine_in m) (model.Create name formats)) result }
 {
-    let d = decide_rollback(&m, session);
-    settle(alloc, m, session, d)
-}
-
-fn create(alloc: Global, m: Machine, table: Table) -> Result<Answered, NoMemory>
-    requires { Counts (machine_in m) }
-    ensures { (session : ℕ) → IfOk result (λ r. Answers (machine_in m) session (calls.Create (table_in table)) (outcome_in r.outcome) (machine_in r.machine)) }
-{
+    let table = new_table(&m, name, formats)?;
     let d = decide_create(&m, table);
     once(alloc, m, d)
 }
 
-fn set_stamps(
-    alloc: Global,
-    m: Machine,
-    oldest: Option<u64>,
-    stable: Option<u64>,
-) -> Result<Answered, NoMemory>
-    requires { Counts (machine_in m) }
-    ensures { (session : ℕ) → IfOk result (λ r. Answers (machine_in m) session (calls.SetStamps oldest stable) (outcome_in r.outcome) (machine_in r.machine)) }
+/// A step of a checkpoint: it captures a leaf where one is left.
+fn decide_capture_or_end(m: &Machine, around: &Around) -> Decision
+    ensures { decision_in result ≡ answer.decision (machine_in m.now) 0 (step_request around.now.uncaptured (storing_in around.now.storing)) }
 {
-    let d = decide_set(&m, oldest, stable);
-    once(alloc, m, d)
-}
-
-fn roll_back_to_stable(alloc: Global, m: Machine) -> Result<Answered, NoMemory>
-    requires { Counts (machine_in m) }
-    ensures { (session : ℕ) → IfOk result (λ r. Answers (machine_in m) session calls.Rts (outcome_in r.outcome) (machine_in r.machine)) }
-{
-    let d = decide_rts(&m);
-    once(alloc, m, d)
-}
-
-/// The answer to the call, by its events one after the other.
-fn answer_to(alloc: Global, m: Machine, session: usize, call: Call) -> Result<Answered, NoMemory>
-    requires { Counts (machine_in m) }
-    ensures { IfOk result (λ r. Answers (machine_in m) session (call_in call) (outcome_in r.outcome) (machine_in r.machine)) }
-{
-    match call {
-        Call::Open => open_session(alloc, m),
-        Call::Begin(read) => begin(alloc, m, session, read),
-        Call::Get { table, key } => get(alloc, m, session, table, key),
-        Call::Put {
-            table,
-            key,
-            value,
-            overwrite,
-        } => { put(alloc, m, session, table, key, value, overwrite) }
-        Call::Remove { table, key } => remove(alloc, m, session, table, key),
-        Call::NextRow { cursor, table, way } => step(alloc, m, session, cursor, table, way),
-        Call::Seek { cursor, table, key } => seek_key(alloc, m, session, cursor, table, key),
-        Call::Reset(cursor) => reset(alloc, m, session, cursor),
-        Call::Prepare(stamp) => prepare(alloc, m, session, stamp),
-        Call::Commit {
-            commit: at,
-            durable,
-        } => commit(alloc, m, session, at, durable),
-        Call::Rollback => rollback(alloc, m, session),
-        Call::Create(table) => create(alloc, m, table),
-        Call::SetStamps { oldest, stable } => set_stamps(alloc, m, oldest, stable),
-        Call::Rts => roll_back_to_stable(alloc, m),
-        Call::Checkpoint(number) => checkpoint(alloc, m, number),
+    if 0 < around.uncaptured {
+        decide_capture(m, 1 < around.uncaptured, around.storing)
+    } else {
+        decide_step(m, false)
     }
 }
 
-/// Makes a whole call of the session, or of the system, while no other call is unfinished: its
-/// events one after the other, up to its answer. A commit of a running transaction that a stamp
-/// rule refuses ends the transaction, as a rollback does; a checkpoint takes in each leaf. The
-/// counts of the machine that it leaves stand where a next call may find them.
+fn evict(m: Machine, table: &Item, key: &Item) -> Turn
+    ensures { (around : Around) → SystemDecided around (machine_in m) (model.Evict table.now key.now) (outcome_in result.outcome) (machine_in result.machine) }
+{
+    let Decision { outcome, event: _ } = decide_evict(&m, table, key);
+    Turn {
+        outcome,
+        machine: m,
+    }
+}
+
+/// The outcome of a call of the system.
+fn system_turn(
+    alloc: Global,
+    m: Machine,
+    call: SystemCall,
+    around: &Around,
+) -> Result<Turn, NoMemory>
+    ensures { Leads (SystemDecided around.now (machine_in m) (system_call_in call)) result }
+{
+    match call {
+        SystemCall::Create { table, formats } => create(alloc, m, table, formats),
+        SystemCall::SetStamps { oldest, stable } => {
+            let d = decide_set(&m, oldest, stable);
+            once(alloc, m, d)
+        }
+        SystemCall::RollbackToStable => {
+            let d = decide_rts(&m)?;
+            once(alloc, m, d)
+        }
+        SystemCall::StartCheckpoint => {
+            let d = decide_start(&m, around.number)?;
+            once(alloc, m, d)
+        }
+        SystemCall::StepCheckpoint => {
+            let d = decide_capture_or_end(&m, around);
+            once(alloc, m, d)
+        }
+        SystemCall::FinishCheckpoint => {
+            let d = decide_finish(&m, 0 < around.uncaptured, around.storing);
+            once(alloc, m, d)
+        }
+        SystemCall::Evict { table, key } => Ok(evict(m, &table, &key)),
+        SystemCall::Close => close(alloc, m, around),
+    }
+}
+
+/// The outcome of the call, by its events one after the other.
+fn turn(alloc: Global, m: Machine, call: Call, around: &Around) -> Result<Turn, NoMemory>
+    ensures { Leads (Decides around.now (machine_in m) (actor_in call) (call_in call)) result }
+{
+    match call {
+        Call::Session(session, call) => session_turn(alloc, m, session as usize, call),
+        Call::System(_, call) => system_turn(alloc, m, call, around),
+    }
+}
+
+/// Opens a session, which takes the next number, from 0 upwards.
 ///
 /// # Errors
 ///
 /// Memory is wanted; the machine is gone then.
-pub fn run(alloc: Global, m: Machine, session: usize, call: Call) -> Result<Answered, NoMemory>
-    requires { Counts (machine_in m) }
-    ensures answers { IfOk result (λ r. Answers (machine_in m) session (call_in call) (outcome_in r.outcome) (machine_in r.machine)) }
-    ensures counts { IfOk result (λ r. Counts (machine_in r.machine)) }
+pub fn open_session(alloc: Global, m: Machine) -> Result<Answered, NoMemory>
+    ensures { IfOk result (λ r. OpensSession (machine_in m) r.answer (machine_in r.machine)) }
 {
-    answer_to(alloc, m, session, call)
+    let d = decide_open(&m);
+    let Turn { outcome, machine } = once(alloc, m, d)?;
+    let answer = told(outcome)?;
+    Ok(Answered { answer, machine })
+}
+
+fn answer_to(alloc: Global, m: Machine, call: Call, around: &Around) -> Result<Answered, NoMemory>
+    ensures { IfOk result (λ r. IsExact around.now (machine_in m) (actor_in call) (call_in call) r.answer (machine_in r.machine)) }
+{
+    if around.in_call {
+        return Ok(Answered {
+            answer: Answer::Refused(Refusal::Invalid(Invalid::InCall)),
+            machine: m,
+        });
+    }
+    let Turn { outcome, machine } = turn(alloc, m, call, around)?;
+    let answer = told(outcome)?;
+    Ok(Answered { answer, machine })
+}
+
+/// Makes a whole call: its events one after the other, up to its answer, where the outside is as
+/// `around` says, no page is kept from it, and no memory is short. Where the model leaves a choice
+/// it takes one: a read of a key that a resolving transaction wrote gives the value, and a write of
+/// it is judged as if that transaction had ended.
+///
+/// # Errors
+///
+/// Memory is wanted, or the machine is none that an opening and whole calls reach: a count is at
+/// the end of its type, or a machine that is up has a transaction whose end was decided. The
+/// machine is gone then.
+pub fn run(alloc: Global, m: Machine, call: Call, around: &Around) -> Result<Answered, NoMemory>
+    ensures answers { IfOk result (λ r. Answers (around_in around.now) (machine_in m) (actor_in call) (call_in call) r.answer (machine_in r.machine)) }
+    ensures exact { IfOk result (λ r. IsExact around.now (machine_in m) (actor_in call) (call_in call) r.answer (machine_in r.machine)) }
+{
+    answer_to(alloc, m, call, around)
 }

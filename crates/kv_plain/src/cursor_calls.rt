@@ -1,17 +1,16 @@
-//! Whole calls that move a cursor, with no other call unfinished.
+// Whole calls that move a cursor.
 
-ghost use Rattle.std.specs.Prelude.{◌≡◌, IfOk};
+ghost use Rattle.std.specs.Prelude.{IfOk};
+ghost use Rattle.kv_model.specs.Calls as model;
 ghost use Rattle.kv_plain.specs.Machine.{machine_in};
 ghost use Rattle.kv_plain.specs.Outcome.{outcome_in, event_in};
-ghost use Rattle.kv_plain.specs.After.{Counts};
 ghost use Rattle.kv_plain.specs.Walk.{way_in};
-ghost use Rattle.kv_plain.specs.Calls as calls;
-ghost use Rattle.kv_plain.specs.Calls.{Steps, Seeks, Moves, Answers, IsFound};
+ghost use Rattle.kv_plain.specs.Calls.{Leads, Steps, Seeks, IsFound};
 
 use crate::after::apply;
 use crate::decisions::{decide_find, decide_row};
-use crate::event::{Answered, Decision};
-use crate::key_calls::{seated, table_number};
+use crate::event::{Decision, Turn};
+use crate::key_calls::{known_table, seated};
 use crate::machine::Machine;
 use crate::outcome::Outcome;
 use crate::walk::{Way, next_row, seek};
@@ -30,25 +29,8 @@ fn judge_step(
     ensures { IfOk result (λ r. Steps session cursor table.now (way_in way) (machine_in m.now) (outcome_in r.outcome) (event_in r.event)) }
 {
     let t = seated(m, session);
-    let number = table_number(m, table);
+    let number = known_table(m, table).number;
     next_row(m, session, t, cursor, number, way)
-}
-
-fn step_found(
-    alloc: Global,
-    m: Machine,
-    session: usize,
-    cursor: usize,
-    table: &Item,
-    way: Way,
-) -> Result<Answered, NoMemory>
-    requires found { IsFound (machine_in m) session table.now }
-    requires counts { Counts (machine_in m) }
-    ensures { IfOk result (λ r. Moves (Steps session cursor table.now (way_in way)) (machine_in m) (outcome_in r.outcome) (machine_in r.machine)) }
-{
-    let Decision { outcome, event } = judge_step(&m, session, cursor, table, way)?;
-    let machine = apply(alloc, m, event)?;
-    Ok(Answered { outcome, machine })
 }
 
 /// To the next row, or to the previous one.
@@ -59,17 +41,20 @@ pub(crate) fn step(
     cursor: usize,
     table: Item,
     way: Way,
-) -> Result<Answered, NoMemory>
-    requires { Counts (machine_in m) }
-    ensures { IfOk result (λ r. Answers (machine_in m) session (calls.NextRow cursor table (way_in way)) (outcome_in r.outcome) (machine_in r.machine)) }
+) -> Result<Turn, NoMemory>
+    ensures { Leads (model.Decided (machine_in m) session (model.NextRow cursor table (way_in way))) result }
 {
     let Decision { outcome, event } = decide_row(&m, session, &table);
-    let found = apply(alloc, m, event)?;
     match outcome {
-        Outcome::Done => step_found(alloc, found, session, cursor, &table, way),
-        outcome => Ok(Answered {
+        Outcome::Done => {
+            let found = apply(alloc, m, event)?;
+            let Decision { outcome, event } = judge_step(&found, session, cursor, &table, way)?;
+            let machine = apply(alloc, found, event)?;
+            Ok(Turn { outcome, machine })
+        }
+        outcome => Ok(Turn {
             outcome,
-            machine: found,
+            machine: m,
         }),
     }
 }
@@ -85,25 +70,8 @@ fn judge_seek(
     ensures { IfOk result (λ r. Seeks session cursor table.now key.now (machine_in m.now) (outcome_in r.outcome) (event_in r.event)) }
 {
     let t = seated(m, session);
-    let number = table_number(m, table);
+    let number = known_table(m, table).number;
     seek(m, session, t, cursor, number, key)
-}
-
-fn seek_found(
-    alloc: Global,
-    m: Machine,
-    session: usize,
-    cursor: usize,
-    table: &Item,
-    key: &Item,
-) -> Result<Answered, NoMemory>
-    requires found { IsFound (machine_in m) session table.now }
-    requires counts { Counts (machine_in m) }
-    ensures { IfOk result (λ r. Moves (Seeks session cursor table.now key.now) (machine_in m) (outcome_in r.outcome) (machine_in r.machine)) }
-{
-    let Decision { outcome, event } = judge_seek(&m, session, cursor, table, key)?;
-    let machine = apply(alloc, m, event)?;
-    Ok(Answered { outcome, machine })
 }
 
 /// To the row of a key.
@@ -114,17 +82,20 @@ pub(crate) fn seek_key(
     cursor: usize,
     table: Item,
     key: Item,
-) -> Result<Answered, NoMemory>
-    requires { Counts (machine_in m) }
-    ensures { IfOk result (λ r. Answers (machine_in m) session (calls.Seek cursor table key) (outcome_in r.outcome) (machine_in r.machine)) }
+) -> Result<Turn, NoMemory>
+    ensures { Leads (model.Decided (machine_in m) session (model.SeekKey cursor table key)) result }
 {
     let Decision { outcome, event } = decide_find(&m, session, &table, &key);
-    let found = apply(alloc, m, event)?;
     match outcome {
-        Outcome::Done => seek_found(alloc, found, session, cursor, &table, &key),
-        outcome => Ok(Answered {
+        Outcome::Done => {
+            let found = apply(alloc, m, event)?;
+            let Decision { outcome, event } = judge_seek(&found, session, cursor, &table, &key)?;
+            let machine = apply(alloc, found, event)?;
+            Ok(Turn { outcome, machine })
+        }
+        outcome => Ok(Turn {
             outcome,
-            machine: found,
+            machine: m,
         }),
     }
 }

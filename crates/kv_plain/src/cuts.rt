@@ -1,4 +1,4 @@
-//! What a checkpoint keeps.
+// What a checkpoint keeps.
 
 ghost use Rattle.std.specs.Prelude.{◌≡◌, [], ◌∷◌, ◌++◌, map, IfOk};
 ghost use Rattle.kv_model.specs.History.{Create, tables, commit_of, cut as cut_of};
@@ -10,7 +10,7 @@ use crate::writes::push_write;
 use failure::NoMemory;
 use std::alloc::Global;
 
-fn push_entry(out: &mut Vec<Entry>, entry: Entry) -> Result<(), NoMemory>
+pub(crate) fn push_entry(out: &mut Vec<Entry>, entry: Entry) -> Result<(), NoMemory>
     ensures { IfOk result (λ _. history_in out.new.items ≡ history_in out.old.items ++ entry_in entry ∷ []) }
 {
     match out.push(entry) {
@@ -35,7 +35,11 @@ fn commit_of(alloc: Global, p: &Placed) -> Result<Entry, NoMemory>
     Ok(Entry::Commit(window.name, writes))
 }
 
-fn push_commits(alloc: Global, out: &mut Vec<Entry>, placed: &[Placed]) -> Result<(), NoMemory>
+pub(crate) fn push_commits(
+    alloc: Global,
+    out: &mut Vec<Entry>,
+    placed: &[Placed],
+) -> Result<(), NoMemory>
     ensures { IfOk result (λ _. history_in out.new.items ≡ history_in out.old.items ++ map commit_of (map placed_in placed.now)) }
 {
     match placed.split_first() {
@@ -47,14 +51,14 @@ fn push_commits(alloc: Global, out: &mut Vec<Entry>, placed: &[Placed]) -> Resul
     }
 }
 
-fn copy_table(t: &Table) -> Result<Entry, NoMemory>
-    ensures { IfOk result (λ r. entry_in r ≡ Create (table_in t.now)) }
+pub(crate) fn copy_table(t: &Table) -> Result<Table, NoMemory>
+    ensures { IfOk result (λ r. table_in r ≡ table_in t.now) }
 {
-    Ok(Entry::Create(Table {
+    Ok(Table {
         number: t.number,
         name: t.name.copy()?,
         formats: t.formats,
-    }))
+    })
 }
 
 fn push_creates(out: &mut Vec<Entry>, history: &[Entry]) -> Result<(), NoMemory>
@@ -63,7 +67,7 @@ fn push_creates(out: &mut Vec<Entry>, history: &[Entry]) -> Result<(), NoMemory>
     match history.split_first() {
         None => Ok(()),
         Some((Entry::Create(table), older)) => {
-            push_entry(out, copy_table(table)?)?;
+            push_entry(out, Entry::Create(copy_table(table)?))?;
             push_creates(out, older)
         }
         Some((_, older)) => push_creates(out, older),
@@ -71,7 +75,12 @@ fn push_creates(out: &mut Vec<Entry>, history: &[Entry]) -> Result<(), NoMemory>
 }
 
 /// What a checkpoint of the first `n` entries keeps at the stable stamp, 0 for none.
-pub fn cut(alloc: Global, history: &[Entry], n: usize, stable: u64) -> Result<Vec<Entry>, NoMemory>
+pub(crate) fn cut(
+    alloc: Global,
+    history: &[Entry],
+    n: usize,
+    stable: u64,
+) -> Result<Vec<Entry>, NoMemory>
     ensures { IfOk result (λ r. history_in r.items ≡ cut_of (history_in history.now) n stable) }
 {
     let prefix = first_entries(history, n);

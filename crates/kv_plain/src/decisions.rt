@@ -1,52 +1,49 @@
-//! What each call answers where the machine determines it, with the event that it makes.
+// What each call answers where the machine determines it, with the event that it makes.
 
-ghost use Rattle.std.specs.Prelude.{◌≡◌, ℕ, ◌+◌, ◌^◌, ◌<◌, ◌≤◌, not, nat_lt, nat_le, true, [], ◌∷◌, map, length, option_map, if◌then◌else◌};
-ghost use Rattle.kv_model.specs.History.{Table as ModelTable, tables, named};
+ghost use Rattle.std.specs.Prelude.{◌≡◌, ℕ, ◌+◌, ◌^◌, ◌<◌, ◌≤◌, not, nat_lt, nat_le, true, [], ◌∷◌, map, length, option_map, IfOk, if◌then◌else◌};
+ghost use Rattle.kv_model.specs.History.{Table as ModelTable, created, tables, named};
 ghost use Rattle.kv_model.specs.Machine as model;
-ghost use Rattle.kv_model.specs.Refusals as why;
 ghost use Rattle.kv_model.specs.Decisions as answer;
+ghost use Rattle.kv_model.specs.Holds.{Member};
+ghost use Rattle.kv_model.specs.Calls.{IsTableFor, evict_decision};
 ghost use Rattle.kv_model.specs.Rows.{reset_decision};
-ghost use Rattle.kv_plain.specs.Plain.{table_in, history_in};
+ghost use Rattle.kv_plain.specs.Plain.{table_in, entry_in, history_in};
 ghost use Rattle.kv_plain.specs.Machine.{phase_in, transaction_in, sessions_in, machine_in};
-ghost use Rattle.kv_plain.specs.Outcome.{reason_in, cause_in, event_in, decision_in};
+ghost use Rattle.kv_plain.specs.Outcome.{outcome_in, event_in, decision_in};
 ghost use Rattle.kv_plain.specs.Checks.{check_in};
 ghost use Rattle.kv_plain.specs.Decisions.{storing_in, run_or, created_with};
 
 use crate::checks::{
-    Check, begin_rules, checked, commit_rules, invalid, is_name, or_stamp, prepare_rules, refused,
-    resolve_rules, ruled, set_rules, stamp_of,
+    Check, begin_rules, checked, commit_rules, durable_below, invalid, is_name, or_stamp,
+    prepare_rules, refused, resolve_rules, ruled, set_rules, stamp_of,
 };
 use crate::event::{Decision, Event};
 use crate::history::{Entry, Table};
-use crate::machine::{Fault, Machine, Phase, Transaction};
-use crate::outcome::{Busy, Cause, Counted, Outcome, Reason};
+use crate::machine::{Machine, Phase, Transaction};
+use crate::outcome::Outcome;
+use failure::NoMemory;
 use item::{Change, Format, Formats, Item};
+use limits::{KEY_MAX, NUMBER_MAX, SESSIONS_MAX, TABLES_MAX, VALUE_MAX};
+use wt_code::{Busy, Fault, Invalid, Limit, Refusal};
 
-/// The greatest id, checkpoint number and number of rollbacks to stable.
-pub const COUNT_MAX: u64 = (1 << 62) - 1;
-/// The longest key, in bytes.
-pub const KEY_MAX: usize = 1_024;
-/// The longest value, in bytes.
-pub const VALUE_MAX: usize = 16_384;
-/// The most sessions.
-pub const SESSIONS_MAX: usize = 64;
-/// The most tables.
-pub const TABLES_MAX: usize = 1_024;
-
-/// How the device took what a step or the finish of a checkpoint wrote.
+/// How the device takes what a step or the finish of a checkpoint, or Close, writes.
 #[derive(Clone, Copy, PartialEq, Eq, Debug)]
 pub enum Storing {
+    /// It has all of it.
     Stored,
     /// A block found no place.
     NoPlace,
+    /// A read failed.
     ReadFailed,
-    /// What was read is damaged.
-    Damaged { offset: u64, want: u64, found: u64 },
+    /// What was read at this offset in bytes is damaged: the sum that is wanted and that of the
+    /// bytes.
+    Damaged { offset: u64, want: u32, found: u32 },
+    /// This write or sync failed, and the machine is down.
     WriteFailed(Fault),
 }
 
 /// The session's transaction.
-pub fn transaction_at(m: &Machine, session: usize) -> Option<&Transaction>
+pub(crate) fn transaction_at(m: &Machine, session: usize) -> Option<&Transaction>
     ensures { option_map (λ t. transaction_in t.now) result ≡ model.transaction_of (machine_in m.now) session }
 {
     match m.sessions.get(session) {
@@ -56,7 +53,7 @@ pub fn transaction_at(m: &Machine, session: usize) -> Option<&Transaction>
 }
 
 /// The table of this name.
-pub fn table_named<'a>(history: &'a [Entry], name: &Item) -> Option<&'a Table>
+pub(crate) fn table_named<'a>(history: &'a [Entry], name: &Item) -> Option<&'a Table>
     ensures { option_map (λ t. table_in t.now) result ≡ named name.now (tables (history_in history.now)) }
 {
     match history.split_first() {
@@ -73,7 +70,7 @@ pub fn table_named<'a>(history: &'a [Entry], name: &Item) -> Option<&'a Table>
 }
 
 /// How many tables there are.
-pub fn table_count(history: &[Entry]) -> usize
+pub(crate) fn table_count(history: &[Entry]) -> usize
     ensures count { result ≡ length (tables (history_in history.now)) }
     ensures bound { result ≤ length history.now }
 {
@@ -98,21 +95,21 @@ fn while_up(m: &Machine, go: Decision) -> Decision
 {
     match m.fault {
         None => go,
-        Some(fault) => refused(Cause::Panic(fault)),
+        Some(fault) => refused(Refusal::Panic { fault }),
     }
 }
 
-fn running(m: &Machine, session: usize) -> Result<&Transaction, Reason>
+fn running(m: &Machine, session: usize) -> Result<&Transaction, Invalid>
     ensures { (go : model.Transaction → answer.Outcome × model.Event) → answer.running_session (machine_in m.now) session go ≡ run_or go result }
 {
     match transaction_at(m, session) {
-        None => Err(Reason::NoTransaction),
+        None => Err(Invalid::NoTxn),
         Some(t) => match t.phase {
             Phase::Running => Ok(t),
-            Phase::Failed => Err(Reason::FailedTransaction),
-            Phase::Leaving => Err(Reason::FailedTransaction),
-            Phase::Prepared(_) => Err(Reason::IsPrepared),
-            Phase::Resolving => Err(Reason::IsPrepared),
+            Phase::Failed => Err(Invalid::FailedTxn),
+            Phase::Leaving => Err(Invalid::FailedTxn),
+            Phase::Prepared(_) => Err(Invalid::Prepared),
+            Phase::Resolving => Err(Invalid::Prepared),
         },
     }
 }
@@ -124,17 +121,17 @@ fn count(sessions: &[Option<Transaction>]) -> usize
 }
 
 fn session_check(m: &Machine) -> Check
-    ensures { check_in result ≡ (nat_le 64 (length (machine_in m.now).sessions), why.Limit why.Sessions) }
+    ensures { check_in result ≡ (nat_le 64 (length (machine_in m.now).sessions), Refusal.Limit Limit.Sessions) }
 {
     Check {
         holds: SESSIONS_MAX <= count(&m.sessions),
-        cause: Cause::Limit(Counted::Sessions),
+        refusal: Refusal::Limit(Limit::Sessions),
     }
 }
 
 /// The opening of a session.
-pub fn decide_open(m: &Machine) -> Decision
-    ensures { (session : ℕ) → decision_in result ≡ answer.decision (machine_in m.now) session answer.OpenCall }
+pub(crate) fn decide_open(m: &Machine) -> Decision
+    ensures { decision_in result ≡ answer.decision (machine_in m.now) 0 answer.OpenCall }
 {
     while_up(m, checked(&[session_check(m)], done(Event::OpenSession)))
 }
@@ -143,9 +140,9 @@ fn judge_begin(m: &Machine, session: usize, read: Option<u64>) -> Decision
     ensures { decision_in result ≡ answer.judged (machine_in m.now) session (answer.BeginCall read) }
 {
     match transaction_at(m, session) {
-        Some(_) => invalid(Reason::InTransaction),
+        Some(_) => invalid(Invalid::InTxn),
         None => ruled(
-            &begin_rules(m, read),
+            &begin_rules(m.oldest, read),
             Event::Begin(session, stamp_of(read)),
             Event::Nothing,
         ),
@@ -153,7 +150,7 @@ fn judge_begin(m: &Machine, session: usize, read: Option<u64>) -> Decision
 }
 
 /// Begin, at a read stamp.
-pub fn decide_begin(m: &Machine, session: usize, read: Option<u64>) -> Decision
+pub(crate) fn decide_begin(m: &Machine, session: usize, read: Option<u64>) -> Decision
     ensures { decision_in result ≡ answer.decision (machine_in m.now) session (answer.BeginCall read) }
 {
     while_up(m, judge_begin(m, session, read))
@@ -165,7 +162,7 @@ fn judge_prepare(m: &Machine, session: usize, stamp: u64) -> Decision
     match running(m, session) {
         Err(reason) => invalid(reason),
         Ok(_) => ruled(
-            &prepare_rules(m, stamp),
+            &prepare_rules(m.stable, stamp),
             Event::Prepare(session, stamp),
             Event::Nothing,
         ),
@@ -173,7 +170,7 @@ fn judge_prepare(m: &Machine, session: usize, stamp: u64) -> Decision
 }
 
 /// Prepare, at a stamp.
-pub fn decide_prepare(m: &Machine, session: usize, stamp: u64) -> Decision
+pub(crate) fn decide_prepare(m: &Machine, session: usize, stamp: u64) -> Decision
     ensures { decision_in result ≡ answer.decision (machine_in m.now) session (answer.PrepareCall stamp) }
 {
     while_up(m, judge_prepare(m, session, stamp))
@@ -189,18 +186,19 @@ fn decide_decided(
     ensures { decision_in result ≡ answer.commit_decision (phase_in t.now.phase) (machine_in m.now) session (transaction_in t.now) commit durable }
 {
     let at = stamp_of(commit);
+    let prev = durable_below(m, &t.writes);
     match t.phase {
         Phase::Running => ruled(
-            &commit_rules(m, t, commit, durable),
+            &commit_rules(m.oldest, m.stable, commit, durable, prev),
             Event::Commit(session, at, at),
             Event::StartLeaving(session),
         ),
         Phase::Prepared(p) => ruled(
-            &resolve_rules(m, t, p, commit, durable),
+            &resolve_rules(m.oldest, m.stable, p, commit, durable, prev),
             Event::Commit(session, at, or_stamp(stamp_of(durable), at)),
             Event::Nothing,
         ),
-        Phase::Failed => invalid(Reason::FailedTransaction),
+        Phase::Failed => invalid(Invalid::FailedTxn),
         Phase::Resolving => resumes(),
         Phase::Leaving => resumes(),
     }
@@ -219,13 +217,13 @@ fn judge_commit(m: &Machine, session: usize, commit: Option<u64>, durable: Optio
     ensures { decision_in result ≡ answer.judged (machine_in m.now) session (answer.CommitCall commit durable) }
 {
     match transaction_at(m, session) {
-        None => invalid(Reason::NoTransaction),
+        None => invalid(Invalid::NoTxn),
         Some(t) => decide_decided(m, session, t, commit, durable),
     }
 }
 
 /// Commit, at a commit and a durable stamp.
-pub fn decide_commit(
+pub(crate) fn decide_commit(
     m: &Machine,
     session: usize,
     commit: Option<u64>,
@@ -250,33 +248,74 @@ fn judge_rollback(m: &Machine, session: usize) -> Decision
     ensures { decision_in result ≡ answer.judged (machine_in m.now) session answer.RollbackCall }
 {
     match transaction_at(m, session) {
-        None => invalid(Reason::NoTransaction),
+        None => invalid(Invalid::NoTxn),
         Some(t) => decide_left(session, t.phase),
     }
 }
 
-/// Rollback.
-pub fn decide_rollback(m: &Machine, session: usize) -> Decision
+/// Whether the first event of its rollback is on a page.
+fn undoes_first(t: &Transaction) -> bool
+    ensures { result ≡ answer.undoes_first (transaction_in t.now).phase (transaction_in t.now).writes }
+{
+    match t.phase {
+        Phase::Running => !t.writes.is_empty(),
+        Phase::Failed => !t.writes.is_empty(),
+        _ => false,
+    }
+}
+
+fn is_on_page(m: &Machine, session: usize) -> bool
+    ensures { result ≡ answer.is_on_page (machine_in m.now) session answer.RollbackCall }
+{
+    match transaction_at(m, session) {
+        None => false,
+        Some(t) => undoes_first(t),
+    }
+}
+
+/// Rollback. A machine that is down does not refuse its first event where that is on a page.
+pub(crate) fn decide_rollback(m: &Machine, session: usize) -> Decision
     ensures { decision_in result ≡ answer.decision (machine_in m.now) session answer.RollbackCall }
 {
-    while_up(m, judge_rollback(m, session))
+    let go = judge_rollback(m, session);
+    if is_on_page(m, session) {
+        go
+    } else {
+        while_up(m, go)
+    }
+}
+
+/// The last event of a commit or rollback that was decided, with its answer.
+pub(crate) fn decide_end(m: &Machine, session: usize, decided: Outcome) -> Decision
+    ensures { decision_in result ≡ answer.decision (machine_in m.now) session (answer.EndCall (outcome_in decided)) }
+{
+    let event = Event::EndTransaction(session);
+    while_up(
+        m,
+        Decision {
+            outcome: decided,
+            event,
+        },
+    )
 }
 
 fn name_check(name: &Item) -> Check
-    ensures { check_in result ≡ (not (answer.is_name name.now), why.Invalid why.BadName) }
+    ensures { check_in result ≡ (not (answer.is_name name.now), Refusal.Invalid Invalid.BadName) }
 {
     Check {
         holds: !is_name(name.as_bytes()),
-        cause: Cause::Invalid(Reason::BadName),
+        refusal: Refusal::Invalid(Invalid::BadName),
     }
 }
 
 fn key_check(key: &Item) -> Check
-    ensures { check_in result ≡ (nat_lt answer.key_max (length key.now), why.Invalid (why.KeyLong (length key.now))) }
+    ensures { check_in result ≡ (nat_lt answer.key_max (length key.now), Refusal.Invalid (Invalid.KeyLong (length key.now))) }
 {
     Check {
         holds: KEY_MAX < key.len(),
-        cause: Cause::Invalid(Reason::KeyLong(key.len())),
+        refusal: Refusal::Invalid(Invalid::KeyLong {
+            len: key.len() as u64,
+        }),
     }
 }
 
@@ -290,12 +329,12 @@ fn value_len(change: &Change) -> usize
 }
 
 fn value_check(change: &Change) -> Check
-    ensures { check_in result ≡ (nat_lt answer.value_max (answer.value_length change.now), why.Invalid (why.ValueLong (answer.value_length change.now))) }
+    ensures { check_in result ≡ (nat_lt answer.value_max (answer.value_length change.now), Refusal.Invalid (Invalid.ValueLong (answer.value_length change.now))) }
 {
     let len = value_len(change);
     Check {
         holds: VALUE_MAX < len,
-        cause: Cause::Invalid(Reason::ValueLong(len)),
+        refusal: Refusal::Invalid(Invalid::ValueLong { len: len as u64 }),
     }
 }
 
@@ -304,7 +343,7 @@ fn table_check(m: &Machine, name: &Item) -> Check
 {
     Check {
         holds: table_named(&m.history, name).is_none(),
-        cause: Cause::NoTable,
+        refusal: Refusal::NoTable,
     }
 }
 
@@ -321,10 +360,18 @@ fn judge_find(m: &Machine, session: usize, table: &Item, key: &Item) -> Decision
 }
 
 /// The first event of Get and Seek.
-pub fn decide_find(m: &Machine, session: usize, table: &Item, key: &Item) -> Decision
+pub(crate) fn decide_find(m: &Machine, session: usize, table: &Item, key: &Item) -> Decision
     ensures { decision_in result ≡ answer.decision (machine_in m.now) session (answer.FindKey table.now key.now) }
 {
     while_up(m, judge_find(m, session, table, key))
+}
+
+/// Evict of the leaf of a key, which changes nothing that a call can see.
+pub(crate) fn decide_evict(m: &Machine, table: &Item, key: &Item) -> Decision
+    ensures { decision_in result ≡ evict_decision (machine_in m.now) table.now key.now }
+{
+    let checks = [name_check(table), key_check(key), table_check(m, table)];
+    while_up(m, checked(&checks, done(Event::Nothing)))
 }
 
 fn decide_id(m: &Machine, session: usize, t: &Transaction) -> Decision
@@ -332,8 +379,8 @@ fn decide_id(m: &Machine, session: usize, t: &Transaction) -> Decision
 {
     if t.id == 0 {
         let spent = Check {
-            holds: COUNT_MAX < m.next,
-            cause: Cause::Limit(Counted::Ids),
+            holds: NUMBER_MAX < m.next,
+            refusal: Refusal::Limit(Limit::Ids),
         };
         checked(&[spent], done(Event::DrawId(session)))
     } else {
@@ -359,7 +406,7 @@ fn judge_write(m: &Machine, session: usize, table: &Item, key: &Item, change: &C
 }
 
 /// The first event of Put and Remove.
-pub fn decide_write(
+pub(crate) fn decide_write(
     m: &Machine,
     session: usize,
     table: &Item,
@@ -384,14 +431,14 @@ fn judge_row(m: &Machine, session: usize, table: &Item) -> Decision
 }
 
 /// The first event of NextRow and PrevRow.
-pub fn decide_row(m: &Machine, session: usize, table: &Item) -> Decision
+pub(crate) fn decide_row(m: &Machine, session: usize, table: &Item) -> Decision
     ensures { decision_in result ≡ answer.decision (machine_in m.now) session (answer.FindRow table.now) }
 {
     while_up(m, judge_row(m, session, table))
 }
 
 /// Reset of a cursor. A machine that is down does not refuse it.
-pub fn decide_reset(m: &Machine, session: usize, cursor: usize) -> Decision
+pub(crate) fn decide_reset(m: &Machine, session: usize, cursor: usize) -> Decision
     ensures { decision_in result ≡ reset_decision (machine_in m.now) session cursor }
 {
     match running(m, session) {
@@ -423,7 +470,7 @@ fn decide_created(known: usize, table: Table, old: Option<Formats>) -> Decision
         None => {
             let full = Check {
                 holds: TABLES_MAX <= known,
-                cause: Cause::Limit(Counted::Tables),
+                refusal: Refusal::Limit(Limit::Tables),
             };
             checked(&[full], done(Event::CreateTable(table)))
         }
@@ -431,7 +478,7 @@ fn decide_created(known: usize, table: Table, old: Option<Formats>) -> Decision
             if same_formats(table.formats, formats) {
                 done(Event::Nothing)
             } else {
-                refused(Cause::Exists)
+                refused(Refusal::Exists)
             }
         }
     }
@@ -447,39 +494,86 @@ fn formats_named(m: &Machine, name: &Item) -> Option<Formats>
 }
 
 fn judge_created(m: &Machine, table: Table) -> Decision
-    ensures { decision_in result ≡ answer.created (tables (machine_in m.now).history) (table_in table) (named (table_in table).name (tables (machine_in m.now).history)) }
+    ensures { decision_in result ≡ answer.create_decision (tables (machine_in m.now).history) (table_in table) (named (table_in table).name (tables (machine_in m.now).history)) }
 {
     let old = formats_named(m, &table.name);
     decide_created(table_count(&m.history), table, old)
 }
 
+/// The number of the table that the entry makes, 0 where it makes none.
+fn number_of(entry: &Entry) -> u32
+    ensures { (t : ModelTable) → Member t (created (entry_in entry.now ∷ [])) → t.number ≤ result }
+{
+    match entry {
+        Entry::Create(table) => table.number,
+        _ => 0,
+    }
+}
+
+/// The greatest number of a table that was ever made, 0 where none was.
+fn greatest_number(history: &[Entry]) -> u32
+    ensures { (t : ModelTable) → Member t (created (history_in history.now)) → t.number ≤ result }
+{
+    match history.split_first() {
+        None => 0,
+        Some((entry, older)) => number_of(entry).max(greatest_number(older)),
+    }
+}
+
+/// The table that Create would make, its number one above the greatest.
+pub(crate) fn new_table(m: &Machine, name: Item, formats: Formats) -> Result<Table, NoMemory>
+    ensures { IfOk result (λ t. IsTableFor (machine_in m.now) name formats (table_in t)) }
+{
+    match greatest_number(&m.history).checked_add(1) {
+        None => Err(NoMemory),
+        Some(number) => Ok(Table {
+            number,
+            name,
+            formats,
+        }),
+    }
+}
+
 /// Create of a table, which bears the number that a new one would have.
-pub fn decide_create(m: &Machine, table: Table) -> Decision
-    ensures { (session : ℕ) → decision_in result ≡ answer.decision (machine_in m.now) session (answer.CreateCall (table_in table)) }
+pub(crate) fn decide_create(m: &Machine, table: Table) -> Decision
+    ensures { decision_in result ≡ answer.decision (machine_in m.now) 0 (answer.CreateCall (table_in table)) }
 {
     let bad = name_check(&table.name);
     while_up(m, checked(&[bad], judge_created(m, table)))
 }
 
 /// New stamps.
-pub fn decide_set(m: &Machine, oldest: Option<u64>, stable: Option<u64>) -> Decision
-    ensures { (session : ℕ) → decision_in result ≡ answer.decision (machine_in m.now) session (answer.SetCall oldest stable) }
+pub(crate) fn decide_set(m: &Machine, oldest: Option<u64>, stable: Option<u64>) -> Decision
+    ensures { decision_in result ≡ answer.decision (machine_in m.now) 0 (answer.SetCall oldest stable) }
 {
     let event = Event::SetStamps(stamp_of(oldest), stamp_of(stable));
     while_up(
         m,
-        ruled(&set_rules(m, oldest, stable), event, Event::Nothing),
+        ruled(
+            &set_rules(m.oldest, m.stable, oldest, stable),
+            event,
+            Event::Nothing,
+        ),
     )
 }
 
-fn first_active(sessions: &[Option<Transaction>], at: usize) -> Option<usize>
-    requires { at + length sessions.now < 2 ^ 64 }
-    ensures { result ≡ answer.first_session (λ t. true) at (sessions_in sessions.now) }
+/// The number of the next session.
+pub(crate) fn session_after(at: u32) -> Result<u32, NoMemory>
+    ensures { IfOk result (λ r. r ≡ at + 1) }
+{
+    match at.checked_add(1) {
+        None => Err(NoMemory),
+        Some(next) => Ok(next),
+    }
+}
+
+fn first_active(sessions: &[Option<Transaction>], at: u32) -> Result<Option<u32>, NoMemory>
+    ensures { IfOk result (λ r. r ≡ answer.first_session (λ t. true) at (sessions_in sessions.now)) }
 {
     match sessions.split_first() {
-        None => None,
-        Some((None, later)) => first_active(later, at + 1),
-        Some((Some(_), _)) => Some(at),
+        None => Ok(None),
+        Some((None, later)) => first_active(later, session_after(at)?),
+        Some((Some(_), _)) => Ok(Some(at)),
     }
 }
 
@@ -492,41 +586,40 @@ fn is_resolving(phase: Phase) -> bool
     }
 }
 
-fn first_resolving(sessions: &[Option<Transaction>], at: usize) -> Option<usize>
-    requires { at + length sessions.now < 2 ^ 64 }
-    ensures { result ≡ answer.first_session (λ t. answer.is_resolving t.phase) at (sessions_in sessions.now) }
+fn first_resolving(sessions: &[Option<Transaction>], at: u32) -> Result<Option<u32>, NoMemory>
+    ensures { IfOk result (λ r. r ≡ answer.first_session (λ t. answer.is_resolving t.phase) at (sessions_in sessions.now)) }
 {
     match sessions.split_first() {
-        None => None,
-        Some((None, later)) => first_resolving(later, at + 1),
+        None => Ok(None),
+        Some((None, later)) => first_resolving(later, session_after(at)?),
         Some((Some(t), later)) => {
             if is_resolving(t.phase) {
-                Some(at)
+                Ok(Some(at))
             } else {
-                first_resolving(later, at + 1)
+                first_resolving(later, session_after(at)?)
             }
         }
     }
 }
 
 fn running_check(m: &Machine) -> Check
-    ensures { check_in result ≡ (answer.is_there (machine_in m.now).checkpoint, why.IsBusy why.CheckpointRuns) }
+    ensures { check_in result ≡ (answer.is_there (machine_in m.now).checkpoint, Refusal.Busy Busy.Checkpoint) }
 {
     Check {
         holds: m.checkpoint.is_some(),
-        cause: Cause::Busy(Busy::Checkpoint),
+        refusal: Refusal::Busy(Busy::Checkpoint),
     }
 }
 
-fn judge_rts(m: &Machine) -> Decision
-    ensures { (session : ℕ) → decision_in result ≡ answer.judged (machine_in m.now) session answer.RtsCall }
+fn decide_idle(m: &Machine, active: Option<u32>) -> Decision
+    ensures { decision_in result ≡ answer.unless_found active Busy.Active (answer.checked ((answer.is_there (machine_in m.now).checkpoint, Refusal.Busy Busy.Checkpoint) ∷ (nat_le answer.count_max (machine_in m.now).rollbacks, Refusal.Limit Limit.Rollbacks) ∷ []) (answer.Done, model.RollbackToStable)) }
 {
-    match first_active(&m.sessions, 0) {
-        Some(session) => refused(Cause::Busy(Busy::Active(session))),
+    match active {
+        Some(session) => refused(Refusal::Busy(Busy::Active(session))),
         None => {
             let spent = Check {
-                holds: COUNT_MAX <= m.rollbacks,
-                cause: Cause::Limit(Counted::Rollbacks),
+                holds: NUMBER_MAX <= m.rollbacks,
+                refusal: Refusal::Limit(Limit::Rollbacks),
             };
             checked(&[running_check(m), spent], done(Event::RollbackToStable))
         }
@@ -534,21 +627,22 @@ fn judge_rts(m: &Machine) -> Decision
 }
 
 /// Rollback to stable.
-pub fn decide_rts(m: &Machine) -> Decision
-    ensures { (session : ℕ) → decision_in result ≡ answer.decision (machine_in m.now) session answer.RtsCall }
+pub(crate) fn decide_rts(m: &Machine) -> Result<Decision, NoMemory>
+    ensures { IfOk result (λ d. decision_in d ≡ answer.decision (machine_in m.now) 0 answer.RtsCall) }
 {
-    while_up(m, judge_rts(m))
+    let active = first_active(&m.sessions, 0)?;
+    Ok(while_up(m, decide_idle(m, active)))
 }
 
-fn decide_started(m: &Machine, number: u64) -> Decision
-    ensures { decision_in result ≡ answer.unless_found (answer.first_session (λ t. answer.is_resolving t.phase) 0 (machine_in m.now).sessions) why.ResolvingSession (answer.checked ((nat_le answer.count_max number, why.Limit why.Checkpoints) ∷ []) (answer.Done, model.CheckpointStart)) }
+fn decide_started(resolving: Option<u32>, number: u64) -> Decision
+    ensures { decision_in result ≡ answer.unless_found resolving Busy.Resolving (answer.checked ((nat_le answer.count_max number, Refusal.Limit Limit.Checkpoints) ∷ []) (answer.Done, model.CheckpointStart)) }
 {
-    match first_resolving(&m.sessions, 0) {
-        Some(session) => refused(Cause::Busy(Busy::Resolving(session))),
+    match resolving {
+        Some(session) => refused(Refusal::Busy(Busy::Resolving(session))),
         None => {
             let spent = Check {
-                holds: COUNT_MAX <= number,
-                cause: Cause::Limit(Counted::Checkpoints),
+                holds: NUMBER_MAX <= number,
+                refusal: Refusal::Limit(Limit::Checkpoints),
             };
             checked(&[spent], done(Event::CheckpointStart))
         }
@@ -556,10 +650,12 @@ fn decide_started(m: &Machine, number: u64) -> Decision
 }
 
 /// The start of a checkpoint; `number` is that of the last completed one, 0 where there is none.
-pub fn decide_start(m: &Machine, number: u64) -> Decision
-    ensures { (session : ℕ) → decision_in result ≡ answer.decision (machine_in m.now) session (answer.StartCall number) }
+pub(crate) fn decide_start(m: &Machine, number: u64) -> Result<Decision, NoMemory>
+    ensures { IfOk result (λ d. decision_in d ≡ answer.decision (machine_in m.now) 0 (answer.StartCall number)) }
 {
-    while_up(m, checked(&[running_check(m)], decide_started(m, number)))
+    let resolving = first_resolving(&m.sessions, 0)?;
+    let go = decide_started(resolving, number);
+    Ok(while_up(m, checked(&[running_check(m)], go)))
 }
 
 fn none_check(m: &Machine) -> Check
@@ -567,7 +663,7 @@ fn none_check(m: &Machine) -> Check
 {
     Check {
         holds: m.checkpoint.is_none(),
-        cause: Cause::Invalid(Reason::NoCheckpoint),
+        refusal: Refusal::Invalid(Invalid::NoCkpt),
     }
 }
 
@@ -601,8 +697,8 @@ fn left_or_end(left: bool) -> Decision
 }
 
 /// The first event of a step of a checkpoint; `left`: a leaf of its tables is not captured yet.
-pub fn decide_step(m: &Machine, left: bool) -> Decision
-    ensures { (session : ℕ) → decision_in result ≡ answer.decision (machine_in m.now) session (answer.StepCall left) }
+pub(crate) fn decide_step(m: &Machine, left: bool) -> Decision
+    ensures { decision_in result ≡ answer.decision (machine_in m.now) 0 (answer.StepCall left) }
 {
     while_up(m, checked(&[none_check(m)], goes_on(left)))
 }
@@ -613,29 +709,29 @@ fn stored_as(storing: Storing, go: Decision) -> Decision
     match storing {
         Storing::Stored => go,
         Storing::NoPlace => Decision {
-            outcome: Outcome::Refused(Cause::NoSpace),
+            outcome: Outcome::Refused(Refusal::NoSpace),
             event: Event::CheckpointDrop,
         },
-        Storing::ReadFailed => refused(Cause::DiskFault),
+        Storing::ReadFailed => refused(Refusal::DiskFault),
         Storing::Damaged {
             offset,
             want,
             found,
-        } => refused(Cause::Corrupt {
+        } => refused(Refusal::Corrupt {
             offset,
             want,
             found,
         }),
         Storing::WriteFailed(fault) => Decision {
-            outcome: Outcome::Refused(Cause::DiskFault),
+            outcome: Outcome::Refused(Refusal::DiskFault),
             event: Event::GoDown(fault),
         },
     }
 }
 
 /// The last event of a step that found a leaf; `left`: another one is not captured yet.
-pub fn decide_capture(m: &Machine, left: bool, storing: Storing) -> Decision
-    ensures { (session : ℕ) → decision_in result ≡ answer.decision (machine_in m.now) session (answer.CaptureCall left (storing_in storing)) }
+pub(crate) fn decide_capture(m: &Machine, left: bool, storing: Storing) -> Decision
+    ensures { decision_in result ≡ answer.decision (machine_in m.now) 0 (answer.CaptureCall left (storing_in storing)) }
 {
     while_up(
         m,
@@ -644,12 +740,12 @@ pub fn decide_capture(m: &Machine, left: bool, storing: Storing) -> Decision
 }
 
 /// The finish of a checkpoint; `left`: a leaf of its tables is not captured yet.
-pub fn decide_finish(m: &Machine, left: bool, storing: Storing) -> Decision
-    ensures { (session : ℕ) → decision_in result ≡ answer.decision (machine_in m.now) session (answer.FinishCall left (storing_in storing)) }
+pub(crate) fn decide_finish(m: &Machine, left: bool, storing: Storing) -> Decision
+    ensures { decision_in result ≡ answer.decision (machine_in m.now) 0 (answer.FinishCall left (storing_in storing)) }
 {
     let kept = Check {
         holds: left,
-        cause: Cause::Invalid(Reason::CheckpointLeft),
+        refusal: Refusal::Invalid(Invalid::CkptLeft),
     };
     let go = stored_as(storing, done(Event::CheckpointFinish));
     while_up(m, checked(&[none_check(m), kept], go))

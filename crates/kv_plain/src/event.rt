@@ -1,13 +1,14 @@
-//! What can happen to the machine, and what calls answer and leave.
+// What can happen to the machine, and what calls answer and leave.
 
 use crate::history::Table;
-use crate::machine::{Fault, Machine, Position};
+use crate::machine::{Machine, Position};
 use crate::outcome::Outcome;
 use item::{Change, Item};
+use wt_code::{Answer, Fault};
 
 /// What can happen. A session's number comes first.
 #[derive(Drop)]
-pub enum Event {
+pub(crate) enum Event {
     OpenSession,
     /// At a read stamp, 0 for none.
     Begin(usize, u64),
@@ -35,14 +36,23 @@ pub enum Event {
 
 /// The answer at the event that judges a call, and that event.
 #[derive(Drop)]
-pub struct Decision {
-    pub outcome: Outcome,
-    pub event: Event,
+pub(crate) struct Decision {
+    pub(crate) outcome: Outcome,
+    pub(crate) event: Event,
+}
+
+/// The outcome of a call, or of a part of one, and the machine that it leaves.
+#[derive(Drop)]
+pub(crate) struct Turn {
+    pub(crate) outcome: Outcome,
+    pub(crate) machine: Machine,
 }
 
 /// What a call answers, and the machine that it leaves.
 #[derive(Drop)]
 pub struct Answered {
-    pub outcome: Outcome,
+    /// Done, what was asked for, or the refusal.
+    pub answer: Answer<Item>,
+    /// The machine after the call.
     pub machine: Machine,
 }

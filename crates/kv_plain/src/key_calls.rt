@@ -1,30 +1,34 @@
-//! Whole calls of one key, with no other call unfinished.
+// Whole calls of one key.
 
-ghost use Rattle.std.specs.Prelude.{◌≡◌, true, option_map, Some, IfOk, if◌then◌else◌};
-ghost use Rattle.kv_model.specs.History.{Table as ModelTable, tables, named};
+ghost use Rattle.std.specs.Prelude.{◌≡◌, true, option_map, Some, IfOk};
+ghost use Rattle.kv_model.specs.History.{tables, named};
 ghost use Rattle.kv_model.specs.Machine.{transaction_of};
 ghost use Rattle.kv_model.specs.Reads.{present as found_present};
-ghost use Rattle.kv_model.specs.Decisions.{is_there, unmet as unmet_by, WriteAnswer, Anything, Vacant};
+ghost use Rattle.kv_model.specs.Decisions as answer;
+ghost use Rattle.kv_model.specs.Decisions.{is_there, unmet as unmet_by, WriteAnswer};
+ghost use Rattle.kv_model.specs.Calls as model;
+ghost use Rattle.kv_plain.specs.Plain.{table_in};
 ghost use Rattle.kv_plain.specs.Machine.{transaction_in, machine_in};
-ghost use Rattle.kv_plain.specs.Outcome.{cause_in, outcome_in, event_in};
-ghost use Rattle.kv_plain.specs.After.{Counts};
-ghost use Rattle.kv_plain.specs.Calls as calls;
-ghost use Rattle.kv_plain.specs.Calls.{Reads, Judges, Writes, Changes, Answers, demand_in, IsFound};
+ghost use Rattle.kv_plain.specs.Outcome.{outcome_in, event_in};
+ghost use Rattle.kv_plain.specs.Calls.{Leads, LooksUp, Changes, WritesKey, demand_in, IsFound};
 
 use crate::after::apply;
 use crate::decisions::{decide_find, decide_write, table_named, transaction_at};
-use crate::event::{Answered, Decision, Event};
+use crate::event::{Decision, Event, Turn};
+use crate::history::Table;
 use crate::looks::{put_in, value};
 use crate::machine::{Machine, Transaction};
-use crate::outcome::{Cause, Outcome};
+use crate::outcome::Outcome;
 use crate::reads::{outcome_of, own_write, read, write_refusal};
 use failure::NoMemory;
 use item::{Change, Item};
 use std::alloc::Global;
+use wt_code::Refusal;
 
 /// What a write asks of its key.
 #[derive(Clone, Copy, PartialEq, Eq, Debug)]
 pub enum Demand {
+    /// Nothing.
     Anything,
     /// No value.
     Vacant,
@@ -43,13 +47,13 @@ pub(crate) fn seated(m: &Machine, session: usize) -> &Transaction
     }
 }
 
-/// The number of the table of this name.
-pub(crate) fn table_number(m: &Machine, name: &Item) -> u32
+/// The table of this name.
+pub(crate) fn known_table<'a>(m: &'a Machine, name: &Item) -> &'a Table
     requires { is_there (named name.now (tables (machine_in m.now).history)) ≡ true }
-    ensures { option_map (λ (t : ModelTable). t.number) (named name.now (tables (machine_in m.now).history)) ≡ Some result }
+    ensures { named name.now (tables (machine_in m.now).history) ≡ Some (table_in result.now) }
 {
     match table_named(&m.history, name) {
-        Some(table) => table.number,
+        Some(table) => table,
         None => unreachable!(),
     }
 }
@@ -57,36 +61,33 @@ pub(crate) fn table_number(m: &Machine, name: &Item) -> u32
 /// The answer to a read whose leaf was found.
 fn read_found(m: &Machine, session: usize, table: &Item, key: &Item) -> Result<Outcome, NoMemory>
     requires { IsFound (machine_in m.now) session table.now }
-    ensures { IfOk result (λ r. Reads session table.now key.now (machine_in m.now) (outcome_in r) (machine_in m.now)) }
+    ensures { IfOk result (λ r. LooksUp session table.now key.now (machine_in m.now) (outcome_in r)) }
 {
     let t = seated(m, session);
-    let number = table_number(m, table);
+    let number = known_table(m, table).number;
     outcome_of(read(m, session, t, number, key))
 }
 
+/// Get.
 pub(crate) fn get(
     alloc: Global,
     m: Machine,
     session: usize,
     table: Item,
     key: Item,
-) -> Result<Answered, NoMemory>
-    requires { Counts (machine_in m) }
-    ensures { IfOk result (λ r. Answers (machine_in m) session (calls.Get table key) (outcome_in r.outcome) (machine_in r.machine)) }
+) -> Result<Turn, NoMemory>
+    ensures { Leads (model.Decided (machine_in m) session (model.GetKey table key)) result }
 {
     let Decision { outcome, event } = decide_find(&m, session, &table, &key);
-    let found = apply(alloc, m, event)?;
     match outcome {
         Outcome::Done => {
-            let outcome = read_found(&found, session, &table, &key)?;
-            Ok(Answered {
-                outcome,
-                machine: found,
-            })
+            let machine = apply(alloc, m, event)?;
+            let outcome = read_found(&machine, session, &table, &key)?;
+            Ok(Turn { outcome, machine })
         }
-        outcome => Ok(Answered {
+        outcome => Ok(Turn {
             outcome,
-            machine: found,
+            machine: m,
         }),
     }
 }
@@ -101,12 +102,12 @@ fn present<'a>(m: &'a Machine, t: &'a Transaction, table: u32, key: &Item) -> Op
     }
 }
 
-fn unmet(demand: Demand, found: Option<&Item>) -> Option<Cause>
-    ensures { option_map cause_in result ≡ unmet_by (demand_in demand) (option_map (λ i. i.now) found.entry) }
+fn unmet(demand: Demand, found: Option<&Item>) -> Option<Refusal>
+    ensures { result ≡ unmet_by (demand_in demand) (option_map (λ i. i.now) found.entry) }
 {
     match (demand, found) {
-        (Demand::Vacant, Some(_)) => Some(Cause::DuplicateKey),
-        (Demand::Occupied, None) => Some(Cause::NotFound),
+        (Demand::Vacant, Some(_)) => Some(Refusal::DuplicateKey),
+        (Demand::Occupied, None) => Some(Refusal::NotFound),
         _ => None,
     }
 }
@@ -125,12 +126,15 @@ fn judge_change(
 {
     match write_refusal(m, session, t, table, &key) {
         Some(name) => Decision {
-            outcome: Outcome::Refused(Cause::Rollback(name)),
+            outcome: Outcome::Refused(Refusal::Rollback {
+                run: name.run,
+                id: name.id,
+            }),
             event: Event::RefuseWrite(session),
         },
         None => match unmet(demand, present(m, t, table, &key)) {
-            Some(cause) => Decision {
-                outcome: Outcome::Refused(cause),
+            Some(refusal) => Decision {
+                outcome: Outcome::Refused(refusal),
                 event: Event::Nothing,
             },
             None => Decision {
@@ -151,31 +155,14 @@ fn judge_found(
     demand: Demand,
 ) -> Decision
     requires { IsFound (machine_in m.now) session table.now }
-    ensures { Judges session table.now key change (demand_in demand) (machine_in m.now) (outcome_in result.outcome) (event_in result.event) }
+    ensures { Changes session table.now key change (demand_in demand) (machine_in m.now) (outcome_in result.outcome) (event_in result.event) }
 {
     let t = seated(m, session);
-    let number = table_number(m, table);
+    let number = known_table(m, table).number;
     judge_change(m, session, t, number, key, change, demand)
 }
 
-fn write_found(
-    alloc: Global,
-    m: Machine,
-    session: usize,
-    table: &Item,
-    key: Item,
-    change: Change,
-    demand: Demand,
-) -> Result<Answered, NoMemory>
-    requires found { IsFound (machine_in m) session table.now }
-    requires counts { Counts (machine_in m) }
-    ensures { IfOk result (λ r. Writes session table.now key change (demand_in demand) (machine_in m) (outcome_in r.outcome) (machine_in r.machine)) }
-{
-    let Decision { outcome, event } = judge_found(&m, session, table, key, change, demand);
-    let machine = apply(alloc, m, event)?;
-    Ok(Answered { outcome, machine })
-}
-
+/// Put, or Remove.
 fn write(
     alloc: Global,
     m: Machine,
@@ -184,31 +171,27 @@ fn write(
     key: Item,
     change: Change,
     demand: Demand,
-) -> Result<Answered, NoMemory>
-    requires { Counts (machine_in m) }
-    ensures { IfOk result (λ r. Changes (machine_in m) session table key change (demand_in demand) (outcome_in r.outcome) (machine_in r.machine)) }
+) -> Result<Turn, NoMemory>
+    ensures { Leads (WritesKey (machine_in m) session table key change (demand_in demand)) result }
 {
     let Decision { outcome, event } = decide_write(&m, session, &table, &key, &change);
-    let found = apply(alloc, m, event)?;
     match outcome {
-        Outcome::Done => write_found(alloc, found, session, &table, key, change, demand),
-        outcome => Ok(Answered {
+        Outcome::Done => {
+            let found = apply(alloc, m, event)?;
+            let Decision { outcome, event } = judge_found(
+                &found, session, &table, key, change, demand,
+            );
+            let machine = apply(alloc, found, event)?;
+            Ok(Turn { outcome, machine })
+        }
+        outcome => Ok(Turn {
             outcome,
-            machine: found,
+            machine: m,
         }),
     }
 }
 
-fn demand_of(overwrite: bool) -> Demand
-    ensures { demand_in result ≡ (if overwrite then Anything else Vacant) }
-{
-    if overwrite {
-        Demand::Anything
-    } else {
-        Demand::Vacant
-    }
-}
-
+/// Put.
 pub(crate) fn put(
     alloc: Global,
     m: Machine,
@@ -216,24 +199,22 @@ pub(crate) fn put(
     table: Item,
     key: Item,
     value: Item,
-    overwrite: bool,
-) -> Result<Answered, NoMemory>
-    requires { Counts (machine_in m) }
-    ensures { IfOk result (λ r. Answers (machine_in m) session (calls.Put table key value overwrite) (outcome_in r.outcome) (machine_in r.machine)) }
+    demand: Demand,
+) -> Result<Turn, NoMemory>
+    ensures { Leads (model.Decided (machine_in m) session (model.PutKey table key value (demand_in demand))) result }
 {
-    let demand = demand_of(overwrite);
     write(alloc, m, session, table, key, Change::Put(value), demand)
 }
 
+/// Remove.
 pub(crate) fn remove(
     alloc: Global,
     m: Machine,
     session: usize,
     table: Item,
     key: Item,
-) -> Result<Answered, NoMemory>
-    requires { Counts (machine_in m) }
-    ensures { IfOk result (λ r. Answers (machine_in m) session (calls.Remove table key) (outcome_in r.outcome) (machine_in r.machine)) }
+) -> Result<Turn, NoMemory>
+    ensures { Leads (model.Decided (machine_in m) session (model.RemoveKey table key)) result }
 {
     let demand = Demand::Occupied;
     write(alloc, m, session, table, key, Change::Remove, demand)

@@ -1,4 +1,4 @@
-//! Look-ups in a history, newest entry first.
+// Look-ups in a history, newest entry first.
 
 ghost use Rattle.std.specs.Prelude.{◌≡◌, ◌&&◌, ℕ, List, map, find, option_map, Option, Some, None};
 ghost use Rattle.stamp.specs.declared.Name.{Name};
@@ -13,7 +13,7 @@ use item::{Change, Item};
 use stamp::Name;
 
 /// Whether a commit stamp is admitted at a read stamp, 0 for none.
-pub fn is_admitted(read: u64, commit: u64) -> bool
+pub(crate) fn is_admitted(read: u64, commit: u64) -> bool
     ensures { result ≡ reads_at read commit }
 {
     read == 0 || commit <= read
@@ -36,7 +36,7 @@ fn does_release(entry: &Entry, name: Name) -> bool
 }
 
 /// Whether the transaction of this name was released in the first `n` entries.
-pub fn is_released(history: &[Entry], n: usize, name: Name) -> bool
+pub(crate) fn is_released(history: &[Entry], n: usize, name: Name) -> bool
     ensures { result ≡ released (history_in history.now) n name }
 {
     match history.split_first() {
@@ -161,7 +161,7 @@ fn find_newest<'a>(
 
 /// The newest standing version of the key that a snapshot of the first `n` entries sees and this
 /// read stamp admits.
-pub fn newest_admitted<'a>(
+pub(crate) fn newest_admitted<'a>(
     history: &'a [Entry],
     n: usize,
     read: u64,
@@ -174,14 +174,14 @@ pub fn newest_admitted<'a>(
 }
 
 /// The newest standing version of the key.
-pub fn newest<'a>(history: &'a [Entry], table: u32, key: &Item) -> Option<Found<'a>>
+pub(crate) fn newest<'a>(history: &'a [Entry], table: u32, key: &Item) -> Option<Found<'a>>
     ensures { option_map version_in result ≡ head_of (line (history_in history.now) table key.now) }
 {
     find_newest(history, history, None, 0, table, key, None)
 }
 
 /// The durable stamp of the newest standing version of the key, 0 where there is none.
-pub fn durable_of(history: &[Entry], table: u32, key: &Item) -> u64
+pub(crate) fn durable_of(history: &[Entry], table: u32, key: &Item) -> u64
     ensures { result ≡ newest_durable (line (history_in history.now) table key.now) }
 {
     match newest(history, table, key) {
@@ -201,7 +201,7 @@ pub(crate) fn put_in(change: &Change) -> Option<&Item>
 
 /// What a transaction that began after the first `n` entries reads of the key at this read stamp,
 /// where no other transaction is prepared: the value, or none where the key is absent.
-pub fn value<'a>(
+pub(crate) fn value<'a>(
     history: &'a [Entry],
     n: usize,
     read: u64,

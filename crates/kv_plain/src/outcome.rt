@@ -1,80 +1,16 @@
-//! What a call answers.
+// What an event of a call answers.
 
-use crate::machine::Fault;
+ghost use Rattle.std.specs.Prelude.{IfOk};
+ghost use Rattle.kv_model.specs.Told.{Tells};
+ghost use Rattle.kv_plain.specs.Outcome.{outcome_in};
+
+use failure::NoMemory;
 use item::Item;
-use stamp::Name;
+use wt_code::{Answer, Refusal};
 
-/// Why the arguments, or the state of the session or of the stamps, do not allow a call.
-#[derive(Clone, Copy, PartialEq, Eq, Debug)]
-pub enum Reason {
-    NoTransaction,
-    InTransaction,
-    IsPrepared,
-    FailedTransaction,
-    BadName,
-    ZeroStamp,
-    /// With the length in bytes.
-    KeyLong(usize),
-    /// With the length in bytes.
-    ValueLong(usize),
-    BeforeOldest { given: u64, oldest: u64 },
-    NotAfterStable { given: u64, stable: u64 },
-    OldestAfterStable { oldest: u64, stable: u64 },
-    NoCommitStamp,
-    DurableGiven,
-    BeforePrepare { given: u64, prepare: u64 },
-    DurableBeforeCommit { durable: u64, commit: u64 },
-    Order { given: u64, prev: u64 },
-    NoStampAfterStamp { prev: u64 },
-    NoCheckpoint,
-    CheckpointLeft,
-}
-
-/// What is in the way of a call.
-#[derive(Clone, Copy, PartialEq, Eq, Debug)]
-pub enum Busy {
-    /// This session, the lowest such, has a transaction.
-    Active(usize),
-    Checkpoint,
-    /// An eviction in this place.
-    Evicting(u64),
-    /// This session, the lowest such, is in the middle of a call.
-    Resolving(usize),
-}
-
-/// What there is no more of.
-#[derive(Clone, Copy, PartialEq, Eq, Debug)]
-pub enum Counted {
-    Sessions,
-    Tables,
-    Ids,
-    Checkpoints,
-    Rollbacks,
-}
-
-/// Why a call is refused.
-#[derive(Clone, Copy, PartialEq, Eq, Debug)]
-pub enum Cause {
-    /// Of a write, with the newest update's name.
-    Rollback(Name),
-    DuplicateKey,
-    NotFound,
-    Panic(Fault),
-    /// With the id of the transaction that is met.
-    PrepareConflict(u64),
-    NoTable,
-    Busy(Busy),
-    Exists,
-    Invalid(Reason),
-    Limit(Counted),
-    NoSpace,
-    DiskFault,
-    Corrupt { offset: u64, want: u64, found: u64 },
-}
-
-/// The answer to a call.
+/// The answer at an event of a call.
 #[derive(Drop)]
-pub enum Outcome {
+pub(crate) enum Outcome {
     Done,
     Gives(Item),
     GivesRow(Item, Item),
@@ -84,5 +20,20 @@ pub enum Outcome {
     End,
     /// A commit or rollback that was decided before goes on.
     Resumes,
-    Refused(Cause),
+    Refused(Refusal),
+}
+
+/// The answer that tells the outcome; none for a call that goes on.
+pub(crate) fn told(outcome: Outcome) -> Result<Answer<Item>, NoMemory>
+    ensures { IfOk result (Tells (outcome_in outcome)) }
+{
+    match outcome {
+        Outcome::Done => Ok(Answer::Done),
+        Outcome::Gives(v) => Ok(Answer::Value(v)),
+        Outcome::GivesRow(key, v) => Ok(Answer::Row(key, v)),
+        Outcome::Left => Ok(Answer::Left),
+        Outcome::End => Ok(Answer::End),
+        Outcome::Resumes => Err(NoMemory),
+        Outcome::Refused(refusal) => Ok(Answer::Refused(refusal)),
+    }
 }

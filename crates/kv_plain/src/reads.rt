@@ -1,4 +1,4 @@
-//! What a read of a key answers, and whether a write of it is accepted.
+// What a read of a key answers, and whether a write of it is accepted.
 
 ghost use Rattle.std.specs.Prelude.{◌≡◌, ℕ, ◌+◌, ◌^◌, ◌<◌, map, length, find, option_map, Option, Some, None, MatchOption, IfOk};
 ghost use Rattle.kv_model.specs.History.{line, writes_at, admits, value as value_at};
@@ -14,14 +14,15 @@ ghost use Rattle.kv_plain.specs.Calls.{read_answer};
 use crate::history::{Entry, Found, Write};
 use crate::looks::{is_admitted, is_released, is_same, is_write_of, newest, put_in, value};
 use crate::machine::{Machine, Phase, Transaction};
-use crate::outcome::{Cause, Outcome};
+use crate::outcome::Outcome;
 use failure::NoMemory;
 use item::Item;
 use stamp::Name;
+use wt_code::Refusal;
 
 /// The answer to a read of a key, lent.
 #[derive(Clone, Copy)]
-pub enum Reading<'a> {
+pub(crate) enum Reading<'a> {
     /// The value, or none where the key is absent.
     Value(Option<&'a Item>),
     /// A transaction of this id has prepared an update of the key.
@@ -29,7 +30,7 @@ pub enum Reading<'a> {
 }
 
 /// The transaction's own write of the key, among its writes.
-pub fn own_write<'a>(writes: &'a [Write], table: u32, key: &Item) -> Option<&'a Write>
+pub(crate) fn own_write<'a>(writes: &'a [Write], table: u32, key: &Item) -> Option<&'a Write>
     ensures { option_map (λ w. write_in w.now) result ≡ find (writes_at table key.now) (map write_in writes.now) }
 {
     match writes.split_first() {
@@ -45,7 +46,7 @@ pub fn own_write<'a>(writes: &'a [Write], table: u32, key: &Item) -> Option<&'a 
 }
 
 /// Whether the transaction wrote the key.
-pub fn is_written(t: &Transaction, table: u32, key: &Item) -> bool
+pub(crate) fn is_written(t: &Transaction, table: u32, key: &Item) -> bool
     ensures { result ≡ is_own (own_write (transaction_in t.now) table key.now) }
 {
     match own_write(&t.writes, table, key) {
@@ -55,7 +56,7 @@ pub fn is_written(t: &Transaction, table: u32, key: &Item) -> bool
 }
 
 /// Whether this name is prepared in the first `n` entries, at a stamp that the read stamp admits.
-pub fn is_prepared(history: &[Entry], n: usize, read: u64, name: Name) -> bool
+pub(crate) fn is_prepared(history: &[Entry], n: usize, read: u64, name: Name) -> bool
     ensures { result ≡ prepared_in (history_in history.now) n read name }
 {
     match history.split_first() {
@@ -78,7 +79,7 @@ fn does_prepare(entry: &Entry, at: usize, n: usize, read: u64, name: Name) -> bo
 }
 
 /// Whether a transaction in this phase was decided and has not ended.
-pub fn is_ending(phase: Phase) -> bool
+pub(crate) fn is_ending(phase: Phase) -> bool
     ensures { result ≡ is_ending (phase_in phase) }
 {
     match phase {
@@ -193,7 +194,7 @@ fn chosen_read<'a>(
 /// What a read of the key answers a transaction of this session: its own write, else a conflict
 /// with a transaction that it meets and that is not decided, else the value that its snapshot and
 /// its read stamp admit.
-pub fn read<'a>(
+pub(crate) fn read<'a>(
     m: &'a Machine,
     session: usize,
     t: &'a Transaction,
@@ -212,8 +213,8 @@ pub(crate) fn outcome_of(found: Reading<'_>) -> Result<Outcome, NoMemory>
 {
     match found {
         Reading::Value(Some(v)) => Ok(Outcome::Gives(v.copy()?)),
-        Reading::Value(None) => Ok(Outcome::Refused(Cause::NotFound)),
-        Reading::Conflict(id) => Ok(Outcome::Refused(Cause::PrepareConflict(id))),
+        Reading::Value(None) => Ok(Outcome::Refused(Refusal::NotFound)),
+        Reading::Conflict(id) => Ok(Outcome::Refused(Refusal::PrepareConflict { id })),
     }
 }
 
@@ -270,7 +271,7 @@ fn chosen_refusal(
 
 /// The name of the newest update for which a write of the key is refused to a transaction of this
 /// session, or none where it is accepted.
-pub fn write_refusal(
+pub(crate) fn write_refusal(
     m: &Machine,
     session: usize,
     t: &Transaction,

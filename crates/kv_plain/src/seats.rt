@@ -1,4 +1,4 @@
-//! The sessions' places: the transaction of each, and its cursors.
+// The sessions' places: the transaction of each, and its cursors.
 
 ghost use Rattle.std.specs.Prelude.{◌≡◌, [], ◌∷◌, ◌++◌, map, option_map, slice_index_or, slice_set, IfOk};
 ghost use Rattle.kv_model.specs.Machine as model;

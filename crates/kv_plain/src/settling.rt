@@ -1,4 +1,4 @@
-//! What a prepare, a commit and a rollback leave.
+// What a prepare, a commit and a rollback leave.
 
 ghost use Rattle.std.specs.Prelude.{◌≡◌, ◌∷◌, map, option_map, slice_set, IfOk};
 ghost use Rattle.kv_model.specs.Machine as model;

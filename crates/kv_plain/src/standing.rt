@@ -1,13 +1,15 @@
-//! The versions that stand, newest first.
+// The versions that stand, newest first.
 
 ghost use Rattle.std.specs.Prelude.{◌≡◌, ◌++◌, [], ◌∷◌, map, filter, IfOk, if◌then◌else◌};
 ghost use Rattle.item.specs.declared.Change.{Change};
 ghost use Rattle.stamp.specs.declared.Version.{Version};
-ghost use Rattle.kv_model.specs.History.{standing, placed_of, first, cut, is_stable};
+ghost use Rattle.kv_model.specs.History.{standing, placed_of, first, is_stable};
+ghost use Rattle.kv_plain.specs.Machine.{machine_in};
 ghost use Rattle.kv_plain.specs.Plain.{entry_in, history_in, write_in, placed_in, is_within, standing_by, standing_of, bound_under};
 
 use crate::history::{Entry, Placed, Write};
 use crate::looks::{bound_below, is_left};
+use crate::machine::Machine;
 use failure::NoMemory;
 use stamp::{Name, Version, Window};
 use std::alloc::{AllocError, Global};
@@ -29,7 +31,7 @@ fn placed(name: Name, write: &Write) -> Result<Placed, NoMemory>
     })
 }
 
-fn push(out: &mut Vec<Placed>, placed: Placed) -> Result<(), NoMemory>
+pub(crate) fn push(out: &mut Vec<Placed>, placed: Placed) -> Result<(), NoMemory>
     ensures { IfOk result (λ _. map placed_in out.new.items ≡ map placed_in out.old.items ++ placed_in placed ∷ []) }
 {
     match out.push(placed) {
@@ -103,7 +105,11 @@ fn bound_of(stable: u64) -> Option<u64>
 
 /// The versions of all keys that stand and are durable at the stable stamp, or all that stand
 /// where it is 0. It may always answer want of memory.
-pub fn standing_at(alloc: Global, history: &[Entry], stable: u64) -> Result<Vec<Placed>, NoMemory>
+pub(crate) fn standing_at(
+    alloc: Global,
+    history: &[Entry],
+    stable: u64,
+) -> Result<Vec<Placed>, NoMemory>
     ensures { IfOk result (λ r. map placed_in r.items ≡ filter (λ p. is_stable stable p.version) (standing (history_in history.now))) }
 {
     let mut out = Vec::new(alloc);
@@ -112,7 +118,7 @@ pub fn standing_at(alloc: Global, history: &[Entry], stable: u64) -> Result<Vec<
 }
 
 /// The first `n` entries.
-pub fn first_entries(history: &[Entry], n: usize) -> &[Entry]
+pub(crate) fn first_entries(history: &[Entry], n: usize) -> &[Entry]
     ensures { history_in result.now ≡ first n (history_in history.now) }
 {
     match history.split_first() {
@@ -127,15 +133,13 @@ pub fn first_entries(history: &[Entry], n: usize) -> &[Entry]
     }
 }
 
-/// The versions that a checkpoint of the first `n` entries keeps at the stable stamp, 0 for none.
-/// It may always answer want of memory.
-pub fn cut_standing(
-    alloc: Global,
-    history: &[Entry],
-    n: usize,
-    stable: u64,
-) -> Result<Vec<Placed>, NoMemory>
-    ensures { IfOk result (λ r. map placed_in r.items ≡ standing (cut (history_in history.now) n stable)) }
+/// The versions of all keys that stand, newest first: the reader of a machine.
+///
+/// # Errors
+///
+/// Memory is wanted.
+pub fn standing_versions(alloc: Global, m: &Machine) -> Result<Vec<Placed>, NoMemory>
+    ensures { IfOk result (λ r. map placed_in r.items ≡ standing (machine_in m.now).history) }
 {
-    standing_at(alloc, first_entries(history, n), stable)
+    standing_at(alloc, &m.history, 0)
 }

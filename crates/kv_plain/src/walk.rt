@@ -1,4 +1,4 @@
-//! Where a cursor goes: to the next and the previous row, and to the row of a key.
+// Where a cursor goes: to the next and the previous row, and to the row of a key.
 
 ghost use Rattle.std.specs.Prelude.{◌≡◌, map, option_map, Some, IfOk};
 ghost use Rattle.kv_model.specs.Machine.{cursor_of};
@@ -13,15 +13,18 @@ ghost use Rattle.kv_plain.specs.Walk.{way_in, walk_in, is_row, is_met, is_nearer
 use crate::event::{Decision, Event};
 use crate::history::{Entry, Write};
 use crate::machine::{Machine, Position, Transaction};
-use crate::outcome::{Cause, Outcome};
+use crate::outcome::Outcome;
 use crate::reads::{Reading, outcome_of, read};
 use failure::NoMemory;
 use item::Item;
+use wt_code::Refusal;
 
 /// To greater keys, or to smaller ones.
 #[derive(Clone, Copy, PartialEq, Eq, Debug)]
 pub enum Way {
+    /// To the next row.
     Up,
+    /// To the previous row.
     Down,
 }
 
@@ -180,8 +183,8 @@ fn row_of(key: &Item, found: Reading<'_>) -> Result<Outcome, NoMemory>
 {
     match found {
         Reading::Value(Some(v)) => Ok(Outcome::GivesRow(key.copy()?, v.copy()?)),
-        Reading::Value(None) => Ok(Outcome::Refused(Cause::NotFound)),
-        Reading::Conflict(id) => Ok(Outcome::Refused(Cause::PrepareConflict(id))),
+        Reading::Value(None) => Ok(Outcome::Refused(Refusal::NotFound)),
+        Reading::Conflict(id) => Ok(Outcome::Refused(Refusal::PrepareConflict { id })),
     }
 }
 
@@ -189,7 +192,7 @@ fn chosen_row(walk: &Walk<'_>) -> Result<Outcome, NoMemory>
     ensures { IfOk result (λ r. outcome_in r ≡ answer_at (walk_in walk.now) (nearest_of (walk_in walk.now))) }
 {
     match nearest_key(walk) {
-        None => Ok(Outcome::Refused(Cause::NotFound)),
+        None => Ok(Outcome::Refused(Refusal::NotFound)),
         Some(key) => row_of(key, read_at(walk, key)),
     }
 }
@@ -239,7 +242,7 @@ fn row_event(
         Outcome::GivesRow(key, _) => {
             Ok(Event::PlaceCursor(session, cursor, placed_at(table, key)?))
         }
-        Outcome::Refused(Cause::NotFound) => Ok(Event::PlaceCursor(session, cursor, None)),
+        Outcome::Refused(Refusal::NotFound) => Ok(Event::PlaceCursor(session, cursor, None)),
         _ => Ok(Event::Nothing),
     }
 }
@@ -255,14 +258,14 @@ fn seek_event(
 {
     match outcome {
         Outcome::Gives(_) => { Ok(Event::PlaceCursor(session, cursor, placed_at(table, key)?)) }
-        Outcome::Refused(Cause::NotFound) => Ok(Event::PlaceCursor(session, cursor, None)),
+        Outcome::Refused(Refusal::NotFound) => Ok(Event::PlaceCursor(session, cursor, None)),
         _ => Ok(Event::Nothing),
     }
 }
 
 /// A read of the key for the session's transaction, which `read` answers, and the move of the
 /// cursor.
-pub fn seek(
+pub(crate) fn seek(
     m: &Machine,
     session: usize,
     t: &Transaction,
@@ -280,7 +283,7 @@ pub fn seek(
 /// The next row of the table for the session's transaction and cursor, or the previous one: the
 /// nearest key on the way whose read, which `read` answers, is not absent; and the move of the
 /// cursor. It looks at each key that was written to any table.
-pub fn next_row(
+pub(crate) fn next_row(
     m: &Machine,
     session: usize,
     t: &Transaction,

@@ -1,4 +1,4 @@
-//! The writes of a transaction: with the stamps of its commit, and with one more.
+// The writes of a transaction: with the stamps of its commit, and with one more.
 
 ghost use Rattle.std.specs.Prelude.{◌≡◌, [], ◌∷◌, ◌++◌, not, map, filter, IfOk};
 ghost use Rattle.kv_model.specs.History.{writes_at};

@@ -1,24 +1,23 @@
 use Rattle.std.proofs.Common.{ap}
-use Rattle.kv_model.specs.Decisions.{FindRow, decision}
+use Rattle.kv_model.specs.Decisions.{FindRow}
+use Rattle.kv_model.specs.Rows.{NextAnswer}
 use Rattle.kv_plain.specs.Machine.{machine_in}
 use Rattle.kv_plain.specs.Outcome.{outcome_in, event_in, decision_in}
 use Rattle.kv_plain.specs.Walk.{way_in}
-use Rattle.kv_plain.specs.Calls.{Steps, Moves}
-use Rattle.kv_plain.proofs.PlainStanding.{ok_each}
-use Rattle.kv_plain.proofs.Calling.{row-found, goes-done, goes-other}
-use Rattle.kv_plain.proofs.Counting.{row-counts}
+use Rattle.kv_plain.proofs.Calling.{row-goes, place-found, place-done, place-refused}
 use Rattle.kv_plain.proofs.cursor_calls.step.Goals as goal
 
-pub step_found-requires-clause-found : goal.step_found-requires-clause-found
-step_found-requires-clause-found c = row-found (machine_in c.args.m) (machine_in c.in_ok-found.found) c.args.session c.args.table (decision_in c.decide_row-outcome.result) c.decide_row-outcome.ensures c.in_ok-found.ensures (ap outcome_in c.in-Done.is)
-
-pub step_found-requires-clause-counts : goal.step_found-requires-clause-counts
-step_found-requires-clause-counts c = row-counts (machine_in c.args.m) (machine_in c.in_ok-found.found) c.args.session c.args.table (decision_in c.decide_row-outcome.result) c.decide_row-outcome.ensures c.in_ok-found.ensures c.requires
+pub judge_step-requires : goal.judge_step-requires
+judge_step-requires c = place-found (machine_in c.args.m) (machine_in c.in_ok-found-in-Done.found) c.args.session c.args.table (FindRow c.args.table) (decision_in c.decide_row-outcome.result)
+    (row-goes (machine_in c.args.m) c.args.session c.args.table) c.decide_row-outcome.ensures c.in_ok-found-in-Done.ensures (ap outcome_in c.in-Done.is)
 
 pub returns-in-Done : goal.returns-in-Done
-returns-in-Done c = ok_each _ _ c.step_found.result c.step_found.ensures (λ r. goes-done (machine_in c.args.m) (machine_in c.in_ok-found.found) (decision_in c.decide_row-outcome.result) (decision (machine_in c.args.m) c.args.session (FindRow c.args.table))
-    (Moves (Steps c.args.session c.args.cursor c.args.table (way_in c.args.way))) (outcome_in r.outcome) (machine_in r.machine) c.decide_row-outcome.ensures c.in_ok-found.ensures (ap outcome_in c.in-Done.is))
+returns-in-Done c =
+    let judged = c.in_ok-outcome-in-Done.ensures in
+    place-done (machine_in c.args.m) (machine_in c.in_ok-found-in-Done.found) (machine_in c.in_ok-machine-in-Done.machine) c.args.session c.args.table (FindRow c.args.table) (λ n t table o event. NextAnswer n c.args.session t c.args.cursor table.number (way_in c.args.way) o event) (decision_in c.decide_row-outcome.result) judged.0 judged.1
+    (outcome_in c.in_ok-outcome-in-Done.field-0.outcome) (event_in c.in_ok-outcome-in-Done.field-0.event)
+    c.decide_row-outcome.ensures c.in_ok-found-in-Done.ensures (ap outcome_in c.in-Done.is) judged.2 judged.3 c.in_ok-machine-in-Done.ensures
 
 pub returns : goal.returns
-returns c = goes-other (machine_in c.args.m) (machine_in c.in_ok-found.found) c.decide_row-outcome.result.outcome (event_in c.decide_row-outcome.result.event) (decision (machine_in c.args.m) c.args.session (FindRow c.args.table))
-    (Moves (Steps c.args.session c.args.cursor c.args.table (way_in c.args.way))) c.decide_row-outcome.ensures c.in_ok-found.ensures c.in_default.not-Done
+returns c = place-refused (machine_in c.args.m) c.args.session c.args.table (FindRow c.args.table) (λ n t table o event. NextAnswer n c.args.session t c.args.cursor table.number (way_in c.args.way) o event) c.decide_row-outcome.result.outcome (event_in c.decide_row-outcome.result.event)
+    (row-goes (machine_in c.args.m) c.args.session c.args.table) c.decide_row-outcome.ensures c.in_default.not-Done
