@@ -12,7 +12,7 @@ use Rattle.kv_model.proofs.Releases.{released-later, released-cases, released-wh
 use Rattle.kv_model.proofs.Seats.{seat-inside, seat-cases}
 use Rattle.kv_model.proofs.Beginning.{undrawn-unreleased}
 use Rattle.snapshot.specs.Sight.{Sight}
-use Rattle.snapshot.specs.Matters.{HasWrites, Counts, IsLive, Matters, SeesFirst, MattersToCheckpoints, SeesCommitted}
+use Rattle.snapshot.specs.Matters.{HasWrites, Counts, IsLive, Matters, SeesFirst, MattersToCheckpoints, SeesCommitted, SeesNoneLiving}
 use Rattle.snapshot.proofs.Sighting.{unseen-late}
 
 -- a name that was not drawn yet
@@ -26,6 +26,8 @@ pub record Follows (m next : Machine) : Type 0 where
   pub longer : length m.history ≤ length next.history
   -- the first entries are the same
   pub same : (n : ℕ) (x : Name) → n ≤ length m.history → released next.history n x ≡ released m.history n x
+  -- who has not ended had not before, or is new
+  pub live : (x : Name) → IsLive next x → IsLive m x ⊎ IsUndrawn m x
   -- a name that matters did so before, or is a new one
   pub matters : (x : Name) → Matters next x → Matters m x ⊎ IsUndrawn m x
   -- so for what is committed
@@ -150,6 +152,7 @@ follows m next run drawn g all = elim g.grows [
     drawn = drawn;
     longer = (let e = ap length same in omega arith);
     same = λ n x le. ap (λ h. released h n x) same;
+    live = λ x alive. live-kin m next x run all alive;
     matters = λ x matters. elim matters [
       | inl e ↦ inl (inl (ap (λ h. released h (length h) x) (sym same) ∙ e))
       | inr live ↦ elim (live-kin m next x run all live) [ inl before ↦ inl (inr before) | inr new ↦ inr new ]
@@ -165,6 +168,7 @@ follows m next run drawn g all = elim g.grows [
     drawn = drawn;
     longer = (let e : length next.history ≡ length (more.0 ∷ m.history) = ap length more.1 in omega arith);
     same = λ n x le. ap (λ h. released h n x) more.1 ∙ released-later more.0 m.history n x le;
+    live = λ x alive. live-kin m next x run all alive;
     matters = λ x matters. elim matters [
       | inl e ↦ elim (released-cases more.0 m.history (length (more.0 ∷ m.history)) x (ap (λ h. released h (length h) x) (sym more.1) ∙ e)) [
         | inl here ↦ inl (inr (more.2 x (inl here.0)))
@@ -318,3 +322,15 @@ follows-after m CheckpointFinish v may = follows-finish m
 follows-after m CheckpointDrop v may = follows m (after m CheckpointDrop) refl (omega arith) (grows-none m) (all-itself m)
 follows-after m (GoDown fault) v may = follows m (after m (GoDown fault)) refl (omega arith) (grows-none m) (all-itself m)
 follows-after m Nothing v may = follows-itself m
+
+-- who lives later lived before, or was not drawn
+pub living-unseen : (m next : Machine) (s : Sight) → Follows m next → SeesNoneLiving m s → SeesNoneLiving next s
+living-unseen m next s follows old = record {
+  run = old.run ∙ sym follows.run;
+  order = old.order;
+  drawn = (let low = old.drawn in let more = follows.drawn in omega arith);
+  unseen = λ x live. elim (follows.live x live) [
+    | inl before ↦ old.unseen x before
+    | inr new ↦ unseen-late s x (new.0 ∙ sym old.run) old.order (let low = old.drawn in let late = new.1 in omega arith)
+  ];
+}

@@ -50,8 +50,8 @@ pub released-by : (history : List Entry) (name : Name) (t : Transaction) (p : Ph
 released-by history name t Running isnt counts stands = absurd (isnt tt)
 released-by history name t Failed isnt counts stands = absurd (isnt tt)
 released-by history name t Leaving isnt counts stands = absurd (isnt tt)
-released-by history name t (Prepared stamp) isnt counts stands = stands.released counts.0 counts.1
-released-by history name t Resolving isnt counts stands = stands counts.0 counts.1
+released-by history name t (Prepared stamp) isnt counts stands = stands.released.writes counts.0 counts.1
+released-by history name t Resolving isnt counts stands = stands.writes counts.0 counts.1
 
 decide-unreleased : (p : Phase) → IsUnreleased p ⊎ (IsUnreleased p → ⊥)
 decide-unreleased Running = inl tt

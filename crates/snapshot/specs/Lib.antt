@@ -1,3 +1,4 @@
 pub mod Sight
 pub mod Matters
+pub mod Past
 pub mod SightLaws

@@ -1,5 +1,5 @@
 -- The names that a snapshot has to tell apart, and the ids that are running.
-use Rattle.std.specs.Prelude.{◌≡◌, ◌⊎◌, ◌<◌, ◌≤◌, ℕ, true, List, length, Some}
+use Rattle.std.specs.Prelude.{◌≡◌, ◌⊎◌, ◌<◌, ◌≤◌, ℕ, true, false, List, length, Some}
 use Rattle.stamp.specs.declared.Name.{Name}
 use Rattle.kv_model.specs.Holds.{Member}
 use Rattle.kv_model.specs.History.{Write, released, committed}
@@ -86,3 +86,10 @@ pub record SeesCommitted (m : Machine) (n : ℕ) (s : Sight) : Type 0 where
   pub drawn : s.max ≤ m.next
   pub within : n ≤ length m.history
   pub sees : (x : Name) → MattersToCheckpoints m x → is_seen s x ≡ committed m.history n x
+
+-- a snapshot of this run that sees nothing of a transaction that has not ended, nor of one that comes
+pub record SeesNoneLiving (m : Machine) (s : Sight) : Type 0 where
+  pub run : s.run ≡ m.run
+  pub order : s.min ≤ s.max
+  pub drawn : s.max ≤ m.next
+  pub unseen : (x : Name) → IsLive m x → is_seen s x ≡ false

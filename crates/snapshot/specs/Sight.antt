@@ -12,7 +12,7 @@ pub record Sight : Type 0 where
   pub list : List ℕ
 
 -- what a snapshot is seen as: its sight, and how many running ids it has room for
-pub record Kept : Type 0 where
+pub record SnapshotValue : Type 0 where
   pub sight : Sight
   pub room : ℕ
 
@@ -20,6 +20,11 @@ pub record Kept : Type 0 where
 abbrev pub Ascends : ℕ → List ℕ → ℕ → Type 0
 Ascends low [] high = low ≤ high
 Ascends low (id ∷ ids) high = (low ≤ id) × Ascends (id + 1) ids high
+
+-- ids begin at 1, and those that were running ascend from min on and below max
+pub record IsSight (s : Sight) : Type 0 where
+  pub from_one : 1 ≤ s.min
+  pub ascending : Ascends s.min s.list s.max
 
 abbrev pub is_listed : List ℕ → ℕ → Bool
 is_listed ids id = list_any (λ other. other == id) ids

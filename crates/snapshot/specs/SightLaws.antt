@@ -4,7 +4,7 @@ use Rattle.kv_model.specs.Machine.{Machine, Event, after}
 use Rattle.kv_model.specs.Allowed.{Allowed}
 use Rattle.kv_model.specs.Valid.{Valid}
 use Rattle.snapshot.specs.Sight.{Sight, Ascends, sight_at}
-use Rattle.snapshot.specs.Matters.{AreRunning, SeesFirst, AreUnended, NoneResolves, SeesCommitted}
+use Rattle.snapshot.specs.Matters.{AreRunning, SeesFirst, AreUnended, NoneResolves, SeesCommitted, SeesNoneLiving}
 
 -- a snapshot that is taken now is one of all entries
 abbrev pub SightsSeeFirst : Type 0
@@ -21,3 +21,7 @@ SightsSeeCommitted = (m : Machine) (ids : List ℕ) → Valid m → NoneResolves
 -- and stays so
 abbrev pub CommittedGoOn : Type 0
 CommittedGoOn = (m : Machine) (event : Event) (n : ℕ) (s : Sight) → Valid m → Allowed m event → SeesCommitted m n s → SeesCommitted (after m event) n s
+
+-- what sees nothing of the living goes on to see nothing of them
+abbrev pub LivingStayUnseen : Type 0
+LivingStayUnseen = (m : Machine) (event : Event) (s : Sight) → Valid m → Allowed m event → SeesNoneLiving m s → SeesNoneLiving (after m event) s

@@ -5,11 +5,11 @@
 //! (`sights_go_on`). A name matters where it was released or is of a transaction that has not
 //! ended. A checkpoint's snapshot counts prepared transactions as running, so it sees what was
 //! committed (`sights_see_committed`), and goes on to (`committed_go_on`). Promises the rule of
-//! run, `min`, `max` and list exactly, and takes memory for its list only when it is made. Leaves
-//! to the caller which ids are running.
+//! run, `min`, `max` and list exactly, that a snapshot which a view lends can be copied, and that
+//! it takes memory for its list only when it is made. Leaves to the caller which ids are running.
 #![tactic(auto)]
 
-ghost use Rattle.snapshot.specs.SightLaws.{CommittedGoOn, SightsGoOn, SightsSeeCommitted, SightsSeeFirst};
+ghost use Rattle.snapshot.specs.SightLaws.{CommittedGoOn, LivingStayUnseen, SightsGoOn, SightsSeeCommitted, SightsSeeFirst};
 
 mod sight;
 mod snapshot;
@@ -40,4 +40,10 @@ pub fn sights_see_committed()
 /// A checkpoint's snapshot goes on to see what it sees, at each event that may come.
 pub fn committed_go_on()
     ensures { CommittedGoOn }
+{}
+
+/// A snapshot that sees nothing of the transactions that have not ended goes on to see nothing of
+/// those that have not ended then.
+pub fn living_stay_unseen()
+    ensures { LivingStayUnseen }
 {}

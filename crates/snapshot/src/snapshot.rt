@@ -1,7 +1,7 @@
 //! The snapshot of a transaction.
 
 ghost use Rattle.std.specs.Prelude.{◌≡◌, ◌<◌, ◌≤◌, ℕ, IfOk, length, [], vec_capacity, vec_len};
-ghost use Rattle.snapshot.specs.Sight.{Ascends, counting, is_seen, least_or, sight_at, sight_of, with_id};
+ghost use Rattle.snapshot.specs.Sight.{Ascends, IsSight, counting, is_seen, least_or, sight_at, sight_of, with_id};
 
 use crate::sight::is_seen_among;
 use failure::NoMemory;
@@ -22,9 +22,9 @@ pub struct Snapshot {
 
 impl Model for Snapshot {
     ghost use Rattle.std.specs.Prelude.{vec_capacity, vec_len};
-    ghost use Rattle.snapshot.specs.Sight.{Kept, Ascends};
+    ghost use Rattle.snapshot.specs.Sight.{SnapshotValue, IsSight};
 
-    ghost Value = { Kept };
+    ghost Value = { SnapshotValue };
 
     ghost view = { λ s.
         record {
@@ -32,20 +32,21 @@ impl Model for Snapshot {
           room = vec_capacity s.list;
         } };
 
-    ghost invariant = { λ s. Ascends s.min s.list.items s.max };
+    ghost invariant = { λ s.
+        IsSight (record { run = s.run; min = s.min; max = s.max; list = s.list.items }) };
 }
 
 impl Snapshot {
     /// A snapshot that sees nothing but earlier runs than `run`, with room for this many running
     /// ids. One allocation.
     pub fn new(alloc: Global, run: u64, room: usize) -> Result<Snapshot, NoMemory>
-        ensures sight { IfOk result (λ s. s.sight ≡ sight_at run 0 []) }
+        ensures sight { IfOk result (λ s. s.sight ≡ sight_at run 1 []) }
         ensures room { IfOk result (λ s. room ≤ s.room) }
     {
         Ok(Snapshot {
             run,
-            min: 0,
-            max: 0,
+            min: 1,
+            max: 1,
             list: Vec::with_capacity(alloc, room)?,
         })
     }
@@ -61,13 +62,26 @@ impl Snapshot {
         self.run = run;
         self.min = least(running, next);
         self.max = next;
-        self.list.clear();
-        let _copied = self.list.extend_from_slice(running);
+        replace_all(&mut self.list, running);
+    }
+
+    /// Takes the snapshot that a view lends. Takes no memory. One copy of the ids.
+    pub fn copy_from(&mut self, view: &View<'_>)
+        requires lent { IsSight (sight_of view.now) }
+        requires room { length view.now.list.now ≤ self.old.room }
+        ensures sight { self.new.sight ≡ sight_of view.now }
+        ensures room { self.old.room ≤ self.new.room }
+    {
+        self.run = view.run;
+        self.min = view.min;
+        self.max = view.max;
+        replace_all(&mut self.list, view.list);
     }
 
     /// Counts one more id of its run as running, one that was drawn. Takes no memory. `O(log n)` in
     /// the ids that count as running, and one move of those above.
     pub fn count_running(&mut self, id: u64)
+        requires from_one { 1 ≤ id }
         requires drawn { id < self.old.sight.max }
         requires room { length self.old.sight.list < self.old.room }
         ensures sight { self.new.sight ≡ counting self.old.sight id }
@@ -89,7 +103,7 @@ impl Snapshot {
         ensures sight { sight_of result ≡ self.now.sight }
         ensures own { result.own ≡ own }
         ensures read { result.read ≡ read }
-        ensures ascending { Ascends 0 result.list.now result.max }
+        ensures lent { IsSight (sight_of result) }
     {
         View {
             run: self.run,
@@ -108,6 +122,16 @@ impl Snapshot {
     {
         self.min
     }
+}
+
+// Puts other ids in the place of these, for which there is room.
+fn replace_all(ids: &mut Vec<u64>, others: &[u64])
+    requires { length others.now ≤ vec_capacity ids.old }
+    ensures items { ids.new.items ≡ others.now }
+    ensures room { vec_capacity ids.old ≤ vec_capacity ids.new }
+{
+    ids.clear();
+    let _copied = ids.extend_from_slice(others);
 }
 
 // The least of some ids, which ascend, or the next one where there are none.

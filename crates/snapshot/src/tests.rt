@@ -25,6 +25,10 @@ fn a_snapshot_sees_what_was_drawn_and_not_running(rt: HostRuntime) -> Result<(),
         assert!(rt; is_seen(&snapshot.view(5, 0), name) == seen);
     }
     assert!(rt; snapshot.min() == 5);
+    let mut copy = Snapshot::new(rt.alloc(), 1, 64)?;
+    copy.copy_from(&snapshot.view(0, 0));
+    assert!(rt; copy.view(0, 0).list == [5, 8, 9].as_slice());
+    assert!(rt; copy.sees(Name { run: 7, id: 4 }) && !copy.sees(Name { run: 7, id: 5 }));
     snapshot.fill(7, 12, &[]);
     assert!(rt; snapshot.min() == 12);
     assert!(rt; snapshot.sees(Name { run: 7, id: 11 }));

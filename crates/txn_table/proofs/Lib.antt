@@ -6,3 +6,5 @@ pub mod Bounds
 pub mod Starting
 pub mod Unended
 pub mod Capturing
+pub mod Pasts
+pub mod Stocks

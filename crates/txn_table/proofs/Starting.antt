@@ -5,11 +5,11 @@ use Rattle.std.proofs.lemmas.List.{append-nil, length-replicate}
 use Rattle.kv_model.specs.Closing.{after_all}
 use Rattle.kv_model.specs.Content.{start}
 use Rattle.kv_model.specs.Machine.{Machine, Transaction, OpenSession, after}
-use Rattle.txn_table.specs.Seated.{Seated, opened, phase_in}
-use Rattle.txn_table.specs.Tabled.{fresh, seat_of}
+use Rattle.txn_table.specs.SessionData.{SessionData, opened, phase_in}
+use Rattle.txn_table.specs.Tabled.{fresh, session_of}
 use Rattle.txn_table.specs.Stands.{SessionStands}
 use Rattle.txn_table.specs.TableLaws.{NewTablesStand}
-use Rattle.txn_table.proofs.TableLemmas.{new-seat, table-new}
+use Rattle.txn_table.proofs.TableLemmas.{new-state, table-new}
 
 -- the machine once this many sessions more are opened
 abbrev pub opened_in : Machine → ℕ → Machine
@@ -39,7 +39,7 @@ new-stands c n = let more = opens-more (start c) n in record {
   table = table-new (c.run + 1) n;
   run = sym more.run;
   next = sym more.next;
-  seats = length-replicate n (opened (c.run + 1)) ∙ sym (ap length more.sessions ∙ length-replicate n None);
-  sessions = λ s. subst (SessionStands (opened_in (start c) n) (seat_of (fresh (c.run + 1) n) s)) (sym (ap (λ l. slice_index_or l s None) more.sessions ∙ none-at n s))
-      (ap (λ (x : Seated). phase_in x.phase) (new-seat (c.run + 1) n s));
+  count = length-replicate n (opened (c.run + 1)) ∙ sym (ap length more.sessions ∙ length-replicate n None);
+  sessions = λ s. subst (SessionStands (opened_in (start c) n) (session_of (fresh (c.run + 1) n) s)) (sym (ap (λ l. slice_index_or l s None) more.sessions ∙ none-at n s))
+      (ap (λ (x : SessionData). phase_in x.phase) (new-state (c.run + 1) n s));
 }

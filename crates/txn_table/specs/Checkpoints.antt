@@ -1,5 +1,5 @@
 -- What the snapshot of a checkpoint sees.
-use Rattle.std.specs.Prelude.{◌≡◌, ℕ, true, false, List, length, Some}
+use Rattle.std.specs.Prelude.{◌≡◌, ℕ, true, List, length, Some}
 use Rattle.item.specs.declared.Change.{Change}
 use Rattle.stamp.specs.declared.Name.{Name}
 use Rattle.stamp.specs.declared.Version.{Version}
@@ -10,7 +10,7 @@ use Rattle.kv_model.specs.Machine.{Machine, Checkpoint, CheckpointStart, after}
 use Rattle.kv_model.specs.Allowed.{Allowed}
 use Rattle.kv_model.specs.Valid.{Valid}
 use Rattle.snapshot.specs.Sight.{Sight, is_seen, sight_at}
-use Rattle.snapshot.specs.Matters.{IsLive, IsUnended, SeesCommitted}
+use Rattle.snapshot.specs.Matters.{IsUnended, SeesCommitted, SeesNoneLiving}
 use Rattle.txn_table.specs.Tabled.{Table, unended}
 use Rattle.txn_table.specs.Stands.{TableStands}
 
@@ -26,8 +26,8 @@ CheckpointsSee = (t : Table) (m : Machine) (c : Checkpoint) → Valid m → Tabl
     → CheckpointSees (after m CheckpointStart) c (sight_at t.run t.next (unended t))
 
 pub record EndedIsSeen (m : Machine) (s : Sight) : Type 0 where
-  -- nothing of a transaction that has not ended is seen, of a prepared or a resolving one neither
-  pub live : (x : Name) → IsLive m x → is_seen s x ≡ false
+  -- nothing of a transaction that has not ended is seen, of a prepared or a resolving one neither; so it stays (`living_stay_unseen` of `snapshot`)
+  pub living : SeesNoneLiving m s
   -- all else that was committed is
   pub ended : (x : Name) → committed m.history (length m.history) x ≡ true → (x.run ≡ m.run → IsUnended m x.id → ⊥) → is_seen s x ≡ true
 

@@ -1,11 +1,9 @@
 // What a table keeps over the calls of a few sessions.
-ghost use Rattle.std.specs.Prelude.{◌≡◌, ◌<◌, IfSome, length};
-ghost use Rattle.txn_table.specs.Tabled.{seat_of};
-
-use crate::{Kept, NoMemory, Phase, Txns};
+use crate::{NoMemory, Phase, Txns, WrittenLeaf};
 use item::Item;
 use snapshot::{Snapshot, is_seen};
 use stamp::Name;
+use std::alloc::Global;
 use wt_code::{Limit, Refusal};
 
 // Calls that are made only where their session is in the phase for them; whether they were made.
@@ -23,23 +21,13 @@ fn begin(txns: &mut Txns, session: u32, read: Option<u64>) -> bool {
     }
 }
 
-fn own_id(txns: &Txns, session: u32) -> Option<u64>
-    requires { session < length txns.now.seats }
-    ensures { IfSome result (λ id. id ≡ (seat_of txns.now session).id) }
-{
-    match txns.view(session) {
-        None => None,
-        Some(view) => Some(view.own),
-    }
-}
-
 fn draw(txns: &mut Txns, session: u32) -> Option<u64> {
     if session >= txns.sessions() {
         return None;
     }
     match txns.phase(session) {
-        Phase::Running => match own_id(txns, session) {
-            Some(0) => match txns.draw_id(session) {
+        Phase::Running => match txns.id(session) {
+            0 => match txns.draw_id(session) {
                 Ok(id) => Some(id),
                 Err(_) => None,
             },
@@ -131,15 +119,23 @@ fn done(txns: &mut Txns, session: u32) -> bool {
     }
 }
 
-fn keep(txns: &mut Txns, session: u32, kept: Kept) -> bool {
-    session < txns.sessions() && txns.register(session, kept).is_ok()
+fn write(txns: &mut Txns, session: u32, leaf: WrittenLeaf) -> bool {
+    session < txns.sessions() && txns.register(session, leaf).is_ok()
 }
 
-fn kept_count(txns: &Txns, session: u32) -> usize {
+fn written_count(txns: &Txns, session: u32) -> Option<usize> {
     if session < txns.sessions() {
-        txns.kept(session).len()
+        Some(txns.written(session).len())
     } else {
-        99
+        None
+    }
+}
+
+fn take(alloc: Global, txns: &mut Txns, session: u32) -> Option<usize> {
+    if session < txns.sessions() {
+        Some(txns.take_written(alloc, session).len())
+    } else {
+        None
     }
 }
 
@@ -166,8 +162,8 @@ fn sees(txns: &Txns, session: u32, id: u64) -> Option<bool> {
 fn sessions_open_up_to_64(rt: HostRuntime) -> Result<(), NoMemory> {
     let mut txns = Txns::new(rt.alloc(), 1, 63)?;
     assert!(rt; txns.sessions() == 63);
-    assert!(rt; txns.open_session(rt.alloc()) == Ok(63));
-    assert!(rt; txns.open_session(rt.alloc()) == Err(Refusal::Limit(Limit::Sessions)));
+    assert!(rt; txns.open_session() == Ok(63));
+    assert!(rt; txns.open_session() == Err(Refusal::Limit(Limit::Sessions)));
     assert!(rt; txns.sessions() == 64);
     assert!(rt; txns.active().is_none());
     Ok(())
@@ -203,8 +199,10 @@ fn a_prepared_transaction_is_seen_by_later_snapshots(rt: HostRuntime) -> Result<
     assert!(rt; begin(&mut txns, 1, None));
     assert!(rt; sees(&txns, 3, 1) == Some(false));
     assert!(rt; sees(&txns, 1, 1) == Some(true));
+    assert!(rt; txns.resolving().is_none());
     assert!(rt; resolve(&mut txns, 0));
     assert!(rt; phase(&txns, 0) == Some(Phase::Resolving));
+    assert!(rt; txns.resolving() == Some(0) && txns.run() == 1);
     assert!(rt; done(&mut txns, 0));
     assert!(rt; phase(&txns, 0) == Some(Phase::Idle));
     Ok(())
@@ -249,17 +247,17 @@ fn pin_and_floor_go_by_active_sessions(rt: HostRuntime) -> Result<(), NoMemory> 
 }
 
 #[test]
-fn what_a_session_keeps_stays_until_it_begins(rt: HostRuntime) -> Result<(), NoMemory> {
+fn what_a_session_wrote_stays_until_it_is_taken(rt: HostRuntime) -> Result<(), NoMemory> {
     let mut txns = Txns::new(rt.alloc(), 1, 1)?;
     assert!(rt; begin(&mut txns, 0, None));
-    assert!(rt; keep(&mut txns, 0, Kept::Cursor(2)));
-    let key = Item::new(Vec::from_slice(rt.alloc(), b"a")?);
-    assert!(rt; keep(&mut txns, 0, Kept::Write { table: 1, key }));
-    assert!(rt; kept_count(&txns, 0) == 2);
+    for letter in [b'a', b'b'] {
+        let key = Item::new(Vec::from_slice(rt.alloc(), &[letter])?);
+        assert!(rt; write(&mut txns, 0, WrittenLeaf { table: 1, key }));
+    }
     assert!(rt; commit(&mut txns, 0));
-    assert!(rt; kept_count(&txns, 0) == 2);
-    assert!(rt; begin(&mut txns, 0, None));
-    assert!(rt; kept_count(&txns, 0) == 0);
+    assert!(rt; written_count(&txns, 0) == Some(2));
+    assert!(rt; take(rt.alloc(), &mut txns, 0) == Some(2));
+    assert!(rt; written_count(&txns, 0) == Some(0));
     Ok(())
 }
 

@@ -1,15 +1,15 @@
 //! The table of transactions.
 
-ghost use Rattle.std.specs.Prelude.{◌≡◌, ◌<◌, ◌≤◌, ◌⊎◌, ◌^◌, ℕ, true, false, length, IfOk, OnOk, OnErr, IfErr, IfSome, option_map, option_copied, IsNone, ◌↔◌};
-ghost use Rattle.snapshot.specs.Sight.{Ascends, Sight, sight_at, sight_of};
+ghost use Rattle.std.specs.Prelude.{[], replicate, vec_capacity, ◌≡◌, ◌<◌, ◌≤◌, ◌⊎◌, ◌^◌, ℕ, true, false, length, IfOk, OnOk, OnErr, IfErr, IfSome, option_map, option_copied, IsNone, ◌↔◌};
+ghost use Rattle.snapshot.specs.Sight.{Ascends, IsSight, Sight, sight_at, sight_of};
 ghost use Rattle.kv_model.specs.Refusals.{stamp_of};
-ghost use Rattle.txn_table.specs.Seated.{is_unreleased, unended_id};
+ghost use Rattle.txn_table.specs.SessionData.{is_busy, is_resolving, is_unreleased, opened, unended_id};
 ghost use Rattle.txn_table.specs.Tabled.{
   begun,
   counted,
   drawn,
   ended,
-  first_active,
+  first_in,
   fresh,
   floor_of,
   in_phase,
@@ -21,15 +21,16 @@ ghost use Rattle.txn_table.specs.Tabled.{
   read_of,
   registered,
   released_in,
-  seat_of,
+  session_of,
   sight_in,
+  taken_from,
   unended,
   without,
 };
 
-use crate::kept::Kept;
 use crate::phase::Phase;
-use crate::seat::{SESSIONS_MAX, Seat};
+use crate::session::{SESSIONS_MAX, Session};
+use crate::written_leaf::WrittenLeaf;
 use failure::NoMemory;
 use snapshot::Snapshot;
 use stamp::{Name, View};
@@ -46,72 +47,78 @@ pub struct Txns {
     run: u64,
     // The next id.
     next: u64,
-    // The ids that are drawn and not released, ascending.
+    // The ids that are drawn and not released, ascending. With room for one of each session.
     running: Vec<u64>,
-    // By session.
-    seats: Vec<Seat>,
+    // By session. With room for 64.
+    sessions: Vec<Session>,
+    // Those that can still be opened.
+    spare: Vec<Session>,
 }
 
 impl Model for Txns {
-    ghost use Rattle.std.specs.Prelude.{◌≤◌, ◌^◌, length};
-    ghost use Rattle.txn_table.specs.Tabled.{Table, IsTable, HasRoom};
+    ghost use Rattle.std.specs.Prelude.{◌≤◌, ◌^◌, length, vec_capacity};
+    ghost use Rattle.txn_table.specs.Tabled.{Table, IsStocked};
 
     ghost Value = { Table };
 
-    ghost view = { λ t. record { run = t.run; next = t.next; running = t.running.items; seats = t.seats.items } };
+    ghost view = { λ t. record { run = t.run; next = t.next; running = t.running.items; sessions = t.sessions.items } };
 
     ghost invariant = { λ t.
-        HasRoom (record { run = t.run; next = t.next; running = t.running.items; seats = t.seats.items }) };
+        IsStocked (record { run = t.run; next = t.next; running = t.running.items; sessions = t.sessions.items })
+        (vec_capacity t.running) (vec_capacity t.sessions) t.spare.items };
 }
 
 impl Txns {
-    /// The table of a run, with this many sessions open, none of which has a transaction.
+    /// The table of a run, with this many sessions open, none of which has a transaction. Takes the
+    /// memory of 64 sessions and of their running ids: of the other calls `register` alone may want
+    /// memory.
     pub fn new(alloc: Global, run: u64, sessions: u32) -> Result<Txns, NoMemory>
         requires { sessions ≤ 64 }
         ensures { IfOk result (λ t. t ≡ fresh run sessions) }
     {
-        let mut seats = Vec::new(alloc);
-        for _ in 0..sessions {
-            let seat = Seat::new(alloc, run)?;
-            if let Err(_) = seats.push(seat) {
-                return Err(NoMemory);
-            }
-        }
+        let running = Vec::with_capacity(alloc, SESSIONS_MAX)?;
+        let open = new_sessions(alloc, run, sessions as usize)?;
+        let spare = new_sessions(alloc, run, SESSIONS_MAX - sessions as usize)?;
         Ok(Txns {
             run,
             next: 1,
-            running: Vec::new(alloc),
-            seats,
+            running,
+            sessions: open,
+            spare,
         })
     }
 
-    /// Opens a session, and gives its number. Refused exactly where 64 are open, but for want of
-    /// memory.
-    pub fn open_session(&mut self, alloc: Global) -> Result<u32, Refusal>
-        ensures ok { OnOk result ((length self.old.seats < 64) × (self.new ≡ one_more self.old)) }
-        ensures number { IfOk result (λ session. session ≡ length self.old.seats) }
+    /// Opens a session, and gives its number. Refused exactly where 64 are open. Takes no memory.
+    /// `O(1)`.
+    pub fn open_session(&mut self) -> Result<u32, Refusal>
+        ensures ok { OnOk result ((length self.old.sessions < 64) × (self.new ≡ one_more self.old)) }
+        ensures number { IfOk result (λ session. session ≡ length self.old.sessions) }
         ensures kept { OnErr result (self.new ≡ self.old) }
-        ensures refused { IfErr result (λ e. ((e ≡ Refusal.Limit Limit.Sessions) × (64 ≤ length self.old.seats)) ⊎ (e ≡ Refusal.NoMemory)) }
+        ensures refused { IfErr result (λ e. (e ≡ Refusal.Limit Limit.Sessions) × (64 ≤ length self.old.sessions)) }
     {
-        let session = self.seats.len();
-        if session >= SESSIONS_MAX {
-            return Err(Refusal::Limit(Limit::Sessions));
-        }
-        let seat = match Seat::new(alloc, self.run) {
-            Ok(seat) => seat,
-            Err(_) => return Err(Refusal::NoMemory),
-        };
-        match self.seats.push(seat) {
-            Ok(()) => Ok(session as u32),
-            Err(_) => Err(Refusal::NoMemory),
+        let session = self.sessions.len() as u32;
+        match self.spare.pop() {
+            None => Err(Refusal::Limit(Limit::Sessions)),
+            Some(state) => {
+                self.sessions.push_reserved(state);
+                Ok(session)
+            }
         }
     }
 
     /// How many sessions are open.
     pub fn sessions(&self) -> u32
-        ensures { result ≡ length self.now.seats }
+        ensures count { result ≡ length self.now.sessions }
+        ensures few { result ≤ 64 }
     {
-        self.seats.len() as u32
+        self.sessions.len() as u32
+    }
+
+    /// The run, which is that of each id.
+    pub fn run(&self) -> u64
+        ensures { result ≡ self.now.run }
+    {
+        self.run
     }
 
     /// The next id.
@@ -123,10 +130,22 @@ impl Txns {
 
     /// The lowest session with a transaction. `O(n)` in the sessions.
     pub fn active(&self) -> Option<u32>
-        ensures { result ≡ first_active 0 self.now.seats }
+        ensures { result ≡ first_in is_busy 0 self.now.sessions }
     {
-        for session in 0..self.seats.len() {
-            if !self.seats[session].is_idle() {
+        for session in 0..self.sessions.len() {
+            if self.sessions[session].is_busy() {
+                return Some(session as u32);
+            }
+        }
+        None
+    }
+
+    /// The lowest session whose transaction is resolving. `O(n)` in the sessions.
+    pub fn resolving(&self) -> Option<u32>
+        ensures { result ≡ first_in is_resolving 0 self.now.sessions }
+    {
+        for session in 0..self.sessions.len() {
+            if self.sessions[session].is_resolving() {
                 return Some(session as u32);
             }
         }
@@ -136,62 +155,60 @@ impl Txns {
     /// Begins a transaction at this read stamp, with a snapshot of now. Takes no memory. One copy
     /// of the running ids.
     pub fn begin(&mut self, session: u32, read: Option<u64>)
-        requires open { session < length self.old.seats }
+        requires open { session < length self.old.sessions }
         requires idle { phase_of self.old session ≡ Phase.Idle }
         ensures { self.new ≡ begun self.old session (stamp_of read) }
     {
-        let seat = &mut self.seats[session as usize];
-        seat.begin(self.run, self.next, &self.running, read.unwrap_or(0));
+        let state = &mut self.sessions[session as usize];
+        state.begin(self.run, self.next, &self.running, read.unwrap_or(0));
     }
 
     /// Draws the id of a transaction that has none. Refused exactly where the next id is past
-    /// 2^62 - 1, but for want of memory. `O(1)`.
+    /// 2^62 - 1. Takes no memory. `O(1)`.
     pub fn draw_id(&mut self, session: u32) -> Result<u64, Refusal>
-        requires open { session < length self.old.seats }
+        requires open { session < length self.old.sessions }
         requires running { phase_of self.old session ≡ Phase.Running }
-        requires undrawn { (seat_of self.old session).id ≡ 0 }
+        requires undrawn { (session_of self.old session).id ≡ 0 }
         ensures ok { OnOk result ((self.old.next < 2 ^ 62) × (self.new ≡ drawn self.old session)) }
         ensures id { IfOk result (λ id. id ≡ self.old.next) }
         ensures kept { OnErr result (self.new ≡ self.old) }
-        ensures refused { IfErr result (λ e. ((e ≡ Refusal.Limit Limit.Ids) × (2 ^ 62 ≤ self.old.next)) ⊎ (e ≡ Refusal.NoMemory)) }
+        ensures refused { IfErr result (λ e. (e ≡ Refusal.Limit Limit.Ids) × (2 ^ 62 ≤ self.old.next)) }
     {
         let id = self.next;
         if id > ID_MAX {
             return Err(Refusal::Limit(Limit::Ids));
         }
-        if let Err(_) = self.running.push(id) {
-            return Err(Refusal::NoMemory);
-        }
+        self.running.push_reserved(id);
         self.next = id + 1;
-        let seat = &mut self.seats[session as usize];
-        seat.set_id(id);
+        let state = &mut self.sessions[session as usize];
+        state.set_id(id);
         Ok(id)
     }
 
-    /// Adds a cursor or a write to what the session keeps, until it begins again.
-    pub fn register(&mut self, session: u32, kept: Kept) -> Result<(), NoMemory>
-        requires open { session < length self.old.seats }
-        ensures ok { OnOk result (self.new ≡ registered self.old session kept) }
+    /// Adds a leaf to those that the session's transaction wrote. May want memory.
+    pub fn register(&mut self, session: u32, leaf: WrittenLeaf) -> Result<(), NoMemory>
+        requires open { session < length self.old.sessions }
+        ensures ok { OnOk result (self.new ≡ registered self.old session leaf) }
         ensures err { OnErr result (self.new ≡ self.old) }
     {
-        let seat = &mut self.seats[session as usize];
-        seat.keep(kept)
+        let state = &mut self.sessions[session as usize];
+        state.add_written(leaf)
     }
 
     /// A write met a conflict: the transaction can only be rolled back.
     pub fn fail(&mut self, session: u32)
-        requires open { session < length self.old.seats }
+        requires open { session < length self.old.sessions }
         requires running { phase_of self.old session ≡ Phase.Running }
         ensures { self.new ≡ in_phase self.old session Phase.Failed }
     {
-        let seat = &mut self.seats[session as usize];
-        seat.set_phase(Phase::Failed);
+        let state = &mut self.sessions[session as usize];
+        state.set_phase(Phase::Failed);
     }
 
     /// Prepares the transaction at this stamp: later snapshots see it. Takes no memory.
     /// `O(log n)` in the running ids, and one move of those above.
     pub fn prepare(&mut self, session: u32, stamp: u64)
-        requires open { session < length self.old.seats }
+        requires open { session < length self.old.sessions }
         requires running { phase_of self.old session ≡ Phase.Running }
         ensures { self.new ≡ released_in self.old session (Phase.Prepared stamp) }
     {
@@ -200,57 +217,58 @@ impl Txns {
 
     /// The commit or the rollback of a prepared transaction is decided. Takes no memory. `O(1)`.
     pub fn resolve(&mut self, session: u32)
-        requires open { session < length self.old.seats }
+        requires open { session < length self.old.sessions }
         requires prepared { (stamp : ℕ) × (phase_of self.old session ≡ Phase.Prepared stamp) }
         ensures { self.new ≡ in_phase self.old session Phase.Resolving }
     {
-        let seat = &mut self.seats[session as usize];
-        seat.set_phase(Phase::Resolving);
+        let state = &mut self.sessions[session as usize];
+        state.set_phase(Phase::Resolving);
     }
 
     /// A transaction that is not prepared is rolled back, or its commit refused. Takes no memory.
     /// `O(1)`.
     pub fn leave(&mut self, session: u32)
-        requires open { session < length self.old.seats }
+        requires open { session < length self.old.sessions }
         requires unprepared { (phase_of self.old session ≡ Phase.Running) ⊎ (phase_of self.old session ≡ Phase.Failed) }
         ensures { self.new ≡ in_phase self.old session Phase.Leaving }
     {
-        let seat = &mut self.seats[session as usize];
-        seat.set_phase(Phase::Leaving);
+        let state = &mut self.sessions[session as usize];
+        state.set_phase(Phase::Leaving);
     }
 
     /// Commits a transaction that is not prepared: later snapshots see it, and the session has
     /// none. Takes no memory. Cost as of `prepare`.
     pub fn release(&mut self, session: u32)
-        requires open { session < length self.old.seats }
+        requires open { session < length self.old.sessions }
         requires running { phase_of self.old session ≡ Phase.Running }
         ensures { self.new ≡ released_in self.old session Phase.Idle }
     {
         self.release_to(session, Phase::Idle);
     }
 
-    /// Ends a transaction that is resolving or leaving. Takes no memory. Cost as of `prepare`.
+    /// Ends a transaction that is resolving, or one that was rolled back before it was prepared, in
+    /// whichever phase the table knows it. Takes no memory. Cost as of `prepare`.
     pub fn done(&mut self, session: u32)
-        requires open { session < length self.old.seats }
-        requires ending { (phase_of self.old session ≡ Phase.Resolving) ⊎ (phase_of self.old session ≡ Phase.Leaving) }
+        requires open { session < length self.old.sessions }
+        requires ending { (phase_of self.old session ≡ Phase.Resolving) ⊎ (is_unreleased (phase_of self.old session) ≡ true) }
         ensures { self.new ≡ ended self.old session }
     {
-        let seat = &mut self.seats[session as usize];
-        match seat.phase() {
-            Phase::Leaving => self.release_to(session, Phase::Idle),
-            _ => seat.set_phase(Phase::Idle),
+        let state = &mut self.sessions[session as usize];
+        match state.phase() {
+            Phase::Resolving => state.set_phase(Phase::Idle),
+            _ => self.release_to(session, Phase::Idle),
         }
     }
 
     fn release_to(&mut self, session: u32, phase: Phase)
-        requires open { session < length self.old.seats }
+        requires open { session < length self.old.sessions }
         requires unreleased { is_unreleased (phase_of self.old session) ≡ true }
         requires released { is_unreleased phase ≡ false }
         ensures { self.new ≡ released_in self.old session phase }
     {
-        let seat = &mut self.seats[session as usize];
-        let id = seat.id();
-        seat.set_phase(phase);
+        let state = &mut self.sessions[session as usize];
+        let id = state.id();
+        state.set_phase(phase);
         take_out(&mut self.running, id);
     }
 
@@ -261,8 +279,8 @@ impl Txns {
         ensures { result ≡ pin_of self.now oldest ckpt_oldest }
     {
         let mut pin = lower(oldest, ckpt_oldest);
-        for seat in self.seats.iter() {
-            pin = lower(pin, read_stamp(seat));
+        for state in self.sessions.iter() {
+            pin = lower(pin, read_stamp(state));
         }
         pin
     }
@@ -274,8 +292,8 @@ impl Txns {
         ensures { result ≡ floor_of self.now (sight_in (option_copied ckpt.entry)) }
     {
         let mut id = lower(self.next, min_of(ckpt));
-        for seat in self.seats.iter() {
-            id = lower(id, snapshot_min(seat));
+        for state in self.sessions.iter() {
+            id = lower(id, snapshot_min(state));
         }
         Name { run: self.run, id }
     }
@@ -286,55 +304,91 @@ impl Txns {
     pub fn checkpoint_snapshot(&self, snapshot: &mut Snapshot)
         requires room { 64 ≤ snapshot.old.room }
         ensures sight { snapshot.new.sight ≡ sight_at self.now.run self.now.next (unended self.now) }
+        ensures few { length snapshot.new.sight.list ≤ 64 }
         ensures room { snapshot.old.room ≤ snapshot.new.room }
     {
         snapshot.fill(self.run, self.next, &[]);
-        for seat in self.seats.iter() {
-            count_unended(snapshot, unended_id(seat));
+        for state in self.sessions.iter() {
+            count_unended(snapshot, unended_id(state));
         }
     }
 
     /// How far the session's transaction is.
     pub fn phase(&self, session: u32) -> Phase
-        requires open { session < length self.now.seats }
+        requires open { session < length self.now.sessions }
         ensures { result ≡ phase_of self.now session }
     {
-        self.seats[session as usize].phase()
+        self.sessions[session as usize].phase()
     }
 
     /// The snapshot of the session's transaction, lent with its id and its read stamp, 0 for none
     /// of either; `None` where it has no transaction.
     pub fn view(&self, session: u32) -> Option<View<'_>>
-        requires open { session < length self.now.seats }
+        requires open { session < length self.now.sessions }
         ensures none { IsNone result ↔ (phase_of self.now session ≡ Phase.Idle) }
-        ensures sight { IfSome result (λ v. sight_of v ≡ (seat_of self.now session).sight) }
-        ensures own { IfSome result (λ v. v.own ≡ (seat_of self.now session).id) }
-        ensures read { IfSome result (λ v. v.read ≡ (seat_of self.now session).read) }
-        ensures ascending { IfSome result (λ v. Ascends 0 v.list.now v.max) }
+        ensures sight { IfSome result (λ v. sight_of v ≡ (session_of self.now session).sight) }
+        ensures own { IfSome result (λ v. v.own ≡ (session_of self.now session).id) }
+        ensures read { IfSome result (λ v. v.read ≡ (session_of self.now session).read) }
+        ensures lent { IfSome result (λ v. IsSight (sight_of v)) }
+        ensures few { IfSome result (λ v. length v.list.now ≤ 64) }
     {
-        let seat = &self.seats[session as usize];
-        match seat.phase() {
+        let state = &self.sessions[session as usize];
+        match state.phase() {
             Phase::Idle => None,
-            _ => Some(seat.view()),
+            _ => Some(state.view()),
         }
     }
 
-    /// What the session has registered since it began last.
-    pub fn kept(&self, session: u32) -> &[Kept]
-        requires open { session < length self.now.seats }
-        ensures { result.now ≡ (seat_of self.now session).kept }
+    /// The id of the session's transaction, 0 while it has none.
+    pub fn id(&self, session: u32) -> u64
+        requires open { session < length self.now.sessions }
+        ensures { result ≡ (session_of self.now session).id }
     {
-        self.seats[session as usize].kept()
+        self.sessions[session as usize].id()
+    }
+
+    /// The leaves that the session has registered since it began last, or since they were taken.
+    pub fn written(&self, session: u32) -> &[WrittenLeaf]
+        requires open { session < length self.now.sessions }
+        ensures { result.now ≡ (session_of self.now session).written }
+    {
+        self.sessions[session as usize].written()
+    }
+
+    /// Hands out the leaves that the session has registered, so that their memory is given back by
+    /// the caller, once it has let go of the table. Takes no memory. `O(1)`.
+    pub fn take_written(&mut self, alloc: Global, session: u32) -> Vec<WrittenLeaf>
+        requires open { session < length self.old.sessions }
+        ensures taken { result.items ≡ (session_of self.old session).written }
+        ensures left { self.new ≡ taken_from self.old session }
+    {
+        let state = &mut self.sessions[session as usize];
+        state.take_written(alloc)
     }
 }
 
-// The read stamp of an active transaction that has one.
-fn read_stamp(seat: &Seat) -> Option<u64>
-    ensures { result ≡ read_of seat.now }
+// So many sessions without a transaction, with room for 64.
+fn new_sessions(alloc: Global, run: u64, count: usize) -> Result<Vec<Session>, NoMemory>
+    ensures items { IfOk result (λ v. v.items ≡ replicate count (opened run)) }
+    ensures room { IfOk result (λ v. 64 ≤ vec_capacity v) }
 {
-    match seat.phase() {
+    let mut made = Vec::with_capacity(alloc, SESSIONS_MAX)?;
+    for _ in 0..count {
+        let state = Session::new(alloc, run)?;
+        if let Err(_) = made.push(state) {
+            return Err(NoMemory);
+        }
+    }
+    Ok(made)
+}
+
+// The read stamp of an active transaction that has one.
+fn read_stamp(state: &Session) -> Option<u64>
+    ensures { result ≡ read_of state.now }
+{
+    match state.phase() {
         Phase::Idle => None,
-        _ => match seat.read() {
+        _ => match state.read() {
             0 => None,
             read => Some(read),
         },
@@ -342,22 +396,22 @@ fn read_stamp(seat: &Seat) -> Option<u64>
 }
 
 // The least running id of an active transaction's snapshot.
-fn snapshot_min(seat: &Seat) -> Option<u64>
-    ensures { result ≡ min_of seat.now }
+fn snapshot_min(state: &Session) -> Option<u64>
+    ensures { result ≡ min_of state.now }
 {
-    match seat.phase() {
+    match state.phase() {
         Phase::Idle => None,
-        _ => Some(seat.min()),
+        _ => Some(state.min()),
     }
 }
 
 // The id of a transaction that has not ended, once it is drawn.
-fn unended_id(seat: &Seat) -> Option<u64>
-    ensures { result ≡ unended_id seat.now }
+fn unended_id(state: &Session) -> Option<u64>
+    ensures { result ≡ unended_id state.now }
 {
-    match seat.phase() {
+    match state.phase() {
         Phase::Idle => None,
-        _ => match seat.id() {
+        _ => match state.id() {
             0 => None,
             id => Some(id),
         },
@@ -366,7 +420,7 @@ fn unended_id(seat: &Seat) -> Option<u64>
 
 // Counts an id as running too, where there is one.
 fn count_unended(snapshot: &mut Snapshot, id: Option<u64>)
-    requires drawn { IfSome id (λ id. id < snapshot.old.sight.max) }
+    requires drawn { IfSome id (λ id. (1 ≤ id) × (id < snapshot.old.sight.max)) }
     requires room { length snapshot.old.sight.list < snapshot.old.room }
     ensures sight { snapshot.new.sight ≡ counted snapshot.old.sight id }
     ensures room { snapshot.old.room ≤ snapshot.new.room }
@@ -399,7 +453,8 @@ fn lower(value: u64, other: Option<u64>) -> u64
 // Takes an id out, where it is among these, which ascend.
 fn take_out(ids: &mut Vec<u64>, id: u64)
     requires { (high : ℕ) × Ascends 1 ids.old.items high }
-    ensures { ids.new.items ≡ without id ids.old.items }
+    ensures items { ids.new.items ≡ without id ids.old.items }
+    ensures room { vec_capacity ids.old ≤ vec_capacity ids.new }
 {
     if let Ok(place) = ids.binary_search(&id) {
         ids.remove(place);

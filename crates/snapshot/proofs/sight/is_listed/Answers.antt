@@ -15,4 +15,4 @@ found ids x (Err i) h = sym (unlisted ids x (λ k lt e. elim (cases_lt k i) [ in
 
 pub returns : goal.returns
 returns c = c.is_ok.ensures.value ∙ found c.args.list.now c.args.id c.binary_search.result
-    (searched c.args.list.now c.args.id c.binary_search.result c.binary_search.ensures.position (ascends-order 0 c.args.max c.args.list.now c.requires))
+    (searched c.args.list.now c.args.id c.binary_search.result c.binary_search.ensures.position (ascends-order c.requires.0 c.requires.1 c.args.list.now c.requires.2))

@@ -1,5 +1,5 @@
 use Rattle.txn_table.proofs.Unended.{Counting}
 use Rattle.txn_table.proofs.txns.Txns.checkpoint_snapshot.Given as goal
 
-abbrev pub invariant-loop-seat : goal.invariant-loop-seat
-invariant-loop-seat l = Counting l.self.run l.self.next l.seat-items l.seat-index l.initial.snapshot.room l.snapshot
+abbrev pub invariant-loop-state : goal.invariant-loop-state
+invariant-loop-state l = Counting l.self.run l.self.next l.state-items l.state-index l.initial.snapshot.room l.snapshot

@@ -1,9 +1,13 @@
-use Rattle.std.proofs.Common.{◌≡◌, ap, ◌∙◌, replicate, arith}
-use Rattle.txn_table.specs.Seated.{opened}
+use Rattle.std.proofs.Common.{◌-◌, ◌∙◌, ap, replicate, sym, arith}
+use Rattle.std.proofs.lemmas.List.{length-replicate}
+use Rattle.txn_table.specs.SessionData.{opened}
 use Rattle.txn_table.proofs.TableLemmas.{room-new}
 use Rattle.txn_table.proofs.txns.Txns.new.Goals as goal
 
 pub invariant_of-result : goal.invariant_of-result
-invariant_of-result c =
-    let all : c.loop.seats.items ≡ replicate c.args.sessions (opened c.args.run) = c.loop.invariant ∙ ap (λ n. replicate n (opened c.args.run)) (omega arith) in
-    rw (all, c.new-2.ensures.items) (room-new c.args.run c.args.sessions c.requires)
+invariant_of-result c = rw (c.in_ok-running.ensures.items, c.in_ok-open.ensures.items) (record {
+  room = room-new c.args.run c.args.sessions c.requires;
+  ids = (let room = c.in_ok-running.ensures.capacity in omega arith);
+  places = c.in_ok-open.ensures.room;
+  spare = c.in_ok-spare.ensures.items ∙ ap (λ n. replicate (64 - n) (opened c.args.run)) (sym (length-replicate c.args.sessions (opened c.args.run)));
+})

@@ -1,66 +1,68 @@
 //! One session of the table.
 
 ghost use Rattle.std.specs.Prelude.{◌≡◌, ◌≤◌, ◌∷◌, ◌++◌, [], length, IfOk, OnOk, OnErr};
-ghost use Rattle.snapshot.specs.Sight.{Ascends, sight_at, sight_of};
+ghost use Rattle.snapshot.specs.Sight.{Ascends, IsSight, sight_at, sight_of};
 
-use crate::kept::Kept;
 use crate::phase::Phase;
+use crate::written_leaf::WrittenLeaf;
 use failure::NoMemory;
 use snapshot::Snapshot;
 use stamp::View;
 use std::alloc::Global;
 use std::marker::Model;
+use std::mem::replace;
 
 /// The greatest number of sessions.
-pub(crate) const SESSIONS_MAX: usize = 64;
+pub const SESSIONS_MAX: usize = 64;
 
 #[derive(Drop)]
-pub(crate) struct Seat {
+pub(crate) struct Session {
     phase: Phase,
     id: u64,
     read: u64,
     // With room for an id of each session.
     snapshot: Snapshot,
-    kept: Vec<Kept>,
+    written: Vec<WrittenLeaf>,
 }
 
-impl Model for Seat {
-    ghost use Rattle.std.specs.Prelude.{◌≤◌};
-    ghost use Rattle.txn_table.specs.Seated.{Seated};
+impl Model for Session {
+    ghost use Rattle.std.specs.Prelude.{◌≤◌, length};
+    ghost use Rattle.txn_table.specs.SessionData.{SessionData};
 
-    ghost Value = { Seated };
+    ghost Value = { SessionData };
 
     ghost view = { λ s.
-        record { phase = s.phase; id = s.id; read = s.read; sight = s.snapshot.sight; kept = s.kept.items } };
+        record { phase = s.phase; id = s.id; read = s.read; sight = s.snapshot.sight; written = s.written.items } };
 
-    ghost invariant = { λ s. 64 ≤ s.snapshot.room };
+    ghost invariant = { λ s.
+        (64 ≤ s.snapshot.room) × (length s.snapshot.sight.list ≤ 64) };
 }
 
-impl Seat {
-    ghost use Rattle.txn_table.specs.Seated.{Seated, is_idle, opened};
+impl Session {
+    ghost use Rattle.txn_table.specs.SessionData.{SessionData, is_busy, is_resolving, opened};
 
-    pub(crate) fn new(alloc: Global, run: u64) -> Result<Seat, NoMemory>
+    pub(crate) fn new(alloc: Global, run: u64) -> Result<Session, NoMemory>
         ensures { IfOk result (λ s. s ≡ opened run) }
     {
-        Ok(Seat {
+        Ok(Session {
             phase: Phase::Idle,
             id: 0,
             read: 0,
             snapshot: Snapshot::new(alloc, run, SESSIONS_MAX)?,
-            kept: Vec::new(alloc),
+            written: Vec::new(alloc),
         })
     }
 
     pub(crate) fn begin(&mut self, run: u64, next: u64, running: &[u64], read: u64)
         requires ascending { Ascends 1 running.now next }
         requires few { length running.now ≤ 64 }
-        ensures { self.new ≡ record { phase = Phase.Running; id = 0; read = read; sight = sight_at run next running.now; kept = [] } }
+        ensures { self.new ≡ record { phase = Phase.Running; id = 0; read = read; sight = sight_at run next running.now; written = [] } }
     {
         self.snapshot.fill(run, next, running);
         self.phase = Phase::Running;
         self.id = 0;
         self.read = read;
-        self.kept.clear();
+        self.written.clear();
     }
 
     pub(crate) fn set_phase(&mut self, phase: Phase)
@@ -75,11 +77,11 @@ impl Seat {
         self.id = id;
     }
 
-    pub(crate) fn keep(&mut self, kept: Kept) -> Result<(), NoMemory>
-        ensures ok { OnOk result (self.new ≡ record self.old { kept = self.old.kept ++ kept ∷ [] }) }
+    pub(crate) fn add_written(&mut self, leaf: WrittenLeaf) -> Result<(), NoMemory>
+        ensures ok { OnOk result (self.new ≡ record self.old { written = self.old.written ++ leaf ∷ [] }) }
         ensures err { OnErr result (self.new ≡ self.old) }
     {
-        match self.kept.push(kept) {
+        match self.written.push(leaf) {
             Ok(()) => Ok(()),
             Err(_) => Err(NoMemory),
         }
@@ -91,11 +93,16 @@ impl Seat {
         self.phase
     }
 
-    /// Whether the session has no transaction.
-    pub(crate) fn is_idle(&self) -> bool
-        ensures { result ≡ is_idle self.now.phase }
+    pub(crate) fn is_busy(&self) -> bool
+        ensures { result ≡ is_busy self.now.phase }
     {
-        matches!(self.phase, Phase::Idle)
+        !matches!(self.phase, Phase::Idle)
+    }
+
+    pub(crate) fn is_resolving(&self) -> bool
+        ensures { result ≡ is_resolving self.now.phase }
+    {
+        matches!(self.phase, Phase::Resolving)
     }
 
     pub(crate) fn id(&self) -> u64
@@ -116,17 +123,25 @@ impl Seat {
         self.snapshot.min()
     }
 
-    pub(crate) fn kept(&self) -> &[Kept]
-        ensures { result.now ≡ self.now.kept }
+    pub(crate) fn written(&self) -> &[WrittenLeaf]
+        ensures { result.now ≡ self.now.written }
     {
-        self.kept.as_slice()
+        self.written.as_slice()
+    }
+
+    pub(crate) fn take_written(&mut self, alloc: Global) -> Vec<WrittenLeaf>
+        ensures taken { result.items ≡ self.old.written }
+        ensures left { self.new ≡ record self.old { written = [] } }
+    {
+        replace(&mut self.written, Vec::new(alloc))
     }
 
     pub(crate) fn view(&self) -> View<'_>
         ensures sight { sight_of result ≡ self.now.sight }
         ensures own { result.own ≡ self.now.id }
         ensures read { result.read ≡ self.now.read }
-        ensures ascending { Ascends 0 result.list.now result.max }
+        ensures lent { IsSight (sight_of result) }
+        ensures few { length result.list.now ≤ 64 }
     {
         self.snapshot.view(self.id, self.read)
     }
