@@ -24,22 +24,22 @@ use Rattle.kv_model.proofs.Living.{stores-covers}
 use Rattle.kv_model.proofs.Finishing.{older-order}
 use Rattle.kv_model.proofs.Snapshots.{line-released}
 use Rattle.kv_model.proofs.Releases.{released-same, false-from}
-use Rattle.update_chain.specs.Updates.{Conflicts, settled, is_own, reply_of, reply_to, read_of}
+use Rattle.update_chain.specs.Updates.{Conflicts, unmarked_update, is_own, reply_of, reply_to, read_of}
 use Rattle.update_chain.specs.Answers.{ViewStands, is_admitted, content_of, GoesOn, ReplyStands}
 use Rattle.update_chain.proofs.Picking.{reads-pick}
 
 -- ---- frames: the chain's versions, then the cell
 
-member-append-left : {A : Type 0} (x : A) (xs ys : List A) → Member x xs → Member x (xs ++ ys)
+pub member-append-left : {A : Type 0} (x : A) (xs ys : List A) → Member x xs → Member x (xs ++ ys)
 member-append-left x [] ys there = absurd there
 member-append-left x (z ∷ xs) ys (inl same) = inl same
 member-append-left x (z ∷ xs) ys (inr there) = inr (member-append-left x xs ys there)
 
-member-append-right : {A : Type 0} (x : A) (xs ys : List A) → Member x ys → Member x (xs ++ ys)
+pub member-append-right : {A : Type 0} (x : A) (xs ys : List A) → Member x ys → Member x (xs ++ ys)
 member-append-right x [] ys there = there
 member-append-right x (z ∷ xs) ys there = inr (member-append-right x xs ys there)
 
-member-append : {A : Type 0} (x : A) (xs ys : List A) → Member x (xs ++ ys) → Member x xs ⊎ Member x ys
+pub member-append : {A : Type 0} (x : A) (xs ys : List A) → Member x (xs ++ ys) → Member x xs ⊎ Member x ys
 member-append x [] ys there = inr there
 member-append x (z ∷ xs) ys (inl same) = inl (inl same)
 member-append x (z ∷ xs) ys (inr there) = elim (member-append x xs ys there) [ inl one ↦ inl (inr one) | inr two ↦ inr two ]
@@ -47,11 +47,11 @@ member-append x (z ∷ xs) ys (inr there) = elim (member-append x xs ys there) [
 abbrev pub frame_of : List (Version Change) → Option (Version Change) → List (Version Change)
 frame_of held cell = held ++ option_to_list cell
 
-in-list : (held : List (Version Change)) (cell : Option (Version Change)) (v : Version Change) → InFrame held cell v → Member v (frame_of held cell)
+pub in-list : (held : List (Version Change)) (cell : Option (Version Change)) (v : Version Change) → InFrame held cell v → Member v (frame_of held cell)
 in-list held cell v (inl there) = member-append-left v held (option_to_list cell) there
 in-list held cell v (inr is) = member-append-right v held (option_to_list cell) (subst (λ o. Member v (option_to_list o)) (sym is) (inl refl))
 
-in-frame : (held : List (Version Change)) (cell : Option (Version Change)) (v : Version Change) → Member v (frame_of held cell) → InFrame held cell v
+pub in-frame : (held : List (Version Change)) (cell : Option (Version Change)) (v : Version Change) → Member v (frame_of held cell) → InFrame held cell v
 in-frame held cell v there = elim (member-append v held (option_to_list cell) there) [ inl one ↦ inl one | inr two ↦ inr (of-cell cell two) ] where
   of-cell : (cell : Option (Version Change)) → Member v (option_to_list cell) → cell ≡ Some v
   of-cell None there = absurd there
@@ -108,9 +108,9 @@ history-answers m s t l frame records found k none picks =
 -- ---- the committed versions of a chain
 
 -- what a released version of a running transaction would be
-own-unreleased : (m : Machine) (s : ℕ) (t : Transaction) (view : View) (v : Version Change) → Valid m → transaction_of m s ≡ Some t → t.phase ≡ Running → ViewStands m t view
-    → released m.history (length m.history) v.window.name ≡ true → is_own view (settled v) ≡ false
-own-unreleased m s t view v valid there running stands seen = false-from (is_own view (settled v)) (λ own.
+pub own-unreleased : (m : Machine) (s : ℕ) (t : Transaction) (view : View) (v : Version Change) → Valid m → transaction_of m s ≡ Some t → t.phase ≡ Running → ViewStands m t view
+    → released m.history (length m.history) v.window.name ≡ true → is_own view (unmarked_update v) ≡ false
+own-unreleased m s t view v valid there running stands seen = false-from (is_own view (unmarked_update v)) (λ own.
     let p = and_parts (not (view.own == 0)) ((v.window.name.run == view.run) && (v.window.name.id == view.own)) own in
     let q = and_parts (v.window.name.run == view.run) (v.window.name.id == view.own) p.1 in
     both_ways (released m.history (length m.history) (name_in m.run t)) (subst (λ z. PhaseStands z m.history (name_in m.run t) t) running (valid.sessions.each s t there).phase)
@@ -120,15 +120,15 @@ own-unreleased m s t view v valid there running stands seen = false-from (is_own
 -- a read of committed versions of the key's line
 pub settled-read : (m : Machine) (s : ℕ) (t : Transaction) (view : View) (table : ℕ) (key : List ℕ) (held : List (Version Change)) → Valid m → transaction_of m s ≡ Some t → t.phase ≡ Running → ViewStands m t view
     → ((v : Version Change) → Member v held → Member v (line m.history table key))
-    → read_of view (map settled held) ≡ reply_to view (option_map settled (find (is_admitted m t) held))
+    → read_of view (map unmarked_update held) ≡ reply_to view (option_map unmarked_update (find (is_admitted m t) held))
 settled-read m s t view table key held valid there running stands within =
     ap (reply_to view) (reads-pick m t.start view held stands.sees
     (λ v at. let seen = line-released m.history valid.orderly table key v (within v at) in (inl seen, own-unreleased m s t view v valid there running stands seen)))
-    ∙ ap (λ read. reply_to view (option_map settled (find (admits m.history t.start read) held))) stands.read
+    ∙ ap (λ read. reply_to view (option_map unmarked_update (find (admits m.history t.start read) held))) stands.read
 
 -- the reply of a committed version is what it gives
-settled-reply : (view : View) (v : Version Change) → reply_to view (Some (settled v)) ≡ reply_of v.change
-settled-reply view v = by-own (is_own view (settled v)) where
+settled-reply : (view : View) (v : Version Change) → reply_to view (Some (unmarked_update v)) ≡ reply_of v.change
+settled-reply view v = by-own (is_own view (unmarked_update v)) where
   by-own : (b : Bool) → (if b || (0 == 0) then reply_of v.change else Conflicts v.window.name.id) ≡ reply_of v.change
   by-own true = refl
   by-own false = refl
@@ -173,11 +173,11 @@ goes-on m s t table key held below records cell r none = record {
 }
 
 pub rests-stand : (m : Machine) (s : ℕ) (t : Transaction) (view : View) (table : ℕ) (key : List ℕ) (held below records : List (Version Change)) (cell : Option (Version Change)) → Valid m → t.phase ≡ Running → ViewStands m t view
-    → Rests m s t table key held below records cell → ReplyStands m s t table key cell records (read_of view (map settled held))
+    → Rests m s t table key held below records cell → ReplyStands m s t table key cell records (read_of view (map unmarked_update held))
 rests-stand m s t view table key held below records cell valid running stands r = subst (ReplyStands m s t table key cell records)
     (sym (settled-read m s t view table key held valid r.shown.there running stands (λ v at. r.within v (r.shown.stores.kept.within v (inl (member-append-left v held (option_to_list cell) at))))))
     (by-found (find (is_admitted m t) held) refl) where
-      by-found : (o : Option (Version Change)) → find (is_admitted m t) held ≡ o → ReplyStands m s t table key cell records (reply_to view (option_map settled o))
+      by-found : (o : Option (Version Change)) → find (is_admitted m t) held ≡ o → ReplyStands m s t table key cell records (reply_to view (option_map unmarked_update o))
       by-found None is = goes-on m s t table key held below records cell r is
       by-found (Some v) is = subst (ReplyStands m s t table key cell records) (sym (settled-reply view v)) (change-stands m s t table key cell records v.change
           (answer-below m s t table key held below records cell (Some v) r (frame-answers m s t below (frame_of held cell) records v r.shown (frame-held m t held cell (Some v) is))))

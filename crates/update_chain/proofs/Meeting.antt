@@ -1,75 +1,21 @@
 -- When the update on top of a chain is met.
-use Rattle.std.proofs.Common.{◌≡◌, ◌⊎◌, ◌<◌, ◌≤◌, ℕ, zero, suc, refl, ap, sym, ◌∙◌, Bool, true, false, ◌&&◌, ◌||◌, List, [], ◌∷◌, length, inl, inr, subst, arith}
-use Rattle.std.specs.Prelude.{find, Some, nat_lt, nat_le, ◌==◌, if◌then◌else◌}
-use Rattle.std.proofs.lemmas.Bool.{both_ways, and_parts, and_left, and_right, and_from, or_left, or_right, or_cases, ne_eqb, leb-false, or_parts, or_from, and_cases, lt-leb}
+use Rattle.std.proofs.Common.{◌≡◌, ◌⊎◌, ◌<◌, ℕ, zero, suc, refl, ap, sym, ◌∙◌, true, false, ◌&&◌, List, ◌∷◌, length, inl, inr, subst, arith}
+use Rattle.std.specs.Prelude.{find, Some, if◌then◌else◌}
+use Rattle.std.proofs.lemmas.Bool.{both_ways, and_left, and_right, ne_eqb, and_cases}
 use Rattle.item.specs.declared.Change.{Change}
 use Rattle.stamp.specs.declared.Name.{Name}
 use Rattle.stamp.specs.declared.Version.{Version}
 use Rattle.kv_model.specs.Holds.{Member}
-use Rattle.kv_model.specs.History.{Entry, Create, Commit, Prepare, Resolve, Undo, Rts, Write, admits, name_eq, reads_at, released, releases, writes_at}
+use Rattle.kv_model.specs.History.{Write, admits, reads_at, released, writes_at}
 use Rattle.kv_model.specs.Machine.{Machine, Transaction, Phase, Running, Failed, Prepared, Resolving, Leaving, transaction_of, name_of}
-use Rattle.kv_model.specs.Reads.{prepared_in, IsPrepareAt, PreparedAt, own_write}
+use Rattle.kv_model.specs.Reads.{prepared_in, PreparedAt, own_write}
 use Rattle.kv_model.specs.Valid.{Valid, PhaseStands}
 use Rattle.kv_model.specs.Pending.{Update as ModelUpdate, MarkStands, BelowStands, IsOutcome}
 use Rattle.kv_model.proofs.Newest.{find-member}
-use Rattle.kv_model.proofs.Releases.{unreleased, false-from}
+use Rattle.kv_model.proofs.Prepares.{unprepared, unreleased-at, prepared-at, later-unread}
 use Rattle.snapshot.specs.Matters.{Counts, HasWrites}
 use Rattle.update_chain.specs.declared.update.Update.{Update}
 use Rattle.update_chain.specs.Updates.{stamp_at}
-
--- ---- prepares
-
--- who is prepared was released
-pub prepared-released : (history : List Entry) (n read : ℕ) (x : Name) → prepared_in history n read x ≡ true → released history n x ≡ true
-prepared-released [] n read x e = absurd (cc)
-prepared-released (Create table ∷ older) n read x e = prepared-released older n read x e
-prepared-released (Commit name writes ∷ older) n read x e = or_right (name_eq name x && nat_lt (length older) n) (released older n x) (prepared-released older n read x e)
-prepared-released (Resolve name writes ∷ older) n read x e = prepared-released older n read x e
-prepared-released (Undo name ∷ older) n read x e = prepared-released older n read x e
-prepared-released (Rts stable ∷ older) n read x e = prepared-released older n read x e
-prepared-released (Prepare name stamp ∷ older) n read x e = elim (or_cases (name_eq name x && (nat_lt (length older) n && reads_at read stamp)) (prepared_in older n read x) e) [
-  | inl here ↦ let p = and_parts (name_eq name x) (nat_lt (length older) n && reads_at read stamp) here in
-      or_left (name_eq name x && nat_lt (length older) n) (released older n x)
-      (and_from (name_eq name x) (nat_lt (length older) n) p.0 (and_parts (nat_lt (length older) n) (reads_at read stamp) p.1).0)
-  | inr later ↦ or_right (name_eq name x && nat_lt (length older) n) (released older n x) (prepared-released older n read x later)
-]
-
-unprepared : (history : List Entry) (n read : ℕ) (x : Name) → released history (length history) x ≡ false → prepared_in history n read x ≡ false
-unprepared history n read x none = false-from (prepared_in history n read x) (λ e. unreleased history n x none (prepared-released history n read x e))
-
-unreleased-at : (history : List Entry) (n : ℕ) (x : Name) → released history (length history) x ≡ false → released history n x ≡ false
-unreleased-at history n x none = false-from (released history n x) (unreleased history n x none)
-
--- an entry that does not release a name prepares none of it
-prepared-past : (entry : Entry) (older : List Entry) (n read : ℕ) (x : Name) → releases entry x ≡ false → prepared_in (entry ∷ older) n read x ≡ prepared_in older n read x
-prepared-past (Create table) older n read x none = refl
-prepared-past (Commit name writes) older n read x none = refl
-prepared-past (Resolve name writes) older n read x none = refl
-prepared-past (Undo name) older n read x none = refl
-prepared-past (Rts stable) older n read x none = refl
-prepared-past (Prepare name stamp) older n read x none = ap (λ b. b || prepared_in older n read x) (and_left (name_eq name x) (nat_lt (length older) n && reads_at read stamp) none)
-
--- its prepare is met where the name is seen and the read stamp admits the stamp
-prepared-here : (entry : Entry) (older : List Entry) (n read stamp : ℕ) (x : Name) → IsPrepareAt entry x stamp → released older (length older) x ≡ false
-    → prepared_in (entry ∷ older) n read x ≡ (released (entry ∷ older) n x && reads_at read stamp)
-prepared-here (Create table) older n read stamp x is none = absurd is
-prepared-here (Commit name writes) older n read stamp x is none = absurd is
-prepared-here (Resolve name writes) older n read stamp x is none = absurd is
-prepared-here (Undo name) older n read stamp x is none = absurd is
-prepared-here (Rts stable) older n read stamp x is none = absurd is
-prepared-here (Prepare name at) older n read stamp x is none =
-    rw (is.0, is.1, unprepared older n read x none, unreleased-at older n x none) (alone (nat_lt (length older) n) (reads_at read stamp)) where
-      alone : (b c : Bool) → ((true && (b && c)) || false) ≡ (((true && b) || false) && c)
-      alone true true = refl
-      alone true false = refl
-      alone false true = refl
-      alone false false = refl
-
-pub prepared-at : (history : List Entry) (n read stamp : ℕ) (x : Name) → PreparedAt history x stamp → prepared_in history n read x ≡ (released history n x && reads_at read stamp)
-prepared-at [] n read stamp x at = absurd at
-prepared-at (entry ∷ older) n read stamp x (inl here) = prepared-here entry older n read stamp x here.0 here.1
-prepared-at (entry ∷ older) n read stamp x (inr past) = prepared-past entry older n read x past.0 ∙ (prepared-at older n read stamp x past.1
-    ∙ ap (λ b. b && reads_at read stamp) (sym (ap (λ b. b || released older n x) (and_left (releases entry x) (nat_lt (length older) n) past.0))))
 
 -- ---- the update on top
 
@@ -109,13 +55,8 @@ tops-unreleased m n read name u stands below none rest = record {
   skips = λ e. ap (find (admits m.history n read)) rest;
 }
 
-marked-stamp : (u : ModelUpdate) → 0 < u.prepared → stamp_at (back u) ≡ u.prepared
+pub marked-stamp : (u : ModelUpdate) → 0 < u.prepared → stamp_at (back u) ≡ u.prepared
 marked-stamp u some = ap (λ b. if b then u.version.window.commit else u.prepared) (ne_eqb u.prepared 0 (λ e. absurd (omega arith)))
-
--- a stamp that is not before one that is not admitted is not admitted
-later-unread : (read first second : ℕ) → first ≤ second → reads_at read first ≡ false → reads_at read second ≡ false
-later-unread read first second le e = let p = or_parts (read == 0) (nat_le first read) e in let less = leb-false first read p.1 in
-    or_from (read == 0) (nat_le second read) p.0 (lt-leb second read (omega arith))
 
 -- the outcome of an update that is not met is not admitted
 outcome-unread : (m : Machine) (n read : ℕ) (name : Name) (u : ModelUpdate) (v : Version Change) → IsOutcome name u v → (released m.history n name && reads_at read u.prepared) ≡ false → admits m.history n read v ≡ false
@@ -145,7 +86,7 @@ tops m n read Failed t u stands below writes phase mark rest = tops-unreleased m
 tops m n read Leaving t u stands below writes phase mark rest = tops-unreleased m n read (name_of m t) u stands below phase rest
 tops m n read (Prepared stamp) t u stands below writes phase mark rest = tops-prepared m n read (name_of m t) u stands below (let some = phase.marked in omega arith)
     (subst (λ s. PreparedAt m.history (name_of m t) s) (sym mark) (phase.prepared writes.0 writes.1)) (inl rest)
-tops m n read Resolving t u stands below writes phase mark rest = tops-prepared m n read (name_of m t) u stands below mark.0 mark.1 rest
+tops m n read Resolving t u stands below writes phase mark rest = tops-prepared m n read (name_of m t) u stands below mark.0 mark.1 (elim rest [ inl same ↦ inl same.0 | inr one ↦ inr one ])
 
 -- what stands is what is below, or one version more
 pub below-cases : (p : Phase) (name : Name) (u : ModelUpdate) (stands below : List (Version Change)) → BelowStands p name u stands below → (stands ≡ below) ⊎ ((v : Version Change) × (stands ≡ v ∷ below))
@@ -153,4 +94,4 @@ below-cases Running name u stands below rest = inl rest
 below-cases Failed name u stands below rest = inl rest
 below-cases Leaving name u stands below rest = inl rest
 below-cases (Prepared stamp) name u stands below rest = inl rest
-below-cases Resolving name u stands below rest = elim rest [ inl same ↦ inl same | inr one ↦ inr (one.0, one.2) ]
+below-cases Resolving name u stands below rest = elim rest [ inl same ↦ inl same.0 | inr one ↦ inr (one.0, one.2) ]

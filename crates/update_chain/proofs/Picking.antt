@@ -10,18 +10,18 @@ use Rattle.kv_model.specs.History.{admits, reads_at}
 use Rattle.kv_model.specs.Machine.{Machine}
 use Rattle.snapshot.specs.Sight.{sight_of, is_seen}
 use Rattle.snapshot.specs.Matters.{Matters, SeesFirst}
-use Rattle.update_chain.specs.Updates.{settled, decides, is_own}
+use Rattle.update_chain.specs.Updates.{unmarked_update, decides, is_own}
 
 -- one committed version of another decides where the model admits it
-decides-settled : (m : Machine) (n : ℕ) (view : View) (v : Version Change) → SeesFirst m n (sight_of view) → Matters m v.window.name → is_own view (settled v) ≡ false
-    → decides view (settled v) ≡ admits m.history n view.read v
+decides-settled : (m : Machine) (n : ℕ) (view : View) (v : Version Change) → SeesFirst m n (sight_of view) → Matters m v.window.name → is_own view (unmarked_update v) ≡ false
+    → decides view (unmarked_update v) ≡ admits m.history n view.read v
 decides-settled m n view v sees matters other =
     ap (λ own. own || (is_seen (sight_of view) v.window.name && reads_at view.read v.window.commit)) other
     ∙ ap (λ seen. seen && reads_at view.read v.window.commit) (sees.sees v.window.name matters)
 
 pub reads-pick : (m : Machine) (n : ℕ) (view : View) (versions : List (Version Change)) → SeesFirst m n (sight_of view)
-    → ((v : Version Change) → Member v versions → Matters m v.window.name × (is_own view (settled v) ≡ false))
-    → find (decides view) (map settled versions) ≡ option_map settled (find (admits m.history n view.read) versions)
+    → ((v : Version Change) → Member v versions → Matters m v.window.name × (is_own view (unmarked_update v) ≡ false))
+    → find (decides view) (map unmarked_update versions) ≡ option_map unmarked_update (find (admits m.history n view.read) versions)
 reads-pick m n view [] sees others = refl
 reads-pick m n view (v ∷ older) sees others =
     let here = others v (inl refl) in

@@ -10,13 +10,13 @@ use Rattle.kv_model.specs.Machine.{Machine}
 use Rattle.snapshot.specs.Sight.{sight_of}
 use Rattle.snapshot.specs.Matters.{Matters, SeesFirst}
 use Rattle.update_chain.specs.declared.update.Update.{Update}
-use Rattle.update_chain.specs.Updates.{settled, decides, is_own, covers_at, trimmed}
+use Rattle.update_chain.specs.Updates.{unmarked_update, decides, is_own, covers_at, trimmed}
 
 -- among committed versions of others a read picks the one that the model admits first
 abbrev pub ReadsPick : Type 0
 ReadsPick = (m : Machine) (n : ℕ) (view : View) (versions : List (Version Change)) → SeesFirst m n (sight_of view)
-    → ((v : Version Change) → Member v versions → Matters m v.window.name × (is_own view (settled v) ≡ false))
-    → find (decides view) (map settled versions) ≡ option_map settled (find (admits m.history n view.read) versions)
+    → ((v : Version Change) → Member v versions → Matters m v.window.name × (is_own view (unmarked_update v) ≡ false))
+    → find (decides view) (map unmarked_update versions) ≡ option_map unmarked_update (find (admits m.history n view.read) versions)
 
 -- a trim leaves the newest updates; where any is lost, the last that is left covers them all
 abbrev pub TrimsLoseCovered : Type 0

@@ -2,3 +2,10 @@ pub mod Updates
 pub mod Looks
 pub mod ChainLaws
 pub mod Answers
+pub mod Writing
+pub mod EventLaws
+pub mod FrameLaws
+pub mod RollbackLaws
+pub mod UnderLaws
+pub mod LaterLooks
+pub mod StaySilent

@@ -1,12 +1,13 @@
 -- A chain as the list of its updates, newest first: what each call makes of it, and what a read of it answers.
-use Rattle.std.specs.Prelude.{ℕ, Bool, ◌&&◌, ◌||◌, ◌==◌, not, nat_lt, nat_le, List, [], ◌∷◌, find, Option, Some, None, if◌then◌else◌}
+use Rattle.std.specs.Prelude.{ℕ, Bool, true, false, ◌&&◌, ◌||◌, ◌==◌, not, nat_le, List, [], ◌∷◌, find, filter, Option, Some, None, if◌then◌else◌}
 use Rattle.item.specs.declared.Change.{Change}
 use Rattle.item.specs.declared.Change.TheVariants.{Put, Remove}
 use Rattle.stamp.specs.declared.Name.{Name}
 use Rattle.stamp.specs.declared.Version.{Version}
 use Rattle.stamp.specs.declared.View.{View}
-use Rattle.kv_model.specs.History.{name_eq, reads_at, down_to}
+use Rattle.kv_model.specs.History.{name_eq, reads_at, down_to, is_stable}
 use Rattle.kv_model.specs.Pending.{Update as ModelUpdate}
+use Rattle.snapshot.specs.Past.{is_below}
 use Rattle.snapshot.specs.Sight.{is_seen, sight_of}
 use Rattle.update_chain.specs.declared.update.Update.{Update}
 
@@ -15,21 +16,26 @@ abbrev pub update_in : Update → ModelUpdate
 update_in u = record { version = u.version; prepared = u.prepared }
 
 -- a committed version in a chain
-abbrev pub settled : Version Change → Update
-settled v = record { version = v; prepared = 0 }
+abbrev pub unmarked_update : Version Change → Update
+unmarked_update v = record { version = v; prepared = 0 }
 
-abbrev pub is_by : Name → Update → Bool
-is_by name u = name_eq u.version.window.name name
+abbrev pub is_named : Name → Update → Bool
+is_named name u = name_eq u.version.window.name name
 
 -- the newest update, where it is of this name, is changed
 abbrev pub front_changed : Name → (Update → Update) → List Update → List Update
 front_changed name change [] = []
-front_changed name change (u ∷ older) = (if is_by name u then change u else u) ∷ older
+front_changed name change (u ∷ older) = (if is_named name u then change u else u) ∷ older
 
 -- the update on top, in place of an earlier one of its own name
 abbrev pub installed : Update → List Update → List Update
 installed u [] = u ∷ []
-installed u (v ∷ older) = if is_by u.version.window.name v then u ∷ older else u ∷ (v ∷ older)
+installed u (v ∷ older) = if is_named u.version.window.name v then u ∷ older else u ∷ (v ∷ older)
+
+-- the newest update is of this name
+abbrev pub is_led_by : Name → List Update → Bool
+is_led_by name [] = false
+is_led_by name (u ∷ older) = is_named name u
 
 -- committed at these stamps; the mark goes
 abbrev pub stamped : ℕ → ℕ → Update → Update
@@ -44,7 +50,7 @@ marked prepare u = record { version = u.version; prepared = prepare }
 -- without the newest update, where it is of this name
 abbrev pub undone : Name → List Update → List Update
 undone name [] = []
-undone name (u ∷ older) = if is_by name u then older else u ∷ older
+undone name (u ∷ older) = if is_named name u then older else u ∷ older
 
 -- ---- reads
 
@@ -85,9 +91,6 @@ read_of view chain = reply_to view (find (decides view) chain)
 
 -- ---- trims
 
-abbrev pub is_below : Name → Name → Bool
-is_below x floor = nat_lt x.run floor.run || ((x.run == floor.run) && nat_lt x.id floor.id)
-
 -- what is older is out of reach: committed, durable at the pin, and seen by every snapshot
 abbrev pub covers_at : ℕ → Name → Update → Bool
 covers_at pin floor u = (u.prepared == 0) && (nat_le u.version.window.durable pin && is_below u.version.window.name floor)
@@ -95,3 +98,14 @@ covers_at pin floor u = (u.prepared == 0) && (nat_le u.version.window.durable pi
 -- down to the newest update that covers, or all
 abbrev pub trimmed : ℕ → Name → List Update → List Update
 trimmed pin floor chain = down_to (covers_at pin floor) chain
+
+-- ---- rollbacks to stable
+
+-- what is durable at the stable stamp, where there is one
+abbrev pub rolled_back : ℕ → List Update → List Update
+rolled_back stable chain = filter (λ u. is_stable stable u.version) chain
+
+-- the newest update stays, where there is one
+abbrev pub does_front_stay : ℕ → Option Update → Bool
+does_front_stay stable None = true
+does_front_stay stable (Some u) = is_stable stable u.version

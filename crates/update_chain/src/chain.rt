@@ -1,31 +1,39 @@
 //! Chains of updates.
 
-ghost use Rattle.std.specs.Prelude.{◌≡◌, ◌↔◌, [], length, take, slice_get, option_copied, IsTrue, IsOk, OnOk, OnErr, if◌then◌else◌};
-ghost use Rattle.snapshot.specs.Sight.{Ascends};
+ghost use Rattle.std.specs.Prelude.{◌≡◌, ◌↔◌, [], length, take, slice_get, option_copied, IsTrue, OnOk, OnErr, if◌then◌else◌};
+ghost use Rattle.snapshot.specs.Sight.{IsSight, sight_of};
 ghost use Rattle.update_chain.specs.Looks.{reply_in};
-ghost use Rattle.update_chain.specs.Updates.{front_changed, installed, is_by, stamped, marked, undone, read_of, trimmed};
+ghost use Rattle.update_chain.specs.Updates.{does_front_stay, front_changed, installed, is_led_by, is_named, stamped, marked, undone, read_of, rolled_back, trimmed};
+ghost use Rattle.update_chain.specs.Writing.{judgement_of};
 
-use crate::look::{Read, answer, covers, decides, is_same};
+use crate::look::{Judgement, Read, answer, covers, decides, is_same, is_stable, judge_update};
 use crate::update::Update;
 use failure::NoMemory;
 use stamp::{Name, View};
 use std::alloc::Global;
 use std::collections::VecDeque;
 use std::marker::Model;
+use std::mem::replace;
 
-/// The updates of a key, newest first.
+/// The updates of a key, newest first. A chain of one update takes no memory of its own.
 #[derive(Drop)]
 pub struct Chain {
-    updates: VecDeque<Update>,
+    // None where the chain is empty.
+    newest: Option<Update>,
+    // The others, newest first.
+    older: VecDeque<Update>,
 }
 
 impl Model for Chain {
-    ghost use Rattle.std.specs.Prelude.{List};
+    ghost use Rattle.std.specs.Prelude.{◌≡◌, List, [], ◌++◌, IfNone};
+    ghost use Rattle.std.specs.Option.{option_to_list};
     ghost use Rattle.update_chain.specs.declared.update.Update.{Update};
 
     ghost Value = { List Update };
 
-    ghost view = { λ c. c.updates.items };
+    ghost view = { λ c. option_to_list c.newest ++ c.older.items };
+
+    ghost invariant = { λ c. IfNone c.newest (c.older.items ≡ []) };
 }
 
 impl Chain {
@@ -34,7 +42,8 @@ impl Chain {
         ensures { result ≡ [] }
     {
         Chain {
-            updates: VecDeque::new(alloc),
+            newest: None,
+            older: VecDeque::new(alloc),
         }
     }
 
@@ -42,45 +51,72 @@ impl Chain {
     pub fn len(&self) -> usize
         ensures { result ≡ length self.now }
     {
-        self.updates.len()
+        match &self.newest {
+            None => 0,
+            Some(_) => self.older.len() + 1,
+        }
     }
 
     /// Whether it has no updates.
     pub fn is_empty(&self) -> bool
         ensures { IsTrue result ↔ (length self.now ≡ 0) }
     {
-        self.updates.is_empty()
+        self.newest.is_none()
     }
 
     /// The update at this place, the newest at 0.
     pub fn get(&self, place: usize) -> Option<&Update>
         ensures { option_copied result ≡ slice_get self.now place }
     {
-        self.updates.get(place)
+        match &self.newest {
+            None => None,
+            Some(newest) => match place {
+                0 => Some(newest),
+                _ => self.older.get(place - 1),
+            },
+        }
     }
 
-    /// The newest update.
+    /// The newest update. `O(1)`.
     pub fn newest(&self) -> Option<&Update>
         ensures { option_copied result ≡ slice_get self.now 0 }
     {
-        self.updates.front()
+        match &self.newest {
+            None => None,
+            Some(newest) => Some(newest),
+        }
+    }
+
+    /// Whether a write of the key by the transaction that lends the view is allowed: where the
+    /// newest update is its own, or is not marked, seen and admitted. Refused for the newest update
+    /// otherwise. Takes no memory. `O(log r)`, with r ids that the view lists.
+    pub fn judge(&self, view: &View<'_>) -> Judgement
+        requires { IsSight (sight_of view.now) }
+        ensures { result ≡ judgement_of view.now self.now }
+    {
+        match &self.newest {
+            None => Judgement::Allowed,
+            Some(newest) => judge_update(view, newest),
+        }
     }
 
     /// Puts an update on top, in place of the newest one where that is of the same transaction.
+    /// Takes memory where the chain has an update of another. `O(1)`.
     pub fn install(&mut self, update: Update) -> Result<(), NoMemory>
         ensures installed { OnOk result (self.new ≡ installed update self.old) }
         ensures kept { OnErr result (self.new ≡ self.old) }
     {
-        if let Some(newest) = self.updates.front_mut() {
-            if is_same(newest.version.window.name, update.version.window.name) {
-                *newest = update;
-                return Ok(());
-            }
+        if self.is_empty() || self.is_led_by(update.version.window.name) {
+            self.newest = Some(update);
+            return Ok(());
         }
-        match self.updates.push_front(update) {
-            Ok(()) => Ok(()),
-            Err(_) => Err(NoMemory),
+        if let Err(_) = self.older.reserve(1) {
+            return Err(NoMemory);
         }
+        if let Some(newest) = replace(&mut self.newest, Some(update)) {
+            self.older.push_front_reserved(newest);
+        }
+        Ok(())
     }
 
     /// Commits the newest update at these stamps, where it is of this transaction: its mark goes.
@@ -88,7 +124,7 @@ impl Chain {
     pub fn stamp(&mut self, name: Name, commit: u64, durable: u64)
         ensures { self.new ≡ front_changed name (stamped commit durable) self.old }
     {
-        if let Some(newest) = self.updates.front_mut() {
+        if let Some(newest) = &mut self.newest {
             stamp_one(newest, name, commit, durable);
         }
     }
@@ -98,7 +134,7 @@ impl Chain {
     pub fn mark_prepared(&mut self, name: Name, prepare: u64)
         ensures { self.new ≡ front_changed name (marked prepare) self.old }
     {
-        if let Some(newest) = self.updates.front_mut() {
+        if let Some(newest) = &mut self.newest {
             mark_one(newest, name, prepare);
         }
     }
@@ -107,12 +143,8 @@ impl Chain {
     pub fn undo(&mut self, name: Name)
         ensures { self.new ≡ undone name self.old }
     {
-        let is_there = match self.updates.front() {
-            None => false,
-            Some(newest) => is_same(newest.version.window.name, name),
-        };
-        if is_there {
-            let _undone = self.updates.pop_front();
+        if self.is_led_by(name) {
+            self.newest = self.older.pop_front();
         }
     }
 
@@ -120,32 +152,91 @@ impl Chain {
     /// that the view sees and its read stamp admits, a conflict where that is prepared. Takes no
     /// memory. `O(k log r)`, with k updates down to that one and r ids that the view lists.
     pub fn read(&self, view: &View<'_>) -> Read<'_>
-        requires { Ascends 0 view.now.list.now view.now.max }
+        requires { IsSight (sight_of view.now) }
         ensures { reply_in result ≡ read_of view.now self.now }
     {
-        for i in 0..self.updates.len() {
-            let update = &self.updates[i];
-            if decides(view, update) {
-                return answer(view, update);
+        match &self.newest {
+            None => Read::Older,
+            Some(newest) => {
+                if decides(view, newest) {
+                    answer(view, newest)
+                } else {
+                    read_older(&self.older, view)
+                }
             }
         }
-        Read::Older
     }
 
     /// Drops what is out of reach: all updates older than the newest that is committed, durable at
     /// the pin stamp and of a name below the floor. Takes no memory. `O(n)` in the updates.
-    pub fn trim(&mut self, pin: u64, floor: Name) -> Result<(), NoMemory>
-        ensures trimmed { self.new ≡ trimmed pin floor self.old }
-        ensures sure { IsOk result }
+    pub fn trim(&mut self, pin: u64, floor: Name)
+        ensures { self.new ≡ trimmed pin floor self.old }
     {
-        let kept = covered_from(&self.updates, pin, floor);
-        self.updates.truncate(kept);
-        Ok(())
+        let is_cover = match &self.newest {
+            None => false,
+            Some(newest) => covers(newest, pin, floor),
+        };
+        let kept = match is_cover {
+            true => 0,
+            false => covered_from(&self.older, pin, floor),
+        };
+        self.older.truncate(kept);
+    }
+
+    /// Rolls back to stable: keeps the updates that are durable at the stable stamp, or all where
+    /// that is 0. Takes no memory. `O(n)` in the updates.
+    pub fn roll_back_to_stable(&mut self, stable: u64)
+        ensures { self.new ≡ rolled_back stable self.old }
+    {
+        keep_stable(&mut self.older, stable);
+        if !does_front_stay(&self.newest, stable) {
+            self.newest = self.older.pop_front();
+        }
+    }
+
+    // Whether the newest update is of this transaction.
+    fn is_led_by(&self, name: Name) -> bool
+        ensures { result ≡ is_led_by name self.now }
+    {
+        match &self.newest {
+            None => false,
+            Some(newest) => is_same(newest.version.window.name, name),
+        }
     }
 }
 
+fn keep_stable(updates: &mut VecDeque<Update>, stable: u64)
+    ensures { updates.new.items ≡ rolled_back stable updates.old.items }
+{
+    updates.retain(|update| is_stable(update, stable));
+}
+
+// Whether a rollback to this stable stamp leaves the front as it is, where there is one.
+fn does_front_stay(front: &Option<Update>, stable: u64) -> bool
+    ensures { result ≡ does_front_stay stable front.now }
+{
+    match front {
+        None => true,
+        Some(update) => is_stable(update, stable),
+    }
+}
+
+// What a read answers by the updates below the newest.
+fn read_older<'a>(older: &'a VecDeque<Update>, view: &View<'_>) -> Read<'a>
+    requires { IsSight (sight_of view.now) }
+    ensures { reply_in result ≡ read_of view.now older.now.items }
+{
+    for i in 0..older.len() {
+        let update = &older[i];
+        if decides(view, update) {
+            return answer(view, update);
+        }
+    }
+    Read::Older
+}
+
 fn stamp_one(update: &mut Update, name: Name, commit: u64, durable: u64)
-    ensures { update.new ≡ (if is_by name update.old then stamped commit durable update.old else update.old) }
+    ensures { update.new ≡ (if is_named name update.old then stamped commit durable update.old else update.old) }
 {
     if is_same(update.version.window.name, name) {
         update.version.window.commit = commit;
@@ -155,7 +246,7 @@ fn stamp_one(update: &mut Update, name: Name, commit: u64, durable: u64)
 }
 
 fn mark_one(update: &mut Update, name: Name, prepare: u64)
-    ensures { update.new ≡ (if is_by name update.old then marked prepare update.old else update.old) }
+    ensures { update.new ≡ (if is_named name update.old then marked prepare update.old else update.old) }
 {
     if is_same(update.version.window.name, name) {
         update.prepared = prepare;

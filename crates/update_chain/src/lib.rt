@@ -5,21 +5,38 @@
 //! answers by the newest update that its view admits (`reads_pick` says that it is the model's),
 //! that a read of a chain that stands for its key is the model's, with its conflicts
 //! (`reads_stand`), and that a trim loses only what a newer update covers (`trims_lose_covered`).
-//! Leaves to the caller whether a write may be accepted, and versions that stand elsewhere.
+//! `events` promises that a chain goes on to stand for its key, one law for each event and for what
+//! is done to the chain beside it; `frames` what its newest update tells a write and a commit, and
+//! what a rollback to stable leaves; `later` what a look in the history answers after a look in the
+//! chain. The newest update lies in the chain itself, so that a chain of one takes no memory; only
+//! `install` over another's update may want it. Leaves to the caller the versions that stand
+//! elsewhere.
 #![tactic(auto)]
 
 ghost use Rattle.update_chain.specs.Answers.{ReadsStand};
 ghost use Rattle.update_chain.specs.ChainLaws.{ReadsPick, TrimsLoseCovered};
 
 mod chain;
+mod events;
+mod frames;
+mod later;
 mod look;
 #[cfg(test)]
 mod tests;
 mod update;
 
 pub use chain::Chain;
+pub use events::{
+    chains_go_on, commits_stand, ends_stand, installs_stand, marks_stand, pasts_go_on,
+    prepares_stand, resolves_stand, stamps_stand, trims_stand, undos_stand,
+};
 pub use failure::NoMemory;
-pub use look::Read;
+pub use frames::{
+    orders_stand, reads_are_present, records_lie_under, rollbacks_bring_back, rollbacks_keep,
+    views_admit, writes_find, writes_stand,
+};
+pub use later::{admitted_go_on, chains_stay_silent, later_looks_answer};
+pub use look::{Judgement, Read, judge_update};
 pub use update::Update;
 
 /// Among committed versions of others, a read of a chain picks the one that the model admits.

@@ -1,10 +1,12 @@
 //! How a view looks at an update.
 
 ghost use Rattle.std.specs.Prelude.{◌≡◌};
-ghost use Rattle.kv_model.specs.History.{name_eq, reads_at};
-ghost use Rattle.snapshot.specs.Sight.{Ascends};
-ghost use Rattle.update_chain.specs.Updates.{covers_at, decides, is_below, is_own, reply_by, reply_of};
+ghost use Rattle.kv_model.specs.History.{is_stable, name_eq, reads_at};
+ghost use Rattle.snapshot.specs.Past.{is_below};
+ghost use Rattle.snapshot.specs.Sight.{IsSight, sight_of};
+ghost use Rattle.update_chain.specs.Updates.{covers_at, decides, is_own, reply_by, reply_of};
 ghost use Rattle.update_chain.specs.Looks.{reply_in};
+ghost use Rattle.update_chain.specs.Writing.{judgement_by, may_follow_by};
 
 use crate::update::Update;
 use item::{Change, Item};
@@ -21,6 +23,15 @@ pub enum Read<'a> {
     Conflict(u64),
     /// The chain has no update that is admitted: older versions may stand elsewhere.
     Older,
+}
+
+/// Whether a write of a key is allowed.
+#[derive(Clone, Copy, Debug, PartialEq, Eq)]
+pub enum Judgement {
+    /// It may come.
+    Allowed,
+    /// The newest update, of the transaction of this name, refuses it.
+    Refused(Name),
 }
 
 pub(crate) fn is_same(a: Name, b: Name) -> bool
@@ -44,7 +55,7 @@ fn is_admitted(read: u64, stamp: u64) -> bool
 
 // Whether a read ends at this update.
 pub(crate) fn decides(view: &View<'_>, update: &Update) -> bool
-    requires { Ascends 0 view.now.list.now view.now.max }
+    requires { IsSight (sight_of view.now) }
     ensures { result ≡ decides view.now update.now }
 {
     if is_own(view, update) {
@@ -57,6 +68,30 @@ pub(crate) fn decides(view: &View<'_>, update: &Update) -> bool
         update.prepared
     };
     is_admitted(view.read, stamp) && is_seen(view, window.name)
+}
+
+// Whether a write may follow this update: its own, or one that is not marked, seen and admitted.
+fn may_follow(view: &View<'_>, update: &Update) -> bool
+    requires { IsSight (sight_of view.now) }
+    ensures { result ≡ may_follow_by view.now update.now }
+{
+    if is_own(view, update) {
+        return true;
+    }
+    let window = update.version.window;
+    update.prepared == 0 && is_seen(view, window.name) && is_admitted(view.read, window.commit)
+}
+
+/// How an update judges a write over it: a cell, where the chain of its key is empty.
+pub fn judge_update(view: &View<'_>, update: &Update) -> Judgement
+    requires { IsSight (sight_of view.now) }
+    ensures { result ≡ judgement_by view.now update.now }
+{
+    if may_follow(view, update) {
+        Judgement::Allowed
+    } else {
+        Judgement::Refused(update.version.window.name)
+    }
 }
 
 fn content(change: &Change) -> Read<'_>
@@ -91,4 +126,11 @@ pub(crate) fn covers(update: &Update, pin: u64, floor: Name) -> bool
 {
     let window = update.version.window;
     update.prepared == 0 && window.durable <= pin && is_below(window.name, floor)
+}
+
+// Whether a rollback to this stable stamp keeps the update.
+pub(crate) fn is_stable(update: &Update, stable: u64) -> bool
+    ensures { result ≡ is_stable stable update.now.version }
+{
+    stable == 0 || update.version.window.durable <= stable
 }

@@ -3,7 +3,7 @@
 ghost use Rattle.std.specs.Prelude.{◌≤◌, length};
 ghost use Rattle.snapshot.specs.Sight.{Ascends};
 
-use crate::{Chain, NoMemory, Read, Update};
+use crate::{Chain, Judgement, NoMemory, Read, Update};
 use item::{Change, Item};
 use snapshot::Snapshot;
 use stamp::{Name, Version, Window};
@@ -150,8 +150,41 @@ fn a_trim_keeps_down_to_the_newest_that_covers(rt: HostRuntime) -> Result<(), No
         for (id, stamp) in [(1, 10), (2, 20), (3, 30), (4, 40), (5, 50)] {
             chain.install(update(id, stamp, stamp, Change::Remove))?;
         }
-        chain.trim(pin, name(floor))?;
+        chain.trim(pin, name(floor));
         assert!(rt; chain.len() == left);
+    }
+    Ok(())
+}
+
+#[test]
+fn a_write_is_judged_by_the_newest_update(rt: HostRuntime) -> Result<(), NoMemory> {
+    let mut chain = two_versions(rt.alloc())?;
+    let view = snapshot(rt.alloc(), 4, &[3])?;
+    let refused = Judgement::Refused(name(2));
+    assert!(rt; chain.judge(&view.view(0, 0x14)) == Judgement::Allowed);
+    assert!(rt; chain.judge(&view.view(0, 0x13)) == refused);
+    chain.mark_prepared(name(2), 0x14);
+    assert!(rt; chain.judge(&view.view(0, 0)) == refused);
+    assert!(rt; chain.judge(&view.view(2, 0)) == Judgement::Allowed);
+    chain.install(update(3, 0, 0, Change::Remove))?;
+    assert!(rt; chain.judge(&view.view(0, 0)) == Judgement::Refused(name(3)));
+    assert!(rt; Chain::new(rt.alloc()).judge(&view.view(0, 0)) == Judgement::Allowed);
+    Ok(())
+}
+
+#[test]
+fn a_rollback_keeps_what_is_durable_at_stable(rt: HostRuntime) -> Result<(), NoMemory> {
+    for (stable, left, newest) in [(0, 3, 3), (50, 3, 3), (20, 2, 3), (10, 1, 1), (9, 0, 0)] {
+        let mut chain = Chain::new(rt.alloc());
+        for (id, durable) in [(1, 10), (2, 30), (3, 20)] {
+            chain.install(update(id, durable, durable, Change::Remove))?;
+        }
+        chain.roll_back_to_stable(stable);
+        assert!(rt; chain.len() == left);
+        match chain.newest() {
+            Some(update) => assert!(rt; update.version.window.name.id == newest),
+            None => assert!(rt; newest == 0),
+        }
     }
     Ok(())
 }
