@@ -1,4 +1,3 @@
-pub mod Calls
 pub mod Shows
 pub mod ShowsLaws
 pub mod CallLaws

@@ -6,6 +6,7 @@ use Rattle.std.specs.Int.{w32, w64}
 use Rattle.std.proofs.lemmas.Bool.{eqb-true}
 use Rattle.std.proofs.lemmas.List.{length-append}
 use Rattle.le_codec.specs.Fields.{le, IsField}
+use Rattle.le_codec.specs.Images.{first_format}
 use Rattle.le_codec.specs.Images.{padded}
 use Rattle.le_codec.proofs.Laws.{length_8, length_16, length_32, length_64}
 use Rattle.le_codec.proofs.Combined.{many_field, one_value}
@@ -64,7 +65,7 @@ entry_spelled e h = record { key = omega (arith, h.key); link = h.link }
 
 inner_exact : (level size : ℕ) (p q : List Entry) → AreEntries level p → AreEntries level q → padded (inner_image level p) size ≡ padded (inner_image level q) size → p ≡ q
 inner_exact level size p q hp hq same =
-    let both = same_framed 2 level level (length p) (length q) (flat_map entry_text p) (flat_map entry_text q) size size (omega arith) (omega (arith, hp.high)) (omega (arith, hp.high)) (omega (arith, entries_upto p, hp.size)) (omega (arith, entries_upto q, hq.size)) (omega (arith, hp.size)) (omega (arith, hq.size)) same in
+    let both = same_framed 2 first_format level level (length p) (length q) (flat_map entry_text p) (flat_map entry_text q) size size (omega arith) (omega arith) (omega (arith, hp.high)) (omega (arith, hp.high)) (omega (arith, entries_upto p, hp.size)) (omega (arith, entries_upto q, hq.size)) (omega (arith, hp.size)) (omega (arith, hq.size)) same in
     same_list entry_field p q (all_more EntryFits EntrySpelled entry_spelled p hp.fit) (all_more EntryFits EntrySpelled entry_spelled q hq.fit) both.0 both.2
 
 history_entry_spelled : (e : HistoryEntry) → HistoryEntryFits e → HistoryEntrySpelled e
@@ -72,12 +73,12 @@ history_entry_spelled e h = record { table = h.table; key = omega (arith, h.key)
 
 history_inner_exact : (level size : ℕ) (p q : List HistoryEntry) → AreHistoryEntries level p → AreHistoryEntries level q → padded (history_inner_image level p) size ≡ padded (history_inner_image level q) size → p ≡ q
 history_inner_exact level size p q hp hq same =
-    let both = same_framed 4 level level (length p) (length q) (flat_map history_entry_text p) (flat_map history_entry_text q) size size (omega arith) (omega (arith, hp.high)) (omega (arith, hp.high)) (omega (arith, history_entries_upto p, hp.size)) (omega (arith, history_entries_upto q, hq.size)) (omega (arith, hp.size)) (omega (arith, hq.size)) same in
+    let both = same_framed 4 first_format level level (length p) (length q) (flat_map history_entry_text p) (flat_map history_entry_text q) size size (omega arith) (omega arith) (omega (arith, hp.high)) (omega (arith, hp.high)) (omega (arith, history_entries_upto p, hp.size)) (omega (arith, history_entries_upto q, hq.size)) (omega (arith, hp.size)) (omega (arith, hq.size)) same in
     same_list history_entry_field p q (all_more HistoryEntryFits HistoryEntrySpelled history_entry_spelled p hp.fit) (all_more HistoryEntryFits HistoryEntrySpelled history_entry_spelled q hq.fit) both.0 both.2
 
 history_leaf_exact : (size : ℕ) (p q : List Placed) → AreRecords p → AreRecords q → padded (history_image p) size ≡ padded (history_image q) size → p ≡ q
 history_leaf_exact size p q hp hq same =
-    let both = same_framed 3 0 0 (length p) (length q) (flat_map record_text p) (flat_map record_text q) size size (omega arith) (omega arith) (omega arith) (omega (arith, records_upto p, hp.size)) (omega (arith, records_upto q, hq.size)) (omega (arith, hp.size)) (omega (arith, hq.size)) same in
+    let both = same_framed 3 first_format 0 0 (length p) (length q) (flat_map record_text p) (flat_map record_text q) size size (omega arith) (omega arith) (omega arith) (omega arith) (omega (arith, records_upto p, hp.size)) (omega (arith, records_upto q, hq.size)) (omega (arith, hp.size)) (omega (arith, hq.size)) same in
     same_list placed_field p q hp.fit hq.fit both.0 both.2
 
 -- ---- trees
@@ -156,6 +157,6 @@ record_most r h =
 
 pub record_exact : (size other : ℕ) (p q : Record) → IsRecord p → IsRecord q → padded (record_image p) size ≡ padded (record_image q) other → p ≡ q
 record_exact size other p q hp hq same =
-    let both = same_framed 5 0 0 (length p.tables) (length q.tables) (record_body p) (record_body q) size other (omega arith) (omega arith) (omega arith) (omega (arith, hp.count)) (omega (arith, hq.count)) (omega (arith, record_most p hp)) (omega (arith, record_most q hq)) same in
+    let both = same_framed 5 first_format 0 0 (length p.tables) (length q.tables) (record_body p) (record_body q) size other (omega arith) (omega arith) (omega arith) (omega arith) (omega (arith, hp.count)) (omega (arith, hq.count)) (omega (arith, record_most p hp)) (omega (arith, record_most q hq)) same in
     let spelled : RecordSpelled (length p.tables) q = subst (λ (n : ℕ). RecordSpelled n q) (sym both.0) (record_spelled q hq) in
     (one_value (record_field (length p.tables)) p q [] [] (record_spelled p hp) spelled (ap (λ (l : List ℕ). l ++ []) both.2)).0

@@ -7,10 +7,12 @@ use Rattle.std.specs.declared.cmp.Ordering.{Ordering}
 use Rattle.std.specs.Cmp.Lexicographic.{slice_cmp}
 use Rattle.stamp.specs.declared.name.Name.{Name}
 use Rattle.le_codec.specs.Fields.{le}
+use Rattle.le_codec.specs.Images.{first_format}
 use Rattle.le_codec.specs.Images.{framed}
 use Rattle.kv_model.specs.History.{Placed}
 use Rattle.row_page.specs.Rows.{key_most, cell, RowFits, IsName}
-use Rattle.stored.specs.Links.{Link, link_text, LinkFits, nowhere, no_name, SaysOf}
+use Rattle.row_page.specs.Greatest.{no_name}
+use Rattle.stored.specs.Links.{Link, link_text, LinkFits, nowhere, SaysOf}
 use Rattle.stored.specs.Tree.{Kind, Tree, join}
 
 -- what orders records: the table's number, the key, the commit stamp, and the name
@@ -36,7 +38,7 @@ abbrev pub record_text : Placed → List ℕ
 record_text r = le w32 r.table ++ cell (r.key, r.version)
 
 abbrev pub history_image : List Placed → List ℕ
-history_image records = framed 3 (length records) 0 (flat_map record_text records)
+history_image records = framed 3 first_format (length records) 0 (flat_map record_text records)
 
 pub record RecordFits (r : Placed) : Type 0 where
   pub table : r.table < 2 ^ 32
@@ -83,7 +85,7 @@ abbrev pub history_entry_text : HistoryEntry → List ℕ
 history_entry_text e = le w32 e.least.table ++ le w16 (length e.least.key) ++ le w64 e.least.commit ++ le w64 e.least.name.run ++ le w64 e.least.name.id ++ link_text e.link ++ e.least.key
 
 abbrev pub history_inner_image : ℕ → List HistoryEntry → List ℕ
-history_inner_image level entries = framed 4 (length entries) level (flat_map history_entry_text entries)
+history_inner_image level entries = framed 4 first_format (length entries) level (flat_map history_entry_text entries)
 
 pub record HistoryEntryFits (e : HistoryEntry) : Type 0 where
   pub table : e.least.table < 2 ^ 32

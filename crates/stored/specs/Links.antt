@@ -1,8 +1,9 @@
 -- What leads to a page: where the page stands, and what is said of the versions below it.
-use Rattle.std.specs.Prelude.{◌≡◌, ℕ, ◌<◌, ◌^◌, max, Bool, ◌&&◌, ◌||◌, ◌==◌, nat_lt, List, [], ◌∷◌, ◌++◌, if◌then◌else◌}
+use Rattle.std.specs.Prelude.{◌≡◌, ℕ, ◌<◌, ◌^◌, Bool, ◌==◌, List, ◌++◌}
 use Rattle.std.specs.Int.{w32, w64}
 use Rattle.stamp.specs.declared.name.Name.{Name}
 use Rattle.le_codec.specs.Fields.{le}
+use Rattle.row_page.specs.Greatest.{no_name, greatest_in, most_in}
 use Rattle.stored.specs.Blocks.{Addr}
 
 -- a place, the greatest name of any version below it, and the greatest durable stamp
@@ -23,10 +24,6 @@ pub record LinkFits (l : Link) : Type 0 where
   pub id : l.greatest.id < 2 ^ 64
   pub durable : l.durable < 2 ^ 64
 
--- no name
-abbrev pub no_name : Name
-no_name = record { run = 0; id = 0 }
-
 -- what leads to one empty leaf that is not stored: six zeros
 abbrev pub nowhere : Link
 nowhere = record { place = record { offset = 0; size = 0; sum = 0 }; greatest = no_name; durable = 0 }
@@ -34,21 +31,6 @@ nowhere = record { place = record { offset = 0; size = 0; sum = 0 }; greatest = 
 -- no block begins at 0
 abbrev pub is_nowhere : Addr → Bool
 is_nowhere a = a.offset == 0
-
--- names by their run, then by their id
-abbrev pub name_lt : Name → Name → Bool
-name_lt x y = nat_lt x.run y.run || ((x.run == y.run) && nat_lt x.id y.id)
-
-abbrev pub later : Name → Name → Name
-later x y = if name_lt x y then y else x
-
-abbrev pub greatest_in : List Name → Name
-greatest_in [] = no_name
-greatest_in (x ∷ xs) = later x (greatest_in xs)
-
-abbrev pub most_in : List ℕ → ℕ
-most_in [] = 0
-most_in (x ∷ xs) = max x (most_in xs)
 
 -- the link says the greatest of these names, and the greatest of these durable stamps
 pub record SaysOf (l : Link) (names : List Name) (durables : List ℕ) : Type 0 where

@@ -5,6 +5,7 @@ use Rattle.std.specs.Int.{w8, w16, w32, w64}
 use Rattle.item.specs.declared.formats.Format.{Format}
 use Rattle.item.specs.declared.formats.Format.TheVariants.{S, U}
 use Rattle.le_codec.specs.Fields.{le}
+use Rattle.le_codec.specs.Images.{first_format}
 use Rattle.le_codec.specs.Images.{framed}
 use Rattle.kv_model.specs.History.{Table}
 use Rattle.kv_model.specs.Content.{Snapshot}
@@ -48,7 +49,7 @@ abbrev pub record_body : Record → List ℕ
 record_body r = le w64 r.sequence ++ le w64 r.run ++ le w64 r.oldest ++ le w64 r.stable ++ snapshot_text r.snapshot ++ le w32 r.next_table ++ le w8 r.history.level ++ link_text r.history.link ++ flat_map table_text r.tables
 
 abbrev pub record_image : Record → List ℕ
-record_image r = framed 5 (length r.tables) 0 (record_body r)
+record_image r = framed 5 first_format (length r.tables) 0 (record_body r)
 
 -- ---- what has a spelling
 

@@ -3,6 +3,7 @@ use Rattle.std.specs.Prelude.{◌≡◌, ℕ, ◌+◌, ◌≤◌, Bool, true, no
 use Rattle.std.specs.List.{flat_map, AllByRecursion}
 use Rattle.std.specs.Int.{w16}
 use Rattle.le_codec.specs.Fields.{le}
+use Rattle.le_codec.specs.Images.{first_format}
 use Rattle.le_codec.specs.Images.{framed}
 use Rattle.row_page.specs.Rows.{Row, key_most, is_below, image, AreRows}
 use Rattle.stored.specs.Links.{Link, link_text, LinkFits, nowhere, is_nowhere, SaysOf}
@@ -18,7 +19,7 @@ abbrev pub entry_text : Entry → List ℕ
 entry_text e = le w16 (length e.key) ++ link_text e.link ++ e.key
 
 abbrev pub inner_image : ℕ → List Entry → List ℕ
-inner_image level entries = framed 2 (length entries) level (flat_map entry_text entries)
+inner_image level entries = framed 2 first_format (length entries) level (flat_map entry_text entries)
 
 -- ---- an inner page
 

@@ -1,6 +1,6 @@
 use Rattle.std.proofs.Common.{◌≡◌, ◌≤◌, length, drop, map}
 use Rattle.row_page.specs.Rows.{Row}
-use Rattle.stored.specs.Links.{most_in}
+use Rattle.row_page.specs.Greatest.{most_in}
 use Rattle.leaf_rows.proofs.rows.Rows.durable.Given as goal
 
 abbrev pub invariant-loop-i : goal.invariant-loop-i
