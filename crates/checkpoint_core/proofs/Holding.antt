@@ -6,7 +6,7 @@ use Rattle.std.proofs.lemmas.List.{length-drop}
 use Rattle.disk_model.specs.Ranges.{range, range_take, range_drop}
 use Rattle.disk_model.specs.Crash.{Keeps}
 use Rattle.turtle.specs.Slots.{Chooses}
-use Rattle.block_mgr.specs.declared.block.Block.{Block as InUse}
+use Rattle.block_mgr.specs.declared.cell.Cell.{Cell}
 use Rattle.block_mgr.specs.Blocks.{Has}
 use Rattle.stored.specs.Blocks.{Block, IsAddressed, Holds, Same}
 use Rattle.stored.specs.Slots.{SameSlots}
@@ -23,7 +23,7 @@ same_slots old new same = (
   sym (range_take new 8192 4096 36 (omega arith)) ∙ ap (λ (l : List ℕ). range l 4096 36) same ∙ range_take old 8192 4096 36 (omega arith),
 )
 
-same_blocks : (used : List InUse) (old new : List ℕ) (blocks : List Block) → Keeps (Has used) old new → AreInUse used blocks → Holds old blocks → Same old new blocks
+same_blocks : (used : List Cell) (old new : List ℕ) (blocks : List Block) → Keeps (Has used) old new → AreInUse used blocks → Holds old blocks → Same old new blocks
 same_blocks used old new [] keeps in_use holds = tt
 same_blocks used old new (b ∷ blocks) keeps in_use holds = (keeps.part b.place.offset b.place.size in_use.0 holds.0.within, same_blocks used old new blocks keeps in_use.1 holds.1)
 
@@ -31,11 +31,11 @@ pub still_long : (old : Option Stored) (bytes : List ℕ) → HasStill old bytes
 still_long None bytes has = has.long
 still_long (Some s) bytes has = has.long
 
-pub still_kept : (old : Option Stored) (used : List InUse) (seen c : List ℕ) → HasStill old seen → AreInUse used (blocks_of old) → Keeps (Has used) seen c → HasStill old c
+pub still_kept : (old : Option Stored) (used : List Cell) (seen c : List ℕ) → HasStill old seen → AreInUse used (blocks_of old) → Keeps (Has used) seen c → HasStill old c
 still_kept None used seen c has in_use keeps = frame_blank seen c keeps.no_shorter (same_slots seen c (keeps.slots has.long)) has
 still_kept (Some s) used seen c has in_use keeps = frame_on seen c s keeps.no_shorter (same_slots seen c (keeps.slots has.long)) (same_blocks used seen c (stored_blocks s) keeps in_use has.holds) has
 
-pub holds_kept : (used : List InUse) (seen c : List ℕ) (blocks : List Block) → Holds seen blocks → AreInUse used blocks → Keeps (Has used) seen c → Holds c blocks
+pub holds_kept : (used : List Cell) (seen c : List ℕ) (blocks : List Block) → Holds seen blocks → AreInUse used blocks → Keeps (Has used) seen c → Holds c blocks
 holds_kept used seen c [] holds in_use keeps = tt
 holds_kept used seen c (b ∷ blocks) holds in_use keeps = (
   record { within = omega (arith, holds.0.within, keeps.no_shorter); is = keeps.part b.place.offset b.place.size in_use.0 holds.0.within ∙ holds.0.is },

@@ -1,23 +1,25 @@
 -- What a sync and the install of a slot leave.
-use Rattle.std.specs.Prelude.{◌≡◌, ◌⊎◌, ℕ, ◌<◌, ◌≤◌, ◌^◌, List, length, take, drop, Option, Some, Result, Ok, Err, OnOk, OnErr, IfErr}
+use Rattle.std.specs.Prelude.{◌≡◌, ◌⊎◌, ℕ, ◌<◌, ◌≤◌, ◌^◌, List, length, take, drop, Option, Some, Result, Ok, Err, OnOk, IfErr, refl}
 use Rattle.std.proofs.Common.{inl, inr, sym, ◌∙◌, ap, subst, arith}
-use Rattle.failure.specs.Counts.{Rose}
+use Rattle.failure.specs.declared.Fault.{Fault}
 use Rattle.disk_model.specs.Disk.{Only}
+use Rattle.disk_model.specs.declared.disk.Disk.{Ghosts}
 use Rattle.disk_model.specs.Crash.{Each, LeavesOnly}
 use Rattle.disk_model.proofs.Crash.{joined, widened}
-use Rattle.extent_list.specs.Space.{Space}
-use Rattle.wt_code.specs.declared.refusals.Refusal.{Refusal}
-use Rattle.wt_code.specs.declared.refusals.Refusal.TheVariants.{DiskFault}
-use Rattle.stored.specs.Blocks.{Addr}
-use Rattle.turtle.specs.declared.slot.Slot.{Slot}
+use Rattle.extent_list.specs.Space.{Space, HasNoRoom}
+use Rattle.wt_code.specs.declared.store_error.StoreError.{StoreError}
+use Rattle.wt_code.specs.declared.store_error.StoreError.TheVariants.{NoMemory, NoSpace, Read, Down}
+use Rattle.wt_code.specs.StoreErrors.{OnRead, IfDown, IsOfDisk}
+use Rattle.device_layout.specs.declared.addr.Addr.{Addr as BlockAddr}
+use Rattle.device_layout.specs.declared.slot.Slot.{Slot}
 use Rattle.turtle.specs.Slots.{Chooses, IsNext, Before, Behind, LeftOld, LeftEither, Installed}
 use Rattle.stored.specs.Stored.{Stored, IsOn}
 use Rattle.checkpoint_core.specs.Stands.{slot_of, at_slot, HasStill, chosen_of, IsWritten, placed_at}
-use Rattle.checkpoint_core.specs.Finishes.{IsOld, IsEither, HasOne, Installs, HadRoom, Finishes}
+use Rattle.checkpoint_core.specs.Finishes.{IsOld, IsEither, HasOne, Installs, HadRoom, Finishes, place_of, units_of}
 use Rattle.checkpoint_core.proofs.Holding.{still_long, still_behind, still_chooses, chosen_on}
 
 module _ (seen now : List ℕ) (images left : List ℕ → Type 0) (old : Option Stored) (new : Stored) (slot : Slot) (written : IsWritten seen images old new) (same : now ≡ seen) (only : Only now left) (is : new.slot ≡ at_slot slot) where
-  has_now : HasStill old now
+  pub has_now : HasStill old now
   has_now = subst (λ (l : List ℕ). HasStill old l) (sym same) written.seen_has
 
   pub before : IsNext (chosen_of old) slot → slot.sequence < 2 ^ 62 → Before now left (chosen_of old) slot
@@ -50,58 +52,71 @@ module _ (seen now : List ℕ) (images left : List ℕ → Type 0) (old : Option
 
 -- ---- the runs
 
-module _ {D : Type 0} (moment : D → ℕ) (left_since : D → ℕ → List ℕ → Type 0) (may_leave : D → List ℕ → Type 0) where
+module _ {D : Type 0} (g : Ghosts D) where
   abbrev Run : D → D → (List ℕ → Type 0) → Type 0
-  Run a b P = LeavesOnly moment left_since a b P
+  Run a b P = LeavesOnly g a b P
 
   -- a sync, and then an install
-  pub installs : (old : Option Stored) (new : Stored) (start mid end : D) (r : Result (Unit {0}) Refusal) → Run start mid (HasStill old) → Run mid end (HasOne old new)
-      → OnErr r (Run mid end (HasStill old) ⊎ Unit {0}) → OnOk r (Each (may_leave end) (λ c. IsOn c new)) → Installs moment left_since may_leave old new start end r
-  installs old new start mid end r first any err ok = of r err ok
+  pub installs : (old : Option Stored) (new : Stored) (start mid end : D) (r : Result (Unit {0}) StoreError) → Run start mid (HasStill old) → Run mid end (HasOne old new)
+      → IfErr r (λ e. OnRead e (Run mid end (HasStill old))) → IfErr r (λ e. IfDown e (λ fault. Run mid end (HasStill old) ⊎ Unit {0})) → IfErr r IsOfDisk → OnOk r (Each (g.may_leave end) (λ c. IsOn c new)) → Installs g old new start end r
+  installs old new start mid end r first any read down kind ok = of r read down kind ok
     where
       all : Run start end (HasOne old new)
-      all = joined moment left_since start mid end _ _ (widened moment left_since start mid _ _ first (λ c is. inl is)) any (λ c is. is)
+      all = joined g start mid end _ _ (widened g start mid _ _ first (λ c is. inl is)) any (λ c is. is)
 
-      of : (r : Result (Unit {0}) Refusal) → OnErr r (Run mid end (HasStill old) ⊎ Unit {0}) → OnOk r (Each (may_leave end) (λ c. IsOn c new)) → Installs moment left_since may_leave old new start end r
-      of (Ok done) err ok = (all, ok)
-      of (Err e) err ok = elim err [
-        | inl keeps ↦ inl (joined moment left_since start mid end _ _ first keeps (λ c is. is))
+      of : (r : Result (Unit {0}) StoreError) → IfErr r (λ e. OnRead e (Run mid end (HasStill old))) → IfErr r (λ e. IfDown e (λ fault. Run mid end (HasStill old) ⊎ Unit {0})) → IfErr r IsOfDisk → OnOk r (Each (g.may_leave end) (λ c. IsOn c new)) → Installs g old new start end r
+      of (Ok done) read down kind ok = (all, ok)
+      of (Err NoMemory) read down kind ok = kind
+      of (Err NoSpace) read down kind ok = kind
+      of (Err Read) read down kind ok = joined g start mid end _ _ first read (λ c is. is)
+      of (Err (Down fault)) read down kind ok = elim down [
+        | inl keeps ↦ inl (joined g start mid end _ _ first keeps (λ c is. is))
         | inr at_gate ↦ inr all
       ]
 
-  -- a write of the record, and then both
-  pub finishes : (fault later : Type 0) (space : Space) (n capacity : ℕ) (old : Option Stored) (new : Stored) (place : Addr) (start mid end : D) (r : Result (Unit {0}) Refusal) → Run start mid (IsOld (may_leave start) old)
-      → Installs moment left_since may_leave old (placed_at new place) mid end r → IfErr r (λ e. (e ≡ DiskFault) × later) → (later → fault) → HadRoom space n capacity
-      → Finishes moment left_since may_leave fault space n capacity old new start end r
-  finishes fault later space n capacity old new place start mid end (Ok done) first rest why more room = (
-    place,
-    joined moment left_since start mid end _ _ (widened moment left_since start mid _ _ first (λ c is. inl is)) rest.0 (λ c is. one c is),
-    rest.1,
-    room,
-  )
-    where
-      one : (c : List ℕ) → HasOne old (placed_at new place) c → IsEither (may_leave start) old (placed_at new place) c
-      one c (inl still) = inl (inr still)
-      one c (inr there) = inr there
-  finishes fault later space n capacity old new place start mid end (Err e) first rest why more room = (
-    inr (inr (why.0, more why.1)),
-    elim rest [
-      | inl keeps ↦ inl (joined moment left_since start mid end _ _ first keeps (λ c is. inr is))
-      | inr all ↦ inr (why.0, more why.1, (place, joined moment left_since start mid end _ _ (widened moment left_since start mid _ _ first (λ c is. inl is)) all one))
-    ],
-  )
-    where
-      one : (c : List ℕ) → HasOne old (placed_at new place) c → IsEither (may_leave start) old (placed_at new place) c
-      one c (inl still) = inl (inr still)
-      one c (inr there) = inr there
+  module _ (space : Space) (n capacity : ℕ) (old : Option Stored) (new : Stored) (a : BlockAddr) (start mid end : D) (first : Run start mid (IsOld (g.may_leave start) old)) where
+    one : (c : List ℕ) → HasOne old (placed_at new (place_of a)) c → IsEither (g.may_leave start) old (placed_at new (place_of a)) c
+    one c (inl still) = inl (inr still)
+    one c (inr there) = inr there
 
-pub on_err_map : {T E : Type 0} {A B : Type 0} (r : Result T E) → OnErr r A → (A → B) → OnErr r B
-on_err_map (Ok x) is more = tt
-on_err_map (Err e) is more = more is
+    -- a write of the record, and then both
+    pub finished : (done : Unit {0}) → Installs g old (placed_at new (place_of a)) mid end (Ok done) → HadRoom space n capacity → Finishes g space n capacity old new start end (Ok a)
+    finished done rest room = (
+      joined g start mid end _ _ (widened g start mid _ _ first (λ c is. inl is)) rest.0 (λ c is. one c is),
+      rest.1,
+      room,
+    )
+
+    pub not_finished : (e : StoreError) → Installs g old (placed_at new (place_of a)) mid end (Err e) → Finishes g space n capacity old new start end (Err e)
+    not_finished NoMemory rest = absurd rest
+    not_finished NoSpace rest = absurd rest
+    not_finished Read rest = joined g start mid end _ _ first rest (λ c is. inr is)
+    not_finished (Down fault) rest = elim rest [
+      | inl keeps ↦ inl (joined g start mid end _ _ first keeps (λ c is. inr is))
+      | inr all ↦ inr (place_of a, joined g start mid end _ _ (widened g start mid _ _ first (λ c is. inl is)) all one)
+    ]
+
+  -- the write of the record was refused
+  pub not_written : (space : Space) (n capacity : ℕ) (old : Option Stored) (new : Stored) (start end : D) (e : StoreError) → Run start end (IsOld (g.may_leave start) old) → (e ≡ NoSpace → HasNoRoom space (units_of n) capacity) → Finishes g space n capacity old new start end (Err e)
+  not_written space n capacity old new start end NoMemory leaves room = leaves
+  not_written space n capacity old new start end NoSpace leaves room = (room refl, leaves)
+  not_written space n capacity old new start end Read leaves room = leaves
+  not_written space n capacity old new start end (Down fault) leaves room = inl leaves
 
 pub on_ok_map : {T E : Type 0} {A B : Type 0} (r : Result T E) → OnOk r A → (A → B) → OnOk r B
 on_ok_map (Ok x) is more = more is
 on_ok_map (Err e) is more = tt
 
-pub rose_sooner : (first second third : ℕ) → first ≤ second → Rose second third → Rose first third
-rose_sooner first second third le rose = omega (arith, le, rose)
+pub on_read_map : {T : Type 0} {A B : Type 0} (r : Result T StoreError) → IfErr r (λ e. OnRead e A) → (A → B) → IfErr r (λ e. OnRead e B)
+on_read_map (Ok x) is more = tt
+on_read_map (Err NoMemory) is more = tt
+on_read_map (Err NoSpace) is more = tt
+on_read_map (Err Read) is more = more is
+on_read_map (Err (Down fault)) is more = tt
+
+pub if_down_map : {T : Type 0} {A B : Fault → Type 0} (r : Result T StoreError) → IfErr r (λ e. IfDown e A) → ((fault : Fault) → A fault → B fault) → IfErr r (λ e. IfDown e B)
+if_down_map (Ok x) is more = tt
+if_down_map (Err NoMemory) is more = tt
+if_down_map (Err NoSpace) is more = tt
+if_down_map (Err Read) is more = tt
+if_down_map (Err (Down fault)) is more = more fault is

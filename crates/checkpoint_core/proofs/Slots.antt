@@ -5,7 +5,7 @@ use Rattle.le_codec.specs.Fields.{le}
 use Rattle.disk_model.specs.Ranges.{range}
 use Rattle.stored.specs.Slots.{Slot as AtSlot, slot_text, HasSlot as HasText, IsShut as IsShutText, IsBefore, Chosen, first_text, second_text}
 use Rattle.stored.specs.Stored.{Stored, IsOn, IsBlank}
-use Rattle.turtle.specs.declared.slot.Slot.{Slot}
+use Rattle.device_layout.specs.declared.slot.Slot.{Slot}
 use Rattle.turtle.specs.Slots.{slot_image, IsShut, HasSlot, Chooses}
 use Rattle.turtle.proofs.Choice.{text_is, slot_is_text}
 use Rattle.checkpoint_core.specs.Stands.{slot_of, at_slot}

@@ -1,9 +1,14 @@
 -- What the finish of a checkpoint leaves.
 use Rattle.std.specs.Prelude.{◌≡◌, ◌⊎◌, ℕ, ◌+◌, ◌*◌, ◌/◌, List, Option, Result, Ok, Err}
 use Rattle.disk_model.specs.Crash.{Each, LeavesOnly}
+use Rattle.disk_model.specs.declared.disk.Disk.{Ghosts}
 use Rattle.extent_list.specs.Space.{Space, Taken, HasNoRoom}
-use Rattle.wt_code.specs.declared.refusals.Refusal.{Refusal}
-use Rattle.wt_code.specs.declared.refusals.Refusal.TheVariants.{NoMemory, NoSpace, DiskFault}
+use Rattle.wt_code.specs.declared.store_error.StoreError.{StoreError}
+use Rattle.wt_code.specs.declared.store_error.StoreError.TheVariants.{NoMemory, NoSpace, Read, Down}
+use Rattle.device_layout.specs.declared.addr.Addr.{Addr as BlockAddr}
+use Rattle.block_mgr.specs.Cells.{captured, freed, done}
+use Rattle.block_mgr.specs.Blocks.{Books, unit_of}
+use Rattle.block_mgr.specs.Writes.{Added}
 use Rattle.stored.specs.Blocks.{Addr}
 use Rattle.stored.specs.Stored.{Stored, IsOn}
 use Rattle.checkpoint_core.specs.Stands.{HasStill, placed_at}
@@ -20,28 +25,45 @@ IsEither images old new c = IsOld images old c ⊎ IsOn c new
 abbrev pub units_of : ℕ → ℕ
 units_of n = (n + 4095) / 4096 * 4096
 
--- why a checkpoint is not finished: fault says that the disk's count of faults rose
-abbrev pub IsFinishRefusal : (fault : Type 0) → Space → ℕ → ℕ → Refusal → Type 0
-IsFinishRefusal fault space n capacity r = (r ≡ NoMemory) ⊎ (((r ≡ NoSpace) × HasNoRoom space (units_of n) capacity) ⊎ ((r ≡ DiskFault) × fault))
+-- the address of a block, as a stored one has it
+abbrev pub place_of : BlockAddr → Addr
+place_of a = record { offset = a.offset; size = a.size; sum = a.sum }
 
 -- there was room for the record
 abbrev pub HadRoom : Space → ℕ → ℕ → Type 0
 HadRoom space n capacity = (after : Space) × (at : ℕ) × Taken space after (units_of n) capacity at
 
--- At Ok each image has the new checkpoint, whose record stands somewhere. After a fault at the gate an image may have either.
-abbrev pub Finishes : {D : Type 0} (moment : D → ℕ) (left_since : D → ℕ → List ℕ → Type 0) (may_leave : D → List ℕ → Type 0) (fault : Type 0) → Space → ℕ → ℕ → Option Stored → Stored → D → D → Result (Unit {0}) Refusal → Type 0
-Finishes moment left_since may_leave fault space n capacity old new before after (Ok done) =
-    (place : Addr) × LeavesOnly moment left_since before after (IsEither (may_leave before) old (placed_at new place)) × Each (may_leave after) (λ c. IsOn c (placed_at new place)) × HadRoom space n capacity
-Finishes moment left_since may_leave fault space n capacity old new before after (Err r) =
-    IsFinishRefusal fault space n capacity r
-    × (LeavesOnly moment left_since before after (IsOld (may_leave before) old)
-    ⊎ ((r ≡ DiskFault) × fault × ((place : Addr) × LeavesOnly moment left_since before after (IsEither (may_leave before) old (placed_at new place)))))
+-- What an error leaves: the old checkpoint alone, but where a write or a sync failed, which may have been at the gate. NoSpace is told only where there was no room for the record.
+abbrev pub Fails : {D : Type 0} (g : Ghosts D) → Space → ℕ → ℕ → Option Stored → Stored → D → D → StoreError → Type 0
+Fails g space n capacity old new before after NoMemory = LeavesOnly g before after (IsOld (g.may_leave before) old)
+Fails g space n capacity old new before after NoSpace = HasNoRoom space (units_of n) capacity × LeavesOnly g before after (IsOld (g.may_leave before) old)
+Fails g space n capacity old new before after Read = LeavesOnly g before after (IsOld (g.may_leave before) old)
+Fails g space n capacity old new before after (Down fault) =
+    LeavesOnly g before after (IsOld (g.may_leave before) old)
+    ⊎ ((place : Addr) × LeavesOnly g before after (IsEither (g.may_leave before) old (placed_at new place)))
+
+-- At Ok each image has the new checkpoint, whose record stands at the address.
+abbrev pub Finishes : {D : Type 0} (g : Ghosts D) → Space → ℕ → ℕ → Option Stored → Stored → D → D → Result BlockAddr StoreError → Type 0
+Finishes g space n capacity old new before after (Ok a) =
+    LeavesOnly g before after (IsEither (g.may_leave before) old (placed_at new (place_of a))) × Each (g.may_leave after) (λ c. IsOn c (placed_at new (place_of a))) × HadRoom space n capacity
+Finishes g space n capacity old new before after (Err e) = Fails g space n capacity old new before after e
 
 -- an image that has the old checkpoint, or the new one
 abbrev pub HasOne : Option Stored → Stored → List ℕ → Type 0
 HasOne old new c = HasStill old c ⊎ IsOn c new
 
+-- what a sync or an install that failed leaves
+abbrev pub InstallFails : {D : Type 0} (g : Ghosts D) → Option Stored → Stored → D → D → StoreError → Type 0
+InstallFails g old new before after NoMemory = ⊥
+InstallFails g old new before after NoSpace = ⊥
+InstallFails g old new before after Read = LeavesOnly g before after (HasStill old)
+InstallFails g old new before after (Down fault) = LeavesOnly g before after (HasStill old) ⊎ LeavesOnly g before after (HasOne old new)
+
 -- what the sync and the install of the slot leave
-abbrev pub Installs : {D : Type 0} (moment : D → ℕ) (left_since : D → ℕ → List ℕ → Type 0) (may_leave : D → List ℕ → Type 0) → Option Stored → Stored → D → D → Result (Unit {0}) Refusal → Type 0
-Installs moment left_since may_leave old new before after (Ok done) = LeavesOnly moment left_since before after (HasOne old new) × Each (may_leave after) (λ c. IsOn c new)
-Installs moment left_since may_leave old new before after (Err r) = LeavesOnly moment left_since before after (HasStill old) ⊎ LeavesOnly moment left_since before after (HasOne old new)
+abbrev pub Installs : {D : Type 0} (g : Ghosts D) → Option Stored → Stored → D → D → Result (Unit {0}) StoreError → Type 0
+Installs g old new before after (Ok done) = LeavesOnly g before after (HasOne old new) × Each (g.may_leave after) (λ c. IsOn c new)
+Installs g old new before after (Err e) = InstallFails g old new before after e
+
+-- The record is one of the last checkpoint's blocks, which are those that the running one had captured, and the live tree does not have it.
+abbrev pub IsLastNow : Books → Books → BlockAddr → Type 0
+IsLastNow before after a = (mid : Books) × Added before mid a × (after.cells ≡ done (freed (captured mid.cells (unit_of a.offset)) (unit_of a.offset)))

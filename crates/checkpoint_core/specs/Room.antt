@@ -1,6 +1,6 @@
 -- The room that a device has for further blocks.
 use Rattle.std.specs.Prelude.{◌≡◌, ◌⊎◌, ℕ, ◌+◌, ◌<◌, ◌≤◌, max, List, [], ◌∷◌, Option}
-use Rattle.extent_list.specs.Space.{Space, Free, Taken, HasNoRoom}
+use Rattle.extent_list.specs.Space.{Space, IsFree, Taken, HasNoRoom, end_of as space_end}
 use Rattle.stored.specs.Blocks.{Block}
 use Rattle.stored.specs.Stored.{Stored}
 use Rattle.checkpoint_core.specs.Stands.{HasStill, blocks_of}
@@ -17,9 +17,9 @@ end_of (x ∷ blocks) = max (x.place.offset + x.place.size) (end_of blocks)
 
 -- what is free between the slots and the end, once an opening found these blocks
 pub record IsSpaceOf (blocks : List Block) (space : Space) : Type 0 where
-  pub end_is : space.end ≡ end_of blocks
-  pub free : (b : ℕ) → Free space.runs b → (8192 ≤ b) × (b < space.end) × (InBlocks blocks b → ⊥)
-  pub rest : (b : ℕ) → 8192 ≤ b → b < space.end → (InBlocks blocks b → ⊥) → Free space.runs b
+  pub end_is : space_end space ≡ end_of blocks
+  pub free : (b : ℕ) → IsFree space b → (8192 ≤ b) × (b < space_end space) × (InBlocks blocks b → ⊥)
+  pub rest : (b : ℕ) → 8192 ≤ b → b < space_end space → (InBlocks blocks b → ⊥) → IsFree space b
 
 -- blocks of these sizes, written one after the other: one of them finds no free extent, and the end plus its size passes the capacity
 abbrev pub NoRoomFor : Space → ℕ → List ℕ → Type 0

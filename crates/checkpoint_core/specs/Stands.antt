@@ -3,9 +3,9 @@ use Rattle.std.specs.Prelude.{◌≡◌, ℕ, List, [], ◌++◌, Option, Some, 
 use Rattle.std.specs.List.{AllByRecursion}
 use Rattle.disk_model.specs.Crash.{Each}
 use Rattle.block_mgr.specs.Blocks.{Books, Has}
-use Rattle.block_mgr.specs.declared.block.Block.{Block as InUse}
-use Rattle.block_mgr.specs.declared.addr.Addr.{Addr as BlockAddr}
-use Rattle.turtle.specs.declared.slot.Slot.{Slot}
+use Rattle.block_mgr.specs.declared.cell.Cell.{Cell}
+use Rattle.device_layout.specs.declared.addr.Addr.{Addr as BlockAddr}
+use Rattle.device_layout.specs.declared.slot.Slot.{Slot}
 use Rattle.stored.specs.Blocks.{Addr, Block, IsAddressed, Holds, Apart}
 use Rattle.stored.specs.Slots.{Slot as AtSlot}
 use Rattle.stored.specs.Tree.{IsTree}
@@ -35,14 +35,14 @@ blocks_of None = []
 blocks_of (Some s) = stored_blocks s
 
 -- each block is in use
-abbrev pub AreInUse : List InUse → List Block → Type 0
+abbrev pub AreInUse : List Cell → List Block → Type 0
 AreInUse used blocks = AllByRecursion (λ (b : Block). Has used b.place.offset b.place.size) blocks
 
 -- What a read gives has the checkpoint, and once the disk was synced each image has it. Its blocks are in use.
 pub record Stands (seen : List ℕ) (images : List ℕ → Type 0) (books : Books) (old : Option Stored) : Type 0 where
   pub seen_has : HasStill old seen
   pub images_have : IsTrue books.is_synced → Each images (HasStill old)
-  pub in_use : AreInUse books.blocks (blocks_of old)
+  pub in_use : AreInUse books.cells (blocks_of old)
 
 -- the blocks of a checkpoint but that of its record
 abbrev pub body_blocks : Stored → List Block
@@ -57,7 +57,7 @@ pub record IsReady (seen : List ℕ) (books : Books) (image : List ℕ) (s : Sto
   pub addressed : AllByRecursion (λ (b : Block). IsAddressed b) (body_blocks s)
   pub apart : Apart (body_blocks s)
   pub holds : Holds seen (body_blocks s)
-  pub in_use : AreInUse books.blocks (body_blocks s)
+  pub in_use : AreInUse books.cells (body_blocks s)
 
 -- the checkpoint, whose record stands at a place
 abbrev pub placed_at : Stored → Addr → Stored

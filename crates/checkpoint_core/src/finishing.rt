@@ -1,45 +1,76 @@
 // The finish of a checkpoint.
-ghost use Rattle.std.specs.Prelude.{◌≡◌, ◌⊎◌, ◌^◌, ◌≤◌, ◌<◌, ℕ, List, Option, length, IfErr, OnOk, IsTrue};
+ghost use Rattle.std.specs.Prelude.{◌≡◌, ◌⊎◌, ◌^◌, ◌≤◌, ◌<◌, ℕ, List, Option, length, true, false, IfErr, IfOk, OnErr, OnOk, IsTrue};
 ghost use Rattle.failure.specs.Counts.{Rose};
+ghost use Rattle.wt_code.specs.StoreErrors.{IsOfDisk};
+ghost use Rattle.disk_model.specs.Crash.{SameDisk};
+ghost use Rattle.extent_list.specs.Space.{end_of};
 ghost use Rattle.turtle.specs.Slots.{IsNext};
-ghost use Rattle.turtle.specs.declared.slot.Slot.{Slot as ASlot};
+ghost use Rattle.device_layout.specs.declared.slot.Slot.{Slot as ASlot};
+ghost use Rattle.block_mgr.specs.Blocks.{HasLive, unit_of};
+ghost use Rattle.block_mgr.specs.Cells.{captured, freed};
 ghost use Rattle.stored.specs.Stored.{Stored};
 ghost use Rattle.checkpoint_core.specs.Stands.{Stands, IsReady, IsWritten, named, at_slot, chosen_of};
-ghost use Rattle.checkpoint_core.specs.Finishes.{Finishes, Installs};
+ghost use Rattle.checkpoint_core.specs.Finishes.{Finishes, Installs, IsLastNow};
 
 use block_mgr::{Addr, Blocks};
 use disk_model::Disk;
+use failure::Fault;
 use std::alloc::Global;
 use turtle::{Slot, install};
-use wt_code::Refusal;
+use wt_code::StoreError;
 
-/// Writes the image of a checkpoint's record, syncs, and installs the slot that names it. The other
-/// blocks of the checkpoint are written. `NoSpace` comes exactly where no free extent has room for
-/// the record and the end would move past the capacity. After a disk fault the device has the old
-/// checkpoint or, where the slot's gate was being written, the new one.
+/// Writes the image of the running checkpoint's record, syncs, and installs the slot that names it.
+/// The other blocks of the checkpoint are written and captured. The answer is the record's address:
+/// the checkpoint is the last completed one then, and what only the one before had is free.
+///
+/// `NoSpace` comes exactly where no free extent has room for the record and the end would move past
+/// the capacity. After any error the checkpoint still runs: the caller goes on with it or gives it
+/// up, which frees the record's block where it was written. After `Down` the device has the old
+/// checkpoint or, where the slot's gate was being opened, the new one.
 pub fn finish<D: Disk>(
     alloc: Global,
     disk: &mut D,
     blocks: &mut Blocks,
     sequence: u64,
     image: &[u8],
-) -> Result<(), Refusal>
+) -> Result<Addr, StoreError>
     requires some { 1 ≤ length image.now }
     requires most { length image.now ≤ 2 ^ 20 }
     requires sequence { sequence < 2 ^ 62 }
-    requires ready { IsTrue (D.honest disk.old) → (8192 ≤ length (D.seen disk.old)) × (blocks.old.space.end ≤ length (D.seen disk.old)) }
+    requires held { blocks.old.is_held ≡ true }
+    requires ready { IsTrue (D.honest disk.old) → (8192 ≤ length (D.seen disk.old)) × (end_of blocks.old.space ≤ length (D.seen disk.old)) }
     ensures finishes { IsTrue (D.honest disk.old) → (old : Option Stored) (new : Stored) → Stands (D.seen disk.old) (D.may_leave disk.old) blocks.old old → IsReady (D.seen disk.old) blocks.old image.now new
         → new.kept.sequence ≡ sequence → ((slot : ASlot) → slot.sequence ≡ sequence → IsNext (chosen_of old) slot)
-        → Finishes D.moment D.left_since D.may_leave (Rose (D.faults disk.old) (D.faults disk.new)) blocks.old.space (length image.now) (D.capacity disk.old) old new disk.old disk.new result }
-    ensures fault { IfErr result (λ r. r ≡ Refusal.DiskFault → Rose (D.faults disk.old) (D.faults disk.new)) }
-    ensures later { D.faults disk.old ≤ D.faults disk.new }
-    ensures same { D.honest disk.new ≡ D.honest disk.old }
+        → Finishes D.Disk blocks.old.space (length image.now) (D.capacity disk.old) old new disk.old disk.new result }
+    ensures last { IfOk result (IsLastNow blocks.old blocks.new) }
+    ensures ended { OnOk result (blocks.new.is_held ≡ false) }
+    ensures runs { OnErr result (blocks.new.is_held ≡ true) }
+    ensures fault { IfErr result (λ e. IsOfDisk e → Rose (D.faults disk.old) (D.faults disk.new)) }
+    ensures disk { SameDisk D.Disk disk.old disk.new }
 {
-    let _ = blocks.end();
-    match blocks.write(alloc, disk, image) {
-        Ok(addr) => settle_and_install(disk, slot_at(sequence, addr)),
-        Err(refusal) => Err(refusal),
+    let addr = match blocks.write(alloc, disk, image) {
+        Ok(addr) => addr,
+        Err(error) => return Err(error),
+    };
+    hand_over(blocks, addr);
+    match sync_and_install(disk, slot_at(sequence, addr)) {
+        Ok(()) => {
+            blocks.ckpt_done();
+            Ok(addr)
+        }
+        Err(error) => Err(error),
     }
+}
+
+// The running checkpoint has a block of the live tree, and the live tree has it no longer.
+fn hand_over(blocks: &mut Blocks, addr: Addr)
+    requires live { HasLive blocks.old.cells addr.offset addr.size }
+    requires held { blocks.old.is_held ≡ true }
+    ensures cells { blocks.new.cells ≡ freed (captured blocks.old.cells (unit_of addr.offset)) (unit_of addr.offset) }
+    ensures held { blocks.new.is_held ≡ true }
+{
+    blocks.capture(addr);
+    blocks.free(addr);
 }
 
 fn slot_at(sequence: u64, addr: Addr) -> Slot
@@ -54,17 +85,17 @@ fn slot_at(sequence: u64, addr: Addr) -> Slot
 }
 
 // Syncs what was written, and installs the slot that names the record there.
-fn settle_and_install<D: Disk>(disk: &mut D, slot: Slot) -> Result<(), Refusal>
+fn sync_and_install<D: Disk>(disk: &mut D, slot: Slot) -> Result<(), StoreError>
     requires sequence { slot.sequence < 2 ^ 62 }
     requires long { IsTrue (D.honest disk.old) → 8192 ≤ length (D.seen disk.old) }
     ensures leaves { IsTrue (D.honest disk.old) → (old : Option Stored) (new : Stored) → IsWritten (D.seen disk.old) (D.may_leave disk.old) old new → new.slot ≡ at_slot slot → IsNext (chosen_of old) slot
-        → Installs D.moment D.left_since D.may_leave old new disk.old disk.new result }
-    ensures fault { IfErr result (λ r. (r ≡ Refusal.DiskFault) × Rose (D.faults disk.old) (D.faults disk.new)) }
-    ensures later { D.faults disk.old ≤ D.faults disk.new }
-    ensures same { D.honest disk.new ≡ D.honest disk.old }
+        → Installs D.Disk old new disk.old disk.new result }
+    ensures kind { IfErr result IsOfDisk }
+    ensures rose { OnErr result (Rose (D.faults disk.old) (D.faults disk.new)) }
+    ensures disk { SameDisk D.Disk disk.old disk.new }
 {
     match disk.sync() {
         Ok(()) => install(disk, slot),
-        Err(_) => Err(Refusal::DiskFault),
+        Err(_) => Err(StoreError::Down(Fault::Sync)),
     }
 }

@@ -10,6 +10,7 @@ fn the_first_checkpoint_of_a_device_is_named_by_its_first_slot(rt: HostRuntime) 
     let made = MemDisk::new(rt.alloc(), content, 12288, Vec::new(rt.alloc()));
     let mut disk = made.expect(&rt, "there is memory");
     let mut blocks = Blocks::new(rt.alloc());
+    blocks.ckpt_hold();
     assert!(&rt; finish(rt.alloc(), &mut disk, &mut blocks, 1, &[1, 2, 3]).is_ok());
     let slot = b"\xa5WTTURTL\x01\0\0\0\x01\0\0\0\0\0\0\0\0\x20\0\0\0\0\0\0\0\x10\0\0\x0e\0\0\0";
     let bytes = disk.bytes();

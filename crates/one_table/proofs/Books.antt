@@ -1,162 +1,186 @@
 -- The blocks of a device with one table of one leaf, as the books have them.
-use Rattle.std.specs.Prelude.{◌≡◌, ◌⊎◌, ℕ, ◌+◌, ◌<◌, ◌≤◌, ◌==◌, nat_lt, max, true, false, All, List, [], ◌∷◌, map, Option, None, Result, Ok, IfOk, refl, if◌then◌else◌}
-use Rattle.std.proofs.Common.{inl, inr, sym, ◌∙◌, subst, arith}
-use Rattle.std.proofs.lemmas.Bool.{cases_Bool, eqb-true, eq-eqb, ltb-true, lt-ltb, both_ways}
-use Rattle.std.proofs.lemmas.List.Elements.{All-nil, All-cons}
-use Rattle.extent_list.specs.Space.{Space}
-use Rattle.block_mgr.specs.declared.addr.Addr.{Addr}
-use Rattle.block_mgr.specs.declared.block.Block.{Block as InUse}
-use Rattle.block_mgr.specs.Blocks.{Covers, Has, AreUnits}
+use Rattle.std.specs.Prelude.{◌≡◌, ◌⊎◌, ℕ, zero, suc, ◌+◌, ◌-◌, ◌*◌, ◌/◌, ◌%◌, ◌<◌, ◌≤◌, ◌==◌, max, true, false, List, [], ◌∷◌, length, take, Bool, refl, if◌then◌else◌}
+use Rattle.std.proofs.Common.{inl, inr, sym, ◌∙◌, ap, subst, arith}
+use Rattle.std.proofs.lemmas.Bool.{cases_Bool, eqb-true, eq-eqb, false≢true}
+use Rattle.std.proofs.lemmas.List.{take_all}
+use Rattle.extent_list.proofs.SpaceLemmas.{free_before_end}
+use Rattle.extent_list.specs.Space.{Space, IsFree, end_of as space_end}
+use Rattle.device_layout.specs.declared.addr.Addr.{Addr}
+use Rattle.device_layout.specs.declared.slot.Slot.{Slot}
+use Rattle.block_mgr.specs.declared.cell.Cell.{Cell}
+use Rattle.block_mgr.specs.declared.found.Found.{Found}
+use Rattle.block_mgr.specs.Cells.{AreUnits, cell_at}
+use Rattle.block_mgr.specs.Blocks.{Books, Has, unit_of}
 use Rattle.block_mgr.specs.Places.{IsPlace}
-use Rattle.block_mgr.specs.Open.{AreStored, stored, last_end}
-use Rattle.turtle.specs.declared.slot.Slot.{Slot}
+use Rattle.block_mgr.specs.Open.{AreStored, Agree, found_at, found_cell, last_end}
+use Rattle.block_mgr.proofs.OpenLemmas.{units_known, from_one}
 use Rattle.stored.specs.Blocks.{Block}
 use Rattle.checkpoint_core.specs.Stands.{AreInUse}
 use Rattle.checkpoint_core.specs.Room.{InBlocks, end_of, IsSpaceOf}
 use Rattle.one_table.specs.declared.leaf.Root.{Root}
-use Rattle.one_table.specs.Openings.{record_addr, addrs_of}
+use Rattle.one_table.specs.Openings.{record_addr, record_found, leaf_found, found_of, HasBooks}
 use Rattle.one_table.proofs.Leaves.{addr_at}
-
--- two addresses, by offset
-abbrev pub pair : Addr → Addr → List Addr
-pair a b = if nat_lt a.offset b.offset then a ∷ b ∷ [] else b ∷ a ∷ []
 
 abbrev pub ends : Addr → ℕ
 ends a = a.offset + a.size
 
-all_two : {A : Type 0} (P : A → Type 0) (x y : A) → P x → P y → All P (x ∷ y ∷ [])
-all_two P x y a b = All-cons P x (y ∷ []) a (All-cons P y [] b (All-nil P))
+pub one_found : (slot : Slot) (root : Root) → root.addr.offset ≡ 0 → found_of slot root ≡ record_found slot ∷ []
+one_found slot root is = rw (eq-eqb root.addr.offset 0 is) refl
 
-some_size : (a : Addr) → IsPlace a → 1 ≤ a.size
-some_size a is = omega (arith, is.some)
-
-pub pair_stored : (a b : Addr) (len : ℕ) → IsPlace a → IsPlace b → (ends a ≤ b.offset) ⊎ (ends b ≤ a.offset) → ends a ≤ len → ends b ≤ len → AreStored (pair a b) len
-pair_stored a b len is also apart within end = elim (cases_Bool (nat_lt a.offset b.offset)) [
-  | inl less ↦ rw less (all_two IsPlace a b is also, (is.behind, some_size a is, (ordered less, some_size b also, end)))
-  | inr not_less ↦ rw not_less (all_two IsPlace b a also is, (also.behind, some_size b also, (back not_less, some_size a is, within)))
+pub two_found : (slot : Slot) (root : Root) → (root.addr.offset ≡ 0 → ⊥) → found_of slot root ≡ record_found slot ∷ leaf_found root ∷ []
+two_found slot root some = elim (cases_Bool (root.addr.offset == 0)) [
+  | inl is ↦ absurd (some (eqb-true root.addr.offset 0 is))
+  | inr isnt ↦ rw isnt refl
 ]
+
+pub one_stored_addr : (x : Found) (len : ℕ) → IsPlace x.addr → ends x.addr ≤ len → AreStored (x ∷ []) len
+one_stored_addr x len is within = record { fit = fit; agree = λ i j lt less. absurd (omega (arith, lt, less)) }
   where
-    ordered : nat_lt a.offset b.offset ≡ true → ends a ≤ b.offset
-    ordered less = elim apart [
-      | inl le ↦ le
-      | inr ge ↦ absurd (omega (arith, ge, ltb-true a.offset b.offset less, also.some))
-    ]
+    fit : (i : ℕ) → i < 1 → IsPlace (found_at (x ∷ []) i).addr × (ends (found_at (x ∷ []) i).addr ≤ len)
+    fit zero lt = (is, within)
+    fit (suc i) lt = absurd (omega (arith, lt))
 
-    back : nat_lt a.offset b.offset ≡ false → ends b ≤ a.offset
-    back not_less = elim apart [
-      | inl le ↦ absurd (both_ways (nat_lt a.offset b.offset) not_less (lt-ltb a.offset b.offset (omega (arith, le, is.some))))
-      | inr ge ↦ ge
-    ]
+pub two_stored : (slot : Slot) (root : Root) (len : ℕ) → IsPlace (record_addr slot) → IsPlace root.addr → (ends (record_addr slot) ≤ root.addr.offset) ⊎ (ends root.addr ≤ slot.offset) → ends (record_addr slot) ≤ len → ends root.addr ≤ len → AreStored (record_found slot ∷ leaf_found root ∷ []) len
+two_stored slot root len is also apart within end = record { fit = fit; agree = λ i j lt less. both i j lt less }
+  where
+    fit : (i : ℕ) → i < 2 → IsPlace (found_at (record_found slot ∷ leaf_found root ∷ []) i).addr × (ends (found_at (record_found slot ∷ leaf_found root ∷ []) i).addr ≤ len)
+    fit zero lt = (is, within)
+    fit (suc zero) lt = (also, end)
+    fit (suc (suc i)) lt = absurd (omega (arith, lt))
 
-pub pair_apart : (a b : Addr) (len : ℕ) → AreStored (pair a b) len → (ends a ≤ b.offset) ⊎ (ends b ≤ a.offset)
-pair_apart a b len are = elim (cases_Bool (nat_lt a.offset b.offset)) [
-  | inl less ↦ inl (rw less at are).1.2.0
-  | inr not_less ↦ inr (rw not_less at are).1.2.0
+    both : (i j : ℕ) → i < j → j < 2 → Agree (found_at (record_found slot ∷ leaf_found root ∷ []) i) (found_at (record_found slot ∷ leaf_found root ∷ []) j)
+    both zero zero lt less = absurd (omega (arith, lt))
+    both zero (suc zero) lt less = inl apart
+    both zero (suc (suc j)) lt less = absurd (omega (arith, less))
+    both (suc i) zero lt less = absurd (omega (arith, lt))
+    both (suc i) (suc zero) lt less = absurd (omega (arith, lt))
+    both (suc i) (suc (suc j)) lt less = absurd (omega (arith, less))
+
+pub two_apart : (slot : Slot) (root : Root) (len : ℕ) → AreStored (record_found slot ∷ leaf_found root ∷ []) len → (ends (record_addr slot) ≤ root.addr.offset) ⊎ (ends root.addr ≤ slot.offset)
+two_apart slot root len are = elim (are.agree 0 1 (omega arith) (omega arith)) [
+  | inl apart ↦ apart
+  | inr shared ↦ absurd (elim shared.shared [ inl none ↦ false≢true (sym none) | inr none ↦ false≢true (sym none) ])
 ]
 
-pair_within : (a b : Addr) (len : ℕ) → AreStored (pair a b) len → last_end 8192 (map stored (pair a b)) ≤ len
-pair_within a b len are = elim (cases_Bool (nat_lt a.offset b.offset)) [
-  | inl less ↦ rw less (rw less at are).1.2.2
-  | inr not_less ↦ rw not_less (rw not_less at are).1.2.2
-]
+-- ---- what the books say of the blocks
 
-pair_has : (a b : Addr) → Has (map stored (pair a b)) a.offset a.size × Has (map stored (pair a b)) b.offset b.size
-pair_has a b = elim (cases_Bool (nat_lt a.offset b.offset)) [
-  | inl less ↦ rw less (inl (refl, refl), inr (inl (refl, refl)))
-  | inr not_less ↦ rw not_less (inr (inl (refl, refl)), inl (refl, refl))
-]
+pub record Told (used : List Cell) (blocks : List Block) (space : Space) (len : ℕ) : Type 0 where
+  pub in_use : AreInUse used blocks
+  pub space_is : IsSpaceOf blocks space
+  pub within : space_end space ≤ len
 
-abbrev Inside : Addr → ℕ → Type 0
-Inside a k = (a.offset ≤ k) × (k < ends a)
+-- a byte of a block that was found
+abbrev pub Inside : List Found → ℕ → ℕ → Type 0
+Inside found j b = ((found_at found j).addr.offset ≤ b) × (b < ends (found_at found j).addr)
 
-pair_covers : (a b : Addr) (k : ℕ) → Covers (map stored (pair a b)) k → Inside a k ⊎ Inside b k
-pair_covers a b k covers = elim (cases_Bool (nat_lt a.offset b.offset)) [
-  | inl less ↦ elim (rw less at covers) [ inl here ↦ inl here | inr rest ↦ elim rest [ inl there ↦ inr there | inr none ↦ absurd none ] ]
-  | inr not_less ↦ elim (rw not_less at covers) [ inl there ↦ inr there | inr rest ↦ elim rest [ inl here ↦ inl here | inr none ↦ absurd none ] ]
-]
+module _ (found : List Found) (books : Books) (len : ℕ) (has : HasBooks found books) (are : AreStored found len) where
+  known : (u : ℕ) → cell_at books.cells u ≡ found_cell (take (length found) found) u
+  known u = has.cells u ∙ ap (λ (l : List Found). found_cell l u) (sym (take_all (length found) found (omega arith)))
 
-covers_pair : (a b : Addr) (k : ℕ) → Inside a k ⊎ Inside b k → Covers (map stored (pair a b)) k
-covers_pair a b k inside = elim (cases_Bool (nat_lt a.offset b.offset)) [
-  | inl less ↦ rw less (elim inside [ inl here ↦ inl here | inr there ↦ inr (inl there) ])
-  | inr not_less ↦ rw not_less (elim inside [ inl here ↦ inr (inl here) | inr there ↦ inl there ])
-]
+  some : (i : ℕ) → i < length found → 1 ≤ (found_at found i).addr.size
+  some i lt = omega (arith, (are.fit i lt).0.some)
 
-pair_end : (a b : Addr) (len : ℕ) → AreStored (pair a b) len → last_end 8192 (map stored (pair a b)) ≡ max (ends a) (max (ends b) 8192)
-pair_end a b len are = elim (cases_Bool (nat_lt a.offset b.offset)) [
-  | inl less ↦ let is = rw less at are in rw less (omega (arith, is.1.0, is.1.1, is.1.2.0, is.1.2.1))
-  | inr not_less ↦ let is = rw not_less at are in rw not_less (omega (arith, is.1.0, is.1.1, is.1.2.0, is.1.2.1))
-]
+  at_unit : (j : ℕ) → j < length found → (found_at found j).addr.offset ≡ 8192 + 4096 * unit_of (found_at found j).addr.offset
+  at_unit j lt = omega (arith, (are.fit j lt).0.behind, (are.fit j lt).0.unit)
+
+  sized : (j : ℕ) → j < length found → (cell_at books.cells (unit_of (found_at found j).addr.offset)).units ≡ (found_at found j).addr.size / 4096
+  sized j lt = ap (λ (c : Cell). c.units) (known (unit_of (found_at found j).addr.offset)) ∙ units_known found (length found) j (unit_of (found_at found j).addr.offset) (omega arith) are.agree some lt (at_unit j lt)
+
+  pub found_used : (j : ℕ) → j < length found → Has books.cells (found_at found j).addr.offset (found_at found j).addr.size
+  found_used j lt = (unit_of (found_at found j).addr.offset, at_unit j lt, omega (arith, sized j lt, (are.fit j lt).0.whole), has.units.used (unit_of (found_at found j).addr.offset) (omega (arith, sized j lt, (are.fit j lt).0.whole, some j lt)))
+
+  pub not_free : (j b : ℕ) → j < length found → Inside found j b → IsFree books.space b → ⊥
+  not_free j b lt inside free = has.units.held (unit_of (found_at found j).addr.offset) ((b - 8192) / 4096) (omega (arith, inside.0, at_unit j lt), omega (arith, inside.0, inside.1, at_unit j lt, sized j lt, (are.fit j lt).0.whole)) free.1
+
+  pub free_or_found : (b : ℕ) → 8192 ≤ b → b < space_end books.space → IsFree books.space b ⊎ ((j : ℕ) × (j < length found) × Inside found j b)
+  free_or_found b low high = elim (has.units.all ((b - 8192) / 4096) (omega (arith, high))) [
+    | inl free ↦ inl (low, free)
+    | inr there ↦
+        let v : ℕ = there.0 in
+        let more : 1 ≤ (found_cell (take (length found) found) v).units = omega (arith, there.1.0, there.1.1, ap (λ (c : Cell). c.units) (known v)) in
+        let one = from_one found (length found) v (omega arith) more in
+        let size : (cell_at books.cells v).units ≡ (found_at found one.0).addr.size / 4096 = ap (λ (c : Cell). c.units) (known v) ∙ one.3 in
+        inr (one.0, one.1, (omega (arith, one.2, there.1.0, low), omega (arith, one.2, there.1.0, there.1.1, size, low, (are.fit one.0 one.1).0.whole)))
+  ]
 
 -- ---- one block, or two
 
 abbrev pub addr_in : Block → Addr
 addr_in b = addr_at b.place
 
-pub one_addr : (slot : Slot) (root : Root) → root.addr.offset ≡ 0 → addrs_of slot root ≡ record_addr slot ∷ []
-one_addr slot root is = rw (eq-eqb root.addr.offset 0 is) refl
-
-pub two_addrs : (slot : Slot) (root : Root) → (root.addr.offset ≡ 0 → ⊥) → addrs_of slot root ≡ pair (record_addr slot) root.addr
-two_addrs slot root some = elim (cases_Bool (root.addr.offset == 0)) [
-  | inl is ↦ absurd (some (eqb-true root.addr.offset 0 is))
-  | inr isnt ↦ rw isnt refl
-]
-
-pub one_stored_addr : (a : Addr) (len : ℕ) → IsPlace a → ends a ≤ len → AreStored (a ∷ []) len
-one_stored_addr a len is within = (All-cons IsPlace a [] is (All-nil IsPlace), (is.behind, some_size a is, within))
-
--- ---- what the books say of the blocks
-
-pub record Told (used : List InUse) (blocks : List Block) (space : Space) (len : ℕ) : Type 0 where
-  pub in_use : AreInUse used blocks
-  pub space_is : IsSpaceOf blocks space
-  pub within : space.end ≤ len
-
-told : (used : List InUse) (blocks : List Block) (space : Space) (len : ℕ) → AreUnits used space → AreInUse used blocks → ((k : ℕ) → Covers used k → InBlocks blocks k) → ((k : ℕ) → InBlocks blocks k → Covers used k) → space.end ≡ end_of blocks → space.end ≤ len → Told used blocks space len
-told used blocks space len units in_use out into end within = record {
-  in_use = in_use;
+pub one_told : (x : Block) (f : Found) (books : Books) (len : ℕ) → f.addr ≡ addr_in x → HasBooks (f ∷ []) books → AreStored (f ∷ []) len → Told books.cells (x ∷ []) books.space len
+one_told x f books len is has are = record {
+  in_use = (used, tt);
   space_is = record {
-    end_is = end;
-    free = λ k free. ((units.within k free).0, (units.within k free).1, λ in_block. units.held k (into k in_block) free);
-    rest = λ k low high none. elim (units.all k low high) [ inl free ↦ free | inr covers ↦ absurd (none (out k covers)) ];
+    end_is = has.end ∙ top;
+    free = λ b free. (free.0, omega (arith, (before b free)), λ inside. elim inside [ inl here ↦ not_free (f ∷ []) books len has are 0 b (omega arith) (in_found b here) free | inr none ↦ absurd none ]);
+    rest = λ b low high none. elim (free_or_found (f ∷ []) books len has are b low high) [
+      | inl free ↦ free
+      | inr there ↦ absurd (none (inl (in_block b there.0 there.1 there.2)))
+    ];
   };
-  within = within;
+  within = omega (arith, has.end, top, offset, size, (are.fit 0 (omega arith)).1, (are.fit 0 (omega arith)).0.behind);
 }
-
-pub one_told : (x : Block) (used : List InUse) (space : Space) (len : ℕ) → used ≡ map stored (addr_in x ∷ []) → space.end ≡ last_end 8192 (map stored (addr_in x ∷ [])) → AreStored (addr_in x ∷ []) len → AreUnits used space → Told used (x ∷ []) space len
-one_told x used space len is end are units =
-    told used (x ∷ []) space len units (subst (λ (l : List InUse). AreInUse l (x ∷ [])) (sym is) (inl (refl, refl), tt))
-    (λ k covers. elim (subst (λ (l : List InUse). Covers l k) is covers) [ inl here ↦ inl here | inr none ↦ absurd none ])
-    (λ k inside. subst (λ (l : List InUse). Covers l k) (sym is) (elim inside [ inl here ↦ inl here | inr none ↦ absurd none ]))
-    (end ∙ top)
-    (omega (arith, end, are.1.2))
   where
-    top : ends (addr_in x) ≡ max (ends (addr_in x)) 8192
-    top = omega (arith, are.1.0)
+    offset : f.addr.offset ≡ x.place.offset
+    offset = ap (λ (a : Addr). a.offset) is
 
-pub two_told : (x y : Block) (used : List InUse) (space : Space) (len : ℕ) → used ≡ map stored (pair (addr_in x) (addr_in y)) → space.end ≡ last_end 8192 (map stored (pair (addr_in x) (addr_in y))) → AreStored (pair (addr_in x) (addr_in y)) len → AreUnits used space → Told used (x ∷ y ∷ []) space len
-two_told x y used space len is end are units =
-    told used (x ∷ y ∷ []) space len units
-    (subst (λ (l : List InUse). AreInUse l (x ∷ y ∷ [])) (sym is) ((pair_has (addr_in x) (addr_in y)).0, ((pair_has (addr_in x) (addr_in y)).1, tt)))
-    (λ k covers. elim (pair_covers (addr_in x) (addr_in y) k (subst (λ (l : List InUse). Covers l k) is covers)) [ inl here ↦ inl here | inr there ↦ inr (inl there) ])
-    (λ k inside. subst (λ (l : List InUse). Covers l k) (sym is) (covers_pair (addr_in x) (addr_in y) k (either k inside)))
-    (end ∙ pair_end (addr_in x) (addr_in y) len are)
-    (omega (arith, end, pair_within (addr_in x) (addr_in y) len are))
+    size : f.addr.size ≡ x.place.size
+    size = ap (λ (a : Addr). a.size) is
+
+    used : Has books.cells x.place.offset x.place.size
+    used = subst (λ (a : Addr). Has books.cells a.offset a.size) is (found_used (f ∷ []) books len has are 0 (omega arith))
+
+    top : last_end (f ∷ []) ≡ max (x.place.offset + x.place.size) 8192
+    top = omega (arith, offset, size)
+
+    before : (b : ℕ) → IsFree books.space b → b < space_end books.space
+    before b free = free_before_end books.space b free
+
+    in_found : (b : ℕ) → (x.place.offset ≤ b) × (b < x.place.offset + x.place.size) → Inside (f ∷ []) 0 b
+    in_found b here = (omega (arith, offset, here.0), omega (arith, offset, size, here.1))
+
+    in_block : (b j : ℕ) → j < 1 → Inside (f ∷ []) j b → (x.place.offset ≤ b) × (b < x.place.offset + x.place.size)
+    in_block b zero lt inside = (omega (arith, offset, inside.0), omega (arith, offset, size, inside.1))
+    in_block b (suc j) lt inside = absurd (omega (arith, lt))
+
+pub two_told : (x y : Block) (f h : Found) (books : Books) (len : ℕ) → f.addr ≡ addr_in x → h.addr ≡ addr_in y → HasBooks (f ∷ h ∷ []) books → AreStored (f ∷ h ∷ []) len → Told books.cells (x ∷ y ∷ []) books.space len
+two_told x y f h books len is also has are = record {
+  in_use = (subst (λ (a : Addr). Has books.cells a.offset a.size) is (found_used (f ∷ h ∷ []) books len has are 0 (omega arith)), (subst (λ (a : Addr). Has books.cells a.offset a.size) also (found_used (f ∷ h ∷ []) books len has are 1 (omega arith)), tt));
+  space_is = record {
+    end_is = has.end ∙ top;
+    free = λ b free. (
+      free.0,
+      free_before_end books.space b free,
+      λ inside. elim inside [
+        | inl here ↦ not_free (f ∷ h ∷ []) books len has are 0 b (omega arith) (omega (arith, offset, here.0), omega (arith, offset, size, here.1)) free
+        | inr rest ↦ elim rest [ inl there ↦ not_free (f ∷ h ∷ []) books len has are 1 b (omega arith) (omega (arith, offset', there.0), omega (arith, offset', size', there.1)) free | inr none ↦ absurd none ]
+      ],
+    );
+    rest = λ b low high none. elim (free_or_found (f ∷ h ∷ []) books len has are b low high) [
+      | inl free ↦ free
+      | inr there ↦ absurd (none (in_block b there.0 there.1 there.2))
+    ];
+  };
+  within = omega (arith, has.end, (are.fit 0 (omega arith)).1, (are.fit 1 (omega arith)).1, (are.fit 0 (omega arith)).0.behind);
+}
   where
-    either : (k : ℕ) → InBlocks (x ∷ y ∷ []) k → Inside (addr_in x) k ⊎ Inside (addr_in y) k
-    either k (inl here) = inl here
-    either k (inr (inl there)) = inr there
-    either k (inr (inr none)) = absurd none
+    offset : f.addr.offset ≡ x.place.offset
+    offset = ap (λ (a : Addr). a.offset) is
 
--- ---- the books that are refused
+    size : f.addr.size ≡ x.place.size
+    size = ap (λ (a : Addr). a.size) is
 
-pub none_ok : {T E P : Type 0} (r : Result (Option T) E) (o : Option T) → IfOk r (λ o. o ≡ None → P) → r ≡ Ok o → o ≡ None → P
-none_ok {T} {E} {P} r o told is none = subst (λ (x : Result (Option T) E). IfOk x (λ o. o ≡ None → P)) is told none
+    offset' : h.addr.offset ≡ y.place.offset
+    offset' = ap (λ (a : Addr). a.offset) also
 
-pub in_front : (slot : Slot) (root : Root) → (root.addr.offset ≡ 0 → ⊥) → slot.offset < root.addr.offset → addrs_of slot root ≡ record_addr slot ∷ root.addr ∷ []
-in_front slot root some less = two_addrs slot root some ∙ rw (lt-ltb slot.offset root.addr.offset less) refl
+    size' : h.addr.size ≡ y.place.size
+    size' = ap (λ (a : Addr). a.size) also
 
-pub behind : (slot : Slot) (root : Root) → (root.addr.offset ≡ 0 → ⊥) → root.addr.offset ≤ slot.offset → addrs_of slot root ≡ root.addr ∷ record_addr slot ∷ []
-behind slot root some le = two_addrs slot root some ∙ (elim (cases_Bool (nat_lt slot.offset root.addr.offset)) [
-  | inl less ↦ absurd (omega (arith, ltb-true slot.offset root.addr.offset less, le))
-  | inr not_less ↦ rw not_less refl
-])
+    top : last_end (f ∷ h ∷ []) ≡ max (x.place.offset + x.place.size) (max (y.place.offset + y.place.size) 8192)
+    top = omega (arith, offset, size, offset', size')
+
+    in_block : (b j : ℕ) → j < 2 → Inside (f ∷ h ∷ []) j b → InBlocks (x ∷ y ∷ []) b
+    in_block b zero lt inside = inl (omega (arith, offset, inside.0), omega (arith, offset, size, inside.1))
+    in_block b (suc zero) lt inside = inr (inl (omega (arith, offset', inside.0), omega (arith, offset', size', inside.1)))
+    in_block b (suc (suc j)) lt inside = absurd (omega (arith, lt))

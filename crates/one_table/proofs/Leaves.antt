@@ -7,7 +7,7 @@ use Rattle.std.proofs.lemmas.Bool.{cases_Bool, eqb-true, eq-eqb}
 use Rattle.block_sum.specs.Sum.{sum_of}
 use Rattle.le_codec.specs.Images.{padded, block_size, block_of}
 use Rattle.disk_model.specs.Ranges.{range}
-use Rattle.block_mgr.specs.declared.addr.Addr.{Addr}
+use Rattle.device_layout.specs.declared.addr.Addr.{Addr}
 use Rattle.block_mgr.specs.Places.{IsPlace, IsThere, Spoils}
 use Rattle.row_page.specs.Rows.{Row, image}
 use Rattle.row_page.proofs.Leaves.{length-image}

@@ -2,21 +2,23 @@
 use Rattle.std.specs.Prelude.{◌≡◌, ◌≢◌, ◌⊎◌, ℕ, ◌+◌, ◌<◌, ◌≤◌, Bool, true, false, not, IsTrue, ◌&&◌, ◌==◌, nat_lt, nat_le, suc, List, [], ◌∷◌, length, map, slice_index_or, Option, Some, None, Result, Ok, Err, IfOk, IfErr, refl}
 use Rattle.std.specs.List.{list_all, AllByRecursion}
 use Rattle.std.proofs.Common.{inl, inr, sym, ◌∙◌, ap, subst, arith}
-use Rattle.std.proofs.lemmas.Bool.{ltb-true, cases_Bool, eqb-true, eq-eqb, both_ways}
+use Rattle.std.proofs.lemmas.Bool.{ltb-true, cases_Bool, eqb-true, eq-eqb, both_ways, false≢true}
 use Rattle.std.proofs.lemmas.Bool.Decides.{nat_tests}
 use Rattle.std.proofs.lemmas.Grind.{common_steps}
 use Rattle.block_sum.specs.Sum.{sum_of}
 use Rattle.le_codec.specs.Images.{padded, block_size, block_of}
+use Rattle.le_codec.specs.Images.{first_format}
 use Rattle.le_codec.proofs.Heads.{length-framed}
 use Rattle.disk_model.specs.Ranges.{range}
-use Rattle.turtle.specs.declared.slot.Slot.{Slot}
+use Rattle.device_layout.specs.declared.slot.Slot.{Slot}
 use Rattle.turtle.specs.Slots.{Chooses, IsCorruptAt}
 use Rattle.turtle.proofs.Choice.{chooses_one}
 use Rattle.turtle.proofs.Choice.{chosen_in_form}
-use Rattle.block_mgr.specs.declared.addr.Addr.{Addr}
-use Rattle.block_mgr.specs.Blocks.{Books, AreUnits}
+use Rattle.device_layout.specs.declared.addr.Addr.{Addr}
+use Rattle.block_mgr.specs.declared.found.Found.{Found}
+use Rattle.block_mgr.specs.Blocks.{Books}
 use Rattle.block_mgr.specs.Places.{IsThere, Spoils}
-use Rattle.block_mgr.specs.Open.{AreStored, stored, last_end}
+use Rattle.block_mgr.specs.Open.{AreStored}
 use Rattle.kv_model.specs.History.{Table}
 use Rattle.kv_model.specs.Content.{Content}
 use Rattle.kv_model.specs.Decisions.{is_name_byte}
@@ -37,17 +39,16 @@ use Rattle.one_table.specs.declared.opening.Kept.{Kept}
 use Rattle.one_table.specs.declared.opening.Opened.{Opened}
 use Rattle.one_table.specs.declared.record.OneRecord.{OneRecord}
 use Rattle.leaf_rows.specs.Contents.{kept_rows}
-use Rattle.block_mgr.specs.declared.block.Block.{Block as InUse}
-use Rattle.extent_list.specs.Space.{Space}
+use Rattle.extent_list.specs.Space.{Space, IsFree, end_of as space_end}
 use Rattle.one_table.specs.OneTable.{table_of, lent, link_of, one_record, one_image, one_stored, IsTable, IsLink, IsInForm, HoldsOne, HoldsNone}
 use Rattle.failure.specs.Counts.{Rose}
 use Rattle.wt_code.specs.declared.refusals.Refusal.{Refusal}
 use Rattle.wt_code.specs.declared.refusals.Refusal.TheVariants.{NoMemory, DiskFault, Corrupt}
-use Rattle.one_table.specs.Openings.{LeafIs, NoLeaf, KeepsOr, IsOpened, IsNothing, IsRecordOf, IsAssembled, RecordRefused, LeafRefused, OpenRefused, last_number, IsChosen, Serves, record_addr, addrs_of, blocks_at, InForm}
+use Rattle.one_table.specs.Openings.{LeafIs, NoLeaf, KeepsOr, IsOpened, IsNothing, IsRecordOf, IsAssembled, RecordRefused, LeafRefused, OpenRefused, last_number, IsChosen, Serves, HasBooks, record_addr, record_found, leaf_found, found_of, blocks_at, InForm}
 use Rattle.one_table.proofs.Spelling.{one_unit, block_length}
 use Rattle.one_table.proofs.Leaves.{addr_at, block_at, stored_block, no_block, place_is, there_not_spoilt, leaf_there, leaf_bytes}
 use Rattle.one_table.proofs.Shapes.{leaf_on, leaf_tree, blocks_are}
-use Rattle.one_table.proofs.Books.{one_addr, two_addrs, one_stored_addr, pair, pair_stored, pair_apart, Told, one_told, two_told}
+use Rattle.one_table.proofs.Books.{one_found, two_found, one_stored_addr, two_stored, two_apart, Told, one_told, two_told}
 
 -- ---- the record of one table
 
@@ -119,7 +120,7 @@ no_blank bytes slot chosen blank = none_some (chooses_one bytes None (Some slot)
     none_some same = cc
 
 record_bytes : (r : Record) → 16 ≤ length (record_image r)
-record_bytes r = omega (arith, length-framed 5 (length r.tables) 0 (record_body r))
+record_bytes r = omega (arith, length-framed 5 first_format (length r.tables) 0 (record_body r))
 
 -- the record's block spoils on no device that reads
 pub spoilt_no_content : (bytes : List ℕ) (slot : Slot) (found : ℕ) → IsChosen bytes slot → Spoils bytes (record_addr slot) found → (content : Content) → Reads bytes content → ⊥
@@ -178,29 +179,29 @@ no_leaf_no_content bytes slot block n t l is form link spelled none content (inr
 
 -- ---- the books
 
-pub no_books_no_content : (bytes : List ℕ) (slot : Slot) (block : List ℕ) (n : Numbers) (t : Table) (root : Root) → IsRecordBlock bytes slot block → IsInForm n t → IsLink (link_of root) → block ≡ block_of (one_image n t (link_of root)) → (AreStored (addrs_of slot root) (length bytes) → ⊥) → (content : Content) → Reads bytes content → ⊥
+pub no_books_no_content : (bytes : List ℕ) (slot : Slot) (block : List ℕ) (n : Numbers) (t : Table) (root : Root) → IsRecordBlock bytes slot block → IsInForm n t → IsLink (link_of root) → block ≡ block_of (one_image n t (link_of root)) → (AreStored (found_of slot root) (length bytes) → ⊥) → (content : Content) → Reads bytes content → ⊥
 no_books_no_content bytes slot block n t root is form link spelled none content (inl blank) = no_blank bytes slot is.chosen blank.0
 no_books_no_content bytes slot block n t root is form link spelled none content (inr (s, on, same)) = elim (cases_Bool (root.addr.offset == 0)) [
-  | inl zero ↦ none (subst (λ (l : List Addr). AreStored l (length bytes)) (sym (one_addr slot root (eqb-true root.addr.offset 0 zero))) (one_stored_addr (record_addr slot) (length bytes) is.there.place is.there.within))
-  | inr other ↦ none (subst (λ (l : List Addr). AreStored l (length bytes)) (sym (two_addrs slot root (some other))) (both_there (some other)))
+  | inl zero ↦ none (subst (λ (l : List Found). AreStored l (length bytes)) (sym (one_found slot root (eqb-true root.addr.offset 0 zero))) (one_stored_addr (record_found slot) (length bytes) is.there.place is.there.within))
+  | inr other ↦ none (subst (λ (l : List Found). AreStored l (length bytes)) (sym (two_found slot root (some other))) (both_there (some other)))
 ]
   where
     some : (root.addr.offset == 0) ≡ false → root.addr.offset ≡ 0 → ⊥
     some other zero = both_ways (root.addr.offset == 0) other (eq-eqb root.addr.offset 0 zero)
 
-    both_there : (root.addr.offset ≡ 0 → ⊥) → AreStored (pair (record_addr slot) root.addr) (length bytes)
+    both_there : (root.addr.offset ≡ 0 → ⊥) → AreStored (record_found slot ∷ leaf_found root ∷ []) (length bytes)
     both_there some =
         let has = leaf_on bytes s n t (link_of root) on (kept_is bytes slot block s n t (link_of root) is form link spelled on) in
         let there = leaf_there bytes (link_of root) has.rows some has.leaf in
         let apart = (subst (λ (l : List Block). AllByRecursion (λ (b : Block). AreApart s.slot.place b.place) l) (stored_block (link_of root) has.rows some) has.apart).0 in
         let slot_same = slot_is bytes slot s is.chosen on in
         let front : AreApart (at_slot slot).place (link_of root).place = subst (λ (x : AtSlot). AreApart x.place (link_of root).place) slot_same apart in
-        pair_stored (record_addr slot) root.addr (length bytes) is.there.place (place_is (block_at (link_of root) has.rows) (leaf_bytes has.rows) there.0) front is.there.within there.1.within
+        two_stored slot root (length bytes) is.there.place (place_is (block_at (link_of root) has.rows) (leaf_bytes has.rows) there.0) front is.there.within there.1.within
 
 -- ---- what was opened
 
 module _ (bytes : List ℕ) (slot : Slot) (block : List ℕ) (n : Numbers) (t : Table) (root : Root) (rows : List Row) (is : IsRecordBlock bytes slot block) (form : IsInForm n t) (link : IsLink (link_of root)) (spelled : block ≡ block_of (one_image n t (link_of root)))
-    (sequence : n.sequence ≡ slot.sequence) (leaf : LeafIs bytes (link_of root) rows) (apart : AreStored (addrs_of slot root) (length bytes)) where
+    (sequence : n.sequence ≡ slot.sequence) (leaf : LeafIs bytes (link_of root) rows) (apart : AreStored (found_of slot root) (length bytes)) where
   abbrev made : Stored
   made = one_stored (at_slot slot) n t (link_of root) rows
 
@@ -220,7 +221,7 @@ module _ (bytes : List ℕ) (slot : Slot) (block : List ℕ) (n : Numbers) (t : 
   leaf_apart = elim (cases_Bool (root.addr.offset == 0)) [
     | inl zero ↦ let none = no_block (link_of root) rows (eqb-true root.addr.offset 0 zero) in (subst AwayFrom (sym none) tt, subst Apart (sym none) tt)
     | inr other ↦ let one = stored_block (link_of root) rows (some other) in
-        (subst AwayFrom (sym one) (pair_apart (record_addr slot) root.addr (length bytes) (subst (λ (l : List Addr). AreStored l (length bytes)) (two_addrs slot root (some other)) apart), tt), subst Apart (sym one) (tt, tt))
+        (subst AwayFrom (sym one) (two_apart slot root (length bytes) (subst (λ (l : List Found). AreStored l (length bytes)) (two_found slot root (some other)) apart), tt), subst Apart (sym one) (tt, tt))
   ]
     where
       some : (root.addr.offset == 0) ≡ false → root.addr.offset ≡ 0 → ⊥
@@ -244,26 +245,26 @@ module _ (bytes : List ℕ) (slot : Slot) (block : List ℕ) (n : Numbers) (t : 
     holds = subst (λ (l : List Block). Holds bytes l) (sym (blocks_are (at_slot slot) n t (link_of root) rows)) (record_at, leaf.holds);
   }
 
-  books_told : (used : List InUse) (space : Space) → used ≡ map stored (addrs_of slot root) → space.end ≡ last_end 8192 (map stored (addrs_of slot root)) → AreUnits used space → Told used (stored_blocks made) space (length bytes)
-  books_told used space are end units = subst (λ (l : List Block). Told used l space (length bytes)) (sym (blocks_are (at_slot slot) n t (link_of root) rows)) (elim (cases_Bool (root.addr.offset == 0)) [
+  books_told : (books : Books) → HasBooks (found_of slot root) books → Told books.cells (stored_blocks made) books.space (length bytes)
+  books_told books has = subst (λ (l : List Block). Told books.cells l books.space (length bytes)) (sym (blocks_are (at_slot slot) n t (link_of root) rows)) (elim (cases_Bool (root.addr.offset == 0)) [
     | inl zero ↦
         let none = no_block (link_of root) rows (eqb-true root.addr.offset 0 zero) in
-        let addrs = one_addr slot root (eqb-true root.addr.offset 0 zero) in
-        subst (λ (l : List Block). Told used (record_block made ∷ l) space (length bytes)) (sym none)
-        (one_told (record_block made) used space (length bytes) (are ∙ ap (λ (l : List Addr). map stored l) addrs) (end ∙ ap (λ (l : List Addr). last_end 8192 (map stored l)) addrs) (subst (λ (l : List Addr). AreStored l (length bytes)) addrs apart) units)
+        let found = one_found slot root (eqb-true root.addr.offset 0 zero) in
+        subst (λ (l : List Block). Told books.cells (record_block made ∷ l) books.space (length bytes)) (sym none)
+        (one_told (record_block made) (record_found slot) books (length bytes) refl (subst (λ (l : List Found). HasBooks l books) found has) (subst (λ (l : List Found). AreStored l (length bytes)) found apart))
     | inr other ↦
         let one = stored_block (link_of root) rows (some other) in
-        let addrs = two_addrs slot root (some other) in
-        subst (λ (l : List Block). Told used (record_block made ∷ l) space (length bytes)) (sym one)
-        (two_told (record_block made) (block_at (link_of root) rows) used space (length bytes) (are ∙ ap (λ (l : List Addr). map stored l) addrs) (end ∙ ap (λ (l : List Addr). last_end 8192 (map stored l)) addrs) (subst (λ (l : List Addr). AreStored l (length bytes)) addrs apart) units)
+        let found = two_found slot root (some other) in
+        subst (λ (l : List Block). Told books.cells (record_block made ∷ l) books.space (length bytes)) (sym one)
+        (two_told (record_block made) (block_at (link_of root) rows) (record_found slot) (leaf_found root) books (length bytes) refl refl (subst (λ (l : List Found). HasBooks l books) found has) (subst (λ (l : List Found). AreStored l (length bytes)) found apart))
   ])
     where
       some : (root.addr.offset == 0) ≡ false → root.addr.offset ≡ 0 → ⊥
       some other zero = both_ways (root.addr.offset == 0) other (eq-eqb root.addr.offset 0 zero)
 
-  pub serves : (place : Place) → place.slot ≡ Some slot → place.blocks.is_synced ≡ false → place.blocks.blocks ≡ map stored (addrs_of slot root) → place.blocks.space.end ≡ last_end 8192 (map stored (addrs_of slot root)) → AreUnits place.blocks.blocks place.blocks.space → Serves bytes place (Some made)
-  serves place slot_there fresh are end units =
-      let told = books_told place.blocks.blocks place.blocks.space are end units in
+  pub serves : (place : Place) → place.slot ≡ Some slot → place.blocks.is_synced ≡ false → HasBooks (found_of slot root) place.blocks → Serves bytes place (Some made)
+  serves place slot_there fresh has =
+      let told = books_told place.blocks has in
       record { still = opened_on; slot = slot_there; unsynced = fresh; in_use = told.in_use; space = told.space_is; within = told.within }
 
 pub block_there : (bytes : List ℕ) (slot : Slot) (a : Addr) (items block : List ℕ) → a ≡ record_addr slot → block ≡ items → IsChosen bytes slot → IsThere bytes a × (items ≡ range bytes a.offset a.size) → IsRecordBlock bytes slot block
@@ -290,18 +291,18 @@ leaf_refused fault later known still bytes now link r (inr (inl short)) more k s
 leaf_refused fault later known still bytes now link r (inr (inr ((found, is), bad))) more k same none =
     inr (inr (inr (inr ((link.place.offset, link.place.sum, found, is), λ h. none h (subst (λ (l : List ℕ). NoLeaf l link) same (bad (k h)))))))
 
-pub books_refused : (fault known : Type 0) (bytes : List ℕ) (slot : Slot) (root : Root) (len : ℕ) (r : Refusal) → (r ≡ NoMemory) ⊎ ((r ≡ Corrupt slot.offset slot.sum slot.sum) × (AreStored (addrs_of slot root) len → ⊥)) → (known → len ≡ length bytes)
-    → (known → (AreStored (addrs_of slot root) (length bytes) → ⊥) → (content : Content) → Reads bytes content → ⊥) → OpenRefused fault known bytes r
+pub books_refused : (fault known : Type 0) (bytes : List ℕ) (slot : Slot) (root : Root) (len : ℕ) (r : Refusal) → (r ≡ NoMemory) ⊎ ((r ≡ Corrupt slot.offset slot.sum slot.sum) × (AreStored (found_of slot root) len → ⊥)) → (known → len ≡ length bytes)
+    → (known → (AreStored (found_of slot root) (length bytes) → ⊥) → (content : Content) → Reads bytes content → ⊥) → OpenRefused fault known bytes r
 books_refused fault known bytes slot root len r (inl none) long bad = inr (inl none)
 books_refused fault known bytes slot root len r (inr (is, none)) long bad =
-    inr (inr (inr (inr ((slot.offset, slot.sum, slot.sum, is), λ k. bad k (λ are. none (subst (λ m. AreStored (addrs_of slot root) m) (sym (long k)) are))))))
+    inr (inr (inr (inr ((slot.offset, slot.sum, slot.sum, is), λ k. bad k (λ are. none (subst (λ m. AreStored (found_of slot root) m) (sym (long k)) are))))))
 
 pub rose_sooner : (first second third : ℕ) → first ≤ second → Rose second third → Rose first third
 rose_sooner first second third le rose = omega (arith, le, rose)
 
-pub opened_is : (bytes block : List ℕ) (slot : Slot) (r : OneRecord) (rows : List Row) (books : Books) (o : Opened) → IsRecordBlock bytes slot block → IsRecordOf slot block r → LeafIs bytes (link_of r.entry.root) rows → AreStored (addrs_of slot r.entry.root) (length bytes)
-    → books.is_synced ≡ false → books.blocks ≡ map stored (addrs_of slot r.entry.root) → books.space.end ≡ last_end 8192 (map stored (addrs_of slot r.entry.root)) → IsAssembled slot r rows books o → IsOpened bytes o
-opened_is bytes block slot r rows books o is of leaf apart fresh are end made = subst (λ (k : Option Kept). KeepsOr bytes o.place k) (sym made.is) (record {
+pub opened_is : (bytes block : List ℕ) (slot : Slot) (r : OneRecord) (rows : List Row) (books : Books) (o : Opened) → IsRecordBlock bytes slot block → IsRecordOf slot block r → LeafIs bytes (link_of r.entry.root) rows → AreStored (found_of slot r.entry.root) (length bytes)
+    → books.is_synced ≡ false → HasBooks (found_of slot r.entry.root) books → IsAssembled slot r rows books o → IsOpened bytes o
+opened_is bytes block slot r rows books o is of leaf apart fresh has made = subst (λ (k : Option Kept). KeepsOr bytes o.place k) (sym made.is) (record {
   link = link_of r.entry.root;
   rows = rows;
   slot = slot;
@@ -315,7 +316,7 @@ opened_is bytes block slot r rows books o is of leaf apart fresh are end made = 
   where
     there : Serves bytes o.place (Some (one_stored (at_slot slot) r.numbers (lent r.entry) (link_of r.entry.root) rows))
     there = serves bytes slot block r.numbers (lent r.entry) r.entry.root rows is of.holds.form of.holds.link of.holds.is of.sequence leaf apart o.place made.place.0
-        (ap (λ (b : Books). b.is_synced) made.place.1 ∙ fresh) (ap (λ (b : Books). b.blocks) made.place.1 ∙ are) (ap (λ (b : Books). b.space.end) made.place.1 ∙ end) (subst (λ (b : Books). AreUnits b.blocks b.space) (sym made.place.1) made.units)
+        (ap (λ (b : Books). b.is_synced) made.place.1 ∙ fresh) (subst (λ (b : Books). HasBooks (found_of slot r.entry.root) b) (sym made.place.1) has)
 
 pub ok_map : {T E : Type 0} {P Q : T → Type 0} (r : Result T E) → IfOk r P → ((x : T) → P x → Q x) → IfOk r Q
 ok_map (Ok x) is more = more x is
@@ -337,11 +338,11 @@ nothing_is bytes o none long shut = subst (λ (k : Option Kept). KeepsOr bytes o
   unsynced = none.unsynced;
   in_use = tt;
   space = record {
-    end_is = none.end;
-    free = λ b free. absurd (omega (arith, none.end, (none.units.within b free).0, (none.units.within b free).1));
-    rest = λ b low high away. absurd (omega (arith, none.end, low, high));
+    end_is = ap space_end none.space;
+    free = λ b free. absurd (false≢true (subst (λ (x : Space). IsFree x b) none.space free).1);
+    rest = λ b low high away. absurd (omega (arith, ap space_end none.space, low, high));
   };
-  within = omega (arith, none.end, long);
+  within = omega (arith, ap space_end none.space, long);
 })
 
 pub corrupt_no_content : (bytes : List ℕ) (at : ℕ) → IsCorruptAt bytes at → (content : Content) → Reads bytes content → ⊥

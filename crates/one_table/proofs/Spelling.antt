@@ -8,6 +8,7 @@ use Rattle.std.proofs.lemmas.List.{append-nil, take_all, length-drop, length-rep
 use Rattle.item.specs.declared.formats.Format.{Format}
 use Rattle.item.specs.declared.formats.Format.TheVariants.{S, U}
 use Rattle.le_codec.specs.Fields.{le}
+use Rattle.le_codec.specs.Images.{first_format}
 use Rattle.le_codec.specs.Images.{padded, header, block_size, block_of}
 use Rattle.kv_model.specs.History.{Table}
 use Rattle.stored.specs.Records.{letter, record_body}
@@ -68,7 +69,7 @@ pub body_is : (n : Numbers) (t : Table) (l : Link) → record_body (one_record n
 unfolding le
 body_is n t l = refl
 
-pub header_is : (used : ℕ) → header 5 1 used 0 ≡ header_text used
+pub header_is : (used : ℕ) → header 5 first_format 1 used 0 ≡ header_text used
 unfolding le
 header_is used = refl
 
@@ -92,7 +93,7 @@ numbers_length n = refl
 pub image_length : (n : Numbers) (t : Table) (l : Link) → length (one_image n t l) ≡ 159 + length t.name
 image_length n t l =
     let body : List ℕ = record_body (one_record n t l) in
-    let whole : List ℕ = header 5 1 (16 + length body) 0 in
+    let whole : List ℕ = header 5 first_format 1 (16 + length body) 0 in
     let entry : List ℕ = entry_text t.number t.formats t.name l in
     let head : length whole ≡ 16 = ap length (header_is (16 + length body)) in
     let rest : length body ≡ length (numbers_text n ++ (entry ++ [])) = ap length (body_is n t l) in
@@ -145,7 +146,7 @@ built_is n t l used head body table whole head_is body_are table_are used_is who
     let rest : List ℕ = record_body (one_record n t l) in
     let parts : body ++ (table ++ []) ≡ rest = ap (λ (l : List ℕ). l ++ (table ++ [])) body_are ∙ ap (λ (l : List ℕ). numbers_text n ++ (l ++ [])) table_are ∙ sym (body_is n t l) in
     let sizes : used ≡ 16 + length rest = omega (arith, used_is, ap length (sym parts), length-append body (table ++ []), ap length (append-nil table)) in
-    whole_is ∙ joined head body table ∙ ap (λ (l : List ℕ). head ++ l) parts ∙ ap (λ (l : List ℕ). l ++ rest) (head_is ∙ sym (header_is used) ∙ ap (λ m. header 5 1 m 0) sizes)
+    whole_is ∙ joined head body table ∙ ap (λ (l : List ℕ). head ++ l) parts ∙ ap (λ (l : List ℕ). l ++ rest) (head_is ∙ sym (header_is used) ∙ ap (λ m. header 5 first_format 1 m 0) sizes)
 
 -- the block that is filled up from an image
 pub filled_is : (n : Numbers) (t : Table) (l : Link) (image block : List ℕ) (k : ℕ) → length t.name ≤ 128 → image ≡ one_image n t l → k ≡ length image → block ≡ take 4096 image ++ replicate (4096 - k) 0 → block ≡ block_of (one_image n t l)

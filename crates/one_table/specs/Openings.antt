@@ -1,9 +1,14 @@
 -- What an opening finds, and why it finds nothing.
-use Rattle.std.specs.Prelude.{◌≡◌, ◌≢◌, ◌⊎◌, ℕ, ◌≤◌, ◌<◌, ◌-◌, ◌^◌, ◌==◌, nat_lt, false, List, [], ◌∷◌, length, map, Option, Some, None, if◌then◌else◌}
+use Rattle.std.specs.Prelude.{◌≡◌, ◌≢◌, ◌⊎◌, ℕ, ◌≤◌, ◌<◌, ◌-◌, ◌^◌, ◌==◌, false, List, [], ◌∷◌, length, map, Option, Some, None, if◌then◌else◌}
 use Rattle.std.specs.List.{AllByRecursion}
-use Rattle.block_mgr.specs.Blocks.{Books, AreUnits}
-use Rattle.block_mgr.specs.declared.addr.Addr.{Addr}
-use Rattle.turtle.specs.declared.slot.Slot.{Slot}
+use Rattle.extent_list.specs.Space.{end_of, space_of}
+use Rattle.block_mgr.specs.declared.found.Found.{Found}
+use Rattle.block_mgr.specs.declared.found.Holder.TheVariants.{Tree, Last}
+use Rattle.block_mgr.specs.Cells.{AreUnits, cell_at}
+use Rattle.block_mgr.specs.Blocks.{Books}
+use Rattle.block_mgr.specs.Open.{found_cell, last_end}
+use Rattle.device_layout.specs.declared.addr.Addr.{Addr}
+use Rattle.device_layout.specs.declared.slot.Slot.{Slot}
 use Rattle.turtle.specs.Slots.{Chooses}
 use Rattle.le_codec.specs.Images.{block_of}
 use Rattle.kv_model.specs.History.{Table}
@@ -63,9 +68,9 @@ pub record Serves (bytes : List ℕ) (place : Place) (old : Option Stored) : Typ
   pub still : HasStill old bytes
   pub slot : place.slot ≡ chosen_of old
   pub unsynced : place.blocks.is_synced ≡ false
-  pub in_use : AreInUse place.blocks.blocks (blocks_of old)
+  pub in_use : AreInUse place.blocks.cells (blocks_of old)
   pub space : IsSpaceOf (blocks_of old) place.blocks.space
-  pub within : place.blocks.space.end ≤ length bytes
+  pub within : end_of place.blocks.space ≤ length bytes
 
 -- what was kept is that of one table: the slot has its number, and the rows are those of its leaf that are kept
 pub record Keeps (bytes : List ℕ) (place : Place) (k : Kept) : Type 0 where
@@ -113,12 +118,22 @@ pub record IsChosen (bytes : List ℕ) (slot : Slot) : Type 0 where
 abbrev pub record_addr : Slot → Addr
 record_addr slot = record { offset = slot.offset; size = slot.size; sum = slot.sum }
 
--- the addresses of the record and of the leaf, where it is stored, by offset
-abbrev pub addrs_of : Slot → Root → List Addr
-addrs_of slot root =
-    if root.addr.offset == 0 then record_addr slot ∷ []
-    else if nat_lt slot.offset root.addr.offset then record_addr slot ∷ root.addr ∷ []
-    else root.addr ∷ record_addr slot ∷ []
+-- the block of the record, which the last checkpoint alone has, and that of the leaf
+abbrev pub record_found : Slot → Found
+record_found slot = record { addr = record_addr slot; holder = Last }
+
+abbrev pub leaf_found : Root → Found
+leaf_found root = record { addr = root.addr; holder = Tree }
+
+-- the record and the leaf, where it is stored
+abbrev pub found_of : Slot → Root → List Found
+found_of slot root = if root.addr.offset == 0 then record_found slot ∷ [] else record_found slot ∷ leaf_found root ∷ []
+
+-- the books are those of the blocks that were found
+pub record HasBooks (found : List Found) (books : Books) : Type 0 where
+  pub cells : (u : ℕ) → cell_at books.cells u ≡ found_cell found u
+  pub end : end_of books.space ≡ last_end found
+  pub units : AreUnits books.cells books.space
 
 -- the record of the slot, which another run may follow
 pub record IsRecordOf (slot : Slot) (block : List ℕ) (r : OneRecord) : Type 0 where
@@ -145,13 +160,10 @@ pub record IsAssembled (slot : Slot) (r : OneRecord) (rows : List Row) (books : 
   pub numbers : kept.numbers ≡ r.numbers
   pub entry : table_of kept.entry ≡ lent r.entry
   pub rows_are : kept.rows ≡ kept_rows r.numbers.marks rows
-  pub units : AreUnits books.blocks books.space
 
 -- what is opened where no checkpoint was completed
 pub record IsNothing (o : Opened) : Type 0 where
   pub none : o.kept ≡ None
   pub slot : o.place.slot ≡ None
-  pub blocks : o.place.blocks.blocks ≡ []
-  pub end : o.place.blocks.space.end ≡ 8192
+  pub space : o.place.blocks.space ≡ space_of []
   pub unsynced : o.place.blocks.is_synced ≡ false
-  pub units : AreUnits o.place.blocks.blocks o.place.blocks.space

@@ -31,7 +31,8 @@ pub struct Root {
 pub(crate) fn load<D: Disk>(alloc: Global, disk: &mut D, root: Root) -> Result<Rows, Refusal>
     ensures ok { IsTrue (D.honest disk.old) → IfOk result (LeafIs (D.seen disk.old) (link_of root)) }
     ensures err { IfErr result (LeafRefused (Rose (D.faults disk.old) (D.faults disk.new)) (IsTrue (D.honest disk.old)) (D.seen disk.old) (link_of root)) }
-    ensures looked { Looked D.honest D.seen D.may_leave D.capacity D.faults D.moment D.left_since disk.old disk.new }
+    ensures looked { Looked D.Disk disk.old disk.new }
+    ensures home { D.home disk.new ≡ D.home disk.old }
 {
     if root.addr.offset == 0 {
         return if is_nowhere(root) {

@@ -1,14 +1,14 @@
 // How a device is opened.
-ghost use Rattle.std.specs.Prelude.{◌≡◌, ◌≢◌, ◌⊎◌, ◌≤◌, ◌<◌, ℕ, List, map, false, length, IfOk, IfErr, IfSome, IfNone, OnOk, IsTrue};
+ghost use Rattle.std.specs.Prelude.{◌≡◌, ◌≢◌, ◌⊎◌, ◌≤◌, ◌<◌, ◌^◌, ℕ, List, false, length, IfOk, IfErr, IfSome, IfNone, OnOk, IsTrue};
 ghost use Rattle.failure.specs.Counts.{Rose};
 ghost use Rattle.disk_model.specs.Crash.{Looked};
-ghost use Rattle.block_mgr.specs.Open.{AreStored, stored, last_end};
-ghost use Rattle.one_table.specs.Openings.{IsOpened, InForm, OpenRefused, IsNothing, IsChosen, record_addr, addrs_of, IsRecordOf, RecordRefused, IsAssembled, last_number};
+ghost use Rattle.block_mgr.specs.Open.{AreStored};
+ghost use Rattle.one_table.specs.Openings.{IsOpened, InForm, OpenRefused, IsNothing, IsChosen, HasBooks, record_addr, found_of, IsRecordOf, RecordRefused, IsAssembled, last_number};
 
 use crate::leaf::{Root, load};
 use crate::place::Place;
 use crate::record::{Entry, Numbers, OneRecord, SEQUENCE_MAX, decode};
-use block_mgr::{Addr, Blocks, read_block};
+use block_mgr::{Addr, Blocks, Found, Holder, OpenError, read_block};
 use disk_model::Disk;
 use item::Item;
 use leaf_rows::Rows;
@@ -44,7 +44,8 @@ pub fn open<D: Disk>(alloc: Global, disk: &mut D) -> Result<Opened, Refusal>
     ensures ok { IsTrue (D.honest disk.old) → IfOk result (IsOpened (D.seen disk.old)) }
     ensures form { IfOk result (λ o. InForm o.kept) }
     ensures err { IfErr result (OpenRefused (Rose (D.faults disk.old) (D.faults disk.new)) (IsTrue (D.honest disk.old)) (D.seen disk.old)) }
-    ensures looked { Looked D.honest D.seen D.may_leave D.capacity D.faults D.moment D.left_since disk.old disk.new }
+    ensures looked { Looked D.Disk disk.old disk.new }
+    ensures home { D.home disk.new ≡ D.home disk.old }
 {
     match choose(disk) {
         Err(refusal) => Err(refusal),
@@ -57,7 +58,6 @@ fn blank(alloc: Global) -> Opened
     ensures { IsNothing result }
 {
     let blocks = Blocks::new(alloc);
-    let _ = blocks.end();
     Opened {
         place: Place { slot: None, blocks },
         kept: None,
@@ -69,7 +69,8 @@ fn open_at<D: Disk>(alloc: Global, disk: &mut D, slot: Slot) -> Result<Opened, R
     ensures ok { IsTrue (D.honest disk.old) → IsChosen (D.seen disk.old) slot → IfOk result (IsOpened (D.seen disk.old)) }
     ensures form { IfOk result (λ o. InForm o.kept) }
     ensures err { IfErr result (OpenRefused (Rose (D.faults disk.old) (D.faults disk.new)) (IsTrue (D.honest disk.old) × IsChosen (D.seen disk.old) slot) (D.seen disk.old)) }
-    ensures looked { Looked D.honest D.seen D.may_leave D.capacity D.faults D.moment D.left_since disk.old disk.new }
+    ensures looked { Looked D.Disk disk.old disk.new }
+    ensures home { D.home disk.new ≡ D.home disk.old }
 {
     let block = match read_block(alloc, disk, addr_of(slot)) {
         Ok(block) => block,
@@ -97,7 +98,8 @@ fn open_at<D: Disk>(alloc: Global, disk: &mut D, slot: Slot) -> Result<Opened, R
 fn length<D: Disk>(disk: &mut D) -> Result<u64, Refusal>
     ensures len { IsTrue (D.honest disk.old) → IfOk result (λ n. n ≡ length (D.seen disk.old)) }
     ensures err { IfErr result (λ r. (r ≡ Refusal.DiskFault) × Rose (D.faults disk.old) (D.faults disk.new)) }
-    ensures looked { Looked D.honest D.seen D.may_leave D.capacity D.faults D.moment D.left_since disk.old disk.new }
+    ensures looked { Looked D.Disk disk.old disk.new }
+    ensures home { D.home disk.new ≡ D.home disk.old }
 {
     match disk.len() {
         Ok(len) => Ok(len),
@@ -147,28 +149,49 @@ fn why_not(slot: Slot, numbers: Numbers) -> Option<Limit>
 // The blocks in use: the record's, and the leaf's where it is stored. `Corrupt` comes exactly where
 // they overlap or reach past the device's end.
 fn books(alloc: Global, slot: Slot, root: Root, len: u64) -> Result<Blocks, Refusal>
-    ensures blocks { IfOk result (λ s. s.blocks ≡ map stored (addrs_of slot root)) }
-    ensures end { IfOk result (λ s. s.space.end ≡ last_end 8192 (map stored (addrs_of slot root))) }
-    ensures fresh { IfOk result (λ s. (s.is_synced ≡ false) × (s.is_held ≡ false)) }
-    ensures stored { OnOk result (AreStored (addrs_of slot root) len) }
-    ensures err { IfErr result (λ r. (r ≡ Refusal.NoMemory) ⊎ ((r ≡ Refusal.Corrupt slot.offset slot.sum slot.sum) × (AreStored (addrs_of slot root) len → ⊥))) }
+    ensures books { IfOk result (HasBooks (found_of slot root)) }
+    ensures fresh { IfOk result (λ s. s.is_synced ≡ false) }
+    ensures stored { OnOk result (AreStored (found_of slot root) len) }
+    ensures err { IfErr result (λ r. (r ≡ Refusal.NoMemory) ⊎ ((r ≡ Refusal.Corrupt slot.offset slot.sum slot.sum) × (AreStored (found_of slot root) len → ⊥))) }
 {
-    let record = addr_of(slot);
-    let opened = if root.addr.offset == 0 {
-        Blocks::open(alloc, &[record], len)
-    } else if slot.offset < root.addr.offset {
-        Blocks::open(alloc, &[record, root.addr], len)
-    } else {
-        Blocks::open(alloc, &[root.addr, record], len)
+    let record = Found {
+        addr: addr_of(slot),
+        holder: Holder::Last,
     };
-    match opened {
-        Ok(Some(blocks)) => Ok(blocks),
-        Ok(None) => Err(Refusal::Corrupt {
-            offset: slot.offset,
-            want: slot.sum,
-            found: slot.sum,
-        }),
-        Err(_) => Err(Refusal::NoMemory),
+    let leaf = Found {
+        addr: root.addr,
+        holder: Holder::Tree,
+    };
+    if root.addr.offset == 0 {
+        books_of(alloc, &[record], slot, len)
+    } else {
+        books_of(alloc, &[record, leaf], slot, len)
+    }
+}
+
+// The books of these blocks. The slot names the record of the device.
+fn books_of(alloc: Global, found: &[Found], slot: Slot, len: u64) -> Result<Blocks, Refusal>
+    requires { length found.now < 2 ^ 32 }
+    ensures books { IfOk result (HasBooks found.now) }
+    ensures fresh { IfOk result (λ s. s.is_synced ≡ false) }
+    ensures stored { OnOk result (AreStored found.now len) }
+    ensures err { IfErr result (λ r. (r ≡ Refusal.NoMemory) ⊎ ((r ≡ Refusal.Corrupt slot.offset slot.sum slot.sum) × (AreStored found.now len → ⊥))) }
+{
+    match Blocks::open(alloc, found, len) {
+        Ok(blocks) => Ok(blocks),
+        Err(OpenError::NoMemory) => Err(Refusal::NoMemory),
+        Err(OpenError::NoPlace(_)) => Err(spoilt(slot)),
+        Err(OpenError::Clash(_, _)) => Err(spoilt(slot)),
+    }
+}
+
+fn spoilt(slot: Slot) -> Refusal
+    ensures { result ≡ Refusal.Corrupt slot.offset slot.sum slot.sum }
+{
+    Refusal::Corrupt {
+        offset: slot.offset,
+        want: slot.sum,
+        found: slot.sum,
     }
 }
 
@@ -182,7 +205,6 @@ fn assembled(
     ensures ok { IfOk result (IsAssembled slot found.now rows blocks) }
     ensures err { IfErr result (λ r. r ≡ Refusal.NoMemory) }
 {
-    let _ = blocks.end();
     let mut rows = rows;
     rows.keep(found.numbers.marks);
     let Ok(name) = Vec::from_slice(alloc, found.entry.name) else {

@@ -1,8 +1,13 @@
 // How a checkpoint of one table is written.
-ghost use Rattle.std.specs.Prelude.{◌≡◌, ◌+◌, ◌≤◌, ℕ, List, Option, length, IfErr, IsTrue};
+ghost use Rattle.std.specs.Prelude.{◌≡◌, ◌+◌, ◌≤◌, ℕ, List, Option, length, true, IfErr, IsTrue};
 ghost use Rattle.failure.specs.Counts.{Rose};
+ghost use Rattle.disk_model.specs.Crash.{SameDisk};
+ghost use Rattle.wt_code.specs.StoreErrors.{refusal_of, IsOfDisk};
+ghost use Rattle.extent_list.specs.Space.{end_of};
+ghost use Rattle.block_mgr.specs.Cells.{captured};
+ghost use Rattle.block_mgr.specs.Blocks.{HasLive, unit_of};
 ghost use Rattle.turtle.specs.Slots.{IsNext};
-ghost use Rattle.turtle.specs.declared.slot.Slot.{Slot as ASlot};
+ghost use Rattle.device_layout.specs.declared.slot.Slot.{Slot as ASlot};
 ghost use Rattle.row_page.specs.Rows.{Row};
 ghost use Rattle.stored.specs.Links.{nowhere as nowhere_link};
 ghost use Rattle.stored.specs.Stored.{Stored};
@@ -12,7 +17,7 @@ ghost use Rattle.checkpoint_core.specs.Stands.{Stands, AreInUse, chosen_of};
 ghost use Rattle.checkpoint_core.specs.Finishes.{Finishes};
 ghost use Rattle.one_table.specs.OneTable.{table_of, link_of, one_unplaced, IsInForm};
 ghost use Rattle.one_table.specs.Openings.{LeafIs, Serves, blocks_at};
-ghost use Rattle.one_table.specs.Closings.{Installs, IsFullFor, content_was};
+ghost use Rattle.one_table.specs.Closings.{Installs, IsFullFor, content_was, told_of};
 
 use crate::leaf::Root;
 use crate::place::Place;
@@ -23,7 +28,7 @@ use disk_model::Disk;
 use leaf_rows::Rows;
 use stamp::Name;
 use std::alloc::Global;
-use wt_code::Refusal;
+use wt_code::{Refusal, StoreError};
 
 /// Writes a checkpoint of the table with these rows, and installs it: the leaf, where there are
 /// rows, then the record, each in free units or else at the end. `NoSpace` comes exactly where one
@@ -40,29 +45,76 @@ pub fn close<D: Disk>(
     requires small { image_length rows.now ≤ 32768 }
     requires ready { IsTrue (D.honest disk.old) → (old : Option Stored) × Serves (D.seen disk.old) place.old old }
     ensures installs { IsTrue (D.honest disk.old) → (old : Option Stored) → Serves (D.seen disk.old) place.old old → ((slot : ASlot) → slot.sequence ≡ numbers.sequence → IsNext (chosen_of old) slot)
-        → Installs D.moment D.left_since D.may_leave (Rose (D.faults disk.old) (D.faults disk.new)) (IsFullFor (D.seen disk.old) (D.capacity disk.old) rows.now) (content_was old) (leaf_content numbers.marks (table_of entry.now) rows.now) disk.old disk.new result }
+        → Installs D.Disk (Rose (D.faults disk.old) (D.faults disk.new)) (IsFullFor (D.seen disk.old) (D.capacity disk.old) rows.now) (content_was old) (leaf_content numbers.marks (table_of entry.now) rows.now) disk.old disk.new result }
     ensures fault { IfErr result (λ r. r ≡ Refusal.DiskFault → Rose (D.faults disk.old) (D.faults disk.new)) }
-    ensures later { D.faults disk.old ≤ D.faults disk.new }
-    ensures same { D.honest disk.new ≡ D.honest disk.old }
+    ensures disk { SameDisk D.Disk disk.old disk.new }
 {
-    let _ = place.blocks.end();
     if rows.is_empty() {
-        return write_record(alloc, disk, &mut place.blocks, numbers, entry, nowhere());
+        let root = nowhere();
+        let record = write_record(alloc, disk, &mut place.blocks, numbers, entry, root);
+        return told(record);
     }
     let Ok(image) = rows.encode(alloc) else {
         return Err(Refusal::NoMemory);
     };
     match place.blocks.write(alloc, disk, &image) {
         Ok(addr) => {
+            capture(&mut place.blocks, addr);
             let root = Root {
                 addr,
                 greatest: rows.greatest(),
                 durable: rows.durable(),
             };
-            write_record(alloc, disk, &mut place.blocks, numbers, entry, root)
+            let record = write_record(alloc, disk, &mut place.blocks, numbers, entry, root);
+            told(record)
         }
-        Err(refusal) => Err(refusal),
+        Err(error) => Err(refused(error)),
     }
+}
+
+// The answer once the record was written, or was not.
+fn told(outcome: Result<Addr, StoreError>) -> Result<(), Refusal>
+    ensures { result ≡ told_of outcome }
+{
+    match outcome {
+        Ok(_) => Ok(()),
+        Err(error) => Err(refused(error)),
+    }
+}
+
+// The refusal that tells of an error.
+fn refused(error: StoreError) -> Refusal
+    ensures { result ≡ refusal_of error }
+{
+    match error {
+        StoreError::NoMemory => Refusal::NoMemory,
+        StoreError::NoSpace => Refusal::NoSpace,
+        StoreError::Read => Refusal::DiskFault,
+        StoreError::Down(_) => Refusal::DiskFault,
+    }
+}
+
+// A checkpoint runs from now on; one that was begun goes on.
+fn begin(blocks: &mut Blocks)
+    ensures cells { blocks.new.cells ≡ blocks.old.cells }
+    ensures space { blocks.new.space ≡ blocks.old.space }
+    ensures synced { blocks.new.is_synced ≡ blocks.old.is_synced }
+    ensures held { blocks.new.is_held ≡ true }
+{
+    if !blocks.is_held() {
+        blocks.ckpt_hold();
+    }
+}
+
+// The checkpoint has a block that was written.
+fn capture(blocks: &mut Blocks, addr: Addr)
+    requires { HasLive blocks.old.cells addr.offset addr.size }
+    ensures cells { blocks.new.cells ≡ captured blocks.old.cells (unit_of addr.offset) }
+    ensures space { blocks.new.space ≡ blocks.old.space }
+    ensures synced { blocks.new.is_synced ≡ blocks.old.is_synced }
+{
+    begin(blocks);
+    blocks.capture(addr);
 }
 
 // Writes the record of the table, whose leaf is where the root leads, and installs it.
@@ -73,15 +125,14 @@ fn write_record<D: Disk>(
     numbers: Numbers,
     entry: &Entry,
     root: Root,
-) -> Result<(), Refusal>
+) -> Result<Addr, StoreError>
     requires form { IsInForm numbers (table_of entry.now) }
-    requires ready { IsTrue (D.honest disk.old) → (8192 ≤ length (D.seen disk.old)) × (blocks.old.space.end ≤ length (D.seen disk.old)) }
-    ensures finishes { IsTrue (D.honest disk.old) → (old : Option Stored) (rows : List Row) → Stands (D.seen disk.old) (D.may_leave disk.old) blocks.old old → LeafIs (D.seen disk.old) (link_of root) rows → AreInUse blocks.old.blocks (blocks_at (link_of root) rows)
+    requires ready { IsTrue (D.honest disk.old) → (8192 ≤ length (D.seen disk.old)) × (end_of blocks.old.space ≤ length (D.seen disk.old)) }
+    ensures finishes { IsTrue (D.honest disk.old) → (old : Option Stored) (rows : List Row) → Stands (D.seen disk.old) (D.may_leave disk.old) blocks.old old → LeafIs (D.seen disk.old) (link_of root) rows → AreInUse blocks.old.cells (blocks_at (link_of root) rows)
         → ((slot : ASlot) → slot.sequence ≡ numbers.sequence → IsNext (chosen_of old) slot)
-        → Finishes D.moment D.left_since D.may_leave (Rose (D.faults disk.old) (D.faults disk.new)) blocks.old.space (159 + length entry.now.name) (D.capacity disk.old) old (one_unplaced numbers (table_of entry.now) (link_of root) rows) disk.old disk.new result }
-    ensures fault { IfErr result (λ r. r ≡ Refusal.DiskFault → Rose (D.faults disk.old) (D.faults disk.new)) }
-    ensures later { D.faults disk.old ≤ D.faults disk.new }
-    ensures same { D.honest disk.new ≡ D.honest disk.old }
+        → Finishes D.Disk blocks.old.space (159 + length entry.now.name) (D.capacity disk.old) old (one_unplaced numbers (table_of entry.now) (link_of root) rows) disk.old disk.new result }
+    ensures fault { IfErr result (λ e. IsOfDisk e → Rose (D.faults disk.old) (D.faults disk.new)) }
+    ensures disk { SameDisk D.Disk disk.old disk.new }
 {
     let entry = TableEntry {
         number: entry.number,
@@ -90,8 +141,9 @@ fn write_record<D: Disk>(
         root,
     };
     let Ok(image) = encode(alloc, numbers, &entry) else {
-        return Err(Refusal::NoMemory);
+        return Err(StoreError::NoMemory);
     };
+    begin(blocks);
     finish(alloc, disk, blocks, numbers.sequence, &image)
 }
 

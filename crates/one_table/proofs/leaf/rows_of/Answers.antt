@@ -2,7 +2,7 @@ use Rattle.std.proofs.Common.{inr, sym, ◌∙◌, ap, ◌≡◌, List, map}
 use Rattle.std.specs.Prelude.{nat_eq}
 use Rattle.std.proofs.lemmas.Bool.{eq-eqb, both_ways, and_from}
 use Rattle.stamp.specs.declared.name.Name.{Name}
-use Rattle.stored.specs.Links.{greatest_in, most_in}
+use Rattle.row_page.specs.Greatest.{greatest_in, most_in}
 use Rattle.row_page.specs.Rows.{Row}
 use Rattle.row_page.proofs.Leaves.{one_page}
 use Rattle.one_table.specs.OneTable.{link_of}

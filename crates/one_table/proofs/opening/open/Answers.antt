@@ -1,7 +1,7 @@
 use Rattle.std.proofs.Common.{◌∙◌, sym, subst, List, ℕ, Option, IsTrue}
 use Rattle.failure.specs.Counts.{Rose}
 use Rattle.disk_model.proofs.Crash.{looked_then}
-use Rattle.turtle.specs.declared.slot.Slot.{Slot}
+use Rattle.device_layout.specs.declared.slot.Slot.{Slot}
 use Rattle.turtle.specs.Slots.{Chooses}
 use Rattle.one_table.specs.Openings.{IsOpened, IsChosen, OpenRefused}
 use Rattle.one_table.proofs.Opens.{slot_refused, nothing_is, none_in_form, open_further, err_map, ok_map, rose_sooner}
@@ -37,7 +37,7 @@ returns-in-Ok-Some-clause-err g c =
 pub returns-in-Ok-Some-clause-looked : goal.returns-in-Ok-Some-clause-looked
 returns-in-Ok-Some-clause-looked g c =
     let D = g.D.Disk in
-    looked_then D.honest D.seen D.may_leave D.capacity D.faults D.moment D.left_since _ _ _ c.choose.ensures.looked c.open_at.ensures.looked
+    looked_then D _ _ _ c.choose.ensures.looked c.open_at.ensures.looked
 
 pub returns-in-Ok-None-clause-form : goal.returns-in-Ok-None-clause-form
 returns-in-Ok-None-clause-form g c = none_in_form c.blank.result c.blank.ensures

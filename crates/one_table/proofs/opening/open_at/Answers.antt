@@ -1,10 +1,10 @@
 use Rattle.std.proofs.Common.{inl, inr, ◌≡◌, ◌∙◌, ap, subst, List, ℕ, length}
 use Rattle.disk_model.proofs.Crash.{looked_then}
-use Rattle.block_mgr.specs.declared.addr.Addr.{Addr}
+use Rattle.device_layout.specs.declared.addr.Addr.{Addr}
 use Rattle.block_mgr.specs.Places.{Spoils}
 use Rattle.block_mgr.specs.Open.{AreStored}
 use Rattle.one_table.specs.OneTable.{link_of, lent}
-use Rattle.one_table.specs.Openings.{LeafIs, addrs_of}
+use Rattle.one_table.specs.Openings.{LeafIs, found_of}
 use Rattle.one_table.proofs.Opens.{block_there, spoilt_no_content, record_refused, leaf_refused, books_refused, no_leaf_no_content, no_books_no_content, opened_is, kept_in_form, ok_map, rose_sooner}
 use Rattle.one_table.proofs.opening.open_at.Goals as goal
 
@@ -46,7 +46,7 @@ returns-in-Err-books-clause-err g c =
 pub returns-in-Err-books-clause-looked : goal.returns-in-Err-books-clause-looked
 returns-in-Err-books-clause-looked g c =
     let D = g.D.Disk in
-    looked_then D.honest D.seen D.may_leave D.capacity D.faults D.moment D.left_since _ _ _ (looked_then D.honest D.seen D.may_leave D.capacity D.faults D.moment D.left_since _ _ _ c.read_block.ensures.looked c.load.ensures.looked) c.length.ensures.looked
+    looked_then D _ _ _ (looked_then D _ _ _ c.read_block.ensures.looked c.load.ensures.looked) c.length.ensures.looked
 
 pub returns-clause-ok : goal.returns-clause-ok
 returns-clause-ok g c h chosen =
@@ -57,12 +57,12 @@ returns-clause-ok g c h chosen =
     let leaf = subst (λ (l : List ℕ). LeafIs l (link_of c.in-Ok-record_of.found.entry.root) c.in-Ok-load.rows) c.read_block.ensures.looked.content (c.in-Ok-load.ensures.ok (c.read_block.ensures.looked.same ∙ h)) in
     ok_map c.assembled.result c.assembled.ensures.ok (λ o made. opened_is bytes c.deref.result.now c.args.slot c.in-Ok-record_of.found c.in-Ok-load.rows c.in-Ok-books.blocks o
     (block_there bytes c.args.slot c.addr_of.result c.in-Ok.block.items c.deref.result.now c.addr_of.ensures c.deref.ensures.value chosen (c.in-Ok.ensures.bytes h)) found leaf
-    (subst (λ n. AreStored (addrs_of c.args.slot c.in-Ok-record_of.found.entry.root) n) long c.in-Ok-books.ensures.stored) c.in-Ok-books.ensures.fresh.0 c.in-Ok-books.ensures.blocks c.in-Ok-books.ensures.end made)
+    (subst (λ n. AreStored (found_of c.args.slot c.in-Ok-record_of.found.entry.root) n) long c.in-Ok-books.ensures.stored) c.in-Ok-books.ensures.fresh c.in-Ok-books.ensures.books made)
 
 pub returns-clause-looked : goal.returns-clause-looked
 returns-clause-looked g c =
     let D = g.D.Disk in
-    looked_then D.honest D.seen D.may_leave D.capacity D.faults D.moment D.left_since _ _ _ (looked_then D.honest D.seen D.may_leave D.capacity D.faults D.moment D.left_since _ _ _ c.read_block.ensures.looked c.load.ensures.looked) c.length.ensures.looked
+    looked_then D _ _ _ (looked_then D _ _ _ c.read_block.ensures.looked c.load.ensures.looked) c.length.ensures.looked
 
 pub returns-clause-form : goal.returns-clause-form
 returns-clause-form g c =
