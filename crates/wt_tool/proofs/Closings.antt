@@ -1,46 +1,52 @@
 -- What the checkpoint at the end of a command is to the definitions.
-use Rattle.std.specs.Prelude.{Bool, false, IsTrue}
-use Rattle.std.proofs.lemmas.Bool.{false≢true, cases_lt}
+use Rattle.std.specs.Prelude.{Bool, false, nat_le, IsTrue}
+use Rattle.std.proofs.lemmas.Bool.{false≢true, cases_lt, cases_Bool, leb-true}
 use Rattle.std.proofs.Common.{◌≡◌, ◌⊎◌, ℕ, ◌+◌, ◌<◌, ◌≤◌, List, [], ◌∷◌, length, Option, Some, None, Result, Ok, Err, refl, sym, ap, subst, ◌∙◌, inl, inr, arith}
 use Rattle.failure.specs.Counts.{Rose}
+use Rattle.failure.specs.declared.Fault.TheVariants.{Sync}
 use Rattle.disk_model.specs.Crash.{Each, LeavesOnly}
 use Rattle.disk_model.proofs.Crash.{widened}
-use Rattle.turtle.specs.declared.slot.Slot.{Slot}
-use Rattle.turtle.specs.Slots.{Chooses, IsNext}
-use Rattle.turtle.proofs.Choice.{chooses_one}
-use Rattle.kv_model.specs.History.{Table, cut}
-use Rattle.kv_model.specs.Machine.{Machine, Completed}
+use Rattle.disk_model.specs.declared.disk.Disk.{Ghosts}
+use Rattle.device_layout.specs.declared.slot.Slot.{Slot}
+use Rattle.turtle.specs.Slots.{IsNext}
+use Rattle.kv_model.specs.AgreementLaws.{head_of}
+use Rattle.kv_model.specs.History.{Table, line, cut}
+use Rattle.kv_model.specs.Machine.{Machine, Completed, Event, CheckpointStart, CheckpointFinish, GoDown}
+use Rattle.kv_model.specs.Outside.{Storing, Stored, NoPlace, ReadFailed, WriteFailed, Unfinished}
+use Rattle.kv_model.specs.Decisions.{Outcome, Done as IsDone, Refused as NotDone, count_max}
+use Rattle.kv_model.specs.Closing.{close_busy, close_decision, rolling_back, last_checkpoint, last_stored, after_all}
+use Rattle.kv_model.specs.Told.{Tells}
+use Rattle.kv_model.specs.Calls.{IsTaken, rolled_back}
 use Rattle.kv_model.specs.Content.{Content, base, start, IsLayered, OpensAs}
 use Rattle.row_page.specs.Rows.{Row}
 use Rattle.stored.specs.Links.{Link}
+use Rattle.stored.specs.Slots.{Slot as AtSlot, first_text, second_text}
 use Rattle.stored.specs.Stored.{Reads, IsOn}
 use Rattle.stored.specs.Opens.{Opens}
-use Rattle.stored.proofs.Device.{one_content}
+use Rattle.stored.proofs.Device.{one_content, one_choice}
 use Rattle.leaf_rows.specs.Rows.{AreFit, image_length}
 use Rattle.leaf_rows.specs.Contents.{leaf_content}
 use Rattle.checkpoint_core.specs.Stands.{at_slot, chosen_of}
-use Rattle.checkpoint_core.proofs.Slots.{on_chooses}
 use Rattle.one_table.specs.declared.record.Numbers.{Numbers}
 use Rattle.one_table.specs.declared.place.Place.{Place}
 use Rattle.one_table.specs.declared.opening.Kept.{Kept}
 use Rattle.one_table.specs.OneTable.{one_stored, table_of}
 use Rattle.one_table.specs.Openings.{Keeps}
-use Rattle.one_table.specs.Closings.{Installs, IsFullFor, IsCloseRefusal, ReadsOld, ReadsEither, content_was}
+use Rattle.one_table.specs.Closings.{Installs, IsFullFor, IsCloseRefusal, ReadsOld, ReadsEither, content_was, block_sizes}
 use Rattle.one_table.proofs.Writes.{new_reads}
 use Rattle.one_session.specs.Shows.{Shows}
 use Rattle.one_session.proofs.Leaves.{opening, closing}
-use Rattle.one_session.proofs.Telling.{heads}
+use Rattle.one_session.proofs.Telling.{heads, ones}
+use Rattle.wt_code.specs.declared.answers.Answer.{Answer}
+use Rattle.wt_code.specs.declared.answers.Answer.TheVariants.{Done, Refused}
 use Rattle.wt_code.specs.declared.refusals.Refusal.{Refusal}
-use Rattle.wt_code.specs.declared.refusals.Refusal.TheVariants.{DiskFault, Limit as Refusal_Limit}
+use Rattle.wt_code.specs.declared.refusals.Refusal.TheVariants.{NoMemory, NoSpace, DiskFault, Limit as Refusal_Limit}
 use Rattle.wt_code.specs.declared.refusals.Limit.TheVariants.{Checkpoints, Image}
-use Rattle.wt_tool.specs.Runs.{Outside, Installed, NewestRows, CloseAnswers, RunsClose, closed, last_number}
+use Rattle.wt_tool.specs.Points.{Point, Ran, Installed, IsLater, DidClose, IsNumberOf, NewestRows, MayTakeAt, around, device_of, point_of, stops, closed, last_number}
+use Rattle.wt_tool.specs.Narrow.{IsOver, ClosesOne}
 use Rattle.wt_tool.specs.Closes.{next_numbers, HasCheckpoint, Closes}
-use Rattle.wt_tool.specs.Top.{MeetsTable, OpensToOne, Pending, Ran, outside, met_of}
-
--- the sequence of a slot
-abbrev sequence_in : Option Slot → ℕ
-sequence_in None = 0
-sequence_in (Some s) = s.sequence
+use Rattle.wt_tool.specs.Top.{OpensToOne, Pending}
+use Rattle.wt_tool.specs.Parts.{MeetsTable, Leaves, silent_run}
 
 -- the content of a device with one table
 pub one_reads : (slot : Slot) (n : Numbers) (t : Table) (link : Link) (rows : List Row) (c : List ℕ) → n.sequence ≡ slot.sequence → IsOn c (one_stored (at_slot slot) n t link rows) → Reads c (leaf_content n.marks t rows)
@@ -63,12 +69,12 @@ not_fit b n most test is = elim (cases_lt most n) [
   | inr le ↦ absurd (false≢true (sym is ∙ test.1 le))
 ]
 
-module _ {D : Type 0} (moment : D → ℕ) (left_since : D → ℕ → List ℕ → Type 0) (may_leave : D → List ℕ → Type 0) (fault full : Type 0) (old new : D) (result : Result (Unit {0}) Refusal) (t : Table) (rows : List Row) where
-  pub installs_as : (was content : Content) (m numbers : Numbers) → was ≡ content → m ≡ numbers → Installs moment left_since may_leave fault full was (leaf_content m.marks t rows) old new result
-      → Installs moment left_since may_leave fault full content (leaf_content numbers.marks t rows) old new result
+module _ {D : Type 0} (g : Ghosts D) (fault full : Type 0) (old new : D) (result : Result (Unit {0}) Refusal) (t : Table) (rows : List Row) where
+  pub installs_as : (was content : Content) (m numbers : Numbers) → was ≡ content → m ≡ numbers → Installs g fault full was (leaf_content m.marks t rows) old new result
+      → Installs g fault full content (leaf_content numbers.marks t rows) old new result
   installs_as was content m numbers same are installs =
-      subst (λ (k : Content). Installs moment left_since may_leave fault full k (leaf_content numbers.marks t rows) old new result) same
-      (subst (λ (k : Numbers). Installs moment left_since may_leave fault full was (leaf_content k.marks t rows) old new result) are installs)
+      subst (λ (k : Content). Installs g fault full k (leaf_content numbers.marks t rows) old new result) same
+      (subst (λ (k : Numbers). Installs g fault full was (leaf_content k.marks t rows) old new result) are installs)
 
 -- ---- what rows that were kept are
 
@@ -88,132 +94,223 @@ keeps_meets bytes place k content keeps reads =
 pub newest_shown : (m : Machine) (run next oldest stable : ℕ) (t : Table) (rows : List Row) → Shows run next oldest stable t rows m.history → NewestRows m rows
 newest_shown m run next oldest stable t rows s = record { table = t; only = s.table; fit = s.fit; newest = λ key. heads run next oldest stable t rows m.history key s }
 
--- ---- the run
+-- rows that are the newest of one machine are one
+newest_one : (m : Machine) (rows others : List Row) → NewestRows m rows → NewestRows m others → rows ≡ others
+newest_one m rows others a b =
+    let tables_same : (a.table ∷ []) ≡ (b.table ∷ []) = sym a.only ∙ b.only in
+    let same : a.table ≡ b.table = cc in
+    ones rows others a.fit b.fit (λ key. sym (a.newest key) ∙ ap (λ (t : Table). head_of (line m.history t.number key)) same ∙ b.newest key)
+
+-- ---- Close
 
 -- what was opened opens as the checkpoint that it was read from
 pub start_opens : (content : Content) → IsLayered content → OpensAs content (start content).completed
 start_opens content layered = record { layered = layered; oldest = refl; stable = refl; agrees = record { same_tables = refl; cores = λ t k. refl } }
 
-module _ {D : Type 0} (moment : D → ℕ) (left_since : D → ℕ → List ℕ → Type 0) (may_leave : D → List ℕ → Type 0) where
-  -- a run that is also another
-  pub ran_as : (old new : D) (content : Content) (Runs Others : List Refusal → List Installed → Machine → Type 0) (refusals : List Refusal) → ((made : List Installed) (next : Machine) → Runs refusals made next → Others refusals made next)
-      → Ran moment left_since may_leave Runs content old new refusals → Ran moment left_since may_leave Others content old new refusals
-  ran_as old new content Runs Others refusals more ran = record { made = ran.made; next = ran.next; run = more ran.made ran.next ran.run; opens = ran.opens; ever = ran.ever }
+abbrev pub nobody : Unfinished
+nobody = record { eviction = None; calls = [] }
 
-module _ {D : Type 0} (moment : D → ℕ) (left_since : D → ℕ → List ℕ → Type 0) (may_leave : D → List ℕ → Type 0) (old new : D) (counts : moment old ≤ moment new → (c : List ℕ) → may_leave new c → left_since new (moment old) c) (content : Content) (layered : IsLayered content) where
-  abbrev KeptAll : Type 0
-  KeptAll = LeavesOnly moment left_since old new (λ c. Reads c content)
+-- a machine whose Close finds nobody in its way and no transaction
+pub record IsIdle (m : Machine) : Type 0 where
+  pub up : m.fault ≡ None
+  pub free : close_busy m nobody ≡ None
+  pub quiet : rolling_back 0 m.sessions ≡ []
+  pub decides : (number : ℕ) (storing : Storing) → close_decision m nobody number storing ≡ last_checkpoint number storing
 
-  old_opens : (c : List ℕ) → Reads c content → Opens c (start content).completed
+-- below the last number a checkpoint is as the device takes it
+below_last : (number : ℕ) (storing : Storing) → number < last_number → last_checkpoint number storing ≡ last_stored storing
+below_last number storing less = elim (cases_Bool (nat_le count_max number)) [
+  | inl high ↦ absurd (omega (arith, less, leb-true count_max number high))
+  | inr low ↦ rw low refl
+]
+
+-- the machine after its own checkpoint
+abbrev pub closed_from : Machine → Machine
+closed_from m = after_all m (CheckpointStart ∷ CheckpointFinish ∷ [])
+
+module _ {D : Type 0} (g : Ghosts D) (old new : D) (counts : g.moment old ≤ g.moment new → (c : List ℕ) → g.may_leave new c → g.left_since new (g.moment old) c) (now : (c : List ℕ) → g.left_since new (g.moment new) c → g.may_leave new c) (content : Content) (layered : IsLayered content) where
+  abbrev pub KeptAll : Type 0
+  KeptAll = LeavesOnly g old new (λ c. Reads c content)
+
+  abbrev first : Completed
+  first = (start content).completed
+
+  old_opens : (c : List ℕ) → Reads c content → Opens c first
   old_opens c reads = (content, reads, start_opens content layered)
 
   -- nothing was installed
-  pub untouched : (Runs : List Refusal → List Installed → Machine → Type 0) (refusals : List Refusal) (next : Machine) → next.completed ≡ (start content).completed → Runs refusals [] next → KeptAll → Ran moment left_since may_leave Runs content old new refusals
-  untouched Runs refusals next same run kept = record {
+  pub untouched : (Allowed : Point → Ran → Type 0) (result : Result (Unit {0}) Refusal) (next : Machine) → next.completed ≡ first → Allowed (point_of g (start content) old) (silent_run result [] (point_of g next new)) → KeptAll → Leaves g Allowed content old new result
+  untouched Allowed result next same run kept = record {
     made = [];
     next = next;
     run = run;
-    opens = λ c left. inl (subst (λ (k : Completed). Opens c k) (sym same) (old_opens c (kept.each c (counts kept.later c left))));
-    ever = widened moment left_since old new _ _ kept (λ c reads. inl (old_opens c reads));
+    opens = inl (content, ((λ c left. kept.each c (counts kept.later c left)), layered), subst (λ (k : Completed). OpensAs content k) (sym same) (start_opens content layered));
+    ever = widened g old new _ _ kept (λ c reads. inl (old_opens c reads));
+    stays = tt;
   }
 
   -- Close of a machine whose rows these are
-  module _ (Runs : List Refusal → List Installed → Machine → Type 0) (mid : Machine) (same : mid.completed ≡ (start content).completed)
-      (before faults faults_now : ℕ) (seen : List ℕ) (capacity out_before out_now : ℕ) (le : before ≤ faults) (reads : Each (may_leave old) (λ c. Reads c content))
-      (embed : (refusals : List Refusal) (made : List Installed) (next : Machine) → RunsClose (outside before faults_now seen capacity out_before out_now) (moment new) mid refusals made next → Runs refusals made next)
-      (rows : List Row) (newest : NewestRows mid rows) where
-    abbrev here : Outside
-    here = outside before faults_now seen capacity out_before out_now
+  module _ (Allowed : Point → Ran → Type 0) (mid : Machine) (idle : IsIdle mid) (same : mid.completed ≡ first) (count : g.faults old ≤ g.faults new) (reads : Each (g.may_leave old) (λ c. Reads c content))
+      (embed : (ran : Ran) → ClosesOne (point_of g mid old) ran → Allowed (point_of g (start content) old) ran) (rows : List Row) (newest : NewestRows mid rows) where
+    rolled : rolled_back mid ≡ mid
+    rolled = ap (after_all mid) idle.quiet
 
-    abbrev RanSo : Result (Unit {0}) Refusal → Type 0
-    RanSo result = Ran moment left_since may_leave Runs content old new (met_of result)
+    abbrev p : Point
+    p = point_of g mid old
 
-    sooner : Rose faults faults_now → Rose before faults_now
-    sooner rose = omega (arith, rose, le)
+    abbrev q : Machine → Point
+    q m = point_of g m new
 
-    -- Close was refused before it touched the disk
-    pub ran_limit : (r : Refusal) → CloseAnswers here (moment new) mid (Some r) mid [] → KeptAll → RanSo (Err r)
-    ran_limit r why kept = untouched Runs (r ∷ []) mid same (embed (r ∷ []) [] mid (inl (r, why, refl))) kept
+    is_later : g.moment old ≤ g.moment new → IsLater (device_of g old) (device_of g new)
+    is_later le = record { faults = count; moment = le }
 
-    module _ (not_last : here.last → ⊥) (fits : image_length rows ≤ 32768) (now : Content) (news : (c : List ℕ) → Reads c now → Opens c (closed mid).completed) where
-      still : (c : List ℕ) → ReadsOld (may_leave old) content c → Reads c content
+    abbrev TakenSo : ℕ → Storing → Type 0
+    TakenSo number storing = IsTaken (around (device_of g old) (device_of g new)) (rolled_back mid) (close_decision mid nobody number) storing
+
+    taken : (number : ℕ) (storing : Storing) → MayTakeAt (device_of g old) (device_of g new) mid storing → TakenSo number storing
+    taken number storing may = inl (subst (λ (m : Machine). MayTakeAt (device_of g old) (device_of g new) m storing) (sym rolled) may)
+
+    -- what Close answers, by the number and how the device took it
+    answered : g.moment old ≤ g.moment new → (number : ℕ) (storing : Storing) (outcome : Outcome) (events : List Event) (answer : Answer (List ℕ)) → IsNumberOf (g.seen old) number → TakenSo number storing
+        → last_checkpoint number storing ≡ (outcome, events) → Tells outcome answer → DidClose p answer (q (after_all mid events))
+    answered le number storing outcome events answer numbered took is tells =
+        record { later = is_later le; answers = inr (number, storing, outcome, events, numbered, took, idle.decides number storing ∙ is, tells, refl) }
+
+    short : g.moment old ≤ g.moment new → DidClose p (Refused NoMemory) (q mid)
+    short le = record { later = is_later le; answers = inl (record { is = refl; up = idle.up; idle = idle.free; left = sym rolled }) }
+
+    -- no further checkpoint has a number
+    pub ran_last : IsNumberOf (g.seen old) last_number → KeptAll → Leaves g Allowed content old new (Err (Refusal_Limit Checkpoints))
+    ran_last last kept =
+        untouched Allowed (Err (Refusal_Limit Checkpoints)) mid same
+        (embed (stops (Refusal_Limit Checkpoints) (q mid)) (inr (
+          inr last,
+          inr (
+            Refusal_Limit Checkpoints,
+            q mid,
+            answered kept.later last_number Stored (NotDone (Refusal_Limit Checkpoints)) [] (Refused (Refusal_Limit Checkpoints)) last (inr (λ other. idle.decides last_number other ∙ sym (idle.decides last_number Stored))) refl refl,
+            inl refl,
+          ),
+        ))) kept
+
+    -- the rows pass one leaf
+    pub ran_over : 32768 < image_length rows → (IsNumberOf (g.seen old) last_number → ⊥) → KeptAll → Leaves g Allowed content old new (Err (Refusal_Limit Image))
+    ran_over long not_last kept =
+        untouched Allowed (Err (Refusal_Limit Image)) mid same
+        (embed (stops (Refusal_Limit Image) (q mid)) (inl (q mid, is_later kept.later, sym rolled, (rows, newest, long), not_last, refl))) kept
+
+    module _ (number : ℕ) (numbered : IsNumberOf (g.seen old) number) (less : number < last_number) (fits : image_length rows ≤ 32768) (next : Content) (opened : OpensAs next (closed_from mid).completed) where
+      not_over : IsOver mid → ⊥
+      not_over (others, theirs, long) = let one = newest_one mid rows others newest theirs in absurd (omega (arith, fits, subst (λ (l : List Row). 32768 < image_length l) (sym one) long))
+
+      still : (c : List ℕ) → ReadsOld (g.may_leave old) content c → Reads c content
       still c (inl image) = reads c image
       still c (inr kept) = kept
 
+      own_is : (closed_from mid).completed ≡ closed mid
+      own_is = ap (λ (m : Machine). (closed_from m).completed) (sym rolled)
+
+      news : (c : List ℕ) → Reads c next → Opens c (closed mid)
+      news c held = (next, held, subst (λ (k : Completed). OpensAs next k) own_is opened)
+
       abbrev own : Option Refusal → Installed
-      own refused = record { checkpoint = (closed mid).completed; refused = refused; at = moment new }
+      own refused = record { checkpoint = closed mid; refused = refused; at = g.moment new }
 
-      one : (refused : Option Refusal) (c : List ℕ) → ReadsEither (may_leave old) content now c → OpensToOne (start content) (own refused ∷ []) c
+      one : (refused : Option Refusal) (c : List ℕ) → ReadsEither (g.may_leave old) content next c → OpensToOne first (own refused ∷ []) c
       one refused c (inl kept) = inl (old_opens c (still c kept))
-      one refused c (inr held) = inr ((closed mid).completed, inl refl, news c held)
+      one refused c (inr held) = inr (closed mid, inl refl, news c held)
 
-      why_close : (r : Refusal) → IsCloseRefusal (Rose faults faults_now) (IsFullFor seen capacity rows) r → CloseAnswers here (moment new) mid (Some r) mid []
-      why_close r (inl none) = inl (refl, refl, inl none)
-      why_close r (inr (inl room)) = inl (refl, refl, inr (inl (room.0, (rows, newest, room.1))))
-      why_close r (inr (inr failed)) = inr (inl (refl, inl refl, failed.0, sooner failed.1))
+      refused_by : (r : Refusal) → g.moment old ≤ g.moment new → IsCloseRefusal (Rose (g.faults old) (g.faults new)) (IsFullFor (g.seen old) (g.capacity old) rows) r → DidClose p (Refused r) (q mid)
+      refused_by r le (inl none) = subst (λ (x : Refusal). DidClose p (Refused x) (q mid)) (sym none) (short le)
+      refused_by r le (inr (inl (is, full))) =
+          subst (λ (x : Refusal). DidClose p (Refused x) (q mid)) (sym is)
+          (answered le number NoPlace (NotDone NoSpace) [] (Refused NoSpace) numbered (taken number NoPlace (block_sizes rows, (rows, newest, refl), full)) (below_last number NoPlace less) refl)
+      refused_by r le (inr (inr (is, rose))) =
+          subst (λ (x : Refusal). DidClose p (Refused x) (q mid)) (sym is)
+          (answered le number ReadFailed (NotDone DiskFault) [] (Refused DiskFault) numbered (taken number ReadFailed rose) (below_last number ReadFailed less) refl)
 
-      pub ran_close : (result : Result (Unit {0}) Refusal) → Installs moment left_since may_leave (Rose faults faults_now) (IsFullFor seen capacity rows) content now old new result → RanSo result
-      ran_close (Ok end) (run, each, room) = record {
-        made = own None ∷ [];
-        next = closed mid;
-        run = embed [] (own None ∷ []) (closed mid) (inr (((rows, newest, (fits, room)), not_last, refl, refl), refl));
-        opens = λ c left. inl (news c (each c left));
-        ever = widened moment left_since old new _ _ run (one None);
-      }
-      ran_close (Err r) (why, inl run) = ran_limit r (why_close r why) (widened moment left_since old new _ _ run still)
-      ran_close (Err r) (why, inr (is, failed, run)) = record {
+      -- a fault at the gate
+      at_gate : Rose (g.faults old) (g.faults new) → LeavesOnly g old new (ReadsEither (g.may_leave old) content next) → Leaves g Allowed content old new (Err DiskFault)
+      at_gate rose run = record {
         made = own (Some DiskFault) ∷ [];
-        next = mid;
-        run = embed (r ∷ []) (own (Some DiskFault) ∷ []) mid (inl (r, inr (inr (refl, inl refl, is, sooner failed)), refl));
-        opens = λ c left. opens c (run.each c (counts run.later c left));
-        ever = widened moment left_since old new _ _ run (one (Some DiskFault));
+        next = after_all mid (GoDown Sync ∷ []);
+        run = embed (silent_run (Err DiskFault) (own (Some DiskFault) ∷ []) (q (after_all mid (GoDown Sync ∷ [])))) (inr (
+          inl not_over,
+          inr (
+            DiskFault,
+            q (after_all mid (GoDown Sync ∷ [])),
+            answered run.later number (WriteFailed Sync) (NotDone DiskFault) (GoDown Sync ∷ []) (Refused DiskFault) numbered (taken number (WriteFailed Sync) rose) (below_last number (WriteFailed Sync) less) refl,
+            inr (refl, (Sync, refl), refl),
+          ),
+        ));
+        opens = inr (closed mid, inl (refl, refl, tt), λ c left. opens c (run.each c (counts run.later c left)));
+        ever = widened g old new _ _ run (one (Some DiskFault));
+        stays = ((λ is c left. absurd (not_none is)), tt);
       }
         where
-          opens : (c : List ℕ) → ReadsEither (may_leave old) content now c → Opens c mid.completed ⊎ ((k : Completed) × Pending (own (Some DiskFault) ∷ []) k × Opens c k)
+          not_none : let gone : Option Refusal = Some DiskFault in gone ≡ None → ⊥
+          not_none gone = cc
+
+          opens : (c : List ℕ) → ReadsEither (g.may_leave old) content next c → Opens c mid.completed ⊎ ((k : Completed) × Pending (own (Some DiskFault) ∷ []) k × Opens c k)
           opens c (inl kept) = inl (subst (λ (k : Completed). Opens c k) (sym same) (old_opens c (still c kept)))
-          opens c (inr held) = inr ((closed mid).completed, inl (refl, refl), news c held)
+          opens c (inr held) = inr (closed mid, inl (refl, refl, tt), news c held)
+
+      pub ran_close : (result : Result (Unit {0}) Refusal) → Installs g (Rose (g.faults old) (g.faults new)) (IsFullFor (g.seen old) (g.capacity old) rows) content next old new result → Leaves g Allowed content old new result
+      ran_close (Ok end) (run, each, room) = record {
+        made = own None ∷ [];
+        next = closed_from mid;
+        run = embed (silent_run (Ok end) (own None ∷ []) (q (closed_from mid))) (inr (
+          inl not_over,
+          inl (
+            q (closed_from mid),
+            answered run.later number Stored IsDone (CheckpointStart ∷ CheckpointFinish ∷ []) Done numbered (taken number Stored (block_sizes rows, (rows, newest, refl), room)) (below_last number Stored less) refl,
+            refl,
+          ),
+        ));
+        opens = inl (next, ((λ c left. each c left), opened.layered), opened);
+        ever = widened g old new _ _ run (one None);
+        stays = ((λ done c left. inl (news c (each c (now c left)))), tt);
+      }
+      ran_close (Err r) (why, inl run) =
+          let kept : KeptAll = widened g old new _ _ run still in
+          untouched Allowed (Err r) mid same (embed (stops r (q mid)) (inr (inl not_over, inr (r, q mid, refused_by r kept.later why, inl refl)))) kept
+      ran_close (Err r) (why, inr (is, failed, run)) = subst (λ (x : Refusal). Leaves g Allowed content old new (Err x)) (sym is) (at_gate failed run)
 
 -- what a checkpoint of the machine's rows opens as
 pub news_of : (m : Machine) (n : Numbers) (next : ℕ) (t : Table) (rows : List Row) → Shows (n.marks.run + 1) next n.marks.oldest n.marks.stable t rows m.history → m.oldest ≡ n.marks.oldest → m.stable ≡ n.marks.stable
-    → (c : List ℕ) → Reads c (leaf_content (next_numbers n next).marks t rows) → Opens c (closed m).completed
-news_of m n next t rows s oldest stable c reads =
-    let now = leaf_content (next_numbers n next).marks t rows in (
-      now,
-      reads,
-      subst (λ k. OpensAs now (record { content = cut m.history (length m.history) m.stable; oldest = k; stable = m.stable })) (sym oldest)
-          (subst (λ k. OpensAs now (record { content = cut m.history (length m.history) k; oldest = n.marks.oldest; stable = k })) (sym stable)
-          (closing (n.marks.run + 1) next n.marks.oldest n.marks.stable t rows m.history s)),
-    )
+    → OpensAs (leaf_content (next_numbers n next).marks t rows) (closed_from m).completed
+news_of m n next t rows s oldest stable =
+    subst (λ k. OpensAs (leaf_content (next_numbers n next).marks t rows) (record { content = cut m.history (length m.history) m.stable; oldest = k; stable = m.stable })) (sym oldest)
+    (subst (λ k. OpensAs (leaf_content (next_numbers n next).marks t rows) (record { content = cut m.history (length m.history) k; oldest = n.marks.oldest; stable = k })) (sym stable)
+    (closing (n.marks.run + 1) next n.marks.oldest n.marks.stable t rows m.history s))
 
-module _ {D : Type 0} (moment : D → ℕ) (left_since : D → ℕ → List ℕ → Type 0) (may_leave : D → List ℕ → Type 0) (old new : D) (counts : moment old ≤ moment new → (c : List ℕ) → may_leave new c → left_since new (moment old) c) (content : Content) (layered : IsLayered content)
-    (Runs : List Refusal → List Installed → Machine → Type 0) (mid : Machine) (same : mid.completed ≡ (start content).completed)
-    (before faults faults_now : ℕ) (seen : List ℕ) (capacity out_before out_now : ℕ) (le : before ≤ faults) (reads : Each (may_leave old) (λ c. Reads c content))
-    (embed : (refusals : List Refusal) (made : List Installed) (next : Machine) → RunsClose (outside before faults_now seen capacity out_before out_now) (moment new) mid refusals made next → Runs refusals made next)
-    (place : Place) (n : Numbers) (t : Table) (there : HasCheckpoint seen place n t) (next : ℕ) (rows : List Row)
+module _ {D : Type 0} (g : Ghosts D) (old new : D) (counts : g.moment old ≤ g.moment new → (c : List ℕ) → g.may_leave new c → g.left_since new (g.moment old) c) (now : (c : List ℕ) → g.left_since new (g.moment new) c → g.may_leave new c) (content : Content) (layered : IsLayered content)
+    (Allowed : Point → Ran → Type 0) (mid : Machine) (idle : IsIdle mid) (same : mid.completed ≡ (start content).completed) (count : g.faults old ≤ g.faults new) (reads : Each (g.may_leave old) (λ c. Reads c content))
+    (embed : (ran : Ran) → ClosesOne (point_of g mid old) ran → Allowed (point_of g (start content) old) ran)
+    (place : Place) (n : Numbers) (t : Table) (there : HasCheckpoint (g.seen old) place n t) (next : ℕ) (rows : List Row)
     (s : Shows (n.marks.run + 1) next n.marks.oldest n.marks.stable t rows mid.history) (oldest : mid.oldest ≡ n.marks.oldest) (stable : mid.stable ≡ n.marks.stable) where
   newest : NewestRows mid rows
   newest = newest_shown mid (n.marks.run + 1) next n.marks.oldest n.marks.stable t rows s
 
-  chooses : Chooses seen (Some there.slot)
-  chooses = on_chooses seen (one_stored (at_slot there.slot) n t there.link there.rows) there.serves.still
+  numbered : IsNumberOf (g.seen old) n.sequence
+  numbered = inr (at_slot there.slot, there.serves.still.chosen, sym there.sequence)
 
   -- the number of the chosen slot
-  pub not_last : n.sequence < last_number → (outside before faults_now seen capacity out_before out_now).last → ⊥
-  not_last less last = omega (arith, less, there.sequence, last.2, ap sequence_in (chooses_one seen (Some last.0) (Some there.slot) last.1 chooses))
+  not_last : n.sequence < last_number → IsNumberOf (g.seen old) last_number → ⊥
+  not_last less (inl (blank, none)) = absurd (omega (arith, none))
+  not_last less (inr (slot, chosen, last)) =
+      let one : slot ≡ at_slot there.slot = one_choice (first_text (g.seen old)) (second_text (g.seen old)) slot (at_slot there.slot) chosen there.serves.still.chosen in
+      absurd (omega (arith, less, there.sequence, last, ap (λ (x : AtSlot). x.sequence) one))
 
   -- the next checkpoint of the table, at the end of a run
-  pub ran_closes : (result : Result (Unit {0}) Refusal) → Closes moment left_since may_leave (Rose faults faults_now) (IsFullFor seen capacity rows) n t rows next content old new result
-      → Ran moment left_since may_leave Runs content old new (met_of result)
+  pub ran_closes : (result : Result (Unit {0}) Refusal) → Closes g (Rose (g.faults old) (g.faults new)) (IsFullFor (g.seen old) (g.capacity old) rows) n t rows next content old new result
+      → Leaves g Allowed content old new result
   ran_closes result (inl (is, last, kept)) =
-      subst (λ (r : Result (Unit {0}) Refusal). Ran moment left_since may_leave Runs content old new (met_of r)) (sym is)
-      (ran_limit moment left_since may_leave old new counts content layered Runs mid same before faults faults_now seen capacity out_before out_now le reads embed rows newest (Refusal_Limit Checkpoints)
-      (inl (refl, refl, inr (inr (inr (refl, (there.slot, chooses, sym there.sequence ∙ last))))))
-      (widened moment left_since old new _ _ kept reads))
+      subst (λ (r : Result (Unit {0}) Refusal). Leaves g Allowed content old new r) (sym is)
+      (ran_last g old new counts now content layered Allowed mid idle same count reads embed rows newest (subst (λ k. IsNumberOf (g.seen old) k) last numbered) (widened g old new _ _ kept reads))
   ran_closes result (inr (inl (is, less, long, kept))) =
-      subst (λ (r : Result (Unit {0}) Refusal). Ran moment left_since may_leave Runs content old new (met_of r)) (sym is)
-      (ran_limit moment left_since may_leave old new counts content layered Runs mid same before faults faults_now seen capacity out_before out_now le reads embed rows newest (Refusal_Limit Image)
-      (inl (refl, refl, inr (inr (inl (refl, (rows, newest, long))))))
-      (widened moment left_since old new _ _ kept reads))
+      subst (λ (r : Result (Unit {0}) Refusal). Leaves g Allowed content old new r) (sym is)
+      (ran_over g old new counts now content layered Allowed mid idle same count reads embed rows newest long (not_last less) (widened g old new _ _ kept reads))
   ran_closes result (inr (inr (less, fits, installs))) =
-      ran_close moment left_since may_leave old new counts content layered Runs mid same before faults faults_now seen capacity out_before out_now le reads embed rows newest (not_last less) fits
+      ran_close g old new counts now content layered Allowed mid idle same count reads embed rows newest n.sequence numbered less fits
       (leaf_content (next_numbers n next).marks t rows) (news_of mid n next t rows s oldest stable) result installs

@@ -1,6 +1,6 @@
 -- The calls of `create`, on a device without a checkpoint and on one with its one table.
 use Rattle.std.specs.Prelude.{true, false, not, bytes_eq, MatchOption}
-use Rattle.std.proofs.Common.{◌≡◌, ◌≢◌, ◌⊎◌, ℕ, ◌+◌, ◌≤◌, List, [], ◌∷◌, length, Option, Some, None, Result, refl, sym, ap, subst, ◌∙◌, inl, inr, arith}
+use Rattle.std.proofs.Common.{◌≡◌, ◌≢◌, ◌⊎◌, ℕ, ◌+◌, ◌<◌, ◌≤◌, List, [], ◌∷◌, length, Option, Some, None, Result, Err, refl, sym, ap, subst, ◌∙◌, inl, inr, arith}
 use Rattle.std.proofs.lemmas.Bool.{false≢true, cases_Bool}
 use Rattle.std.proofs.lemmas.Slice.Eq.{bytes_eq-Decides}
 use Rattle.failure.specs.Counts.{Rose}
@@ -8,18 +8,22 @@ use Rattle.item.specs.declared.formats.Format.{Format}
 use Rattle.item.specs.declared.formats.Format.TheVariants.{S, U}
 use Rattle.item.specs.declared.formats.Formats.{Formats}
 use Rattle.disk_model.specs.Crash.{Each, LeavesOnly}
-use Rattle.turtle.specs.declared.slot.Slot.{Slot}
+use Rattle.disk_model.specs.declared.disk.Disk.{Ghosts}
+use Rattle.device_layout.specs.declared.slot.Slot.{Slot}
 use Rattle.turtle.proofs.Choice.{chooses_one}
-use Rattle.kv_model.specs.History.{Table, tables, named}
+use Rattle.kv_model.specs.History.{Table, tables, created, named}
 use Rattle.kv_model.specs.Machine.{Machine, Event, CreateTable, Nothing, after as left_by}
-use Rattle.kv_model.specs.Refusals.{Exists as TableExists, Invalid as CallInvalid, BadName as CallBadName}
-use Rattle.kv_model.specs.Decisions.{Outcome, Done, Refused, is_name, same_formats, same_format, checked, created}
-use Rattle.kv_model.specs.Content.{Content, base, nothing, start, IsLayered}
+use Rattle.kv_model.specs.Holds.{Member}
+use Rattle.kv_model.specs.Calls.{System, Create, IsTableFor, SystemJudged}
+use Rattle.kv_model.specs.Decisions.{Outcome, Done, Refused, CreateCall, is_name, same_formats, same_format, checked, create_decision}
+use Rattle.kv_model.specs.Content.{Content, base, nothing, start, kept, descending, table_lt, placed_lt, IsLayered}
+use Rattle.kv_model.proofs.Finishing.{tables-base, created-base}
 use Rattle.row_page.specs.Rows.{Row}
 use Rattle.stored.specs.Stored.{Reads, IsBlank}
 use Rattle.stored.proofs.Device.{one_content}
 use Rattle.leaf_rows.specs.Contents.{leaf_content}
-use Rattle.checkpoint_core.proofs.Slots.{blank_chooses}
+use Rattle.checkpoint_core.specs.Stands.{slot_of}
+use Rattle.checkpoint_core.proofs.Slots.{blank_chooses, chosen_chooses}
 use Rattle.one_table.specs.declared.record.Numbers.{Numbers}
 use Rattle.one_table.specs.declared.place.Place.{Place}
 use Rattle.one_table.specs.declared.opening.Kept.{Kept}
@@ -28,27 +32,32 @@ use Rattle.one_table.specs.Openings.{Keeps}
 use Rattle.one_table.specs.Closings.{Installs, IsFullFor}
 use Rattle.one_session.specs.Shows.{Shows}
 use Rattle.one_session.proofs.Leaves.{closing}
+use Rattle.wt_code.specs.declared.answers.Answer.{Answer}
+use Rattle.wt_code.specs.declared.answers.Answer.TheVariants.{Done as IsDone, Refused as NotDone}
 use Rattle.wt_code.specs.declared.refusals.Refusal.{Refusal}
 use Rattle.wt_code.specs.declared.refusals.Refusal.TheVariants.{NoMemory, Exists, Invalid as Refusal_Invalid, Limit as Refusal_Limit}
-use Rattle.wt_code.specs.declared.refusals.Invalid.TheVariants.{BadConfig}
+use Rattle.wt_code.specs.declared.refusals.Invalid.TheVariants.{BadConfig, BadName}
 use Rattle.wt_code.specs.declared.refusals.Limit.TheVariants.{Tables}
 use Rattle.wt_tool.specs.Words.{formats_asked}
-use Rattle.wt_tool.specs.Runs.{Outside, Installed, IsSecond, CreateAnswers, RunsCreate, Stops}
-use Rattle.wt_tool.specs.Calls.{RunsConfig}
+use Rattle.wt_tool.specs.Points.{Device, Point, Ran, Did, IsNumberOf, device_of, point_of, stops, last_number}
+use Rattle.wt_tool.specs.Narrow.{IsSecond, ClosesOne}
+use Rattle.wt_tool.specs.Openings.{Configured}
+use Rattle.wt_tool.specs.Creates.{MakesTable}
 use Rattle.wt_tool.specs.Closes.{first_numbers, Closes}
-use Rattle.wt_tool.specs.Top.{Ran, outside, met_of, MeetsTable}
-use Rattle.wt_tool.proofs.Closings.{keeps_meets, newest_shown, untouched, ran_as, ran_close, ran_closes}
+use Rattle.wt_tool.specs.Parts.{MeetsTable, Leaves}
+use Rattle.wt_tool.proofs.Did.{at, same_device, keeps_same}
+use Rattle.wt_tool.proofs.Closings.{IsIdle, keeps_meets, newest_shown, untouched, ran_close, ran_closes}
 
 -- ---- what the machine decides
 
--- of a table, where these are known
-abbrev made_in : List Table → List ℕ → Formats → Outcome × Event
-made_in known name formats = checked ((not (is_name name), CallInvalid CallBadName) ∷ []) (created known (record { number = length known + 1; name = name; formats = formats }) (named name known))
+-- of a table of this number, where these are known
+abbrev made_in : ℕ → List Table → List ℕ → Formats → Outcome × Event
+made_in number known name formats = checked ((not (is_name name), Refusal_Invalid BadName) ∷ []) (create_decision known (record { number = number; name = name; formats = formats }) (named name known))
 
 abbrev pub first_table : List ℕ → Formats → Table
 first_table name formats = record { number = 1; name = name; formats = formats }
 
-decide_new : (name : List ℕ) (formats : Formats) → is_name name ≡ true → made_in [] name formats ≡ (Done, CreateTable (first_table name formats))
+decide_new : (name : List ℕ) (formats : Formats) → is_name name ≡ true → made_in 1 [] name formats ≡ (Done, CreateTable (first_table name formats))
 decide_new name formats is = rw is refl
 
 same_bytes : (name : List ℕ) → bytes_eq name name ≡ true
@@ -79,11 +88,11 @@ same_or_other f g = elim (kinds g.key f.key) [
   | inr (differ, key) ↦ inr (λ same. differ (ap (λ (x : Formats). x.key) (sym same)), rw key refl)
 ]
 
-decide_same : (t : Table) → is_name t.name ≡ true → made_in (t ∷ []) t.name t.formats ≡ (Done, Nothing)
-decide_same t is = rw (is, same_bytes t.name, same_kind t.formats.key, same_kind t.formats.value) refl
+decide_same : (n : ℕ) (t : Table) → is_name t.name ≡ true → made_in n (t ∷ []) t.name t.formats ≡ (Done, Nothing)
+decide_same n t is = rw (is, same_bytes t.name, same_kind t.formats.key, same_kind t.formats.value) refl
 
-decide_other : (t : Table) (formats : Formats) → is_name t.name ≡ true → same_formats formats t.formats ≡ false → made_in (t ∷ []) t.name formats ≡ (Refused TableExists, Nothing)
-decide_other t formats is other = rw (is, same_bytes t.name, other) refl
+decide_other : (n : ℕ) (t : Table) (formats : Formats) → is_name t.name ≡ true → same_formats formats t.formats ≡ false → made_in n (t ∷ []) t.name formats ≡ (Refused Exists, Nothing)
+decide_other n t formats is other = rw (is, same_bytes t.name, other) refl
 
 named_none : (t : Table) (name : List ℕ) → t.name ≢ name → named name (t ∷ []) ≡ None
 named_none t name differ = elim (cases_Bool (bytes_eq t.name name)) [
@@ -97,47 +106,80 @@ named_same t none = some_none (sym (rw (same_bytes t.name) refl) ∙ none)
     some_none : let found : Option Table = Some t in found ≡ None → ⊥
     some_none same = cc
 
+-- Create is answered so, and leaves this machine
+abbrev CreatedAs : Machine → List ℕ → Formats → Answer (List ℕ) → Machine → Type 0
+CreatedAs m name formats answer next = (table : Table) × IsTableFor m name formats table × SystemJudged m (CreateCall table) answer next
+
+created_did : (d : Device) (m next : Machine) (name : List ℕ) (formats : Formats) (answer : Answer (List ℕ)) → CreatedAs m name formats answer next → Did (at d m) (System 0) (Create name formats) answer (at d next)
+created_did d m next name formats answer created = record { later = same_device d; keeps = keeps_same d; answers = inr created }
+
 -- an opened machine whose one table this is
-module _ (content : Content) (t : Table) (only : tables (base content) ≡ t ∷ []) (is : is_name t.name ≡ true) where
-  second : (name : List ℕ) → t.name ≢ name → IsSecond (start content) name
-  second name differ = subst (λ (l : List Table). (named name l ≡ None) × (1 ≤ length l)) (sym only) (named_none t name differ, omega arith)
+module _ (d : Device) (content : Content) (t : Table) (only : tables (base content) ≡ t ∷ []) (is : is_name t.name ≡ true) where
+  abbrev opened : Point
+  opened = at d (start content)
 
-  done_same : (name : List ℕ) (formats : Formats) → t.name ≡ name → t.formats ≡ formats → CreateAnswers (start content) name formats None (start content)
-  done_same name formats same_name same_formats_too =
-      subst (λ (k : List ℕ). CreateAnswers (start content) k formats None (start content)) same_name
-      (subst (λ (f : Formats). CreateAnswers (start content) t.name f None (start content)) same_formats_too (
-        λ two. named_same t (subst (λ (l : List Table). named t.name l ≡ None) only two.0),
-        (Nothing, subst (λ (l : List Table). made_in l t.name t.formats ≡ (Done, Nothing)) (sym only) (decide_same t is), refl),
-      ))
+  abbrev another : List ℕ → Formats → Table
+  another name formats = record { number = t.number + 1; name = name; formats = formats }
 
-  exists : (name : List ℕ) (formats : Formats) → t.name ≡ name → same_formats formats t.formats ≡ false → CreateAnswers (start content) name formats (Some Exists) (start content)
-  exists name formats same_name other =
-      subst (λ (k : List ℕ). CreateAnswers (start content) k formats (Some Exists) (start content)) same_name
-      (refl, inr (refl, subst (λ (l : List Table). made_in l t.name formats ≡ (Refused TableExists, Nothing)) (sym only) (decide_other t formats is other)))
+  same_made : created (base content) ≡ tables (base content)
+  same_made = created-base (descending table_lt content.tables) (descending placed_lt (kept content)) ∙ sym (tables-base (descending table_lt content.tables) (descending placed_lt (kept content)))
+
+  suits : (x : Table) → Member x (created (base content)) → x.number < t.number + 1
+  suits x there = of (subst (λ (l : List Table). Member x l) (same_made ∙ only) there)
+    where
+      of : Member x (t ∷ []) → x.number < t.number + 1
+      of (inl same) = omega (arith, ap (λ (y : Table). y.number) same)
+      of (inr none) = absurd none
+
+  table_for : (name : List ℕ) (formats : Formats) → IsTableFor (start content) name formats (another name formats)
+  table_for name formats = (refl, refl, (λ x there. suits x there, omega arith))
+
+  not_second : (name : List ℕ) → t.name ≡ name → IsSecond (start content) name → ⊥
+  not_second name same two = named_same t (subst (λ (l : List Table). named t.name l ≡ None) only (subst (λ (k : List ℕ). named k (tables (base content)) ≡ None) (sym same) two.0))
+
+  second_run : (name : List ℕ) (formats : Formats) → t.name ≢ name → MakesTable name formats ClosesOne opened (stops (Refusal_Limit Tables) opened)
+  second_run name formats differ = inl (subst (λ (l : List Table). (named name l ≡ None) × (1 ≤ length l)) (sym only) (named_none t name differ, omega arith), refl)
+
+  done_same : CreatedAs (start content) t.name t.formats IsDone (start content)
+  done_same = (another t.name t.formats, table_for t.name t.formats, (Done, (Nothing, subst (λ (l : List Table). made_in (t.number + 1) l t.name t.formats ≡ (Done, Nothing)) (sym only) (decide_same (t.number + 1) t is), refl), refl))
+
+  same_run : (name : List ℕ) (formats : Formats) → t.name ≡ name → t.formats ≡ formats → (ran : Ran) → ClosesOne opened ran → MakesTable name formats ClosesOne opened ran
+  same_run name formats same_name same_formats_too ran closes =
+      subst (λ (k : List ℕ). MakesTable k formats ClosesOne opened ran) same_name
+      (subst (λ (f : Formats). MakesTable t.name f ClosesOne opened ran) same_formats_too
+      (inr (not_second t.name refl, inr (opened, created_did d (start content) (start content) t.name t.formats IsDone done_same, closes))))
+
+  there_already : (formats : Formats) → same_formats formats t.formats ≡ false → CreatedAs (start content) t.name formats (NotDone Exists) (start content)
+  there_already formats other = (another t.name formats, table_for t.name formats, (Refused Exists, (Nothing, subst (λ (l : List Table). made_in (t.number + 1) l t.name formats ≡ (Refused Exists, Nothing)) (sym only) (decide_other (t.number + 1) t formats is other), refl), refl))
+
+  exists_run : (name : List ℕ) (formats : Formats) → t.name ≡ name → same_formats formats t.formats ≡ false → MakesTable name formats ClosesOne opened (stops Exists opened)
+  exists_run name formats same_name other =
+      subst (λ (k : List ℕ). MakesTable k formats ClosesOne opened (stops Exists opened)) same_name
+      (inr (not_second t.name refl, inl (Exists, opened, created_did d (start content) (start content) t.name formats (NotDone Exists) (there_already formats other), refl)))
 
   module _ (name : List ℕ) (formats : Formats) (why : Option Refusal) (other : t.name ≢ name → why ≡ Some (Refusal_Limit Tables)) (differ : t.name ≡ name → t.formats ≢ formats → why ≡ Some Exists) (none : t.name ≡ name → t.formats ≡ formats → why ≡ None) where
-    refused : (r s : Refusal) → why ≡ Some r → why ≡ Some s → CreateAnswers (start content) name formats (Some s) (start content) → CreateAnswers (start content) name formats (Some r) (start content)
-    refused r s is_r is_s answers = let same : s ≡ r = some_is s r (sym is_s ∙ is_r) in subst (λ (x : Refusal). CreateAnswers (start content) name formats (Some x) (start content)) same answers
+    refused : (r s : Refusal) → why ≡ Some r → why ≡ Some s → MakesTable name formats ClosesOne opened (stops s opened) → MakesTable name formats ClosesOne opened (stops r opened)
+    refused r s is_r is_s run = let same : s ≡ r = some_is s r (sym is_s ∙ is_r) in subst (λ (x : Refusal). MakesTable name formats ClosesOne opened (stops x opened)) same run
       where
         some_is : (a b : Refusal) → let one : Option Refusal = Some a in let two : Option Refusal = Some b in one ≡ two → a ≡ b
         some_is a b same = cc
 
-    pub why_refused : (r : Refusal) → why ≡ Some r → CreateAnswers (start content) name formats (Some r) (start content)
+    pub why_refused : (r : Refusal) → why ≡ Some r → MakesTable name formats ClosesOne opened (stops r opened)
     why_refused r is_r = elim (same_names t.name name) [
       | inl same ↦ elim (same_or_other t.formats formats) [
         | inl alike ↦ absurd (none_some r (sym (none same alike) ∙ is_r))
-        | inr (apart, test) ↦ refused r Exists is_r (differ same apart) (exists name formats same test)
+        | inr (apart, test) ↦ refused r Exists is_r (differ same apart) (exists_run name formats same test)
       ]
-      | inr apart ↦ refused r (Refusal_Limit Tables) is_r (other apart) (refl, inl (refl, second name apart))
+      | inr apart ↦ refused r (Refusal_Limit Tables) is_r (other apart) (second_run name formats apart)
     ]
       where
         none_some : (x : Refusal) → let nothing_there : Option Refusal = None in nothing_there ≡ Some x → ⊥
         none_some x same = cc
 
-    pub why_none : why ≡ None → CreateAnswers (start content) name formats None (start content)
+    pub why_none : why ≡ None → (ran : Ran) → ClosesOne opened ran → MakesTable name formats ClosesOne opened ran
     why_none is_none = elim (same_names t.name name) [
       | inl same ↦ elim (same_or_other t.formats formats) [
-        | inl alike ↦ done_same name formats same alike
+        | inl alike ↦ same_run name formats same alike
         | inr (apart, test) ↦ absurd (some_none Exists (sym (differ same apart) ∙ is_none))
       ]
       | inr apart ↦ absurd (some_none (Refusal_Limit Tables) (sym (other apart) ∙ is_none))
@@ -148,28 +190,16 @@ module _ (content : Content) (t : Table) (only : tables (base content) ≡ t ∷
 
 -- ---- the runs
 
-module _ {D : Type 0} (moment : D → ℕ) (left_since : D → ℕ → List ℕ → Type 0) (may_leave : D → List ℕ → Type 0) (old new : D) (counts : moment old ≤ moment new → (c : List ℕ) → may_leave new c → left_since new (moment old) c) (content : Content) (layered : IsLayered content)
-    (before faults faults_now : ℕ) (seen : List ℕ) (capacity out_before out_now : ℕ) (le : before ≤ faults) (reads : Each (may_leave old) (λ c. Reads c content)) (reads_now : Reads seen content) (name : List ℕ) (formats : Formats) where
-  abbrev here : Outside
-  here = outside before faults_now seen capacity out_before out_now
+idle_start : (content : Content) → IsIdle (start content)
+idle_start content = record { up = refl; free = refl; quiet = refl; decides = λ number storing. refl }
 
-  abbrev RanCreate : Content → List Refusal → Type 0
-  RanCreate k refusals = Ran moment left_since may_leave (RunsCreate here (moment new) name formats (start k)) k old new refusals
-
-  abbrev KeptAll : Type 0
-  KeptAll = LeavesOnly moment left_since old new (λ c. Reads c content)
-
-  pub ran_short : KeptAll → RanCreate content (NoMemory ∷ [])
-  ran_short kept = untouched moment left_since may_leave old new counts content layered (RunsCreate here (moment new) name formats (start content)) (NoMemory ∷ []) (start content) refl (inl (record { met = refl; none = refl; same = refl })) kept
-
-  pub ran_refused : (r : Refusal) → CreateAnswers (start content) name formats (Some r) (start content) → KeptAll → RanCreate content (r ∷ [])
-  ran_refused r why kept = untouched moment left_since may_leave old new counts content layered (RunsCreate here (moment new) name formats (start content)) (r ∷ []) (start content) refl (inr (inl (r, why, refl, refl))) kept
-
+module _ {D : Type 0} (g : Ghosts D) (old new : D) (counts : g.moment old ≤ g.moment new → (c : List ℕ) → g.may_leave new c → g.left_since new (g.moment old) c) (now : (c : List ℕ) → g.left_since new (g.moment new) c → g.may_leave new c) (content : Content) (layered : IsLayered content)
+    (reads : Each (g.may_leave old) (λ c. Reads c content)) (reads_now : Reads (g.seen old) content) (name : List ℕ) (formats : Formats) where
   -- ---- a checkpoint of the one table again
 
-  module _ (place : Place) (k : Kept) (keeps : Keeps seen place k) where
+  module _ (place : Place) (k : Kept) (keeps : Keeps (g.seen old) place k) where
     meets : MeetsTable content k
-    meets = keeps_meets seen place k content keeps reads_now
+    meets = keeps_meets (g.seen old) place k content keeps reads_now
 
     shows : Shows (k.numbers.marks.run + 1) 1 k.numbers.marks.oldest k.numbers.marks.stable (table_of k.entry) k.rows (base content)
     shows =
@@ -178,14 +208,22 @@ module _ {D : Type 0} (moment : D → ℕ) (left_since : D → ℕ → List ℕ 
         (subst (λ n. Shows (content.run + 1) 1 content.oldest n (table_of k.entry) k.rows (base content)) meets.stable meets.shows))
 
     module _ (why : Option Refusal) (other : k.entry.name ≢ name → why ≡ Some (Refusal_Limit Tables)) (differ : k.entry.name ≡ name → k.entry.formats ≢ formats → why ≡ Some Exists) (none : k.entry.name ≡ name → k.entry.formats ≡ formats → why ≡ None) where
-      pub again_refused : (r : Refusal) → why ≡ Some r → KeptAll → RanCreate content (r ∷ [])
-      again_refused r is kept = ran_refused r (why_refused content (table_of k.entry) meets.shows.table keeps.form.table.name name formats why other differ none r is) kept
-
-      pub again_ran : why ≡ None → (result : Result (Unit {0}) Refusal) → Closes moment left_since may_leave (Rose faults faults_now) (IsFullFor seen capacity k.rows) k.numbers (table_of k.entry) k.rows 1 content old new result → RanCreate content (met_of result)
-      again_ran is result closes =
-          ran_closes moment left_since may_leave old new counts content layered (RunsCreate here (moment new) name formats (start content)) (start content) refl before faults faults_now seen capacity out_before out_now le reads
-          (λ refusals made next run. inr (inr (start content, why_none content (table_of k.entry) meets.shows.table keeps.form.table.name name formats why other differ none is, run)))
+      pub again_ran : why ≡ None → g.faults old ≤ g.faults new → (result : Result (Unit {0}) Refusal) → Closes g (Rose (g.faults old) (g.faults new)) (IsFullFor (g.seen old) (g.capacity old) k.rows) k.numbers (table_of k.entry) k.rows 1 content old new result
+          → Leaves g (MakesTable name formats ClosesOne) content old new result
+      again_ran is count result closes =
+          ran_closes g old new counts now content layered (MakesTable name formats ClosesOne) (start content) (idle_start content) refl count reads
+          (why_none (device_of g old) content (table_of k.entry) meets.shows.table keeps.form.table.name name formats why other differ none is)
           place k.numbers (table_of k.entry) (record { link = keeps.link; rows = keeps.rows; slot = keeps.slot; serves = keeps.serves; sequence = keeps.sequence }) 1 k.rows shows meets.oldest meets.stable result closes
+
+-- a table that is there is not the one that is asked for
+pub again_refused : {D : Type 0} (g : Ghosts D) (old : D) (counts : g.moment old ≤ g.moment old → (c : List ℕ) → g.may_leave old c → g.left_since old (g.moment old) c) (now : (c : List ℕ) → g.left_since old (g.moment old) c → g.may_leave old c) (content : Content) (layered : IsLayered content)
+    (reads_now : Reads (g.seen old) content) (name : List ℕ) (formats : Formats) (place : Place) (k : Kept) (keeps : Keeps (g.seen old) place k)
+    (why : Option Refusal) (other : k.entry.name ≢ name → why ≡ Some (Refusal_Limit Tables)) (differ : k.entry.name ≡ name → k.entry.formats ≢ formats → why ≡ Some Exists) (none : k.entry.name ≡ name → k.entry.formats ≡ formats → why ≡ None)
+    (r : Refusal) → why ≡ Some r → LeavesOnly g old old (λ c. Reads c content) → Leaves g (MakesTable name formats ClosesOne) content old old (Err r)
+again_refused g old counts now content layered reads_now name formats place k keeps why other differ none r is kept =
+    let meets = keeps_meets (g.seen old) place k content keeps reads_now in
+    untouched g old old counts now content layered (MakesTable name formats ClosesOne) (Err r) (start content) refl
+    (why_refused (device_of g old) content (table_of k.entry) meets.shows.table keeps.form.table.name name formats why other differ none r is) kept
 
 -- ---- the first checkpoint
 
@@ -203,57 +241,82 @@ first_shows name formats = record {
   fit = record { fit = tt; ascend = tt };
 }
 
-module _ {D : Type 0} (moment : D → ℕ) (left_since : D → ℕ → List ℕ → Type 0) (may_leave : D → List ℕ → Type 0) (old new : D) (counts : moment old ≤ moment new → (c : List ℕ) → may_leave new c → left_since new (moment old) c)
-    (before faults faults_now : ℕ) (seen : List ℕ) (capacity out_before out_now : ℕ) (le : before ≤ faults) (name : List ℕ) (formats : Formats) (is : is_name name ≡ true) (blank : IsBlank seen) where
-  abbrev there : Outside
-  there = outside before faults_now seen capacity out_before out_now
+none_second : (name : List ℕ) → IsSecond (start nothing) name → ⊥
+none_second name two = absurd (omega (arith, two.1))
 
-  abbrev RanFirst : Content → List Refusal → Type 0
-  RanFirst k refusals = Ran moment left_since may_leave (RunsCreate there (moment new) name formats (start k)) k old new refusals
+-- memory was too short for the name
+pub ran_short : {D : Type 0} (g : Ghosts D) (old : D) (counts : g.moment old ≤ g.moment old → (c : List ℕ) → g.may_leave old c → g.left_since old (g.moment old) c) (now : (c : List ℕ) → g.left_since old (g.moment old) c → g.may_leave old c) (content : Content) (layered : IsLayered content)
+    (name : List ℕ) (formats : Formats) → content ≡ nothing → LeavesOnly g old old (λ c. Reads c content) → Leaves g (MakesTable name formats ClosesOne) content old old (Err NoMemory)
+ran_short g old counts now content layered name formats none kept =
+    untouched g old old counts now content layered (MakesTable name formats ClosesOne) (Err NoMemory) (start content) refl
+    (subst (λ (c : Content). MakesTable name formats ClosesOne (at (device_of g old) (start c)) (stops NoMemory (at (device_of g old) (start c)))) (sym none)
+    (inr (none_second name, inl (NoMemory, at (device_of g old) (start nothing), record { later = same_device (device_of g old); keeps = keeps_same (device_of g old); answers = inl (refl, refl) }, refl)))) kept
 
-  first_ran : IsLayered nothing → Each (may_leave old) (λ c. Reads c nothing) → (result : Result (Unit {0}) Refusal)
-      → Installs moment left_since may_leave (Rose faults faults_now) (IsFullFor seen capacity []) nothing (leaf_content first_numbers.marks (first_table name formats) []) old new result → RanFirst nothing (met_of result)
-  first_ran layered reads result installs =
-      ran_close moment left_since may_leave old new counts nothing layered (RunsCreate there (moment new) name formats (start nothing)) (made_first name formats) refl before faults faults_now seen capacity out_before out_now le reads
-      (λ refusals made next run. inr (inr (made_first name formats, (λ two. absurd (omega (arith, two.1)), (CreateTable (first_table name formats), decide_new name formats is, refl)), run)))
-      [] (newest_shown (made_first name formats) 1 1 0 0 (first_table name formats) [] (first_shows name formats))
-      (λ last. some_none last.0 (chooses_one seen (Some last.0) None last.1 (blank_chooses seen blank)))
-      (omega arith)
-      (leaf_content first_numbers.marks (first_table name formats) [])
-      (λ c held. (leaf_content first_numbers.marks (first_table name formats) [], held, closing 1 1 0 0 (first_table name formats) [] (made_first name formats).history (first_shows name formats)))
-      result installs
+module _ {D : Type 0} (g : Ghosts D) (old new : D) (counts : g.moment old ≤ g.moment new → (c : List ℕ) → g.may_leave new c → g.left_since new (g.moment old) c) (now : (c : List ℕ) → g.left_since new (g.moment new) c → g.may_leave new c)
+    (count : g.faults old ≤ g.faults new) (name : List ℕ) (formats : Formats) (is : is_name name ≡ true) (blank : IsBlank (g.seen old)) where
+  no_last : IsNumberOf (g.seen old) last_number → ⊥
+  no_last (inl (shut, none)) = absurd (omega (arith, none))
+  no_last (inr (slot, chosen, last)) = some_none (slot_of slot) (chooses_one (g.seen old) (Some (slot_of slot)) None (chosen_chooses (g.seen old) slot chosen) (blank_chooses (g.seen old) blank))
     where
       some_none : (s : Slot) → let one : Option Slot = Some s in one ≡ None → ⊥
       some_none s same = cc
 
-  pub first_ran_of : (content : Content) → Reads seen content → IsLayered content → Each (may_leave old) (λ c. Reads c content) → (m : Numbers) (u : Table) (rows : List Row) → m ≡ first_numbers → u ≡ first_table name formats → rows ≡ [] → (result : Result (Unit {0}) Refusal)
-      → Installs moment left_since may_leave (Rose faults faults_now) (IsFullFor seen capacity rows) nothing (leaf_content m.marks u rows) old new result → RanFirst content (met_of result)
+  first_made : (ran : Ran) → ClosesOne (point_of g (made_first name formats) old) ran → MakesTable name formats ClosesOne (point_of g (start nothing) old) ran
+  first_made ran closes = inr (
+    none_second name,
+    inr (
+      point_of g (made_first name formats) old,
+      created_did (device_of g old) (start nothing) (made_first name formats) name formats IsDone
+          (first_table name formats, (refl, refl, (λ x there. absurd there, omega arith)), (Done, (CreateTable (first_table name formats), decide_new name formats is, refl), refl)),
+      closes,
+    ),
+  )
+
+  first_ran : IsLayered nothing → Each (g.may_leave old) (λ c. Reads c nothing) → (result : Result (Unit {0}) Refusal)
+      → Installs g (Rose (g.faults old) (g.faults new)) (IsFullFor (g.seen old) (g.capacity old) []) nothing (leaf_content first_numbers.marks (first_table name formats) []) old new result → Leaves g (MakesTable name formats ClosesOne) nothing old new result
+  first_ran layered reads result installs =
+      ran_close g old new counts now nothing layered (MakesTable name formats ClosesOne) (made_first name formats) (record { up = refl; free = refl; quiet = refl; decides = λ number storing. refl }) refl count reads first_made
+      [] (newest_shown (made_first name formats) 1 1 0 0 (first_table name formats) [] (first_shows name formats))
+      0 (inl (blank, refl)) (omega arith) (omega arith)
+      (leaf_content first_numbers.marks (first_table name formats) []) (closing 1 1 0 0 (first_table name formats) [] (made_first name formats).history (first_shows name formats))
+      result installs
+
+  pub first_ran_of : (content : Content) → Reads (g.seen old) content → IsLayered content → Each (g.may_leave old) (λ c. Reads c content) → (m : Numbers) (u : Table) (rows : List Row) → m ≡ first_numbers → u ≡ first_table name formats → rows ≡ [] → (result : Result (Unit {0}) Refusal)
+      → Installs g (Rose (g.faults old) (g.faults new)) (IsFullFor (g.seen old) (g.capacity old) rows) nothing (leaf_content m.marks u rows) old new result → Leaves g (MakesTable name formats ClosesOne) content old new result
   first_ran_of content reads_now layered reads m u rows numbers table none result installs =
-      let same : content ≡ nothing = one_content seen content nothing reads_now (inl (blank, refl)) in
-      let P : Content → Type 0 = λ k. IsLayered k → Each (may_leave old) (λ c. Reads c k) → RanFirst k (met_of result) in
+      let same : content ≡ nothing = one_content (g.seen old) content nothing reads_now (inl (blank, refl)) in
+      let P : Content → Type 0 = λ k. IsLayered k → Each (g.may_leave old) (λ c. Reads c k) → Leaves g (MakesTable name formats ClosesOne) k old new result in
       subst P (sym same) (λ l r. first_ran l r result
-      (subst (λ (x : List Row). Installs moment left_since may_leave (Rose faults faults_now) (IsFullFor seen capacity x) nothing (leaf_content first_numbers.marks (first_table name formats) x) old new result) none
-      (subst (λ (x : Table). Installs moment left_since may_leave (Rose faults faults_now) (IsFullFor seen capacity rows) nothing (leaf_content first_numbers.marks x rows) old new result) table
-      (subst (λ (x : Numbers). Installs moment left_since may_leave (Rose faults faults_now) (IsFullFor seen capacity rows) nothing (leaf_content x.marks u rows) old new result) numbers installs)))) layered reads
+      (subst (λ (x : List Row). Installs g (Rose (g.faults old) (g.faults new)) (IsFullFor (g.seen old) (g.capacity old) x) nothing (leaf_content first_numbers.marks (first_table name formats) x) old new result) none
+      (subst (λ (x : Table). Installs g (Rose (g.faults old) (g.faults new)) (IsFullFor (g.seen old) (g.capacity old) rows) nothing (leaf_content first_numbers.marks x rows) old new result) table
+      (subst (λ (x : Numbers). Installs g (Rose (g.faults old) (g.faults new)) (IsFullFor (g.seen old) (g.capacity old) rows) nothing (leaf_content x.marks u rows) old new result) numbers installs)))) layered reads
 
 -- ---- the configuration
 
-config_none : (o : Outside) (at : ℕ) (config : Option (List ℕ)) (name : List ℕ) (m : Machine) (refusals : List Refusal) (made : List Installed) (next : Machine) → formats_asked config ≡ None → Stops (Refusal_Invalid BadConfig) m refusals made next → RunsConfig o at config name m refusals made next
-config_none o at config name m refusals made next is stops =
-    subst (λ (f : Option Formats). MatchOption f (Stops (Refusal_Invalid BadConfig) m refusals made next) (λ formats. RunsCreate o at name formats m refusals made next)) (sym is) stops
+-- a run that is also another
+pub leaves_as : {D : Type 0} (g : Ghosts D) (Allowed Other : Point → Ran → Type 0) (content : Content) (old new : D) (result : Result (Unit {0}) Refusal) → ((p : Point) (ran : Ran) → Allowed p ran → Other p ran)
+    → Leaves g Allowed content old new result → Leaves g Other content old new result
+leaves_as g Allowed Other content old new result more left = record {
+  made = left.made;
+  next = left.next;
+  run = more _ _ left.run;
+  opens = left.opens;
+  ever = left.ever;
+  stays = left.stays;
+}
+
+abbrev Made : List ℕ → Formats → Point → Ran → Type 0
+Made name formats = MakesTable name formats ClosesOne
 
 -- words that are no configuration end the run
-pub ran_config_none : {D : Type 0} (moment : D → ℕ) (left_since : D → ℕ → List ℕ → Type 0) (may_leave : D → List ℕ → Type 0) (old new : D) (counts : moment old ≤ moment new → (c : List ℕ) → may_leave new c → left_since new (moment old) c) (content : Content) (o : Outside) (config : Option (List ℕ)) (name : List ℕ)
-    → IsLayered content → formats_asked config ≡ None → LeavesOnly moment left_since old new (λ c. Reads c content) → Ran moment left_since may_leave (RunsConfig o (moment new) config name (start content)) content old new (Refusal_Invalid BadConfig ∷ [])
-ran_config_none moment left_since may_leave old new counts content o config name layered is kept =
-    untouched moment left_since may_leave old new counts content layered (RunsConfig o (moment new) config name (start content)) (Refusal_Invalid BadConfig ∷ []) (start content) refl
-    (config_none o (moment new) config name (start content) (Refusal_Invalid BadConfig ∷ []) [] (start content) is (record { met = refl; none = refl; same = refl })) kept
+pub ran_config_none : {D : Type 0} (g : Ghosts D) (old : D) (counts : g.moment old ≤ g.moment old → (c : List ℕ) → g.may_leave old c → g.left_since old (g.moment old) c) (now : (c : List ℕ) → g.left_since old (g.moment old) c → g.may_leave old c) (content : Content) (config : Option (List ℕ)) (name : List ℕ)
+    → IsLayered content → formats_asked config ≡ None → LeavesOnly g old old (λ c. Reads c content) → Leaves g (Configured config (λ formats. MakesTable name formats ClosesOne)) content old old (Err (Refusal_Invalid BadConfig))
+ran_config_none g old counts now content config name layered is kept =
+    untouched g old old counts now content layered (Configured config (Made name)) (Err (Refusal_Invalid BadConfig)) (start content) refl
+    (subst (λ (f : Option Formats). MatchOption f (stops (Refusal_Invalid BadConfig) (point_of g (start content) old) ≡ stops (Refusal_Invalid BadConfig) (point_of g (start content) old)) (λ formats. MakesTable name formats ClosesOne (point_of g (start content) old) (stops (Refusal_Invalid BadConfig) (point_of g (start content) old)))) (sym is) refl) kept
 
-config_some : (o : Outside) (at : ℕ) (config : Option (List ℕ)) (name : List ℕ) (m : Machine) (formats : Formats) → formats_asked config ≡ Some formats → (refusals : List Refusal) (made : List Installed) (next : Machine) → RunsCreate o at name formats m refusals made next → RunsConfig o at config name m refusals made next
-config_some o at config name m formats is refusals made next run =
-    subst (λ (f : Option Formats). MatchOption f (Stops (Refusal_Invalid BadConfig) m refusals made next) (λ formats. RunsCreate o at name formats m refusals made next)) (sym is) run
-
-pub ran_config_some : {D : Type 0} (moment : D → ℕ) (left_since : D → ℕ → List ℕ → Type 0) (may_leave : D → List ℕ → Type 0) (old new : D) (content : Content) (o : Outside) (config : Option (List ℕ)) (name : List ℕ) (formats : Formats) (refusals : List Refusal)
-    → formats_asked config ≡ Some formats → Ran moment left_since may_leave (RunsCreate o (moment new) name formats (start content)) content old new refusals → Ran moment left_since may_leave (RunsConfig o (moment new) config name (start content)) content old new refusals
-ran_config_some moment left_since may_leave old new content o config name formats refusals is ran =
-    ran_as moment left_since may_leave old new content (RunsCreate o (moment new) name formats (start content)) (RunsConfig o (moment new) config name (start content)) refusals (config_some o (moment new) config name (start content) formats is refusals) ran
+pub ran_config_some : {D : Type 0} (g : Ghosts D) (old new : D) (content : Content) (config : Option (List ℕ)) (name : List ℕ) (formats : Formats) (result : Result (Unit {0}) Refusal)
+    → formats_asked config ≡ Some formats → Leaves g (MakesTable name formats ClosesOne) content old new result → Leaves g (Configured config (λ f. MakesTable name f ClosesOne)) content old new result
+ran_config_some g old new content config name formats result is left =
+    leaves_as g (Made name formats) (Configured config (Made name)) content old new result
+    (λ p ran run. subst (λ (f : Option Formats). MatchOption f (ran ≡ stops (Refusal_Invalid BadConfig) p) (λ formats. MakesTable name formats ClosesOne p ran)) (sym is) run) left

@@ -1,3 +1,4 @@
+mod Did
 mod Closings
 mod Creates
 mod Gets

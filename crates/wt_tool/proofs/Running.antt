@@ -1,39 +1,41 @@
 -- What a run of a command is to the definitions.
-use Rattle.std.specs.Prelude.{◌≡◌, ◌⊎◌, ℕ, ◌+◌, ◌<◌, List, [], ◌∷◌, ◌++◌, Option, Some, None, MatchOption, IfSome, OnOk, Result, Ok, Err, refl}
-use Rattle.std.proofs.Common.{inl, inr, sym, ap, subst, arith}
+use Rattle.std.specs.Prelude.{◌≡◌, ◌⊎◌, ℕ, ◌+◌, ◌<◌, List, [], ◌∷◌, ◌++◌, filter, length, Bool, Option, Some, None, MatchOption, IfSome, OnOk, Result, Ok, Err, refl}
+use Rattle.std.proofs.Common.{inl, inr, sym, ap, subst, ◌∙◌, arith}
 use Rattle.std.proofs.lemmas.List.{append-nil}
 use Rattle.failure.specs.Counts.{Rose, HasCause}
-use Rattle.disk_model.specs.Crash.{LeavesOnly}
+use Rattle.disk_model.specs.Crash.{LeavesOnly, Looked}
+use Rattle.disk_model.specs.declared.disk.Disk.{Ghosts}
 use Rattle.disk_model.proofs.Crash.{joined, widened}
 use Rattle.kv_model.specs.Machine.{Machine, Completed}
-use Rattle.kv_model.specs.Content.{Content, start, IsLayered, OpensAs}
-use Rattle.stored.specs.Stored.{Reads}
-use Rattle.stored.specs.Opens.{Opens}
+use Rattle.kv_model.specs.Content.{Content, nothing, start, IsLayered}
+use Rattle.stored.specs.Stored.{Reads, content_of}
 use Rattle.wt_code.specs.declared.refusals.Refusal.{Refusal}
-use Rattle.wt_code.specs.declared.refusals.Refusal.TheVariants.{NoMemory, Invalid as Refusal_Invalid}
+use Rattle.wt_code.specs.declared.refusals.Refusal.TheVariants.{NoMemory, DiskFault, Invalid as Refusal_Invalid}
 use Rattle.wt_code.specs.declared.refusals.Invalid.TheVariants.{BadName}
-use Rattle.wt_io.specs.Streams.{Took}
+use Rattle.wt_io.specs.Streams.{Gave, Took}
 use Rattle.checkpoint_core.specs.Stands.{at_slot}
 use Rattle.one_table.specs.declared.opening.Kept.{Kept}
-use Rattle.one_table.specs.declared.opening.Opened.{Opened}
+use Rattle.one_table.specs.declared.opening.Opened.{Opened as Held}
 use Rattle.one_table.specs.OneTable.{HoldsOne, IsInForm, table_of, one_stored}
 use Rattle.one_table.specs.Openings.{IsOpened as Finds, KeepsOr, InForm, OpenRefused}
 use Rattle.stored.proofs.Device.{one_content}
-use Rattle.wt_line.specs.Line.{Asked, command_of}
+use Rattle.wt_line.specs.Line.{Asked, create, write, read}
 use Rattle.wt_tool.specs.Words.{name_in}
-use Rattle.wt_tool.specs.Runs.{Outside, Installed, End, Through, RefusesOpening, IsOpened, last_number}
-use Rattle.wt_tool.specs.Calls.{RunsNamed, RunsAsked, RunsWords, RunsRead, StopsAtOnce, uri_of}
-use Rattle.wt_tool.proofs.Closings.{keeps_meets}
-use Rattle.wt_tool.specs.Top.{outside, Meets, EachReads, Ran, Running, Reading, Outcome, Written, Told, for_command, complaints, usage, lines, last_line, status_of, status_by}
-
--- what was opened opens as the checkpoint that it was read from
-pub start_opens : (content : Content) → IsLayered content → OpensAs content (start content).completed
-start_opens content layered = record { layered = layered; oldest = refl; stable = refl; agrees = record { same_tables = refl; cores = λ t k. refl } }
+use Rattle.wt_tool.specs.Points.{Outside, Point, Ran, Installed, point_of, device_of, stops, last_number}
+use Rattle.wt_tool.specs.Narrow.{ClosesOne}
+use Rattle.wt_tool.specs.Openings.{RefusesOpening, MayOpen, Opens, Configured}
+use Rattle.wt_tool.specs.Creates.{MakesTable}
+use Rattle.wt_tool.specs.Writes.{WritesPairs, demand_of}
+use Rattle.wt_tool.specs.Reads.{ReadsKeys}
+use Rattle.wt_tool.specs.Commands.{Runs, RunsOpened}
+use Rattle.wt_tool.specs.Parts.{Meets, Leaves, Reading, met_of, end_of, silent_run, uri_of}
+use Rattle.wt_tool.specs.Top.{Went, Telling, Tells, IsTold, IsCut, IsOpenable, Streams, Errors, OpensToLast, Stays, counts, lines, last_line, status_of, first_status, status_at}
+use Rattle.wt_tool.proofs.Closings.{keeps_meets, start_opens}
 
 -- ---- the opening
 
 -- a device that an opening finds something on is one of those that are read
-pub holds_one : (bytes : List ℕ) (o : Opened) → Finds bytes o → HoldsOne bytes
+pub holds_one : (bytes : List ℕ) (o : Held) → Finds bytes o → HoldsOne bytes
 holds_one bytes o finds = of_kept o.kept finds
   where
     of_kept : (k : Option Kept) → KeepsOr bytes o.place k → HoldsOne bytes
@@ -41,7 +43,7 @@ holds_one bytes o finds = of_kept o.kept finds
     of_kept (Some k) keeps = inr (at_slot keeps.slot, k.numbers, table_of k.entry, keeps.link, keeps.rows, keeps.form, keeps.serves.still)
 
 -- another run may follow the content's
-pub run_below : (bytes : List ℕ) (o : Opened) (content : Content) → Finds bytes o → Reads bytes content → content.run < last_number
+pub run_below : (bytes : List ℕ) (o : Held) (content : Content) → Finds bytes o → Reads bytes content → content.run < last_number
 run_below bytes o content finds reads = of_kept o.kept finds
   where
     of_kept : (k : Option Kept) → KeepsOr bytes o.place k → content.run < last_number
@@ -49,14 +51,22 @@ run_below bytes o content finds reads = of_kept o.kept finds
     of_kept (Some k) keeps =
         subst (λ (x : Content). x.run < last_number) (sym (one_content _ _ _ reads (inr (one_stored (at_slot keeps.slot) k.numbers (table_of k.entry) keeps.link keeps.rows, keeps.serves.still, refl)))) keeps.run
 
-pub is_opened : (before now capacity out_before out_now : ℕ) (bytes : List ℕ) (o : Opened) (content : Content) → Finds bytes o → Reads bytes content → IsOpened (outside before now bytes capacity out_before out_now) (start content)
-is_opened before now capacity out_before out_now bytes o content finds reads = record {
-  narrow = λ wide. wide (holds_one bytes o finds);
-  run = λ same. omega (arith, run_below bytes o content finds reads, same);
+-- and it reads
+pub finds_reads : (bytes : List ℕ) (o : Held) → Finds bytes o → IsOpenable bytes
+finds_reads bytes o finds = of_kept o.kept finds
+  where
+    of_kept : (k : Option Kept) → KeepsOr bytes o.place k → IsOpenable bytes
+    of_kept None serves = (nothing, inl (serves.still, refl))
+    of_kept (Some k) keeps = (content_of (one_stored (at_slot keeps.slot) k.numbers (table_of k.entry) keeps.link keeps.rows), inr (one_stored (at_slot keeps.slot) k.numbers (table_of k.entry) keeps.link keeps.rows, keeps.serves.still, refl))
+
+pub may_open : {D : Type 0} (g : Ghosts D) (disk : D) (o : Held) (content : Content) → Finds (g.seen disk) o → Reads (g.seen disk) content → MayOpen (point_of g (start content) disk)
+may_open g disk o content finds reads = record {
+  narrow = λ wide. wide (holds_one (g.seen disk) o finds);
+  run = λ same. omega (arith, run_below (g.seen disk) o content finds reads, same);
 }
 
 -- what was kept shows the machine of the content's opening
-pub meets : (bytes : List ℕ) (o : Opened) (content : Content) → Finds bytes o → Reads bytes content → Meets content o.kept
+pub meets : (bytes : List ℕ) (o : Held) (content : Content) → Finds bytes o → Reads bytes content → Meets content o.kept
 meets bytes o content finds reads = of_kept o.kept finds
   where
     of_kept : (k : Option Kept) → KeepsOr bytes o.place k → Meets content k
@@ -64,178 +74,138 @@ meets bytes o content finds reads = of_kept o.kept finds
     of_kept (Some k) keeps = keeps_meets bytes o.place k content keeps reads
 
 -- why a device that reads is not opened
-pub refused_open : (before now capacity out_before out_now : ℕ) (bytes : List ℕ) (known : Type 0) (content : Content) (r : Refusal) → known → Reads bytes content → OpenRefused (Rose before now) known bytes r
-    → RefusesOpening (outside before now bytes capacity out_before out_now) (start content) r
-refused_open before now capacity out_before out_now bytes known content r k reads (inl failed) = inl failed
-refused_open before now capacity out_before out_now bytes known content r k reads (inr (inl none)) = inr (inl none)
-refused_open before now capacity out_before out_now bytes known content r k reads (inr (inr (inl (is, why)))) = inr (inr (inl (is, why k)))
-refused_open before now capacity out_before out_now bytes known content r k reads (inr (inr (inr (inl (is, why))))) = inr (inr (inr (is, ap (λ n. n + 1) (why k content reads))))
-refused_open before now capacity out_before out_now bytes known content r k reads (inr (inr (inr (inr (is, why))))) = absurd (why k content reads)
+pub refused_open : {D : Type 0} (g : Ghosts D) (old new : D) (known : Type 0) (content : Content) (r : Refusal) → known → Reads (g.seen old) content → OpenRefused (Rose (g.faults old) (g.faults new)) known (g.seen old) r
+    → RefusesOpening (point_of g (start content) old) (device_of g new) r
+refused_open g old new known content r k reads (inl failed) = inl failed
+refused_open g old new known content r k reads (inr (inl none)) = inr (inl none)
+refused_open g old new known content r k reads (inr (inr (inl (is, why)))) = inr (inr (inl (is, why k)))
+refused_open g old new known content r k reads (inr (inr (inr (inl (is, why))))) = inr (inr (inr (is, ap (λ n. n + 1) (why k content reads))))
+refused_open g old new known content r k reads (inr (inr (inr (inr (is, why))))) = absurd (why k content reads)
+
+-- a disk that was only looked at
+pub opens_of : {D : Type 0} (g : Ghosts D) (m : Machine) (old mid : D) → Looked g old mid → Opens (point_of g m old) (point_of g m mid)
+opens_of g m old mid looked = record { later = record { faults = looked.count; moment = looked.later }; machine = refl; seen = looked.content; capacity = looked.capacity }
+
+pub opens_same : {D : Type 0} (g : Ghosts D) (m : Machine) (disk : D) → Opens (point_of g m disk) (point_of g m disk)
+opens_same g m disk = record { later = record { faults = omega arith; moment = omega arith }; machine = refl; seen = refl; capacity = refl }
+
+-- ---- a command on an opened device
+
+module _ (o : Outside) (q : Point) where
+  -- words that name no table
+  pub bad_name : (asked : Asked) → name_in (uri_of asked) ≡ None → RunsOpened o asked q (stops (Refusal_Invalid BadName) q)
+  bad_name (create config uri) none = subst (λ (n : Option (List ℕ)). MatchOption n (stops (Refusal_Invalid BadName) q ≡ stops (Refusal_Invalid BadName) q) (λ name. Configured config (λ formats. MakesTable name formats ClosesOne) q (stops (Refusal_Invalid BadName) q))) (sym none) refl
+  bad_name (write overwrite uri pairs) none = subst (λ (n : Option (List ℕ)). MatchOption n (stops (Refusal_Invalid BadName) q ≡ stops (Refusal_Invalid BadName) q) (λ name. WritesPairs name (demand_of overwrite) pairs q (stops (Refusal_Invalid BadName) q))) (sym none) refl
+  bad_name (read uri keys) none = subst (λ (n : Option (List ℕ)). MatchOption n (stops (Refusal_Invalid BadName) q ≡ stops (Refusal_Invalid BadName) q) (λ name. ReadsKeys o.output_failed name keys q (stops (Refusal_Invalid BadName) q))) (sym none) refl
+
+  module _ (uri name : List ℕ) (is : name_in uri ≡ Some name) where
+    pub as_create : (config : Option (List ℕ)) (ran : Ran) → Configured config (λ formats. MakesTable name formats ClosesOne) q ran → RunsOpened o (create config uri) q ran
+    as_create config ran run = subst (λ (n : Option (List ℕ)). MatchOption n (ran ≡ stops (Refusal_Invalid BadName) q) (λ name. Configured config (λ formats. MakesTable name formats ClosesOne) q ran)) (sym is) run
+
+    pub as_write : (overwrite : Bool) (pairs : List (List ℕ × List ℕ)) (ran : Ran) → WritesPairs name (demand_of overwrite) pairs q ran → RunsOpened o (write overwrite uri pairs) q ran
+    as_write overwrite pairs ran run = subst (λ (n : Option (List ℕ)). MatchOption n (ran ≡ stops (Refusal_Invalid BadName) q) (λ name. WritesPairs name (demand_of overwrite) pairs q ran)) (sym is) run
+
+    pub as_read : (keys : List (List ℕ)) (ran : Ran) → ReadsKeys o.output_failed name keys q ran → RunsOpened o (read uri keys) q ran
+    as_read keys ran run = subst (λ (n : Option (List ℕ)). MatchOption n (ran ≡ stops (Refusal_Invalid BadName) q) (λ name. ReadsKeys o.output_failed name keys q ran)) (sym is) run
+
+-- ---- what is told
+
+pub gave_none : (now : Option (List ℕ)) → Gave now now []
+gave_none None = refl
+gave_none (Some left) = (left, refl, refl)
+
+quiet_end : (result : Result (Unit {0}) Refusal) → last_line (end_of result) ≡ []
+quiet_end (Ok done) = refl
+quiet_end (Err r) = refl
+
+own_status : (result : Result (Unit {0}) Refusal) → first_status (met_of result) ≡ status_at (end_of result) (met_of result ++ filter counts [])
+own_status (Ok done) = refl
+own_status (Err r) = refl
+
+pub result_told : (e : Errors) (result : Result (Unit {0}) Refusal) (status : ℕ) → Tells e (lines (met_of result)) (first_status (met_of result)) status → Tells e (lines (met_of result) ++ last_line (end_of result)) (status_at (end_of result) (met_of result ++ filter counts [])) status
+result_told e result status told =
+    subst (λ (n : ℕ). Tells e (lines (met_of result) ++ last_line (end_of result)) n status) (own_status result)
+    (subst (λ (l : List ℕ). Tells e (lines (met_of result) ++ l) (first_status (met_of result)) status) (sym (quiet_end result))
+    (subst (λ (l : List ℕ). Tells e l (first_status (met_of result)) status) (sym (append-nil (lines (met_of result)))) told))
+
+pub telling : (e : Errors) (result : Result (Unit {0}) Refusal) (status : ℕ) → Tells e (lines (met_of result)) (first_status (met_of result)) status → Telling e status
+telling e result status told = record { refusals = met_of result; replies = []; end = end_of result; told = result_told e result status told }
+
+pub status_some : (r : Refusal) (status : ℕ) → (status ≡ status_of r) ⊎ (status ≡ 12) → status ≡ 0 → ⊥
+status_some r status (inr twelve) none = omega (arith, twelve, none)
+status_some DiskFault status (inl is) none = omega (arith, is, none)
+status_some NoMemory status (inl is) none = omega (arith, is, none)
+status_some _ status (inl is) none = omega (arith, is, none)
+
+-- a disk that was not told its home
+pub untold_at : (r : Refusal) (status : ℕ) → (status ≡ status_of r) ⊎ (status ≡ 12) → (r ≡ DiskFault) ⊎ (r ≡ NoMemory) → (status ≡ 4) ⊎ (status ≡ 12)
+untold_at r status (inr twelve) why = inr twelve
+untold_at r status (inl is) (inl fault) = inl (is ∙ ap status_of fault)
+untold_at r status (inl is) (inr short) = inr (is ∙ ap status_of short)
+
+-- nothing is told
+pub cut_all : (e : Errors) (bytes : List ℕ) → 0 < length bytes → Took e.before e.now [] → IsCut e bytes
+cut_all e bytes some took = inl (0, some, took)
+
+pub told_all : {E : Type 0} (e : Errors) (bytes : List ℕ) (result : Result (Unit {0}) E) → OnOk result (Took e.before e.now bytes) → HasCause e.faults e.faults_now result → IsTold e bytes
+told_all e bytes (Ok done) ok cause = inl ok
+told_all e bytes (Err x) ok cause = inr cause.failed
 
 -- ---- the runs
 
-module _ {D : Type 0} (moment : D → ℕ) (left_since : D → ℕ → List ℕ → Type 0) (may_leave : D → List ℕ → Type 0) (old new : D) (content : Content) (o : Outside) (asked : Asked) (w : Written) where
-  abbrev Runs : ℕ → Type 0
-  Runs status = Running o moment left_since may_leave asked content w old new status
+module _ {D : Type 0} (g : Ghosts D) (old new : D) (content : Content) (layered : IsLayered content) (o : Outside) (asked : Asked) (w : Streams) (taken : Gave w.in_before w.in_now []) where
+  abbrev Ends : ℕ → Type 0
+  Ends status = Went g o asked content w old new status
 
-  no_line : (refusals : List Refusal) (status : ℕ) → Told w status (lines refusals) → Told w status (lines refusals ++ last_line Through)
-  no_line refusals status told = subst (λ (l : List ℕ). Told w status l) (sym (append-nil (lines refusals))) told
-
-  -- a run that ended at once, and installed nothing
-  pub stopped : (r : Refusal) (status : ℕ) → IsLayered content → RunsAsked o (moment new) asked (start content) [] (r ∷ []) [] (start content) Through → ((c : List ℕ) → may_leave new c → Reads c content) → LeavesOnly moment left_since old new (λ c. Reads c content)
-      → Took w.out_before w.out_now [] → Told w status (lines (r ∷ [])) → (status ≡ status_of (r ∷ [])) ⊎ (status ≡ 12) → Runs status
-  stopped r status layered run images ever out told status_is = record {
-    text = [];
-    refusals = r ∷ [];
-    made = [];
-    next = start content;
-    end = Through;
+  -- a run that a refusal ended before any call
+  pub stopped : (r : Refusal) (status : ℕ) → Runs o asked (point_of g (start content) old) (stops r (point_of g (start content) new)) → ((c : List ℕ) → g.may_leave new c → Reads c content) → ((c : List ℕ) → g.left_since new (g.moment old) c → Reads c content)
+      → Took w.out_before w.out_now [] → Tells w.errors (lines (r ∷ [])) (status_of r) status → Ends status
+  stopped r status run images since out told = record {
+    ran = stops r (point_of g (start content) new);
     run = run;
-    out = inl out;
-    told = no_line (r ∷ []) status told;
-    opens = λ c left. inl (content, images c left, start_opens content layered);
-    ever = widened moment left_since old new _ _ ever (λ c reads. inl (content, reads, start_opens content layered));
-    status_is = status_is;
+    there = refl;
+    taken = taken;
+    printed = inl out;
+    told = subst (λ (l : List ℕ). Tells w.errors l (status_of r) status) (sym (append-nil (lines (r ∷ [])))) told;
+    opens = inl (content, ((λ c left. images c left), layered), start_opens content layered);
+    ever = λ c left. inl (content, since c left, start_opens content layered);
+    stays = tt;
   }
 
-  at_once : (r : Refusal) → StopsAtOnce r (start content) [] (r ∷ []) [] (start content) Through
-  at_once r = (record { met = refl; none = refl; same = refl }, refl, refl)
-
-  pub not_opened : (r : Refusal) → RefusesOpening o (start content) r → RunsAsked o (moment new) asked (start content) [] (r ∷ []) [] (start content) Through
-  not_opened r why = inl (r, why, at_once r)
-
-  named : (text : List ℕ) (refusals : List Refusal) (made : List Installed) (next : Machine) (end : End) (name : Option (List ℕ)) → name_in (uri_of asked) ≡ name → IsOpened o (start content)
-      → MatchOption name (StopsAtOnce (Refusal_Invalid BadName) (start content) text refusals made next end) (λ n. RunsNamed o (moment new) asked n (start content) text refusals made next end)
-      → RunsAsked o (moment new) asked (start content) text refusals made next end
-  named text refusals made next end name is opened run =
-      inr (opened, subst (λ (n : Option (List ℕ)). MatchOption n (StopsAtOnce (Refusal_Invalid BadName) (start content) text refusals made next end) (λ n. RunsNamed o (moment new) asked n (start content) text refusals made next end)) (sym is) run)
-
-  pub bad_name : name_in (uri_of asked) ≡ None → IsOpened o (start content) → RunsAsked o (moment new) asked (start content) [] (Refusal_Invalid BadName ∷ []) [] (start content) Through
-  bad_name none opened = named [] _ [] (start content) Through None none opened (at_once (Refusal_Invalid BadName))
-
-  -- a run of calls that print nothing
-  pub ran : (name : List ℕ) (refusals : List Refusal) (status : ℕ) → name_in (uri_of asked) ≡ Some name → IsOpened o (start content)
-      → Ran moment left_since may_leave (λ rs made next. RunsNamed o (moment new) asked name (start content) [] rs made next Through) content old new refusals
-      → Took w.out_before w.out_now [] → Told w status (lines refusals) → (status ≡ status_of refusals) ⊎ (status ≡ 12) → Runs status
-  ran name refusals status is opened run out told status_is = record {
-    text = [];
-    refusals = refusals;
-    made = run.made;
-    next = run.next;
-    end = Through;
-    run = named [] refusals run.made run.next Through (Some name) is opened run.run;
-    out = inl out;
-    told = no_line refusals status told;
-    opens = run.opens;
-    ever = run.ever;
-    status_is = status_is;
+  -- a run of calls that read and print nothing, on a disk that was looked at before
+  pub left_by_calls : (mid : D) (Allowed : Point → Ran → Type 0) (result : Result (Unit {0}) Refusal) (status : ℕ) → Opens (point_of g (start content) old) (point_of g (start content) mid) → MayOpen (point_of g (start content) old) → LeavesOnly g old mid (λ c. Reads c content)
+      → ((ran : Ran) → Allowed (point_of g (start content) mid) ran → RunsOpened o asked (point_of g (start content) mid) ran) → Leaves g Allowed content mid new result
+      → Took w.out_before w.out_now [] → Tells w.errors (lines (met_of result)) (first_status (met_of result)) status → Ends status
+  left_by_calls mid Allowed result status opened may first as_command left out told = record {
+    ran = silent_run result left.made (point_of g left.next new);
+    run = inr (point_of g (start content) mid, opened, may, as_command (silent_run result left.made (point_of g left.next new)) left.run);
+    there = refl;
+    taken = taken;
+    printed = inl out;
+    told = result_told w.errors result status told;
+    opens = left.opens;
+    ever = (joined g old mid new _ _ (widened g old mid _ _ first (λ c reads. inl (content, reads, start_opens content layered))) left.ever (λ c is. is)).each;
+    stays = left.stays;
   }
 
   -- a run of `read`
-  pub read_ran : (name : List ℕ) (keys : List (List ℕ)) (output : Type 0) (status : ℕ) → IsLayered content → name_in (uri_of asked) ≡ Some name → IsOpened o (start content)
-      → ((text : List ℕ) (refusals : List Refusal) (next : Machine) (end : End) → RunsRead output name keys (start content) text refusals [] next end → RunsNamed o (moment new) asked name (start content) text refusals [] next end)
-      → ((c : List ℕ) → may_leave new c → Reads c content) → LeavesOnly moment left_since old new (λ c. Reads c content)
-      → Reading output name keys (start content) w status → Runs status
-  read_ran name keys output status layered is opened as_named images ever went = record {
-    text = went.text;
-    refusals = went.refusals;
-    made = [];
-    next = went.next;
-    end = went.end;
-    run = named went.text went.refusals [] went.next went.end (Some name) is opened (as_named went.text went.refusals went.next went.end went.run);
-    out = went.out;
+  pub reading_went : (output : Type 0) (name : List ℕ) (keys : List (List ℕ)) (status : ℕ) → Opens (point_of g (start content) old) (point_of g (start content) new) → MayOpen (point_of g (start content) old)
+      → ((ran : Ran) → ReadsKeys output name keys (point_of g (start content) new) ran → RunsOpened o asked (point_of g (start content) new) ran)
+      → ((c : List ℕ) → g.may_leave new c → Reads c content) → ((c : List ℕ) → g.left_since new (g.moment old) c → Reads c content)
+      → Reading output name keys (point_of g (start content) new) w.out_before w.out_now w.errors status → Ends status
+  reading_went output name keys status opened may as_command images since went = record {
+    ran = went.ran;
+    run = inr (point_of g (start content) new, opened, may, as_command went.ran went.run);
+    there = went.there;
+    taken = subst (λ (l : List ℕ). Gave w.in_before w.in_now l) (sym went.silent) taken;
+    printed = went.printed;
     told = went.told;
-    opens = λ c left. inl (subst (λ (k : Completed). Opens c k) (sym went.same) (content, images c left, start_opens content layered));
-    ever = widened moment left_since old new _ _ ever (λ c reads. inl (content, reads, start_opens content layered));
-    status_is = went.status_is;
+    opens = subst (λ (k : Completed). OpensToLast (g.may_leave new) k went.ran.made) (sym went.same)
+        (subst (λ (l : List Installed). OpensToLast (g.may_leave new) (start content).completed l) (sym went.none) (inl (content, ((λ c left. images c left), layered), start_opens content layered)));
+    ever = λ c left. inl (content, since c left, start_opens content layered);
+    stays = subst (λ (l : List Installed). Stays (g.left_since new) l) (sym went.none) tt;
   }
-
--- the same, of a disk that was only looked at before
-pub ran_lifted : {D : Type 0} (moment : D → ℕ) (left_since : D → ℕ → List ℕ → Type 0) (may_leave : D → List ℕ → Type 0) (Rel : Outside → List Refusal → List Installed → Machine → Type 0) (content : Content) (old mid new : D) (refusals : List Refusal) (before now capacity room out_before out_now : ℕ) (seen there : List ℕ)
-    → there ≡ seen → room ≡ capacity → IsLayered content → LeavesOnly moment left_since old mid (λ c. Reads c content)
-    → Ran moment left_since may_leave (Rel (outside before now there room out_before out_now)) content mid new refusals → Ran moment left_since may_leave (Rel (outside before now seen capacity out_before out_now)) content old new refusals
-ran_lifted {D} moment left_since may_leave Rel content old mid new refusals before now capacity room out_before out_now seen there same size layered first went =
-    subst (λ (l : List ℕ). Ran {D = D} moment left_since may_leave (Rel (outside before now l capacity out_before out_now)) content old new refusals) same
-    (subst (λ k. Ran {D = D} moment left_since may_leave (Rel (outside before now there k out_before out_now)) content old new refusals) size (record {
-      made = went.made;
-      next = went.next;
-      run = went.run;
-      opens = went.opens;
-      ever = joined moment left_since old mid new _ _ (widened moment left_since old mid _ _ first (λ c reads. inl (content, reads, start_opens content layered))) went.ever (λ c is. is);
-    }))
 
 pub kept_form : (o : Option Kept) → InForm o → IfSome o (λ k. IsInForm k.numbers (table_of k.entry) × (k.numbers.marks.run < last_number))
 kept_form None is = tt
 kept_form (Some k) is = (is.form, is.run)
-
-pub ran_map : {D : Type 0} (moment : D → ℕ) (left_since : D → ℕ → List ℕ → Type 0) (may_leave : D → List ℕ → Type 0) (Rel Other : List Refusal → List Installed → Machine → Type 0) (content : Content) (old new : D) (refusals : List Refusal) → ((rs : List Refusal) (made : List Installed) (next : Machine) → Rel rs made next → Other rs made next)
-    → Ran moment left_since may_leave Rel content old new refusals → Ran moment left_since may_leave Other content old new refusals
-ran_map moment left_since may_leave Rel Other content old new refusals more went = record {
-  made = went.made;
-  next = went.next;
-  run = more refusals went.made went.next went.run;
-  opens = went.opens;
-  ever = went.ever;
-}
-
--- ---- words
-
-module _ {D : Type 0} (moment : D → ℕ) (left_since : D → ℕ → List ℕ → Type 0) (may_leave : D → List ℕ → Type 0) (old new : D) (words : List (List ℕ)) (content : Content) (w : Written) (o : Outside) where
-  pub outcome : (asked : Asked) (status : ℕ) → command_of words ≡ Some asked → Running o moment left_since may_leave asked content w old new status → Outcome o (moment new) words content w (may_leave new) (left_since new (moment old)) status
-  outcome asked status is went = record {
-    text = went.text;
-    refusals = went.refusals;
-    made = went.made;
-    next = went.next;
-    end = went.end;
-    run = subst (λ (a : Option Asked). RunsWords o (moment new) a (start content) went.text went.refusals went.made went.next went.end) (sym is) went.run;
-    out = went.out;
-    told = subst (λ (l : List ℕ). Told w status l) (ap (λ (a : Option Asked). for_command a usage (lines went.refusals ++ last_line went.end)) (sym is)) went.told;
-    opens = went.opens;
-    ever = went.ever.each;
-    status_is = subst (λ n. (status ≡ n) ⊎ (status ≡ 12)) (ap (λ (a : Option Asked). for_command a 1 (status_by went.refusals went.end)) (sym is)) went.status_is;
-  }
-
-  -- words that are no command
-  pub no_command : (status : ℕ) → command_of words ≡ None → EachReads (may_leave old) content → ((c : List ℕ) → left_since old (moment old) c → may_leave old c) → Took w.out_before w.out_now [] → Told w status usage → (status ≡ 1) ⊎ (status ≡ 12)
-      → Outcome o (moment old) words content w (may_leave old) (left_since old (moment old)) status
-  no_command status none each only_now out told status_is = record {
-    text = [];
-    refusals = [];
-    made = [];
-    next = start content;
-    end = Through;
-    run = subst (λ (a : Option Asked). RunsWords o (moment old) a (start content) [] [] [] (start content) Through) (sym none) (refl, refl, refl, refl, refl);
-    out = inl out;
-    told = subst (λ (l : List ℕ). Told w status l) (ap (λ (a : Option Asked). for_command a usage (lines [])) (sym none)) told;
-    opens = λ c left. inl (content, each.0 c left, start_opens content each.1);
-    ever = λ c left. inl (content, each.0 c (only_now c left), start_opens content each.1);
-    status_is = subst (λ n. (status ≡ n) ⊎ (status ≡ 12)) (ap (λ (a : Option Asked). for_command a 1 (status_of [])) (sym none)) status_is;
-  }
-
-  -- memory was too short to read the words
-  pub short : (asked : Option Asked) → command_of words ≡ asked → EachReads (may_leave old) content → ((c : List ℕ) → left_since old (moment old) c → may_leave old c) → Took w.out_before w.out_now [] → ((bytes : List ℕ) → Told w 12 bytes)
-      → Outcome o (moment old) words content w (may_leave old) (left_since old (moment old)) 12
-  short None none each only_now out told = no_command 12 none each only_now out (told usage) (inr refl)
-  short (Some asked) is each only_now out told = record {
-    text = [];
-    refusals = NoMemory ∷ [];
-    made = [];
-    next = start content;
-    end = Through;
-    run = subst (λ (a : Option Asked). RunsWords o (moment old) a (start content) [] (NoMemory ∷ []) [] (start content) Through) (sym is) (inl (NoMemory, inr (inl refl), (record { met = refl; none = refl; same = refl }, refl, refl)));
-    out = inl out;
-    told = told (complaints words (NoMemory ∷ []) Through);
-    opens = λ c left. inl (content, each.0 c left, start_opens content each.1);
-    ever = λ c left. inl (content, each.0 c (only_now c left), start_opens content each.1);
-    status_is = inr refl;
-  }
-
--- what a write of all the bytes left
-pub told_all : {E : Type 0} (w : Written) (status : ℕ) (bytes : List ℕ) (result : Result (Unit {0}) E) → OnOk result (Took w.err_before w.err_now bytes) → HasCause w.err_faults w.err_faults_now result → Told w status bytes
-told_all w status bytes (Ok done) ok cause = inl ok
-told_all w status bytes (Err e) ok cause = inr (inl cause.failed)
-
--- nothing was written: a front of anything
-pub told_nothing : (w : Written) → Took w.err_before w.err_now [] → (bytes : List ℕ) → Told w 12 bytes
-told_nothing w took bytes = inr (inr ((0, omega (arith), took), refl))

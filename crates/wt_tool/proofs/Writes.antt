@@ -6,10 +6,11 @@ use Rattle.std.specs.Borrow.{Bor}
 use Rattle.wt_line.specs.Line.{pair_texts}
 use Rattle.failure.specs.Counts.{Rose}
 use Rattle.disk_model.specs.Crash.{Each, LeavesOnly}
-use Rattle.kv_model.specs.Machine.{Machine}
+use Rattle.disk_model.specs.declared.disk.Disk.{Ghosts}
+use Rattle.kv_model.specs.History.{Entry as Made}
+use Rattle.kv_model.specs.Machine.{Machine, OpenSession}
 use Rattle.kv_model.specs.Content.{Content, base, nothing, start, IsLayered}
-use Rattle.kv_model.specs.Decisions.{Demand, Anything, Vacant, Occupied, unmet, is_name}
-use Rattle.kv_model.specs.Refusals.{NoTable as NoSuchTable, Invalid as CallInvalid, KeyLong as LongKey, ValueLong as LongValue}
+use Rattle.kv_model.specs.Decisions.{Done, Demand, Anything, Vacant, Occupied, unmet, is_name}
 use Rattle.row_page.specs.Rows.{Row}
 use Rattle.leaf_rows.specs.Rows.{version_at}
 use Rattle.stored.specs.Stored.{Reads}
@@ -28,12 +29,13 @@ use Rattle.wt_code.specs.declared.refusals.Refusal.TheVariants.{DiskFault, Dupli
 use Rattle.wt_code.specs.declared.refusals.Invalid.TheVariants.{KeyLong, ValueLong, NoStampAfterStamp}
 use Rattle.wt_code.specs.declared.refusals.Limit.TheVariants.{Ids}
 use Rattle.wt_tool.specs.Words.{stored_as}
-use Rattle.wt_tool.specs.Runs.{Outside, Installed}
-use Rattle.wt_tool.specs.Calls.{RunsWrite, PutsPairs, RefusedBy, the_put, demand_of}
+use Rattle.wt_tool.specs.Points.{Device, Point, Ran, device_of, stops}
+use Rattle.wt_tool.specs.Writes.{WritesPairs, PutsPairs, the_put}
 use Rattle.wt_tool.specs.Closes.{Closes}
-use Rattle.wt_tool.specs.Answers.{Puts, put_nowhere, put_refusal, put_over, refused_by, or_else, too_long, key_of, value_of}
-use Rattle.wt_tool.specs.Top.{MeetsTable, Ran, outside, met_of}
-use Rattle.wt_tool.proofs.Closings.{keeps_meets, untouched, ran_closes}
+use Rattle.wt_tool.specs.Answers.{Puts, put_nowhere, put_refusal, put_over, or_else, too_long, key_of, value_of}
+use Rattle.wt_tool.specs.Parts.{MeetsTable, Leaves}
+use Rattle.wt_tool.proofs.Did.{at, same_device, keeps_same, RefusedBy, refused_did, begin_did}
+use Rattle.wt_tool.proofs.Closings.{IsIdle, keeps_meets, untouched, ran_closes}
 use Rattle.wt_tool.proofs.Sessions.{puts_refused, puts_done}
 
 -- ---- no put is refused for the disk
@@ -60,7 +62,7 @@ long_plain key value = elim (cases_Bool (nat_lt 1024 (length key))) [
   ]
 ]
 
-unmet_plain : (d : Demand) (v : Option (List ℕ)) → NoFault (refused_by (unmet d v))
+unmet_plain : (d : Demand) (v : Option (List ℕ)) → NoFault (unmet d v)
 unmet_plain Anything None = none_plain
 unmet_plain Anything (Some v) = none_plain
 unmet_plain Vacant None = none_plain
@@ -71,7 +73,7 @@ unmet_plain Occupied (Some v) = none_plain
 over_plain : (oldest id : ℕ) (d : Demand) (key : List ℕ) (rows : List Row) → NoFault (put_over oldest id d key rows)
 over_plain oldest id d key rows = elim (cases_Bool (nat_le (2 ^ 62) id)) [
   | inl high ↦ rw high (plain (Refusal_Limit Ids) (λ is. cc))
-  | inr low ↦ rw low (either (refused_by (unmet d (value_in (version_at key rows)))) _ (unmet_plain d (value_in (version_at key rows))) (elim (cases_Bool (nat_lt oldest (durable_in (version_at key rows)))) [
+  | inr low ↦ rw low (either (unmet d (value_in (version_at key rows))) _ (unmet_plain d (value_in (version_at key rows))) (elim (cases_Bool (nat_lt oldest (durable_in (version_at key rows)))) [
     | inl later ↦ rw later (plain (Refusal_Invalid (NoStampAfterStamp (durable_in (version_at key rows)))) (λ is. cc))
     | inr sooner ↦ rw sooner none_plain
   ]))
@@ -102,84 +104,104 @@ no_table key value short small = rw (short, small) refl
 
 -- ---- the run
 
-module _ {D : Type 0} (moment : D → ℕ) (left_since : D → ℕ → List ℕ → Type 0) (may_leave : D → List ℕ → Type 0) (old new : D) (counts : moment old ≤ moment new → (c : List ℕ) → may_leave new c → left_since new (moment old) c) (content : Content) (layered : IsLayered content)
-    (before faults faults_now : ℕ) (seen : List ℕ) (capacity out_before out_now : ℕ) (le : before ≤ faults) (images : Each (may_leave old) (λ c. Reads c content)) (reads : Reads seen content)
-    (name : List ℕ) (is : IsTrue (is_name name)) (overwrite : Bool) where
-  abbrev here : Outside
-  here = outside before faults_now seen capacity out_before out_now
+idle_resting : (content : Content) (history : List Made) (id : ℕ) → IsIdle (resting content history id)
+idle_resting content history id = record { up = refl; free = refl; quiet = refl; decides = λ number storing. refl }
 
-  abbrev Rel : List (List ℕ × List ℕ) → List Refusal → List Installed → Machine → Type 0
-  Rel pairs = RunsWrite here (moment new) name overwrite pairs (start content)
+module _ {D : Type 0} (g : Ghosts D) (old new : D) (counts : g.moment old ≤ g.moment new → (c : List ℕ) → g.may_leave new c → g.left_since new (g.moment old) c) (now : (c : List ℕ) → g.left_since new (g.moment new) c → g.may_leave new c) (content : Content) (layered : IsLayered content)
+    (images : Each (g.may_leave old) (λ c. Reads c content)) (reads : Reads (g.seen old) content) (name : List ℕ) (is : IsTrue (is_name name)) (demand : Demand) where
+  abbrev Rel : List (List ℕ × List ℕ) → Point → Ran → Type 0
+  Rel pairs = WritesPairs name demand pairs
 
-  abbrev RanSo : List (List ℕ × List ℕ) → List Refusal → Type 0
-  RanSo pairs refusals = Ran moment left_since may_leave (Rel pairs) content old new refusals
-
-  abbrev KeptAll : Type 0
-  KeptAll = LeavesOnly moment left_since old new (λ c. Reads c content)
-
-  -- no pairs
-  pub ran_nothing : (pairs : List (List ℕ × List ℕ)) → pairs ≡ [] → KeptAll → RanSo pairs []
-  ran_nothing pairs none kept = subst (λ (l : List (List ℕ × List ℕ)). RanSo l []) (sym none) (untouched moment left_since may_leave old new counts content layered (Rel []) [] (start content) refl (refl, refl, refl) kept)
+  abbrev d : Device
+  d = device_of g old
 
   -- puts of some pairs, in a session of their own
-  as_write : (pairs : List (List ℕ × List ℕ)) → (pairs ≡ [] → ⊥) → (refusals : List Refusal) (made : List Installed) (next : Machine) → PutsPairs here (moment new) name (demand_of overwrite) pairs (resting content (base content) 1) refusals made next → Rel pairs refusals made next
-  as_write [] some refusals made next run = absurd (some refl)
-  as_write (pair ∷ pairs) some refusals made next run = subst (λ (m : Machine). PutsPairs here (moment new) name (demand_of overwrite) (pair ∷ pairs) m refusals made next) (sym (begins content).0) run
+  as_write : (pairs : List (List ℕ × List ℕ)) → (pairs ≡ [] → ⊥) → (ran : Ran) → PutsPairs name demand pairs (at d (resting content (base content) 1)) ran → Rel pairs (at d (start content)) ran
+  as_write [] some ran run = absurd (some refl)
+  as_write (pair ∷ pairs) some ran run = inr (at d (resting content (base content) 1), same_device d, keeps_same d, inr (Done, (OpenSession, refl, sym (begins content).0), refl), run)
 
-  module _ (place : Place) (k : Kept) (keeps : Keeps seen place k) (pairs : List (List ℕ × List ℕ)) (some : pairs ≡ [] → ⊥) where
+  module _ (place : Place) (k : Kept) (keeps : Keeps (g.seen old) place k) (pairs : List (List ℕ × List ℕ)) (some : pairs ≡ [] → ⊥) where
     meets : MeetsTable content k
-    meets = keeps_meets seen place k content keeps reads
+    meets = keeps_meets (g.seen old) place k content keeps reads
 
     below : content.run + 1 < 2 ^ 62
     below = omega (arith, keeps.run, meets.run)
 
-    of_content : (result : Result ℕ Refusal) (after : List Row) → Puts k.numbers.marks.oldest (k.numbers.marks.run + 1) k.entry name (demand_of overwrite) pairs 1 k.rows result after
-        → Puts content.oldest (content.run + 1) k.entry name (demand_of overwrite) pairs 1 k.rows result after
+    of_content : (result : Result ℕ Refusal) (after : List Row) → Puts k.numbers.marks.oldest (k.numbers.marks.run + 1) k.entry name demand pairs 1 k.rows result after
+        → Puts content.oldest (content.run + 1) k.entry name demand pairs 1 k.rows result after
     of_content result after p =
-        subst (λ n. Puts n (content.run + 1) k.entry name (demand_of overwrite) pairs 1 k.rows result after) (sym meets.oldest)
-        (subst (λ n. Puts k.numbers.marks.oldest (n + 1) k.entry name (demand_of overwrite) pairs 1 k.rows result after) (sym meets.run) p)
+        subst (λ n. Puts n (content.run + 1) k.entry name demand pairs 1 k.rows result after) (sym meets.oldest)
+        (subst (λ n. Puts k.numbers.marks.oldest (n + 1) k.entry name demand pairs 1 k.rows result after) (sym meets.run) p)
 
-    -- a put was refused
-    pub ran_refused : (r : Refusal) (after : List Row) → Puts k.numbers.marks.oldest (k.numbers.marks.run + 1) k.entry name (demand_of overwrite) pairs 1 k.rows (Err r) after → KeptAll → RanSo pairs (r ∷ [])
-    ran_refused r after p kept =
-        let refused = puts_refused here (moment new) content k.entry name (demand_of overwrite) is below pairs 1 k.rows (base content) meets.shows (omega (arith)) r after (of_content (Err r) after p) in
-        untouched moment left_since may_leave old new counts content layered (Rel pairs) (r ∷ []) refused.0 refused.2 (as_write pairs some (r ∷ []) [] refused.0 refused.1) kept
+    -- a put was refused: the run up to there
+    pub put_run : (r : Refusal) (after : List Row) → Puts k.numbers.marks.oldest (k.numbers.marks.run + 1) k.entry name demand pairs 1 k.rows (Err r) after
+        → (next : Machine) × Rel pairs (at d (start content)) (stops r (at d next)) × (next.completed ≡ (start content).completed)
+    put_run r after p =
+        let refused = puts_refused d content k.entry name demand is below pairs 1 k.rows (base content) meets.shows (omega (arith)) r after (of_content (Err r) after p) in
+        (refused.0, as_write pairs some (stops r (at d refused.0)) refused.1, refused.2)
 
     -- all puts were done, and then Close
-    pub ran_done : (n : ℕ) (after : Kept) → after.numbers ≡ k.numbers → after.entry ≡ k.entry → Puts k.numbers.marks.oldest (k.numbers.marks.run + 1) k.entry name (demand_of overwrite) pairs 1 k.rows (Ok n) after.rows
-        → (result : Result (Unit {0}) Refusal) → Closes moment left_since may_leave (Rose faults faults_now) (IsFullFor seen capacity after.rows) after.numbers (table_of after.entry) after.rows n content old new result → RanSo pairs (met_of result)
-    ran_done n after numbers entry p result closes =
-        let done = puts_done here (moment new) content k.entry name (demand_of overwrite) is below pairs 1 k.rows (base content) meets.shows (omega (arith)) n after.rows (of_content (Ok n) after.rows p) in
-        ran_closes moment left_since may_leave old new counts content layered (Rel pairs) (resting content done.0 n) refl before faults faults_now seen capacity out_before out_now le images
-        (λ refusals made next run. as_write pairs some refusals made next (done.2 refusals made next run))
+    pub ran_done : (n : ℕ) (after : Kept) → after.numbers ≡ k.numbers → after.entry ≡ k.entry → Puts k.numbers.marks.oldest (k.numbers.marks.run + 1) k.entry name demand pairs 1 k.rows (Ok n) after.rows
+        → g.faults old ≤ g.faults new → (result : Result (Unit {0}) Refusal) → Closes g (Rose (g.faults old) (g.faults new)) (IsFullFor (g.seen old) (g.capacity old) after.rows) after.numbers (table_of after.entry) after.rows n content old new result → Leaves g (Rel pairs) content old new result
+    ran_done n after numbers entry p count result closes =
+        let done = puts_done d content k.entry name demand is below pairs 1 k.rows (base content) meets.shows (omega (arith)) n after.rows (of_content (Ok n) after.rows p) in
+        ran_closes g old new counts now content layered (Rel pairs) (resting content done.0 n) (idle_resting content done.0 n) refl count images
+        (λ ran run. as_write pairs some ran (done.2 ran run))
         place k.numbers (table_of k.entry) (record { link = keeps.link; rows = keeps.rows; slot = keeps.slot; serves = keeps.serves; sequence = keeps.sequence }) n after.rows
         (subst (λ x. Shows (x + 1) n k.numbers.marks.oldest k.numbers.marks.stable (table_of k.entry) after.rows done.0) meets.run
         (subst (λ x. Shows (content.run + 1) n x k.numbers.marks.stable (table_of k.entry) after.rows done.0) meets.oldest
         (subst (λ x. Shows (content.run + 1) n content.oldest x (table_of k.entry) after.rows done.0) meets.stable done.1)))
         meets.oldest meets.stable result
-        (subst (λ (x : Numbers). Closes moment left_since may_leave (Rose faults faults_now) (IsFullFor seen capacity after.rows) x (table_of k.entry) after.rows n content old new result) numbers
-        (subst (λ (x : Entry). Closes moment left_since may_leave (Rose faults faults_now) (IsFullFor seen capacity after.rows) after.numbers (table_of x) after.rows n content old new result) entry closes))
+        (subst (λ (x : Numbers). Closes g (Rose (g.faults old) (g.faults new)) (IsFullFor (g.seen old) (g.capacity old) after.rows) x (table_of k.entry) after.rows n content old new result) numbers
+        (subst (λ (x : Entry). Closes g (Rose (g.faults old) (g.faults new)) (IsFullFor (g.seen old) (g.capacity old) after.rows) after.numbers (table_of x) after.rows n content old new result) entry closes))
 
-  -- there is no table
+-- there is no table
+module _ (name : List ℕ) (is : IsTrue (is_name name)) (demand : Demand) where
   abbrev begun : Machine
   begun = beginning nothing (base nothing) 1
 
-  nowhere_refused : (pair : List ℕ × List ℕ) (r : Refusal) → or_else (too_long pair.0 pair.1) (Some NoTable) ≡ Some r → RefusedBy begun (the_put begun name (demand_of overwrite) pair) r begun
-  nowhere_refused pair r why = let answers = puts_nowhere nothing (base nothing) 1 name pair.0 pair.1 (demand_of overwrite) is refl in elim (cases_Bool (nat_lt 1024 (length pair.0))) [
-    | inl long ↦ (CallInvalid (LongKey (length pair.0)), answers.0 (ltb-true 1024 (length pair.0) long), sym (long_key pair.0 pair.1 long) ∙ why)
+  nowhere_refused : (pair : List ℕ × List ℕ) (r : Refusal) → or_else (too_long pair.0 pair.1) (Some NoTable) ≡ Some r → RefusedBy begun (the_put begun name demand pair) r begun
+  nowhere_refused pair r why = let answers = puts_nowhere nothing (base nothing) 1 name pair.0 pair.1 demand is refl in elim (cases_Bool (nat_lt 1024 (length pair.0))) [
+    | inl long ↦ by (some_is _ r (sym (long_key pair.0 pair.1 long) ∙ why)) (answers.0 (ltb-true 1024 (length pair.0) long))
     | inr short ↦ elim (cases_Bool (nat_lt 16384 (length pair.1))) [
-      | inl large ↦ (CallInvalid (LongValue (length pair.1)), answers.1 (ltb-false 1024 (length pair.0) short) (ltb-true 16384 (length pair.1) large), sym (long_value pair.0 pair.1 short large) ∙ why)
-      | inr small ↦ (NoSuchTable, answers.2 (ltb-false 1024 (length pair.0) short) (ltb-false 16384 (length pair.1) small), sym (no_table pair.0 pair.1 short small) ∙ why)
+      | inl large ↦ by (some_is _ r (sym (long_value pair.0 pair.1 short large) ∙ why)) (answers.1 (ltb-false 1024 (length pair.0) short) (ltb-true 16384 (length pair.1) large))
+      | inr small ↦ by (some_is _ r (sym (no_table pair.0 pair.1 short small) ∙ why)) (answers.2 (ltb-false 1024 (length pair.0) short) (ltb-false 16384 (length pair.1) small))
     ]
   ]
+    where
+      some_is : (a b : Refusal) → let one : Option Refusal = Some a in let two : Option Refusal = Some b in one ≡ two → a ≡ b
+      some_is a b same = cc
 
-  pub ran_nowhere : content ≡ nothing → (pairs : List (List ℕ × List ℕ)) (some : pairs ≡ [] → ⊥) (r : Refusal) → put_nowhere pairs ≡ Some r → KeptAll → RanSo pairs (r ∷ [])
-  ran_nowhere none [] some r why kept = absurd (some refl)
-  ran_nowhere none (pair ∷ pairs) some r why kept =
-      untouched moment left_since may_leave old new counts content layered (Rel (pair ∷ pairs)) (r ∷ []) begun (ap (λ (c : Content). (start c).completed) (sym none))
-      (subst (λ (c : Content). RunsWrite here (moment new) name overwrite (pair ∷ pairs) (start c) (r ∷ []) [] begun) (sym none)
-      (subst (λ (m : Machine). PutsPairs here (moment new) name (demand_of overwrite) (pair ∷ pairs) m (r ∷ []) [] begun) (sym (begins nothing).0)
-      (inr (begun, (begins nothing).1 (base nothing) 1, inl (r, nowhere_refused pair r why, refl, refl))))) kept
+      by : {a : Refusal} → a ≡ r → RefusedBy begun (the_put begun name demand pair) a begun → RefusedBy begun (the_put begun name demand pair) r begun
+      by same refused = subst (λ (x : Refusal). RefusedBy begun (the_put begun name demand pair) x begun) same refused
+
+  nowhere_run : (d : Device) (pairs : List (List ℕ × List ℕ)) → (pairs ≡ [] → ⊥) → (r : Refusal) → put_nowhere pairs ≡ Some r → WritesPairs name demand pairs (at d (start nothing)) (stops r (at d begun))
+  nowhere_run d [] some r why = absurd (some refl)
+  nowhere_run d (pair ∷ pairs) some r why =
+      inr (
+        at d (resting nothing (base nothing) 1),
+        same_device d,
+        keeps_same d,
+        inr (Done, (OpenSession, refl, sym (begins nothing).0), refl),
+        inr (at d begun, begin_did d nothing (base nothing) 1, inl (r, at d begun, refused_did d begun begun (the_put begun name demand pair) r (nowhere_refused pair r why), refl)),
+      )
+
+-- runs that make no call of the disk
+module _ {D : Type 0} (g : Ghosts D) (old : D) (counts : g.moment old ≤ g.moment old → (c : List ℕ) → g.may_leave old c → g.left_since old (g.moment old) c) (now : (c : List ℕ) → g.left_since old (g.moment old) c → g.may_leave old c) (content : Content) (layered : IsLayered content)
+    (name : List ℕ) (is : IsTrue (is_name name)) (demand : Demand) (kept : LeavesOnly g old old (λ c. Reads c content)) where
+  pub ran_nothing : (pairs : List (List ℕ × List ℕ)) → pairs ≡ [] → Leaves g (WritesPairs name demand pairs) content old old (Ok tt)
+  ran_nothing pairs none = subst (λ (l : List (List ℕ × List ℕ)). Leaves g (WritesPairs name demand l) content old old (Ok tt)) (sym none) (untouched g old old counts now content layered (WritesPairs name demand []) (Ok tt) (start content) refl refl kept)
+
+  pub ran_nowhere : content ≡ nothing → (pairs : List (List ℕ × List ℕ)) → (pairs ≡ [] → ⊥) → (r : Refusal) → put_nowhere pairs ≡ Some r → Leaves g (WritesPairs name demand pairs) content old old (Err r)
+  ran_nowhere none pairs some r why =
+      untouched g old old counts now content layered (WritesPairs name demand pairs) (Err r) (beginning nothing (base nothing) 1) (ap (λ (c : Content). (start c).completed) (sym none))
+      (subst (λ (c : Content). WritesPairs name demand pairs (at (device_of g old) (start c)) (stops r (at (device_of g old) (beginning nothing (base nothing) 1)))) (sym none) (nowhere_run name is demand (device_of g old) pairs some r why)) kept
+
+  pub ran_refused : (images : Each (g.may_leave old) (λ c. Reads c content)) (reads : Reads (g.seen old) content) (place : Place) (k : Kept) (keeps : Keeps (g.seen old) place k) (pairs : List (List ℕ × List ℕ)) (some : pairs ≡ [] → ⊥) (r : Refusal) (after : List Row)
+      → Puts k.numbers.marks.oldest (k.numbers.marks.run + 1) k.entry name demand pairs 1 k.rows (Err r) after → Leaves g (WritesPairs name demand pairs) content old old (Err r)
+  ran_refused images reads place k keeps pairs some r after p =
+      let went = put_run g old old counts now content layered images reads name is demand place k keeps pairs some r after p in
+      untouched g old old counts now content layered (WritesPairs name demand pairs) (Err r) went.0 went.2 went.1 kept
 
 -- ---- the words
 
@@ -203,6 +225,6 @@ nowhere_some (pair ∷ pairs) some none = let is = sum_some (too_long pair.0 pai
     sum_some None b = (b, refl)
     sum_some (Some r) b = (r, refl)
 
-pub of_result : {Q : Type 0} {R : Refusal → Type 0} (S : List Refusal → Type 0) (result : Result (Unit {0}) Refusal) → OnOk result Q → IfErr result R → (Q → S []) → ((r : Refusal) → R r → S (r ∷ [])) → S (met_of result)
-of_result S (Ok done) ok err on_ok on_err = on_ok ok
+pub of_result : {Q : Type 0} {R : Refusal → Type 0} (S : Result (Unit {0}) Refusal → Type 0) (result : Result (Unit {0}) Refusal) → OnOk result Q → IfErr result R → (Q → (done : Unit {0}) → S (Ok done)) → ((r : Refusal) → R r → S (Err r)) → S result
+of_result S (Ok done) ok err on_ok on_err = on_ok ok done
 of_result S (Err r) ok err on_ok on_err = on_err r err

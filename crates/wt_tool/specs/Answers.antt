@@ -2,7 +2,6 @@
 use Rattle.std.specs.Prelude.{◌≡◌, ◌⊎◌, ℕ, ◌+◌, ◌^◌, nat_lt, nat_le, List, [], ◌∷◌, length, Option, Some, None, Result, Ok, Err, bytes_eq, if◌then◌else◌}
 use Rattle.item.specs.declared.formats.Formats.{Formats}
 use Rattle.kv_model.specs.Decisions.{Demand, unmet}
-use Rattle.kv_model.specs.Refusals.{Cause}
 use Rattle.row_page.specs.Rows.{Row}
 use Rattle.leaf_rows.specs.Rows.{version_at, put_row}
 use Rattle.one_session.specs.Shows.{plain_version, value_in}
@@ -14,7 +13,6 @@ use Rattle.wt_code.specs.declared.refusals.Refusal.TheVariants.{NoMemory, NotFou
 use Rattle.wt_code.specs.declared.refusals.Invalid.TheVariants.{KeyLong, ValueLong, NoStampAfterStamp}
 use Rattle.wt_code.specs.declared.refusals.Limit.TheVariants.{Ids}
 use Rattle.wt_tool.specs.Words.{plain_formats, stored_as, printed_as}
-use Rattle.wt_tool.specs.Runs.{refusal_of}
 
 -- the formats of the table, where it has the name
 abbrev pub formats_by : Entry → List ℕ → Formats
@@ -37,15 +35,11 @@ abbrev pub or_else : Option Refusal → Option Refusal → Option Refusal
 or_else None later = later
 or_else (Some r) later = Some r
 
-abbrev pub refused_by : Option Cause → Option Refusal
-refused_by None = None
-refused_by (Some c) = refusal_of c
-
 -- why a put over a version, by the transaction of this id, is refused
 abbrev pub put_over : (oldest id : ℕ) → Demand → List ℕ → List Row → Option Refusal
 put_over oldest id demand key rows =
     if nat_le (2 ^ 62) id then Some (Refusal_Limit Ids)
-    else or_else (refused_by (unmet demand (value_in (version_at key rows))))
+    else or_else (unmet demand (value_in (version_at key rows)))
     (if nat_lt oldest (durable_in (version_at key rows)) then Some (Refusal_Invalid (NoStampAfterStamp (durable_in (version_at key rows)))) else None)
 
 -- why a put and its commit are refused

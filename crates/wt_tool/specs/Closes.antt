@@ -1,7 +1,8 @@
 -- What the checkpoint at the end of a command leaves.
 use Rattle.std.specs.Prelude.{◌≡◌, ◌⊎◌, ℕ, ◌+◌, ◌≤◌, ◌<◌, List, Some, Result, Err}
 use Rattle.disk_model.specs.Crash.{LeavesOnly}
-use Rattle.turtle.specs.declared.slot.Slot.{Slot}
+use Rattle.disk_model.specs.declared.disk.Disk.{Ghosts}
+use Rattle.device_layout.specs.declared.slot.Slot.{Slot}
 use Rattle.kv_model.specs.History.{Table}
 use Rattle.kv_model.specs.Content.{Content}
 use Rattle.row_page.specs.Rows.{Row}
@@ -17,7 +18,7 @@ use Rattle.one_table.specs.Closings.{Installs}
 use Rattle.wt_code.specs.declared.refusals.Refusal.{Refusal}
 use Rattle.wt_code.specs.declared.refusals.Refusal.TheVariants.{Limit as Refusal_Limit}
 use Rattle.wt_code.specs.declared.refusals.Limit.TheVariants.{Checkpoints, Image}
-use Rattle.wt_tool.specs.Runs.{last_number}
+use Rattle.wt_tool.specs.Points.{last_number}
 
 -- the numbers of the first checkpoint, with one table
 abbrev pub first_numbers : Numbers
@@ -36,8 +37,8 @@ pub record HasCheckpoint (bytes : List ℕ) (place : Place) (n : Numbers) (t : T
   pub sequence : n.sequence ≡ slot.sequence
 
 -- what the next checkpoint with these rows leaves, on a device of this content
-abbrev pub Closes : {D : Type 0} (moment : D → ℕ) (left_since : D → ℕ → List ℕ → Type 0) (may_leave : D → List ℕ → Type 0) (fault full : Type 0) → Numbers → Table → List Row → ℕ → Content → D → D → Result (Unit {0}) Refusal → Type 0
-Closes moment left_since may_leave fault full n t rows next content old new result =
-    ((result ≡ Err (Refusal_Limit Checkpoints)) × (n.sequence ≡ last_number) × LeavesOnly moment left_since old new (may_leave old))
-    ⊎ (((result ≡ Err (Refusal_Limit Image)) × (n.sequence < last_number) × (32768 < image_length rows) × LeavesOnly moment left_since old new (may_leave old))
-    ⊎ ((n.sequence < last_number) × (image_length rows ≤ 32768) × Installs moment left_since may_leave fault full content (leaf_content (next_numbers n next).marks t rows) old new result))
+abbrev pub Closes : {D : Type 0} (g : Ghosts D) (fault full : Type 0) → Numbers → Table → List Row → ℕ → Content → D → D → Result (Unit {0}) Refusal → Type 0
+Closes g fault full n t rows next content old new result =
+    ((result ≡ Err (Refusal_Limit Checkpoints)) × (n.sequence ≡ last_number) × LeavesOnly g old new (g.may_leave old))
+    ⊎ (((result ≡ Err (Refusal_Limit Image)) × (n.sequence < last_number) × (32768 < image_length rows) × LeavesOnly g old new (g.may_leave old))
+    ⊎ ((n.sequence < last_number) × (image_length rows ≤ 32768) × Installs g fault full content (leaf_content (next_numbers n next).marks t rows) old new result))

@@ -1,6 +1,13 @@
 pub mod Words
-pub mod Runs
-pub mod Calls
+pub mod Points
+pub mod Narrow
+pub mod Openings
+pub mod Creates
+pub mod Writes
+pub mod Reads
+pub mod Commands
+pub mod Top
 pub mod Closes
 pub mod Answers
-pub mod Top
+pub mod Parts
+pub mod Later

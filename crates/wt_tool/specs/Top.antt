@@ -1,187 +1,198 @@
 -- What the top call promises.
-use Rattle.std.specs.Prelude.{◌≡◌, ◌⊎◌, ℕ, ◌+◌, List, [], ◌∷◌, ◌++◌, Option, Some, None, Result, Ok, Err, codes}
+use Rattle.std.specs.Prelude.{◌≡◌, ◌⊎◌, ℕ, ◌<◌, List, [], ◌∷◌, ◌++◌, length, take, filter, Bool, true, false, Option, Some, None, IsTrue, codes}
 use Rattle.std.specs.List.{flat_map}
 use Rattle.failure.specs.Counts.{Rose}
-use Rattle.disk_model.specs.Crash.{Each, LeavesOnly}
-use Rattle.turtle.specs.declared.slot.Slot.{Slot}
-use Rattle.turtle.specs.Slots.{Chooses}
+use Rattle.disk_model.specs.Crash.{Each}
+use Rattle.disk_model.specs.declared.disk.Disk.{Ghosts}
+use Rattle.wt_io.specs.declared.streams.Source.{Ghosts as SourceGhosts}
+use Rattle.wt_io.specs.declared.streams.Sink.{Ghosts as SinkGhosts}
+use Rattle.wt_io.specs.Streams.{Gave, AtEnd, Took, TookFront}
 use Rattle.wt_code.specs.declared.refusals.Refusal.{Refusal}
 use Rattle.wt_code.specs.declared.refusals.Refusal.TheVariants.{NoMemory, DiskFault}
 use Rattle.wt_code.specs.Text.{text_of_refusal}
-use Rattle.wt_io.specs.Streams.{Took, TookFront}
-use Rattle.kv_model.specs.Machine.{Machine, Completed}
-use Rattle.kv_model.specs.Content.{Content, base, nothing, start, IsLayered}
+use Rattle.kv_model.specs.Machine.{Completed}
+use Rattle.kv_model.specs.Content.{Content, start, IsLayered, OpensAs}
 use Rattle.stored.specs.Stored.{Reads}
 use Rattle.stored.specs.Opens.{Opens}
-use Rattle.one_table.specs.declared.opening.Kept.{Kept}
-use Rattle.one_table.specs.OneTable.{HoldsOne, table_of}
-use Rattle.one_table.specs.Closings.{IsFullFor}
-use Rattle.one_session.specs.Shows.{Shows}
-use Rattle.wt_line.specs.Line.{Asked, command_of}
-use Rattle.wt_tool.specs.Runs.{Outside, Installed, End, Through, OutputFailed, last_number}
-use Rattle.wt_tool.specs.Calls.{OutOf, RunsAsked, RunsRead}
+use Rattle.wt_line.specs.Line.{Asked, home_in}
+use Rattle.wt_tool.specs.Points.{Outside, Ran, Installed, End, Through, Stopped, InputFailed, OutputFailed, device_of, point_of}
+use Rattle.wt_tool.specs.Commands.{Runs}
+
+-- ---- the disk
 
 -- each image reads with one content, which is layered
 abbrev pub EachReads : (List ℕ → Type 0) → Content → Type 0
 EachReads images content = Each images (λ c. Reads c content) × IsLayered content
 
--- the facts that refusals rest on, of a disk as it was handed in
-abbrev pub outside : (before now : ℕ) (seen : List ℕ) (capacity output_before output_now : ℕ) → Outside
-outside before now seen capacity output_before output_now = record {
-  fault = Rose before now;
-  full = IsFullFor seen capacity;
-  wide = HoldsOne seen → ⊥;
-  last = (slot : Slot) × Chooses seen (Some slot) × (slot.sequence ≡ last_number);
-  output = Rose output_before output_now;
-}
+-- what an opening reads of the device is in its grammar: all of it, while an opening reads all
+abbrev pub IsOpenable : List ℕ → Type 0
+IsOpenable bytes = (content : Content) × Reads bytes content
 
--- what was kept at the opening of this content: its numbers are the content's, and its rows show the machine
-pub record MeetsTable (content : Content) (k : Kept) : Type 0 where
-  pub run : content.run ≡ k.numbers.marks.run
-  pub oldest : content.oldest ≡ k.numbers.marks.oldest
-  pub stable : content.stable ≡ k.numbers.marks.stable
-  pub shows : Shows (content.run + 1) 1 content.oldest content.stable (table_of k.entry) k.rows (base content)
+-- none of them was done
+abbrev pub NoneDone : List Installed → Type 0
+NoneDone [] = Unit {0}
+NoneDone (i ∷ made) = (i.refused ≡ None → ⊥) × NoneDone made
 
-abbrev pub Meets : Content → Option Kept → Type 0
-Meets content None = content ≡ nothing
-Meets content (Some k) = MeetsTable content k
-
--- the checkpoint that a fault at its gate stopped
+-- a checkpoint that a fault at its gate stopped, with none done after it
 abbrev pub Pending : List Installed → Completed → Type 0
 Pending [] checkpoint = ⊥
-Pending (i ∷ installed) checkpoint = ((i.refused ≡ Some DiskFault) × (i.checkpoint ≡ checkpoint)) ⊎ Pending installed checkpoint
+Pending (i ∷ made) checkpoint = ((i.refused ≡ Some DiskFault) × (i.checkpoint ≡ checkpoint) × NoneDone made) ⊎ Pending made checkpoint
 
 -- one of those that were installed, or were being installed
 abbrev pub Among : List Installed → Completed → Type 0
 Among [] checkpoint = ⊥
-Among (i ∷ installed) checkpoint = (i.checkpoint ≡ checkpoint) ⊎ Among installed checkpoint
+Among (i ∷ made) checkpoint = (i.checkpoint ≡ checkpoint) ⊎ Among made checkpoint
 
--- each image opens to the last checkpoint or, after a fault at a gate, to the one that was being installed
-abbrev pub EachOpens : (List ℕ → Type 0) → Machine → List Installed → Type 0
-EachOpens images next made = (c : List ℕ) → images c → Opens c next.completed ⊎ ((k : Completed) × Pending made k × Opens c k)
+-- The images read with one content, which opens to the last checkpoint: what the next run asks of them. Only after a fault at a gate each opens to one of two by itself.
+abbrev pub OpensToLast : (List ℕ → Type 0) → Completed → List Installed → Type 0
+OpensToLast images last made =
+    ((content : Content) × EachReads images content × OpensAs content last)
+    ⊎ ((pending : Completed) × Pending made pending × ((c : List ℕ) → images c → Opens c last ⊎ ((k : Completed) × Pending made k × Opens c k)))
 
 -- it opens to the last checkpoint before the run, or to one of its own
-abbrev pub OpensToOne : Machine → List Installed → List ℕ → Type 0
-OpensToOne first made c = Opens c first.completed ⊎ ((k : Completed) × Among made k × Opens c k)
+abbrev pub OpensToOne : Completed → List Installed → List ℕ → Type 0
+OpensToOne first made c = Opens c first ⊎ ((k : Completed) × Among made k × Opens c k)
 
--- a crash at any moment of the run leaves what opens so
-abbrev pub AlwaysOpens : (List ℕ → Type 0) → Machine → List Installed → Type 0
-AlwaysOpens since first made = (c : List ℕ) → since c → OpensToOne first made c
+-- since the moment of one that was done, what a crash left opens to it or to a later one
+abbrev pub Stays : (ℕ → List ℕ → Type 0) → List Installed → Type 0
+Stays since [] = Unit {0}
+Stays since (i ∷ made) = (i.refused ≡ None → (c : List ℕ) → since i.at c → OpensToOne i.checkpoint made c) × Stays since made
+
+-- ---- the streams
+
+-- the errors before and after: the bytes, where they are told, and the count of faults
+pub record Errors : Type 0 where
+  pub before : Option (List ℕ)
+  pub now : Option (List ℕ)
+  pub faults : ℕ
+  pub faults_now : ℕ
+
+abbrev pub errors_of : {E : Type 0} → SinkGhosts E → E → E → Errors
+errors_of e old new = record { before = e.written old; now = e.written new; faults = e.fault_count old; faults_now = e.fault_count new }
+
+-- what the streams tell, before and after
+pub record Streams : Type 0 where
+  pub in_before : Option (List ℕ)
+  pub in_now : Option (List ℕ)
+  pub out_before : Option (List ℕ)
+  pub out_now : Option (List ℕ)
+  pub errors : Errors
+
+abbrev pub streams_of : {S K E : Type 0} → SourceGhosts S → SinkGhosts K → SinkGhosts E → S → S → K → K → E → E → Streams
+streams_of s k e input input_now out out_now err err_now = record { in_before = s.left input; in_now = s.left input_now; out_before = k.written out; out_now = k.written out_now; errors = errors_of e err err_now }
+
+-- the facts of the input and the output
+abbrev pub outside : {S K : Type 0} → SourceGhosts S → SinkGhosts K → S → S → K → K → Outside
+outside s k input input_now out out_now = record {
+  input_failed = Rose (s.fault_count input) (s.fault_count input_now);
+  input_ended = AtEnd (s.left input_now);
+  output_failed = Rose (k.fault_count out) (k.fault_count out_now);
+}
+
+-- ---- lines and statuses
 
 -- the lines for the refusals
 abbrev pub lines : List Refusal → List ℕ
 lines refusals = flat_map (λ r. text_of_refusal r ++ 10 ∷ []) refusals
 
+-- the line of what ended a run, where that is no refusal
+abbrev pub last_line : End → List ℕ
+last_line Through = []
+last_line (Stopped refusal) = []
+last_line InputFailed = codes "input fault" ++ 10 ∷ []
+last_line OutputFailed = codes "output fault" ++ 10 ∷ []
+
 abbrev pub usage : List ℕ
 usage = codes "usage: wt [-h home] command .." ++ 10 ∷ []
 
-abbrev pub for_command : {A B : Type 0} → Option A → B → B → B
-for_command None x y = x
-for_command (Some a) x y = y
+abbrev pub status_of : Refusal → ℕ
+status_of DiskFault = 4
+status_of NoMemory = 12
+status_of _ = 1
 
-abbrev pub output_fault : List ℕ
-output_fault = codes "output fault" ++ 10 ∷ []
+-- of the first refusal, or of none
+abbrev pub first_status : List Refusal → ℕ
+first_status [] = 0
+first_status (r ∷ later) = status_of r
 
--- the line of a write of the output that failed
-abbrev pub last_line : End → List ℕ
-last_line Through = []
-last_line OutputFailed = output_fault
+-- the status of what ended the run early, else of the first refusal met
+abbrev pub status_at : End → List Refusal → ℕ
+status_at Through met = first_status met
+status_at (Stopped refusal) met = status_of refusal
+status_at InputFailed met = 5
+status_at OutputFailed met = 6
 
--- the usage line for words that are no command, else a line for each refusal, and one for the end
-abbrev pub complaints : List (List ℕ) → List Refusal → End → List ℕ
-complaints words refusals end = for_command (command_of words) usage (lines refusals ++ last_line end)
+-- of the refusals that stand in a text, a fault of the disk and want of memory count
+abbrev pub counts : Refusal → Bool
+counts DiskFault = true
+counts NoMemory = true
+counts _ = false
 
--- the status of the first refusal met, or of none
-abbrev pub status_of : List Refusal → ℕ
-status_of [] = 0
-status_of (DiskFault ∷ refusals) = 4
-status_of (NoMemory ∷ refusals) = 12
-status_of (r ∷ refusals) = 1
+abbrev pub status_by : Ran → ℕ
+status_by ran = status_at ran.end (ran.refusals ++ filter counts ran.replies)
 
--- a failed write of the output ended the run, else the first refusal tells the status
-abbrev pub status_by : List Refusal → End → ℕ
-status_by refusals Through = status_of refusals
-status_by refusals OutputFailed = 6
+-- the bytes are on the errors, or a write of them failed
+abbrev pub IsTold : Errors → List ℕ → Type 0
+IsTold e bytes = Took e.before e.now bytes ⊎ Rose e.faults e.faults_now
 
-abbrev pub status_for : List (List ℕ) → List Refusal → End → ℕ
-status_for words refusals end = for_command (command_of words) 1 (status_by refusals end)
+-- Not all of the bytes are: a strict front of them is there, or a write failed and there was a line to tell. Without a line it never holds.
+abbrev pub IsCut : Errors → List ℕ → Type 0
+IsCut e bytes = ((n : ℕ) × (n < length bytes) × Took e.before e.now (take n bytes)) ⊎ (Rose e.faults e.faults_now × (0 < length bytes))
 
--- the refusals that a result tells
-abbrev pub met_of : Result (Unit {0}) Refusal → List Refusal
-met_of (Ok done) = []
-met_of (Err r) = r ∷ []
-
--- a run that the definitions allow, and the device that it left, in each image and at each moment
-pub record Ran {D : Type 0} (moment : D → ℕ) (left_since : D → ℕ → List ℕ → Type 0) (may_leave : D → List ℕ → Type 0) (Runs : List Refusal → List Installed → Machine → Type 0) (content : Content) (old new : D) (refusals : List Refusal) : Type 0 where
-  pub made : List Installed
-  pub next : Machine
-  pub run : Runs refusals made next
-  pub opens : EachOpens (may_leave new) next made
-  pub ever : LeavesOnly moment left_since old new (OpensToOne (start content) made)
-
--- the bytes of the output and of the errors before and after, and the errors' count of faults
-pub record Written : Type 0 where
-  pub out_before : Option (List ℕ)
-  pub out_now : Option (List ℕ)
-  pub err_before : Option (List ℕ)
-  pub err_now : Option (List ℕ)
-  pub err_faults : ℕ
-  pub err_faults_now : ℕ
-
--- all the lines are on the errors, where no write of them failed, or a front of them where memory was short
-abbrev pub Told : Written → ℕ → List ℕ → Type 0
-Told w status bytes = Took w.err_before w.err_now bytes ⊎ (Rose w.err_faults w.err_faults_now ⊎ (TookFront w.err_before w.err_now bytes × (status ≡ 12)))
+-- All is told, and this is the status. Where memory was too short to tell it, the status is 12.
+abbrev pub Tells : Errors → List ℕ → ℕ → ℕ → Type 0
+Tells e bytes wanted status = (IsTold e bytes × (status ≡ wanted)) ⊎ (IsCut e bytes × (status ≡ 12))
 
 -- the text is on the output, or a front of it where a write of it failed
-abbrev pub Printed : Written → End → List ℕ → Type 0
-Printed w end text = Took w.out_before w.out_now text ⊎ (TookFront w.out_before w.out_now text × (end ≡ OutputFailed))
-
--- a run of `read` on a machine, with its text on the output and its lines on the errors
-pub record Reading (output : Type 0) (name : List ℕ) (keys : List (List ℕ)) (m : Machine) (w : Written) (status : ℕ) : Type 0 where
-  pub text : List ℕ
-  pub refusals : List Refusal
-  pub next : Machine
-  pub end : End
-  pub run : RunsRead output name keys m text refusals [] next end
-  pub out : Printed w end text
-  pub told : Told w status (lines refusals ++ last_line end)
-  pub status_is : (status ≡ status_by refusals end) ⊎ (status ≡ 12)
-  pub same : next.completed ≡ m.completed
-
--- a run of a command, whose device stood at this moment
-pub record Running {D : Type 0} (o : Outside) (moment : D → ℕ) (left_since : D → ℕ → List ℕ → Type 0) (may_leave : D → List ℕ → Type 0) (asked : Asked) (content : Content) (w : Written) (old new : D) (status : ℕ) : Type 0 where
-  pub text : List ℕ
-  pub refusals : List Refusal
-  pub made : List Installed
-  pub next : Machine
-  pub end : End
-  pub run : RunsAsked o (moment new) asked (start content) text refusals made next end
-  pub out : Printed w end text
-  pub told : Told w status (lines refusals ++ last_line end)
-  pub opens : EachOpens (may_leave new) next made
-  pub ever : LeavesOnly moment left_since old new (OpensToOne (start content) made)
-  pub status_is : (status ≡ status_by refusals end) ⊎ (status ≡ 12)
-
--- A run that the definitions allow, with its text on the output and its lines on the errors, the device that it left at each moment, and its status.
-pub record Outcome (o : Outside) (at : ℕ) (words : List (List ℕ)) (content : Content) (w : Written) (images since : List ℕ → Type 0) (status : ℕ) : Type 0 where
-  pub text : List ℕ
-  pub refusals : List Refusal
-  pub made : List Installed
-  pub next : Machine
-  pub end : End
-  pub run : OutOf o at words (start content) text refusals made next end
-  pub out : Printed w end text
-  pub told : Told w status (complaints words refusals end)
-  pub opens : EachOpens images next made
-  pub ever : AlwaysOpens since (start content) made
-  pub status_is : (status ≡ status_for words refusals end) ⊎ (status ≡ 12)
+abbrev pub Printed : Option (List ℕ) → Option (List ℕ) → End → List ℕ → Type 0
+Printed before now end text = Took before now text ⊎ (TookFront before now text × (end ≡ OutputFailed))
 
 -- one of the statuses that a run ends with
 abbrev pub IsStatus : ℕ → Type 0
 IsStatus status = (status ≡ 0) ⊎ ((status ≡ 1) ⊎ ((status ≡ 4) ⊎ ((status ≡ 5) ⊎ ((status ≡ 6) ⊎ (status ≡ 12)))))
 
--- Words that are no command: the usage line, status 1, and nothing else. Where memory is too short to read the words, status 12.
-pub record IsUsage (w : Written) (status : ℕ) : Type 0 where
-  pub out : Took w.out_before w.out_now []
-  pub told : Told w status usage
-  pub status_is : (status ≡ 1) ⊎ (status ≡ 12)
+-- ---- a run, and its device
+
+-- A run that the definitions allow: what it read and printed, what it told, and what a crash leaves of its device, now and at each moment of it.
+pub record Went {D : Type 0} (g : Ghosts D) (o : Outside) (asked : Asked) (content : Content) (w : Streams) (old new : D) (status : ℕ) : Type 0 where
+  pub ran : Ran
+  pub run : Runs o asked (point_of g (start content) old) ran
+  pub there : ran.next.device ≡ device_of g new
+  pub taken : Gave w.in_before w.in_now ran.input
+  pub printed : Printed w.out_before w.out_now ran.end ran.text
+  pub told : Tells w.errors (lines ran.refusals ++ last_line ran.end) (status_by ran) status
+  pub opens : OpensToLast (g.may_leave new) ran.next.machine.completed ran.made
+  pub ever : (c : List ℕ) → g.left_since new (g.moment old) c → OpensToOne (start content).completed ran.made c
+  pub stays : Stays (g.left_since new) ran.made
+
+-- the refusals and the end that the status and the errors tell, whatever the disk
+pub record Telling (e : Errors) (status : ℕ) : Type 0 where
+  pub refusals : List Refusal
+  pub replies : List Refusal
+  pub end : End
+  pub told : Tells e (lines refusals ++ last_line end) (status_at end (refusals ++ filter counts replies)) status
+
+-- the disk was told this home; or the run ended before that, and what a read gives is what it was
+abbrev pub IsAt : {D : Type 0} → Ghosts D → List ℕ → D → D → ℕ → Type 0
+IsAt g home old new status = (g.home new ≡ Some home) ⊎ ((g.home new ≡ g.home old) × (g.seen new ≡ g.seen old) × ((status ≡ 4) ⊎ (status ≡ 12)))
+
+-- The contract of the top call. It reads the words by `command_of`, takes a disk and gives one back.
+module _ {D S K E : Type 0} (g : Ghosts D) (s : SourceGhosts S) (k : SinkGhosts K) (e : SinkGhosts E) (command_of : List (List ℕ) → Option Asked) where
+  pub record Promise (words : List (List ℕ)) (input input_now : S) (out out_now : K) (err err_now : E) (disk disk_now : D) (status : ℕ) : Type 0 where
+    -- On an honest disk whose images read with one content, a run of a command is one that the definitions allow. Its text is on the output, its lines on the errors, and its status is that of what it met.
+    pub run : IsTrue (g.honest disk) → (content : Content) → EachReads (g.may_leave disk) content → (asked : Asked) → command_of words ≡ Some asked
+        → Went g (outside s k input input_now out out_now) asked content (streams_of s k e input input_now out out_now err err_now) disk disk_now status
+    -- Words that are no command give the usage line and status 1, or 12 where memory is too short to read them.
+    pub usage_told : command_of words ≡ None → Tells (errors_of e err err_now) usage 1 status × Took (k.written out) (k.written out_now) [] × (input_now ≡ input) × (disk_now ≡ disk)
+    -- Whatever the disk, the status is that of refusals whose lines are on the errors.
+    pub told : (asked : Asked) → command_of words ≡ Some asked → Telling (errors_of e err err_now) status
+    -- Status 0 and a printed byte come only where an opening of the device is not refused for what it holds.
+    pub opened : IsTrue (g.honest disk) → status ≡ 0 → IsOpenable (g.seen disk)
+    pub silent : IsTrue (g.honest disk) → Took (k.written out) (k.written out_now) [] ⊎ IsOpenable (g.seen disk)
+    -- The disk is at the home that the words name.
+    pub home : (asked : Asked) → command_of words ≡ Some asked → IsAt g (home_in words) disk disk_now status
+    pub statuses : IsStatus status
+    pub disk_fault : status ≡ 4 → Rose (g.faults disk) (g.faults disk_now)
+    pub input_fault : status ≡ 5 → Rose (s.fault_count input) (s.fault_count input_now)
+    pub output_fault : status ≡ 6 → Rose (k.fault_count out) (k.fault_count out_now)
+    pub honest : g.honest disk_now ≡ g.honest disk

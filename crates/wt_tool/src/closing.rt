@@ -1,11 +1,12 @@
 // The checkpoint at the end of a command.
 ghost use Rattle.std.specs.Prelude.{◌≡◌, ◌≤◌, ◌<◌, ◌^◌, IfErr, IsTrue};
 ghost use Rattle.failure.specs.Counts.{Rose};
+ghost use Rattle.disk_model.specs.Crash.{SameDisk};
 ghost use Rattle.kv_model.specs.Content.{Content};
 ghost use Rattle.stored.specs.Stored.{Reads};
 ghost use Rattle.one_table.specs.OneTable.{table_of, IsInForm};
 ghost use Rattle.one_table.specs.Closings.{IsFullFor};
-ghost use Rattle.wt_tool.specs.Runs.{last_number};
+ghost use Rattle.wt_tool.specs.Points.{last_number};
 ghost use Rattle.wt_tool.specs.Closes.{next_numbers, HasCheckpoint, Closes};
 
 use disk_model::Disk;
@@ -30,10 +31,9 @@ pub(crate) fn close_next<D: Disk>(
     requires id { next ≤ 2 ^ 62 }
     requires there { IsTrue (D.honest disk.old) → HasCheckpoint (D.seen disk.old) place.old kept.now.numbers (table_of kept.now.entry) }
     ensures closes { IsTrue (D.honest disk.old) → (content : Content) → Reads (D.seen disk.old) content
-        → Closes D.moment D.left_since D.may_leave (Rose (D.faults disk.old) (D.faults disk.new)) (IsFullFor (D.seen disk.old) (D.capacity disk.old) kept.now.rows) kept.now.numbers (table_of kept.now.entry) kept.now.rows next content disk.old disk.new result }
+        → Closes D.Disk (Rose (D.faults disk.old) (D.faults disk.new)) (IsFullFor (D.seen disk.old) (D.capacity disk.old) kept.now.rows) kept.now.numbers (table_of kept.now.entry) kept.now.rows next content disk.old disk.new result }
     ensures fault { IfErr result (λ r. r ≡ Refusal.DiskFault → Rose (D.faults disk.old) (D.faults disk.new)) }
-    ensures later { D.faults disk.old ≤ D.faults disk.new }
-    ensures same { D.honest disk.new ≡ D.honest disk.old }
+    ensures disk { SameDisk D.Disk disk.old disk.new }
 {
     if kept.numbers.sequence >= NUMBER_MAX {
         return Err(Refusal::Limit(Limit::Checkpoints));

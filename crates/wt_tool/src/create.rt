@@ -2,14 +2,18 @@
 ghost use Rattle.std.specs.Prelude.{◌≡◌, ◌≢◌, ◌≤◌, ◌<◌, ◌↔◌, ℕ, Some, None, length, slice_index_or, IsTrue, IfErr, IfSome};
 ghost use Rattle.std.specs.Option.{option_map};
 ghost use Rattle.failure.specs.Counts.{Rose};
-ghost use Rattle.kv_model.specs.Content.{Content, start};
+ghost use Rattle.disk_model.specs.Crash.{SameDisk};
+ghost use Rattle.kv_model.specs.Content.{Content};
 ghost use Rattle.kv_model.specs.Decisions.{is_name};
 ghost use Rattle.one_table.specs.OneTable.{table_of, IsInForm};
 ghost use Rattle.one_table.specs.Openings.{IsOpened, Serves, Keeps};
-ghost use Rattle.wt_tool.specs.Runs.{last_number, RunsCreate};
-ghost use Rattle.wt_tool.specs.Calls.{RunsConfig};
+ghost use Rattle.wt_tool.specs.Points.{last_number};
+ghost use Rattle.wt_tool.specs.Narrow.{ClosesOne};
+ghost use Rattle.wt_tool.specs.Openings.{Configured};
+ghost use Rattle.wt_tool.specs.Creates.{MakesTable};
 ghost use Rattle.wt_tool.specs.Closes.{first_numbers};
-ghost use Rattle.wt_tool.specs.Top.{EachReads, Ran, outside, met_of};
+ghost use Rattle.wt_tool.specs.Parts.{Leaves};
+ghost use Rattle.wt_tool.specs.Top.{EachReads};
 
 use crate::closing::close_next;
 use crate::names::formats_asked;
@@ -32,11 +36,10 @@ pub(crate) fn create<D: Disk>(
     requires bytes { (i : ℕ) → slice_index_or name.now i 0 < 256 }
     requires form { IfSome opened.kept (λ k. IsInForm k.numbers (table_of k.entry) × (k.numbers.marks.run < last_number)) }
     requires finds { IsTrue (D.honest disk.old) → IsOpened (D.seen disk.old) opened }
-    ensures run { IsTrue (D.honest disk.old) → (content : Content) → EachReads (D.may_leave disk.old) content → (before out_before out_now : ℕ) → before ≤ D.faults disk.old
-        → Ran D.moment D.left_since D.may_leave (RunsConfig (outside before (D.faults disk.new) (D.seen disk.old) (D.capacity disk.old) out_before out_now) (D.moment disk.new) (option_map (λ x. x.now) config.entry) name.now (start content)) content disk.old disk.new (met_of result) }
+    ensures run { IsTrue (D.honest disk.old) → (content : Content) → EachReads (D.may_leave disk.old) content →
+        Leaves D.Disk (Configured (option_map (λ x. x.now) config.entry) (λ formats. MakesTable name.now formats ClosesOne)) content disk.old disk.new result }
     ensures fault { IfErr result (λ r. r ≡ Refusal.DiskFault → Rose (D.faults disk.old) (D.faults disk.new)) }
-    ensures later { D.faults disk.old ≤ D.faults disk.new }
-    ensures same { D.honest disk.new ≡ D.honest disk.old }
+    ensures disk { SameDisk D.Disk disk.old disk.new }
 {
     let Some(formats) = formats_asked(config) else {
         return Err(Refusal::Invalid(Invalid::BadConfig));
@@ -60,11 +63,10 @@ fn create_first<D: Disk>(
     requires short { length name.now ≤ 128 }
     requires bytes { (i : ℕ) → slice_index_or name.now i 0 < 256 }
     requires serves { IsTrue (D.honest disk.old) → Serves (D.seen disk.old) place.old None }
-    ensures run { IsTrue (D.honest disk.old) → (content : Content) → EachReads (D.may_leave disk.old) content → (before out_before out_now : ℕ) → before ≤ D.faults disk.old
-        → Ran D.moment D.left_since D.may_leave (RunsCreate (outside before (D.faults disk.new) (D.seen disk.old) (D.capacity disk.old) out_before out_now) (D.moment disk.new) name.now formats (start content)) content disk.old disk.new (met_of result) }
+    ensures run { IsTrue (D.honest disk.old) → (content : Content) → EachReads (D.may_leave disk.old) content →
+        Leaves D.Disk (MakesTable name.now formats ClosesOne) content disk.old disk.new result }
     ensures fault { IfErr result (λ r. r ≡ Refusal.DiskFault → Rose (D.faults disk.old) (D.faults disk.new)) }
-    ensures later { D.faults disk.old ≤ D.faults disk.new }
-    ensures same { D.honest disk.new ≡ D.honest disk.old }
+    ensures disk { SameDisk D.Disk disk.old disk.new }
 {
     let Ok(bytes) = Vec::from_slice(alloc, name) else {
         return Err(Refusal::NoMemory);
@@ -106,11 +108,10 @@ fn create_again<D: Disk>(
     requires form { IsInForm kept.now.numbers (table_of kept.now.entry) }
     requires run { kept.now.numbers.marks.run < last_number }
     requires keeps { IsTrue (D.honest disk.old) → Keeps (D.seen disk.old) place.old kept.now }
-    ensures run { IsTrue (D.honest disk.old) → (content : Content) → EachReads (D.may_leave disk.old) content → (before out_before out_now : ℕ) → before ≤ D.faults disk.old
-        → Ran D.moment D.left_since D.may_leave (RunsCreate (outside before (D.faults disk.new) (D.seen disk.old) (D.capacity disk.old) out_before out_now) (D.moment disk.new) name.now formats (start content)) content disk.old disk.new (met_of result) }
+    ensures run { IsTrue (D.honest disk.old) → (content : Content) → EachReads (D.may_leave disk.old) content →
+        Leaves D.Disk (MakesTable name.now formats ClosesOne) content disk.old disk.new result }
     ensures fault { IfErr result (λ r. r ≡ Refusal.DiskFault → Rose (D.faults disk.old) (D.faults disk.new)) }
-    ensures later { D.faults disk.old ≤ D.faults disk.new }
-    ensures same { D.honest disk.new ≡ D.honest disk.old }
+    ensures disk { SameDisk D.Disk disk.old disk.new }
 {
     match why_not(&kept.entry, name, formats) {
         Some(refusal) => Err(refusal),

@@ -1,5 +1,5 @@
 // How a command comes to its device.
-ghost use Rattle.std.specs.Prelude.{◌≡◌, ◌≤◌, IfOk, IfErr, IsTrue};
+ghost use Rattle.std.specs.Prelude.{◌≡◌, ◌⊎◌, ◌≤◌, Some, IfOk, IfErr, IsTrue};
 ghost use Rattle.disk_model.specs.Crash.{Looked};
 ghost use Rattle.failure.specs.Counts.{Rose};
 ghost use Rattle.one_table.specs.Openings.{IsOpened, InForm, OpenRefused};
@@ -14,7 +14,9 @@ pub(crate) fn reach<D: Home>(alloc: Global, disk: &mut D, home: &str) -> Result<
     ensures ok { IsTrue (D.honest disk.old) → IfOk result (IsOpened (D.seen disk.old)) }
     ensures form { IfOk result (λ o. InForm o.kept) }
     ensures err { IfErr result (OpenRefused (Rose (D.faults disk.old) (D.faults disk.new)) (IsTrue (D.honest disk.old)) (D.seen disk.old)) }
-    ensures looked { Looked D.honest D.seen D.may_leave D.capacity D.faults D.moment D.left_since disk.old disk.new }
+    ensures told { IfOk result (λ o. D.home disk.new ≡ Some home.now) }
+    ensures untold { (D.home disk.new ≡ Some home.now) ⊎ ((D.home disk.new ≡ D.home disk.old) × IfErr result (λ r. (r ≡ Refusal.DiskFault) ⊎ (r ≡ Refusal.NoMemory))) }
+    ensures looked { Looked D.Disk disk.old disk.new }
 {
     match disk.attach(alloc, home) {
         Ok(()) => open(alloc, disk),

@@ -7,7 +7,9 @@ ghost use Rattle.kv_model.specs.Decisions.{is_name};
 ghost use Rattle.one_session.specs.Shows.{value_in};
 ghost use Rattle.wt_tool.specs.Words.{printed_as};
 ghost use Rattle.wt_tool.specs.Answers.{get_answer, printed_by};
-ghost use Rattle.wt_tool.specs.Top.{Meets, Reading, Written};
+ghost use Rattle.wt_tool.specs.Points.{Device};
+ghost use Rattle.wt_tool.specs.Parts.{Meets, Reading};
+ghost use Rattle.wt_tool.specs.Top.{Telling, errors_of};
 
 use crate::names::{KEY_MAX, printed_as, stored_as, stored_len};
 use crate::telling::report;
@@ -26,15 +28,10 @@ pub(crate) fn read<K: Sink, E: Sink>(
     keys: &[&str],
 ) -> u8
     requires name { IsTrue (is_name name.now) }
-    ensures run { (content : Content) → Meets content (option_map (λ k. k.now) kept.entry) → Reading (Rose (K.fault_count out.old) (K.fault_count out.new)) name.now (map (λ s. s.now) keys.now) (start content)
-        (record {
-          out_before = K.written out.old;
-          out_now = K.written out.new;
-          err_before = E.written err.old;
-          err_now = E.written err.new;
-          err_faults = E.fault_count err.old;
-          err_faults_now = E.fault_count err.new;
-        }) result }
+    ensures run { (content : Content) → Meets content (option_map (λ k. k.now) kept.entry) → (device : Device) →
+        Reading (Rose (K.fault_count out.old) (K.fault_count out.new)) name.now (map (λ s. s.now) keys.now) (record { machine = start content; device = device })
+        (K.written out.old) (K.written out.new) (errors_of E.Sink err.old err.new) result }
+    ensures told { Telling (errors_of E.Sink err.old err.new) result }
     ensures status { (result ≡ 0) ⊎ ((result ≡ 1) ⊎ ((result ≡ 6) ⊎ (result ≡ 12))) }
     ensures output_fault { result ≡ 6 → Rose (K.fault_count out.old) (K.fault_count out.new) }
 {
@@ -49,12 +46,10 @@ pub(crate) fn read<K: Sink, E: Sink>(
             }
             Err(refusal) => {
                 let told = report(alloc, err, &refusal);
-                if status == 0 || told == 12 {
-                    status = told;
-                }
                 if told == 12 || !is_absence(&refusal) {
-                    return status;
+                    return told;
                 }
+                status = told;
             }
         }
     }

@@ -5,10 +5,8 @@ mod crashes;
 mod damage;
 mod faults;
 mod formats;
-mod limits;
-mod rows;
 mod slots;
-mod words;
+mod stories;
 
 use crate::wt_plain;
 use disk_model::MemDisk;
@@ -99,10 +97,25 @@ fn run_over(
     failing: &Failing<'_>,
 ) -> Ran {
     let words = owned(rt, alloc, words);
+    run_words_over(rt, alloc, disk, &words, failing)
+}
+
+// A run of these words.
+fn run_words(rt: &impl Abort, alloc: Global, disk: MemDisk, words: &[String]) -> Ran {
+    run_words_over(rt, alloc, disk, words, &Failing { out: &[], err: &[] })
+}
+
+fn run_words_over(
+    rt: &impl Abort,
+    alloc: Global,
+    disk: MemDisk,
+    words: &[String],
+    failing: &Failing<'_>,
+) -> Ran {
     let mut input = MemSource::new(alloc, &[], &[]).expect(rt, "there is memory");
     let mut out = MemSink::new(alloc, failing.out).expect(rt, "there is memory");
     let mut err = MemSink::new(alloc, failing.err).expect(rt, "there is memory");
-    let ended = wt_plain(alloc, &words, &mut input, &mut out, &mut err, disk);
+    let ended = wt_plain(alloc, words, &mut input, &mut out, &mut err, disk);
     Ran {
         status: ended.status,
         disk: ended.disk,

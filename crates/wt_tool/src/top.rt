@@ -1,11 +1,12 @@
 // The top call.
-ghost use Rattle.std.specs.Prelude.{◌≡◌, ◌⊎◌, ◌≤◌, List, ℕ, map, IsTrue, None};
+ghost use Rattle.std.specs.Prelude.{◌≡◌, ◌⊎◌, [], map, IsTrue};
 ghost use Rattle.std.specs.String.{string_bytes};
 ghost use Rattle.failure.specs.Counts.{Rose};
 ghost use Rattle.kv_model.specs.Content.{Content};
+ghost use Rattle.wt_io.specs.Streams.{Took};
 ghost use Rattle.wt_line.specs.Line.{command_of, meaning};
-ghost use Rattle.wt_tool.specs.Calls.{uri_of};
-ghost use Rattle.wt_tool.specs.Top.{EachReads, Outcome, Running, Written, Told, met_of, lines, status_of, outside, IsStatus, IsUsage};
+ghost use Rattle.wt_tool.specs.Parts.{met_of, uri_of};
+ghost use Rattle.wt_tool.specs.Top.{Promise, EachReads, Went, Tells, Telling, IsAt, IsOpenable, IsStatus, outside, streams_of, errors_of, lines, first_status};
 
 use crate::create::create;
 use crate::names::name_of;
@@ -31,7 +32,7 @@ pub struct Ended<D> {
     pub disk: D,
 }
 
-/// A run of the program, on these words.
+/// A run of the program, on these words. What it promises stands in `specs/Top`, as `Promise`.
 pub fn wt_plain<S: Source, K: Sink, E: Sink, D: Home>(
     alloc: Global,
     words: &[String],
@@ -40,40 +41,8 @@ pub fn wt_plain<S: Source, K: Sink, E: Sink, D: Home>(
     err: &mut E,
     disk: D,
 ) -> Ended<D>
-    // On an honest disk whose images read with one content, the run is one that the definitions allow: its text
-    // is on the output, its lines on the errors, each image opens to its last checkpoint or to the one that a
-    // fault at the gate stopped, so does what a crash at any moment left, and the status is that of what it met.
-    ensures run { IsTrue (D.honest disk) → (content : Content) → EachReads (D.may_leave disk) content →
-        Outcome (outside (D.faults disk) (D.faults result.disk) (D.seen disk) (D.capacity disk) (K.fault_count out.old) (K.fault_count out.new)) (D.moment result.disk)
-        (map string_bytes words.now) content
-        (record {
-          out_before = K.written out.old;
-          out_now = K.written out.new;
-          err_before = E.written err.old;
-          err_now = E.written err.new;
-          err_faults = E.fault_count err.old;
-          err_faults_now = E.fault_count err.new;
-        })
-        (D.may_leave result.disk) (D.left_since result.disk (D.moment disk)) result.status }
-
-    // Whatever the disk, the input and the sinks: words that are no command give the usage line and status 1,
-    // a status is one of six, and a fault is told only where the object's count of faults rose.
-    ensures usage { command_of (map string_bytes words.now) ≡ None →
-        IsUsage (record {
-          out_before = K.written out.old;
-          out_now = K.written out.new;
-          err_before = E.written err.old;
-          err_now = E.written err.new;
-          err_faults = E.fault_count err.old;
-          err_faults_now = E.fault_count err.new;
-        }) result.status × (result.disk ≡ disk) }
-    ensures status { IsStatus result.status }
-    ensures disk_fault { result.status ≡ 4 → Rose (D.faults disk) (D.faults result.disk) }
-    ensures input_fault { result.status ≡ 5 → Rose (S.fault_count input.old) (S.fault_count input.new) }
-    ensures output_fault { result.status ≡ 6 → Rose (K.fault_count out.old) (K.fault_count out.new) }
-    ensures honest { D.honest result.disk ≡ D.honest disk }
+    ensures { Promise D.Disk S.Source K.Sink E.Sink command_of (map string_bytes words.now) input.old input.new out.old out.new err.old err.new disk result.disk result.status }
 {
-    let _ = input;
     let mut disk = disk;
     match parse(alloc, words) {
         Err(LineFault::Usage) => {
@@ -82,39 +51,36 @@ pub fn wt_plain<S: Source, K: Sink, E: Sink, D: Home>(
         }
         Err(LineFault::NoMemory) => Ended { status: 12, disk },
         Ok(command) => {
-            let status = run(alloc, &command, home_of(words), out, err, &mut disk);
+            let status = run(alloc, &command, home_of(words), input, out, err, &mut disk);
             Ended { status, disk }
         }
     }
 }
 
-// A run of a command, on the device at its home.
-fn run<K: Sink, E: Sink, D: Home>(
+// A run of a command, on the device at its home. No command reads the input yet.
+fn run<S: Source, K: Sink, E: Sink, D: Home>(
     alloc: Global,
     command: &Command<'_>,
     home: &str,
+    input: &mut S,
     out: &mut K,
     err: &mut E,
     disk: &mut D,
 ) -> u8
     ensures run { IsTrue (D.honest disk.old) → (content : Content) → EachReads (D.may_leave disk.old) content →
-        Running (outside (D.faults disk.old) (D.faults disk.new) (D.seen disk.old) (D.capacity disk.old) (K.fault_count out.old) (K.fault_count out.new)) D.moment D.left_since D.may_leave
-        (meaning command.now) content
-        (record {
-          out_before = K.written out.old;
-          out_now = K.written out.new;
-          err_before = E.written err.old;
-          err_now = E.written err.new;
-          err_faults = E.fault_count err.old;
-          err_faults_now = E.fault_count err.new;
-        })
-        disk.old disk.new result }
-    ensures status { IsStatus result }
+        Went D.Disk (outside S.Source K.Sink input.old input.new out.old out.new) (meaning command.now) content
+        (streams_of S.Source K.Sink E.Sink input.old input.new out.old out.new err.old err.new) disk.old disk.new result }
+    ensures told { Telling (errors_of E.Sink err.old err.new) result }
+    ensures opened { IsTrue (D.honest disk.old) → result ≡ 0 → IsOpenable (D.seen disk.old) }
+    ensures silent { IsTrue (D.honest disk.old) → Took (K.written out.old) (K.written out.new) [] ⊎ IsOpenable (D.seen disk.old) }
+    ensures home { IsAt D.Disk home.now disk.old disk.new result }
+    ensures statuses { IsStatus result }
     ensures disk_fault { result ≡ 4 → Rose (D.faults disk.old) (D.faults disk.new) }
     ensures input_fault { result ≡ 5 → ⊥ }
     ensures output_fault { result ≡ 6 → Rose (K.fault_count out.old) (K.fault_count out.new) }
-    ensures same { D.honest disk.new ≡ D.honest disk.old }
+    ensures honest { D.honest disk.new ≡ D.honest disk.old }
 {
+    let _ = input;
     let opened = match reach(alloc, disk, home) {
         Ok(opened) => opened,
         Err(refusal) => return report(alloc, err, &refusal),
@@ -142,8 +108,8 @@ fn run<K: Sink, E: Sink, D: Home>(
 
 // The line of a refusal, where there is one, and the status.
 fn told<E: Sink>(alloc: Global, err: &mut E, answer: &Result<(), Refusal>) -> u8
-    ensures status { (result ≡ status_of (met_of answer.now)) ⊎ (result ≡ 12) }
-    ensures told { Told (record { out_before = None; out_now = None; err_before = E.written err.old; err_now = E.written err.new; err_faults = E.fault_count err.old; err_faults_now = E.fault_count err.new }) result (lines (met_of answer.now)) }
+    ensures told { Tells (errors_of E.Sink err.old err.new) (lines (met_of answer.now)) (first_status (met_of answer.now)) result }
+    ensures status { (result ≡ first_status (met_of answer.now)) ⊎ (result ≡ 12) }
 {
     match answer {
         Ok(()) => 0,
@@ -169,38 +135,7 @@ pub fn wt_main<R: Threads + Wait, S: Source, K: Sink, E: Sink, D: Home + Send>(
     err: &mut E,
     disk: D,
 ) -> Ended<D>
-    // On an honest disk whose images read with one content, the run is one that the definitions allow: its text
-    // is on the output, its lines on the errors, each image opens to its last checkpoint or to the one that a
-    // fault at the gate stopped, so does what a crash at any moment left, and the status is that of what it met.
-    ensures run { IsTrue (D.honest disk) → (content : Content) → EachReads (D.may_leave disk) content →
-        Outcome (outside (D.faults disk) (D.faults result.disk) (D.seen disk) (D.capacity disk) (K.fault_count out.old) (K.fault_count out.new)) (D.moment result.disk)
-        (map string_bytes words.now) content
-        (record {
-          out_before = K.written out.old;
-          out_now = K.written out.new;
-          err_before = E.written err.old;
-          err_now = E.written err.new;
-          err_faults = E.fault_count err.old;
-          err_faults_now = E.fault_count err.new;
-        })
-        (D.may_leave result.disk) (D.left_since result.disk (D.moment disk)) result.status }
-
-    // Whatever the disk, the input and the sinks: words that are no command give the usage line and status 1,
-    // a status is one of six, and a fault is told only where the object's count of faults rose.
-    ensures usage { command_of (map string_bytes words.now) ≡ None →
-        IsUsage (record {
-          out_before = K.written out.old;
-          out_now = K.written out.new;
-          err_before = E.written err.old;
-          err_now = E.written err.new;
-          err_faults = E.fault_count err.old;
-          err_faults_now = E.fault_count err.new;
-        }) result.status × (result.disk ≡ disk) }
-    ensures status { IsStatus result.status }
-    ensures disk_fault { result.status ≡ 4 → Rose (D.faults disk) (D.faults result.disk) }
-    ensures input_fault { result.status ≡ 5 → Rose (S.fault_count input.old) (S.fault_count input.new) }
-    ensures output_fault { result.status ≡ 6 → Rose (K.fault_count out.old) (K.fault_count out.new) }
-    ensures honest { D.honest result.disk ≡ D.honest disk }
+    ensures { Promise D.Disk S.Source K.Sink E.Sink command_of (map string_bytes words.now) input.old input.new out.old out.new err.old err.new disk result.disk result.status }
 {
     let _ = rt;
     wt_plain(alloc, words, input, out, err, disk)

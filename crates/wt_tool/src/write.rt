@@ -1,7 +1,8 @@
 // `write`: each pair is put in a transaction of its own, and then a checkpoint taken.
 ghost use Rattle.std.specs.Prelude.{◌≡◌, ◌⊎◌, ◌≤◌, ◌<◌, ◌↔◌, ◌+◌, ◌^◌, nat_lt, ℕ, List, Option, Some, None, length, map, option_map, IsTrue, IfOk, IfErr, IfSome, OnOk, OnErr, Ok, Err};
 ghost use Rattle.failure.specs.Counts.{Rose};
-ghost use Rattle.kv_model.specs.Content.{Content, start};
+ghost use Rattle.disk_model.specs.Crash.{SameDisk};
+ghost use Rattle.kv_model.specs.Content.{Content};
 ghost use Rattle.kv_model.specs.Decisions.{is_name};
 ghost use Rattle.leaf_rows.specs.Rows.{version_at};
 ghost use Rattle.one_session.specs.Shows.{value_in};
@@ -9,10 +10,11 @@ ghost use Rattle.one_session.specs.ShowsLaws.{durable_in};
 ghost use Rattle.one_table.specs.OneTable.{table_of, IsInForm};
 ghost use Rattle.one_table.specs.Openings.{IsOpened};
 ghost use Rattle.wt_line.specs.Line.{pair_texts};
-ghost use Rattle.wt_tool.specs.Runs.{last_number};
-ghost use Rattle.wt_tool.specs.Calls.{RunsWrite, demand_of};
+ghost use Rattle.wt_tool.specs.Points.{last_number};
+ghost use Rattle.wt_tool.specs.Writes.{WritesPairs, demand_of};
 ghost use Rattle.wt_tool.specs.Answers.{Puts, put_nowhere, put_refusal, put_over, rows_put, too_long, formats_by};
-ghost use Rattle.wt_tool.specs.Top.{EachReads, Ran, outside, met_of};
+ghost use Rattle.wt_tool.specs.Parts.{Leaves};
+ghost use Rattle.wt_tool.specs.Top.{EachReads};
 
 use crate::closing::close_next;
 use crate::names::{KEY_MAX, plain_formats, stored_as, stored_len};
@@ -39,11 +41,10 @@ pub(crate) fn write<D: Disk>(
     requires name { IsTrue (is_name name.now) }
     requires form { IfSome opened.kept (λ k. IsInForm k.numbers (table_of k.entry) × (k.numbers.marks.run < last_number)) }
     requires finds { IsTrue (D.honest disk.old) → IsOpened (D.seen disk.old) opened }
-    ensures run { IsTrue (D.honest disk.old) → (content : Content) → EachReads (D.may_leave disk.old) content → (before out_before out_now : ℕ) → before ≤ D.faults disk.old
-        → Ran D.moment D.left_since D.may_leave (RunsWrite (outside before (D.faults disk.new) (D.seen disk.old) (D.capacity disk.old) out_before out_now) (D.moment disk.new) name.now overwrite (pair_texts pairs.now) (start content)) content disk.old disk.new (met_of result) }
+    ensures run { IsTrue (D.honest disk.old) → (content : Content) → EachReads (D.may_leave disk.old) content →
+        Leaves D.Disk (WritesPairs name.now (demand_of overwrite) (pair_texts pairs.now)) content disk.old disk.new result }
     ensures fault { IfErr result (λ r. r ≡ Refusal.DiskFault → Rose (D.faults disk.old) (D.faults disk.new)) }
-    ensures later { D.faults disk.old ≤ D.faults disk.new }
-    ensures same { D.honest disk.new ≡ D.honest disk.old }
+    ensures disk { SameDisk D.Disk disk.old disk.new }
 {
     if pairs.is_empty() {
         return Ok(());

@@ -1,5 +1,5 @@
 // The bytes of a device, whole units of them, after each command that writes.
-use super::{created, runs, written};
+use super::{created, runs};
 use std::process::Abort;
 
 // Slot A after the first command: sequence 1, a record of 4,096 bytes at 8,192, sum 39,222.
@@ -52,6 +52,22 @@ const THIRD_LEAF: &[u8; 59] = b"\x01\x01\x01\0\x3b\0\0\0\0\0\0\0\0\0\0\0\
     \0\0\0\0\0\0\0\0\0\0\0\0\0\0\0\0\
     a\x002\0";
 
+// Slot A of the third checkpoint: sequence 3, a record of 4,096 bytes at 20,480, sum 67,054.
+const THIRD_SLOT: &[u8; 36] = b"\xa5WTTURTL\x01\0\0\0\
+    \x03\0\0\0\0\0\0\0\
+    \x00\x50\0\0\0\0\0\0\x00\x10\0\0\xee\x05\x01\0";
+
+// The leaf of `b`, `2` and `a`, `1`: the first pair is written by transaction 1, the second by 2.
+const TWO_ROWS: &[u8; 102] = b"\x01\x01\x02\0\x66\0\0\0\0\0\0\0\0\0\0\0\
+    \x02\0\x01\x02\0\0\0\
+    \x02\0\0\0\0\0\0\0\x02\0\0\0\0\0\0\0\
+    \0\0\0\0\0\0\0\0\0\0\0\0\0\0\0\0\
+    a\x001\0\
+    \x02\0\x01\x02\0\0\0\
+    \x02\0\0\0\0\0\0\0\x01\0\0\0\0\0\0\0\
+    \0\0\0\0\0\0\0\0\0\0\0\0\0\0\0\0\
+    b\x002\0";
+
 // The unit at an offset has these bytes, and zeros behind them.
 fn unit_is(rt: &impl Abort, bytes: &[u8], at: usize, used: &[u8]) {
     assert!(rt; bytes.len() >= 4096);
@@ -66,18 +82,17 @@ fn unit_is(rt: &impl Abort, bytes: &[u8], at: usize, used: &[u8]) {
 }
 
 #[test]
-fn the_first_command_writes_these_bytes(rt: HostRuntime) {
-    let disk = created(&rt, rt.alloc());
+fn each_command_that_writes_leaves_these_bytes(rt: HostRuntime) {
+    let alloc = rt.alloc();
+    let disk = created(&rt, alloc);
     let bytes = disk.bytes();
     assert_eq!(rt; bytes.len(), 12288);
     unit_is(&rt, bytes, 0, FIRST_SLOT.as_slice());
     unit_is(&rt, bytes, 4096, &[]);
     unit_is(&rt, bytes, 8192, FIRST_RECORD.as_slice());
-}
 
-#[test]
-fn a_write_leaves_the_first_checkpoint_as_it_was(rt: HostRuntime) {
-    let disk = written(&rt, rt.alloc());
+    // A write leaves the first checkpoint as it was.
+    let disk = runs(&rt, alloc, disk, &[("write|t|a|1", 0, "", "")]);
     let bytes = disk.bytes();
     assert_eq!(rt; bytes.len(), 20480);
     unit_is(&rt, bytes, 0, FIRST_SLOT.as_slice());
@@ -85,42 +100,25 @@ fn a_write_leaves_the_first_checkpoint_as_it_was(rt: HostRuntime) {
     unit_is(&rt, bytes, 8192, FIRST_RECORD.as_slice());
     unit_is(&rt, bytes, 12288, LEAF.as_slice());
     unit_is(&rt, bytes, 16384, SECOND_RECORD.as_slice());
-    assert_eq!(rt; bytes[12345], b'1');
-}
 
-#[test]
-fn the_third_checkpoint_takes_the_units_of_the_first(rt: HostRuntime) {
-    let alloc = rt.alloc();
-    let disk = written(&rt, alloc);
+    // The third checkpoint takes the units of the first.
     let disk = runs(&rt, alloc, disk, &[("write|-o|t|a|2", 0, "", "")]);
     let bytes = disk.bytes();
     assert_eq!(rt; bytes.len(), 24576);
-    // Sequence 3, a record of 4,096 bytes at 20,480, sum 67,054.
-    let slot =
-        b"\xa5WTTURTL\x01\0\0\0\x03\0\0\0\0\0\0\0\x00\x50\0\0\0\0\0\0\x00\x10\0\0\xee\x05\x01\0";
-    unit_is(&rt, bytes, 0, slot.as_slice());
+    unit_is(&rt, bytes, 0, THIRD_SLOT.as_slice());
     unit_is(&rt, bytes, 4096, SECOND_SLOT.as_slice());
     unit_is(&rt, bytes, 8192, THIRD_LEAF.as_slice());
     unit_is(&rt, bytes, 12288, LEAF.as_slice());
     unit_is(&rt, bytes, 16384, SECOND_RECORD.as_slice());
-}
 
-#[test]
-fn rows_stand_in_the_order_of_their_keys(rt: HostRuntime) {
-    let alloc = rt.alloc();
-    let disk = created(&rt, alloc);
-    let disk = runs(&rt, alloc, disk, &[("write|t|b|2|a|1", 0, "", "")]);
+    // Rows stand in the order of their keys.
+    let disk = runs(
+        &rt,
+        alloc,
+        created(&rt, alloc),
+        &[("write|t|b|2|a|1", 0, "", "")],
+    );
     let bytes = disk.bytes();
     assert_eq!(rt; bytes.len(), 20480);
-    // The first pair is written by transaction 1, the second by transaction 2.
-    let leaf = b"\x01\x01\x02\0\x66\0\0\0\0\0\0\0\0\0\0\0\
-        \x02\0\x01\x02\0\0\0\
-        \x02\0\0\0\0\0\0\0\x02\0\0\0\0\0\0\0\
-        \0\0\0\0\0\0\0\0\0\0\0\0\0\0\0\0\
-        a\x001\0\
-        \x02\0\x01\x02\0\0\0\
-        \x02\0\0\0\0\0\0\0\x01\0\0\0\0\0\0\0\
-        \0\0\0\0\0\0\0\0\0\0\0\0\0\0\0\0\
-        b\x002\0";
-    unit_is(&rt, bytes, 12288, leaf.as_slice());
+    unit_is(&rt, bytes, 12288, TWO_ROWS.as_slice());
 }

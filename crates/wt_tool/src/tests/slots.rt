@@ -74,42 +74,40 @@ fn a_device_without_an_open_gate_has_no_table(rt: HostRuntime) {
     runs(&rt, alloc, disk, &rows);
 }
 
+// Of each of these bytes, with each of these bits turned: letters and version; a sequence that none
+// has, 2^62 and more, 0, the other slot's; a sequence that the record does not have, up to 2^62 - 1;
+// a size; the place of the leaf, and of the record before.
 #[test]
-fn a_slot_with_other_letters_or_another_version_is_corrupt(rt: HostRuntime) {
+fn a_slot_out_of_form_or_at_odds_is_refused(rt: HostRuntime) {
     let alloc = rt.alloc();
-    for flips in [0x01, 0x20, 0x80, 0xff] {
-        tells(&rt, alloc, 1..12, flips, SLOT_A);
-        tells(&rt, alloc, 4097..4108, flips, SLOT_B);
+    let leaf = "-31802 corrupt at 12288 want 57988 found 8748\n";
+    let before = "-31802 corrupt at 8192 want 57988 found 39222\n";
+    let cases = [
+        (1, 12, [0x01, 0x20, 0x80, 0xff].as_slice(), SLOT_A),
+        (4097, 4108, [0x01, 0x20, 0x80, 0xff].as_slice(), SLOT_B),
+        (19, 20, [0x40, 0x80].as_slice(), SLOT_A),
+        (4115, 4116, [0x40, 0x80].as_slice(), SLOT_B),
+        (12, 13, [0x01].as_slice(), SLOT_A),
+        (4108, 4109, [0x02, 0x03].as_slice(), SLOT_B),
+        (12, 13, [0x03].as_slice(), SLOT_B),
+        (12, 19, [0x04, 0x20, 0x80].as_slice(), TABLES),
+        (4108, 4115, [0x04, 0x20, 0x80].as_slice(), TABLES),
+        (19, 20, [0x20].as_slice(), TABLES),
+        (4115, 4116, [0x20].as_slice(), TABLES),
+        (
+            4124,
+            4128,
+            [0x01, 0x10, 0x30, 0x80, 0xff].as_slice(),
+            RECORD,
+        ),
+        (4117, 4118, [0x70].as_slice(), leaf),
+        (4117, 4118, [0x60].as_slice(), before),
+    ];
+    for (from, to, ways, told) in cases {
+        for flips in ways {
+            tells(&rt, alloc, from..to, *flips, told);
+        }
     }
-}
-
-// A slot of a greater sequence is chosen, and its record has another one.
-#[test]
-fn a_slot_with_another_sequence_is_refused(rt: HostRuntime) {
-    let alloc = rt.alloc();
-    for flips in [0x04, 0x20, 0x80] {
-        tells(&rt, alloc, 12..19, flips, TABLES);
-        tells(&rt, alloc, 4108..4115, flips, TABLES);
-    }
-    // Up to 2^62 - 1.
-    tells(&rt, alloc, 19..20, 0x20, TABLES);
-    tells(&rt, alloc, 4115..4116, 0x20, TABLES);
-}
-
-#[test]
-fn a_sequence_that_none_can_have_is_corrupt(rt: HostRuntime) {
-    let alloc = rt.alloc();
-    // 2^62 and more.
-    for flips in [0x40, 0x80] {
-        tells(&rt, alloc, 19..20, flips, SLOT_A);
-        tells(&rt, alloc, 4115..4116, flips, SLOT_B);
-    }
-    // 0.
-    tells(&rt, alloc, 12..13, 0x01, SLOT_A);
-    tells(&rt, alloc, 4108..4109, 0x02, SLOT_B);
-    // The other slot's.
-    tells(&rt, alloc, 12..13, 0x03, SLOT_B);
-    tells(&rt, alloc, 4108..4109, 0x03, SLOT_B);
 }
 
 #[test]
@@ -156,19 +154,6 @@ fn a_slot_that_names_another_place_is_corrupt_there(rt: HostRuntime) {
         let told = format!(in alloc; "-31802 corrupt at {place} want 57988 found 57988\n");
         let told = told.expect(&rt, "there is memory");
         tells_at(&rt, alloc, &device, at, flips, told.as_str());
-    }
-    // The places of the leaf and of the record before.
-    let leaf = "-31802 corrupt at 12288 want 57988 found 8748\n";
-    tells(&rt, alloc, 4117..4118, 0x70, leaf);
-    let record = "-31802 corrupt at 8192 want 57988 found 39222\n";
-    tells(&rt, alloc, 4117..4118, 0x60, record);
-}
-
-#[test]
-fn a_slot_that_names_another_size_is_corrupt(rt: HostRuntime) {
-    let alloc = rt.alloc();
-    for flips in [0x01, 0x10, 0x30, 0x80, 0xff] {
-        tells(&rt, alloc, 4124..4128, flips, RECORD);
     }
 }
 

@@ -12,13 +12,13 @@ use Rattle.wt_tool.proofs.closing.close_next.Goals as goal
 pub returns-then-kept-ge-NUMBER_MAX-clause-closes : goal.returns-then-kept-ge-NUMBER_MAX-clause-closes
 returns-then-kept-ge-NUMBER_MAX-clause-closes g c h content reads =
     let D = g.D.Disk in
-    inl (refl, omega (arith, c.requires.form.numbers.sequence, c.if-kept-ge-NUMBER_MAX.true), started D.moment D.left_since _ _ (λ d left. g.met.D.Disk.only_now _ d left))
+    inl (refl, omega (arith, c.requires.form.numbers.sequence, c.if-kept-ge-NUMBER_MAX.true), started D _ _ (λ d left. g.met.D.Disk.only_now _ d left))
 
 pub returns-then-not-fit_a_leaf-clause-closes : goal.returns-then-not-fit_a_leaf-clause-closes
 returns-then-not-fit_a_leaf-clause-closes g c h content reads =
     let D = g.D.Disk in
     let long = not_fit c.fit_a_leaf.result (image_length c.args.kept.now.rows) 32768 c.fit_a_leaf.ensures c.if-not-fit_a_leaf.true in
-    inr (inl (refl, omega (arith, c.if-kept-ge-NUMBER_MAX.false), long, started D.moment D.left_since _ _ (λ d left. g.met.D.Disk.only_now _ d left)))
+    inr (inl (refl, omega (arith, c.if-kept-ge-NUMBER_MAX.false), long, started D _ _ (λ d left. g.met.D.Disk.only_now _ d left)))
 
 pub returns-clause-closes : goal.returns-clause-closes
 returns-clause-closes g c h content reads =
@@ -31,6 +31,6 @@ returns-clause-closes g c h content reads =
     inr (inr (
       omega (arith, c.if-kept-ge-NUMBER_MAX.false),
       c.fit_a_leaf.ensures.0 c.if-not-fit_a_leaf.false,
-      installs_as D.moment D.left_since D.may_leave (Rose (D.faults c.args.disk.now) (D.faults c.close.new.disk)) (IsFullFor (D.seen c.args.disk.now) (D.capacity c.args.disk.now) k.rows) c.args.disk.now c.close.new.disk c.close.result t k.rows
+      installs_as D (Rose (D.faults c.args.disk.now) (D.faults c.close.new.disk)) (IsFullFor (D.seen c.args.disk.now) (D.capacity c.args.disk.now) k.rows) c.args.disk.now c.close.new.disk c.close.result t k.rows
           (content_was (Some s)) content c.next_numbers-numbers.result (next_numbers k.numbers c.args.next) (content_there _ _ k.numbers t there content reads) c.next_numbers-numbers.ensures installs,
     ))

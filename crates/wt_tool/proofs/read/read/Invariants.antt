@@ -1,12 +1,13 @@
-use Rattle.std.proofs.Common.{◌≡◌, ◌⊎◌, ◌≤◌, ◌++◌, ℕ, List, map, drop, option_map}
+use Rattle.std.proofs.Common.{◌≡◌, ◌⊎◌, ◌≤◌, ℕ, List, map, drop, option_map}
 use Rattle.failure.specs.Counts.{Rose}
-use Rattle.kv_model.specs.Content.{Content, base}
-use Rattle.one_session.specs.Shows.{beginning}
+use Rattle.kv_model.specs.Content.{Content}
 use Rattle.wt_code.specs.declared.refusals.Refusal.{Refusal}
 use Rattle.wt_io.specs.Streams.{Took}
-use Rattle.wt_tool.specs.Runs.{End}
-use Rattle.wt_tool.specs.Calls.{GetsKeys}
-use Rattle.wt_tool.specs.Top.{Meets, lines, status_of}
+use Rattle.wt_tool.specs.Points.{Device, Ran}
+use Rattle.wt_tool.specs.Reads.{GetsKeys}
+use Rattle.wt_tool.specs.Parts.{Meets}
+use Rattle.wt_tool.specs.Top.{lines, first_status}
+use Rattle.wt_tool.proofs.Gets.{begun_at, behind}
 use Rattle.wt_tool.proofs.read.read.Given as goal
 
 abbrev pub invariant-loop-key : goal.invariant-loop-key
@@ -15,12 +16,12 @@ invariant-loop-key g l = record {
   met : List Refusal;
   out : Took (g.K.Sink.written l.fn.out) (g.K.Sink.written l.out) printed;
   err : Took (g.E.Sink.written l.fn.err) (g.E.Sink.written l.err) (lines met) ⊎ Rose (g.E.Sink.fault_count l.fn.err) (g.E.Sink.fault_count l.err);
-  status : l.status ≡ status_of met;
+  status : l.status ≡ first_status met;
   small : (l.status ≡ 0) ⊎ (l.status ≡ 1);
   out_later : g.K.Sink.fault_count l.fn.out ≤ g.K.Sink.fault_count l.out;
   err_later : g.E.Sink.fault_count l.fn.err ≤ g.E.Sink.fault_count l.err;
   -- what the keys that are left give, behind what was given
-  runs : (c : Content) → Meets c (option_map (λ k. k.now) l.fn.kept) → (n : ℕ) (text : List ℕ) (refusals : List Refusal) (end : End)
-      → GetsKeys (Rose (g.K.Sink.fault_count l.fn.out) n) l.fn.name (map (λ s. s.now) (drop l.key-index l.keys)) (beginning c (base c) 1) text refusals end
-      → GetsKeys (Rose (g.K.Sink.fault_count l.fn.out) n) l.fn.name (map (λ s. s.now) l.fn.keys) (beginning c (base c) 1) (printed ++ text) (met ++ refusals) end;
+  runs : (c : Content) → Meets c (option_map (λ k. k.now) l.fn.kept) → (n : ℕ) (d : Device) (rest : Ran)
+      → GetsKeys (Rose (g.K.Sink.fault_count l.fn.out) n) l.fn.name (map (λ s. s.now) (drop l.key-index l.keys)) (begun_at d c) rest
+      → GetsKeys (Rose (g.K.Sink.fault_count l.fn.out) n) l.fn.name (map (λ s. s.now) l.fn.keys) (begun_at d c) (behind printed met rest);
 }

@@ -1,34 +1,78 @@
-use Rattle.std.proofs.Common.{inl, refl, map}
-use Rattle.std.specs.String.{string_bytes}
+use Rattle.std.proofs.Common.{inl, inr, refl, sym, ◌∙◌, ◌≡◌, subst, List, [], ◌∷◌, ℕ, Option, Some, None, arith}
+use Rattle.kv_model.specs.Content.{start}
+use Rattle.wt_code.specs.declared.refusals.Refusal.TheVariants.{NoMemory}
 use Rattle.wt_io.specs.StreamLemmas.{took_none}
-use Rattle.wt_line.specs.Line.{meaning}
-use Rattle.wt_tool.specs.Runs.{Outside}
-use Rattle.wt_tool.specs.Top.{Written, outside}
-use Rattle.wt_tool.proofs.Running.{outcome, no_command, short, told_all, told_nothing}
+use Rattle.wt_line.specs.Line.{Asked, meaning}
+use Rattle.wt_tool.specs.Points.{Stopped, point_of}
+use Rattle.wt_tool.specs.Top.{Errors, IsAt, Went, errors_of, outside, streams_of, usage, lines}
+use Rattle.wt_tool.proofs.Running.{opens_same, gave_none, cut_all, told_all, stopped}
 use Rattle.wt_tool.proofs.top.wt_plain.Goals as goal
 
-pub returns-in-Err-Usage-clause-run : goal.returns-in-Err-Usage-clause-run
-returns-in-Err-Usage-clause-run g c h content each =
-    let D = g.D.Disk in
-    let w : Written = record { out_before = g.K.Sink.written c.args.out.now; out_now = g.K.Sink.written c.args.out.now; err_before = g.E.Sink.written c.args.err.now; err_now = g.E.Sink.written c.write_all.new.sink; err_faults = g.E.Sink.fault_count c.args.err.now; err_faults_now = g.E.Sink.fault_count c.write_all.new.sink } in
-    let o : Outside = outside (D.faults c.args.disk) (D.faults c.args.disk) (D.seen c.args.disk) (D.capacity c.args.disk) (g.K.Sink.fault_count c.args.out.now) (g.K.Sink.fault_count c.args.out.now) in
-    no_command D.moment D.left_since D.may_leave c.args.disk c.args.disk (map string_bytes c.args.words.now) content w o 1 (c.in-Err-Usage.ensures.usage c.in-Err-Usage.field-0-is) each (g.met.D.Disk.only_now c.args.disk) (took_none _) (told_all w 1 _ c.write_all.result c.write_all.ensures.ok c.write_all.ensures.cause) (inl refl)
+none_some : (a : Option Asked) (asked : Asked) → a ≡ None → a ≡ Some asked → ⊥
+none_some a asked none some = let no_one : None ≡ Some asked = sym none ∙ some in cc
 
-pub returns-in-Err-Usage-clause-usage : goal.returns-in-Err-Usage-clause-usage
-returns-in-Err-Usage-clause-usage g c none =
-    let w : Written = record { out_before = g.K.Sink.written c.args.out.now; out_now = g.K.Sink.written c.args.out.now; err_before = g.E.Sink.written c.args.err.now; err_now = g.E.Sink.written c.write_all.new.sink; err_faults = g.E.Sink.fault_count c.args.err.now; err_faults_now = g.E.Sink.fault_count c.write_all.new.sink } in
-    (record { out = took_none _; told = told_all w 1 _ c.write_all.result c.write_all.ensures.ok c.write_all.ensures.cause; status_is = inl refl }, refl)
+-- words that are no command
+pub returns-in-Err-Usage : goal.returns-in-Err-Usage
+returns-in-Err-Usage g c =
+    let none = c.in-Err-Usage.ensures.usage c.in-Err-Usage.field-0-is in
+    record {
+      run = λ h content each asked is. absurd (none_some _ asked none is);
+      usage_told = λ no_command. (inl (told_all (errors_of g.E.Sink c.args.err.now c.write_all.new.sink) usage c.write_all.result c.write_all.ensures.ok c.write_all.ensures.cause, refl), took_none _, refl, refl);
+      told = λ asked is. absurd (none_some _ asked none is);
+      opened = λ h is. absurd (omega (arith, is));
+      silent = λ h. inl (took_none _);
+      home = λ asked is. absurd (none_some _ asked none is);
+      statuses = inr (inl refl);
+      disk_fault = λ is. absurd (omega (arith, is));
+      input_fault = λ is. absurd (omega (arith, is));
+      output_fault = λ is. absurd (omega (arith, is));
+      honest = refl;
+    }
 
-pub returns-in-Err-NoMemory-clause-run : goal.returns-in-Err-NoMemory-clause-run
-returns-in-Err-NoMemory-clause-run g c h content each =
+-- memory was too short to read the words
+pub returns-in-Err-NoMemory : goal.returns-in-Err-NoMemory
+returns-in-Err-NoMemory g c =
     let D = g.D.Disk in
-    let w : Written = record { out_before = g.K.Sink.written c.args.out.now; out_now = g.K.Sink.written c.args.out.now; err_before = g.E.Sink.written c.args.err.now; err_now = g.E.Sink.written c.args.err.now; err_faults = g.E.Sink.fault_count c.args.err.now; err_faults_now = g.E.Sink.fault_count c.args.err.now } in
-    let o : Outside = outside (D.faults c.args.disk) (D.faults c.args.disk) (D.seen c.args.disk) (D.capacity c.args.disk) (g.K.Sink.fault_count c.args.out.now) (g.K.Sink.fault_count c.args.out.now) in
-    short D.moment D.left_since D.may_leave c.args.disk c.args.disk (map string_bytes c.args.words.now) content w o _ refl each (g.met.D.Disk.only_now c.args.disk) (took_none _) (told_nothing w (took_none _))
+    let e : Errors = errors_of g.E.Sink c.args.err.now c.args.err.now in
+    record {
+      run = λ h content each asked is.
+          stopped D c.args.disk c.args.disk content each.1 (outside g.S.Source g.K.Sink c.args.input.now c.args.input.now c.args.out.now c.args.out.now) asked
+          (streams_of g.S.Source g.K.Sink g.E.Sink c.args.input.now c.args.input.now c.args.out.now c.args.out.now c.args.err.now c.args.err.now) (gave_none _) NoMemory 12
+          (inl (NoMemory, point_of D (start content) c.args.disk, opens_same D (start content) c.args.disk, inr (inl refl), refl))
+          (λ d left. each.0 d left) (λ d left. each.0 d (g.met.D.Disk.only_now c.args.disk d left)) (took_none _) (inr (cut_all e (lines (NoMemory ∷ [])) (omega arith) (took_none _), refl));
+      usage_told = λ none. (inr (cut_all e usage (omega arith) (took_none _), refl), took_none _, refl, refl);
+      told = λ asked is. record { refusals = NoMemory ∷ []; replies = []; end = Stopped NoMemory; told = inr (cut_all e _ (omega arith) (took_none _), refl) };
+      opened = λ h is. absurd (omega (arith, is));
+      silent = λ h. inl (took_none _);
+      home = λ asked is. inr (refl, refl, inr refl);
+      statuses = inr (inr (inr (inr (inr refl))));
+      disk_fault = λ is. absurd (omega (arith, is));
+      input_fault = λ is. absurd (omega (arith, is));
+      output_fault = λ is. absurd (omega (arith, is));
+      honest = refl;
+    }
 
-pub returns-in-Ok-clause-run : goal.returns-in-Ok-clause-run
-returns-in-Ok-clause-run g c h content each =
-    let D = g.D.Disk in
-    let w : Written = record { out_before = g.K.Sink.written c.args.out.now; out_now = g.K.Sink.written c.run-status.new.out; err_before = g.E.Sink.written c.args.err.now; err_now = g.E.Sink.written c.run-status.new.err; err_faults = g.E.Sink.fault_count c.args.err.now; err_faults_now = g.E.Sink.fault_count c.run-status.new.err } in
-    let o : Outside = outside (D.faults c.args.disk) (D.faults c.run-status.new.disk) (D.seen c.args.disk) (D.capacity c.args.disk) (g.K.Sink.fault_count c.args.out.now) (g.K.Sink.fault_count c.run-status.new.out) in
-    outcome D.moment D.left_since D.may_leave c.args.disk c.run-status.new.disk (map string_bytes c.args.words.now) content w o (meaning c.in-Ok.command) c.run-status.result c.in-Ok.ensures.command (c.run-status.ensures.run h content each)
+-- a command
+pub returns-in-Ok : goal.returns-in-Ok
+returns-in-Ok g c =
+    let some = c.in-Ok.ensures.command in
+    let run = c.run-status.ensures in
+    record {
+      run = λ h content each asked is.
+          let same : meaning c.in-Ok.command ≡ asked = some_is _ asked (sym some ∙ is) in
+          subst (λ (a : Asked). Went g.D.Disk (outside g.S.Source g.K.Sink c.args.input.now c.run-status.new.input c.args.out.now c.run-status.new.out) a content
+          (streams_of g.S.Source g.K.Sink g.E.Sink c.args.input.now c.run-status.new.input c.args.out.now c.run-status.new.out c.args.err.now c.run-status.new.err) c.args.disk c.run-status.new.disk c.run-status.result) same (run.run h content each);
+      usage_told = λ none. absurd (none_some _ (meaning c.in-Ok.command) none some);
+      told = λ asked is. run.told;
+      opened = run.opened;
+      silent = run.silent;
+      home = λ asked is. subst (λ (l : List ℕ). IsAt g.D.Disk l c.args.disk c.run-status.new.disk c.run-status.result) c.home_of.ensures run.home;
+      statuses = run.statuses;
+      disk_fault = run.disk_fault;
+      input_fault = λ is. absurd (run.input_fault is);
+      output_fault = run.output_fault;
+      honest = run.honest;
+    }
+  where
+    some_is : (a b : Asked) → let one : Option Asked = Some a in let two : Option Asked = Some b in one ≡ two → a ≡ b
+    some_is a b same = cc

@@ -3,7 +3,7 @@ use Rattle.std.specs.Prelude.{Result}
 use Rattle.row_page.specs.Rows.{Row}
 use Rattle.wt_code.specs.declared.refusals.Refusal.{Refusal}
 use Rattle.wt_line.specs.Line.{pair_texts}
-use Rattle.wt_tool.specs.Calls.{demand_of}
+use Rattle.wt_tool.specs.Writes.{demand_of}
 use Rattle.wt_tool.specs.Answers.{Puts}
 use Rattle.wt_tool.proofs.write.put_all.Given as goal
 

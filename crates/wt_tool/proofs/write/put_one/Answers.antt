@@ -9,8 +9,8 @@ use Rattle.item.specs.declared.change.Change.{Change}
 use Rattle.wt_code.specs.declared.refusals.Refusal.TheVariants.{Invalid as Refusal_Invalid, Limit as Refusal_Limit}
 use Rattle.wt_code.specs.declared.refusals.Invalid.TheVariants.{KeyLong, ValueLong}
 use Rattle.wt_code.specs.declared.refusals.Limit.TheVariants.{Ids}
-use Rattle.wt_tool.specs.Runs.{last_number}
-use Rattle.wt_tool.specs.Calls.{demand_of}
+use Rattle.wt_tool.specs.Points.{last_number}
+use Rattle.wt_tool.specs.Writes.{demand_of}
 use Rattle.wt_tool.specs.Answers.{put_over, too_long}
 use Rattle.wt_tool.proofs.write.put_one.Goals as goal
 

@@ -9,7 +9,7 @@ use Rattle.one_session.specs.Shows.{value_in}
 use Rattle.one_session.specs.ShowsLaws.{durable_in}
 use Rattle.wt_code.specs.declared.refusals.Refusal.TheVariants.{Invalid as Refusal_Invalid}
 use Rattle.wt_code.specs.declared.refusals.Invalid.TheVariants.{NoStampAfterStamp}
-use Rattle.wt_tool.specs.Calls.{demand_of}
+use Rattle.wt_tool.specs.Writes.{demand_of}
 use Rattle.wt_tool.specs.Answers.{put_over}
 use Rattle.wt_tool.proofs.write.put_over.Goals as goal
 use Rattle.wt_tool.proofs.write.put_over.Goals.{else-not-overwrite-via-then-not-overwrite+else-has_value, else-not-overwrite-via-else-not-overwrite}

@@ -1,0 +1,63 @@
+-- What the private functions of the commands leave.
+use Rattle.std.specs.Prelude.{◌≡◌, ℕ, ◌+◌, List, [], ◌∷◌, ◌++◌, Option, Some, None, Result, Ok, Err}
+use Rattle.disk_model.specs.Crash.{LeavesOnly}
+use Rattle.disk_model.specs.declared.disk.Disk.{Ghosts}
+use Rattle.wt_code.specs.declared.refusals.Refusal.{Refusal}
+use Rattle.kv_model.specs.Machine.{Machine}
+use Rattle.kv_model.specs.Content.{Content, base, nothing, start}
+use Rattle.one_table.specs.declared.opening.Kept.{Kept}
+use Rattle.one_table.specs.OneTable.{table_of}
+use Rattle.one_session.specs.Shows.{Shows}
+use Rattle.wt_line.specs.Line.{Asked, create, write, read}
+use Rattle.wt_tool.specs.Points.{Point, Ran, Installed, End, Through, Stopped, point_of}
+use Rattle.wt_tool.specs.Reads.{ReadsKeys}
+use Rattle.wt_tool.specs.Top.{OpensToLast, OpensToOne, Stays, Errors, Printed, Tells, lines, last_line, status_by}
+
+-- what was kept at the opening of this content: its numbers are the content's, and its rows show the machine
+pub record MeetsTable (content : Content) (k : Kept) : Type 0 where
+  pub run : content.run ≡ k.numbers.marks.run
+  pub oldest : content.oldest ≡ k.numbers.marks.oldest
+  pub stable : content.stable ≡ k.numbers.marks.stable
+  pub shows : Shows (content.run + 1) 1 content.oldest content.stable (table_of k.entry) k.rows (base content)
+
+abbrev pub Meets : Content → Option Kept → Type 0
+Meets content None = content ≡ nothing
+Meets content (Some k) = MeetsTable content k
+
+abbrev pub uri_of : Asked → List ℕ
+uri_of (create config uri) = uri
+uri_of (write overwrite uri pairs) = uri
+uri_of (read uri keys) = uri
+
+-- the refusals that a result tells, and how it ends its run
+abbrev pub met_of : Result (Unit {0}) Refusal → List Refusal
+met_of (Ok done) = []
+met_of (Err r) = r ∷ []
+
+abbrev pub end_of : Result (Unit {0}) Refusal → End
+end_of (Ok done) = Through
+end_of (Err r) = Stopped r
+
+-- a run that reads and prints nothing
+abbrev pub silent_run : Result (Unit {0}) Refusal → List Installed → Point → Ran
+silent_run result made next = record { input = []; text = []; refusals = met_of result; replies = []; made = made; next = next; end = end_of result }
+
+-- such a run that the definitions allow, and the device that it left, at each moment and in each image
+pub record Leaves {D : Type 0} (g : Ghosts D) (Allowed : Point → Ran → Type 0) (content : Content) (old new : D) (result : Result (Unit {0}) Refusal) : Type 0 where
+  pub made : List Installed
+  pub next : Machine
+  pub run : Allowed (point_of g (start content) old) (silent_run result made (point_of g next new))
+  pub opens : OpensToLast (g.may_leave new) next.completed made
+  pub ever : LeavesOnly g old new (OpensToOne (start content).completed made)
+  pub stays : Stays (g.left_since new) made
+
+-- a run of `read` that makes no call of the disk
+pub record Reading (output_failed : Type 0) (name : List ℕ) (keys : List (List ℕ)) (p : Point) (out_before out_now : Option (List ℕ)) (e : Errors) (status : ℕ) : Type 0 where
+  pub ran : Ran
+  pub run : ReadsKeys output_failed name keys p ran
+  pub printed : Printed out_before out_now ran.end ran.text
+  pub told : Tells e (lines ran.refusals ++ last_line ran.end) (status_by ran) status
+  pub silent : ran.input ≡ []
+  pub none : ran.made ≡ []
+  pub there : ran.next.device ≡ p.device
+  pub same : ran.next.machine.completed ≡ p.machine.completed

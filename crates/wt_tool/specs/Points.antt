@@ -1,0 +1,178 @@
+-- Runs of calls: the points between two calls, what a run gives, and the calls that it makes.
+use Rattle.std.specs.Prelude.{◌≡◌, ◌⊎◌, ℕ, ◌-◌, ◌^◌, ◌≤◌, false, List, [], ◌∷◌, ◌++◌, Option, Some, None}
+use Rattle.failure.specs.Counts.{Rose}
+use Rattle.disk_model.specs.declared.disk.Disk.{Ghosts}
+use Rattle.wt_code.specs.declared.answers.Answer.{Answer}
+use Rattle.wt_code.specs.declared.answers.Answer.TheVariants.{Done, Refused}
+use Rattle.wt_code.specs.declared.refusals.Refusal.{Refusal}
+use Rattle.wt_code.specs.declared.refusals.Refusal.TheVariants.{DiskFault}
+use Rattle.kv_model.specs.AgreementLaws.{head_of}
+use Rattle.kv_model.specs.History.{Table, line, tables}
+use Rattle.failure.specs.declared.Fault.{Fault}
+use Rattle.kv_model.specs.Machine.{Machine, Completed, CheckpointStart, CheckpointFinish}
+use Rattle.kv_model.specs.Outside.{Storing, Stored, NoPlace, ReadFailed, Damaged, WriteFailed}
+use Rattle.kv_model.specs.Closing.{after_all}
+use Rattle.kv_model.specs.Calls.{Actor, System, Call, Close as CloseCall, Around, Answers, OpensSession, rolled_back}
+use Rattle.row_page.specs.Rows.{Row}
+use Rattle.stored.specs.Slots.{Slot, Chosen, first_text, second_text}
+use Rattle.stored.specs.Stored.{Stored as OnDevice, IsBlank}
+use Rattle.checkpoint_core.specs.Stands.{HasStill}
+use Rattle.checkpoint_core.specs.Room.{IsFull}
+use Rattle.leaf_rows.specs.Rows.{AreFit, version_at}
+use Rattle.one_table.specs.Closings.{block_sizes}
+
+-- a device at a point of a run: what a read gives, how much it may hold, how often it has failed, and its moment
+pub record Device : Type 0 where
+  pub seen : List ℕ
+  pub capacity : ℕ
+  pub faults : ℕ
+  pub moment : ℕ
+
+abbrev pub device_of : {D : Type 0} → Ghosts D → D → Device
+device_of g disk = record { seen = g.seen disk; capacity = g.capacity disk; faults = g.faults disk; moment = g.moment disk }
+
+-- a run between two of its calls
+pub record Point : Type 0 where
+  pub machine : Machine
+  pub device : Device
+
+abbrev pub point_of : {D : Type 0} → Ghosts D → Machine → D → Point
+point_of g m disk = record { machine = m; device = device_of g disk }
+
+-- no count falls, and no moment comes back
+pub record IsLater (old new : Device) : Type 0 where
+  pub faults : old.faults ≤ new.faults
+  pub moment : old.moment ≤ new.moment
+
+-- The device has the checkpoint that it had, and as much room: any call leaves it so but one that takes a checkpoint.
+pub record KeepsCheckpoint (old new : Device) : Type 0 where
+  pub capacity : new.capacity ≡ old.capacity
+  pub checkpoint : (s : Option OnDevice) → HasStill s old.seen → HasStill s new.seen
+
+-- ---- what a run gives
+
+-- A checkpoint that a call installed, or was installing when a fault at its gate stopped it: with what the call answered (None: done), and the moment of that answer.
+pub record Installed : Type 0 where
+  pub checkpoint : Completed
+  pub refused : Option Refusal
+  pub at : ℕ
+
+-- how a run ended: after its last call, at a refusal, or where a read of the input or a write of the output failed
+pub data End : Type 0 where
+  Through : End
+  Stopped : (refusal : Refusal) → End
+  InputFailed : End
+  OutputFailed : End
+
+-- Input is what was read, text what is printed. Refusals are told on the errors, replies stand in the text.
+pub record Ran : Type 0 where
+  pub input : List ℕ
+  pub text : List ℕ
+  pub refusals : List Refusal
+  pub replies : List Refusal
+  pub made : List Installed
+  pub next : Point
+  pub end : End
+
+-- a run that ends here, with nothing to tell
+abbrev pub ends : End → Point → Ran
+ends end p = record { input = []; text = []; refusals = []; replies = []; made = []; next = p; end = end }
+
+-- one that a refusal ends here
+abbrev pub stops : Refusal → Point → Ran
+stops r p = record (ends (Stopped r) p) { refusals = r ∷ [] }
+
+-- the same run, with a text before its own, or a refusal
+abbrev pub prints : List ℕ → Ran → Ran
+prints text ran = record ran { text = text ++ ran.text }
+
+abbrev pub tells : Refusal → Ran → Ran
+tells r ran = record ran { refusals = r ∷ ran.refusals }
+
+-- ---- what lies outside
+
+-- facts of a run's input and output
+pub record Outside : Type 1 where
+  -- a read of the input failed
+  pub input_failed : Type 0
+  -- the input was read to its end
+  pub input_ended : Type 0
+  -- a write of the output failed
+  pub output_failed : Type 0
+
+-- the greatest run, and the greatest number of a checkpoint
+abbrev pub last_number : ℕ
+last_number = 2 ^ 62 - 1
+
+-- the device's last completed checkpoint has this number
+abbrev pub IsNumberOf : List ℕ → ℕ → Type 0
+IsNumberOf bytes n = (IsBlank bytes × (n ≡ 0)) ⊎ ((slot : Slot) × Chosen (first_text bytes) (second_text bytes) slot × (slot.sequence ≡ n))
+
+-- the rows have the newest version of each key of the one table
+pub record NewestRows (m : Machine) (rows : List Row) : Type 0 where
+  pub table : Table
+  pub only : tables m.history ≡ table ∷ []
+  pub fit : AreFit rows
+  pub newest : (key : List ℕ) → head_of (line m.history table.number key) ≡ version_at key rows
+
+-- The sizes of the blocks that a checkpoint of this machine writes, in their order. While a table has one leaf the machine tells them.
+abbrev pub AreSizes : Machine → List ℕ → Type 0
+AreSizes m sizes = (rows : List Row) × NewestRows m rows × (sizes ≡ block_sizes rows)
+
+-- how a device takes the blocks of a checkpoint: each has a place, or one of them finds none
+abbrev pub MayTakeAt : Device → Device → Machine → Storing → Type 0
+MayTakeAt old new m Stored = (sizes : List ℕ) × AreSizes m sizes × (IsFull old.seen old.capacity sizes → ⊥)
+MayTakeAt old new m NoPlace = (sizes : List ℕ) × AreSizes m sizes × IsFull old.seen old.capacity sizes
+MayTakeAt old new m ReadFailed = Rose old.faults new.faults
+MayTakeAt old new m (Damaged offset want found) = ⊥
+MayTakeAt old new m (WriteFailed fault) = Rose old.faults new.faults
+
+-- What a call of a command rests on, from one point to another: no other call is unfinished. A page is kept from it only by a fault of the disk.
+abbrev pub around : Device → Device → Around
+around old new = record {
+  in_call = false;
+  unfinished = record { eviction = None; calls = [] };
+  IsNumber = IsNumberOf old.seen;
+  uncaptured = 0;
+  MayTake = MayTakeAt old new;
+  MayKeepOut = λ r. (r ≡ DiskFault) × Rose old.faults new.faults;
+}
+
+-- ---- the calls of a run
+
+-- a call leads from one point to the other with this answer
+pub record Did (p : Point) (actor : Actor) (call : Call) (answer : Answer (List ℕ)) (q : Point) : Type 0 where
+  pub later : IsLater p.device q.device
+  pub keeps : KeepsCheckpoint p.device q.device
+  pub answers : Answers (around p.device q.device) p.machine actor call answer q.machine
+
+-- the same of Close, which takes a checkpoint
+pub record DidClose (p : Point) (answer : Answer (List ℕ)) (q : Point) : Type 0 where
+  pub later : IsLater p.device q.device
+  pub answers : Answers (around p.device q.device) p.machine (System 0) CloseCall answer q.machine
+
+-- a call that is done, and what comes after it, or one that is refused and ends the run
+abbrev pub Calls : Actor → Call → (Point → Ran → Type 0) → Point → Ran → Type 0
+Calls actor call Goes p ran =
+    ((r : Refusal) × (q : Point) × Did p actor call (Refused r) q × (ran ≡ stops r q))
+    ⊎ ((q : Point) × Did p actor call Done q × Goes q ran)
+
+-- the same of a session that is opened
+abbrev pub WithSession : (Point → Ran → Type 0) → Point → Ran → Type 0
+WithSession Goes p ran =
+    ((r : Refusal) × (q : Point) × IsLater p.device q.device × KeepsCheckpoint p.device q.device × OpensSession p.machine (Refused r) q.machine × (ran ≡ stops r q))
+    ⊎ ((q : Point) × IsLater p.device q.device × KeepsCheckpoint p.device q.device × OpensSession p.machine Done q.machine × Goes q ran)
+
+-- the checkpoint that a Close takes of this machine
+abbrev pub closed : Machine → Completed
+closed m = (after_all (rolled_back m) (CheckpointStart ∷ CheckpointFinish ∷ [])).completed
+
+abbrev pub installed : Option Refusal → Point → Point → Installed
+installed refused p q = record { checkpoint = closed p.machine; refused = refused; at = q.device.moment }
+
+-- Close, at the end of a run. A write or sync may fail at the gate of its checkpoint, which then is one that was being installed.
+abbrev pub Closes : Point → Ran → Type 0
+Closes p ran =
+    ((q : Point) × DidClose p Done q × (ran ≡ record (ends Through q) { made = installed None p q ∷ [] }))
+    ⊎ ((r : Refusal) × (q : Point) × DidClose p (Refused r) q
+    × ((ran ≡ stops r q) ⊎ ((r ≡ DiskFault) × ((f : Fault) × (q.machine.fault ≡ Some f)) × (ran ≡ record (stops r q) { made = installed (Some DiskFault) p q ∷ [] }))))
