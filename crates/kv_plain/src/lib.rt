@@ -8,8 +8,6 @@
 
 mod after;
 mod calls;
-#[cfg(test)]
-mod case_tests;
 mod checks;
 mod closing;
 mod cursor_calls;
