@@ -3,6 +3,7 @@ use Rattle.std.proofs.Common.{◌≡◌, ◌<◌, ◌≤◌, ℕ, refl, ap, sym,
 use Rattle.std.specs.Prelude.{Option, Some, None, nat_lt, ◌==◌, bytes_eq, slice_index_or, slice_set, option_map, MatchBool, if◌then◌else◌, not}
 use Rattle.std.proofs.lemmas.Bool.{cases_Bool, or_left, or_right, eq-eqb, ltb-true}
 use Rattle.std.proofs.lemmas.List.{get_or-set_same}
+use Rattle.limits.specs.declared.TheConstants.{NUMBER_MAX}
 use Rattle.item.specs.declared.Change.{Change}
 use Rattle.item.specs.declared.Change.TheVariants.{Put as PutOf, Remove as RemoveOf}
 use Rattle.failure.specs.declared.Fault.{Fault}
@@ -20,7 +21,7 @@ use Rattle.kv_model.specs.Machine.{Machine, Transaction, Phase, Running, Failed,
 use Rattle.kv_model.specs.Outside.{Storing}
 use Rattle.kv_model.specs.Allowed.{Allowed}
 use Rattle.kv_model.specs.Refusals.{first_of, stamp_of, begin_rules}
-use Rattle.kv_model.specs.Decisions.{PrepareCall, Occupied, Outcome, Done, Gives, GivesRow, Refused, Demand, Request, BeginCall, CommitCall, RollbackCall, EndCall, FindKey, FindToWrite, FindRow, CreateCall, SetCall, RtsCall, StartCall, StepCall, CaptureCall, FinishCall, OpenCall, WriteAnswer, GetAnswer, refused, invalid, checked, in_state, running_session, while_up, judged, decision, id_drawn, key_checks, write_checks, table_checks, is_name, count_max}
+use Rattle.kv_model.specs.Decisions.{PrepareCall, Occupied, Outcome, Done, Gives, GivesRow, Refused, Demand, Request, BeginCall, CommitCall, RollbackCall, EndCall, FindKey, FindToWrite, FindRow, CreateCall, SetCall, RtsCall, StartCall, StepCall, CaptureCall, FinishCall, OpenCall, WriteAnswer, GetAnswer, refused, invalid, checked, in_state, running_session, while_up, judged, decision, id_drawn, key_checks, write_checks, table_checks, is_name}
 use Rattle.kv_model.specs.DecisionLaws.{Suits, EachMayCome}
 use Rattle.kv_model.specs.Closing.{rolling_back, after_all}
 use Rattle.kv_model.specs.Rows.{NextAnswer, SeekAnswer, seek_event, row_event}
@@ -115,15 +116,15 @@ record Writing (m : Machine) (s : ℕ) : Type 0 where
 
 writing : (m : Machine) (s : ℕ) (name key : List ℕ) (change : Change) (e : Event) → Valid m → decision m s (FindToWrite name key change) ≡ (Done, e) → Writing (after m e) s
 writing m s name key change e v is = elim (cases_Bool (t.id == 0)) [
-  | inl none ↦ let draws = subst (λ b. (if b then checked ((nat_lt count_max m.next, told.Limit counted.Ids) ∷ []) (Done, DrawId s) else (Done, Nothing)) ≡ (Done, e)) none drew in
-      let same : DrawId s ≡ e = ap (λ (p : Outcome × Event). p.1) (check-goes ((nat_lt count_max m.next, told.Limit counted.Ids) ∷ []) (Done, DrawId s) e draws) in
+  | inl none ↦ let draws = subst (λ b. (if b then checked ((nat_lt NUMBER_MAX m.next, told.Limit counted.Ids) ∷ []) (Done, DrawId s) else (Done, Nothing)) ≡ (Done, e)) none drew in
+      let same : DrawId s ≡ e = ap (λ (p : Outcome × Event). p.1) (check-goes ((nat_lt NUMBER_MAX m.next, told.Limit counted.Ids) ∷ []) (Done, DrawId s) e draws) in
       subst (λ x. Writing (after m x) s) same (record {
         transaction = drawing m.next t;
         there = ap (λ o. slice_index_or (slice_set m.sessions s (option_map (drawing m.next) o)) s None) r.there ∙ get_or-set_same m.sessions s (Some (drawing m.next t)) None (seat-inside m.sessions s t r.there);
         running = r.running;
         drawn = v.next;
       })
-  | inr has ↦ let keeps = subst (λ b. (if b then checked ((nat_lt count_max m.next, told.Limit counted.Ids) ∷ []) (Done, DrawId s) else (Done, Nothing)) ≡ (Done, e)) has drew in
+  | inr has ↦ let keeps = subst (λ b. (if b then checked ((nat_lt NUMBER_MAX m.next, told.Limit counted.Ids) ∷ []) (Done, DrawId s) else (Done, Nothing)) ≡ (Done, e)) has drew in
       let same : Nothing ≡ e = ap (λ (p : Outcome × Event). p.1) keeps in
       subst (λ x. Writing (after m x) s) same (record {
         transaction = t;

@@ -4,6 +4,7 @@ use Rattle.std.specs.Prelude.{Option, Some, None, nat_le, slice_index_or}
 use Rattle.std.proofs.lemmas.Bool.{cases_Bool, cases_eq, leb-true}
 use Rattle.std.proofs.lemmas.List.{get_or-set_same, get_or-set_other}
 use Rattle.std.proofs.Common.{append-nil}
+use Rattle.limits.specs.declared.TheConstants.{NUMBER_MAX}
 use Rattle.kv_model.specs.History.{Entry}
 use Rattle.kv_model.specs.Machine.{Machine, Transaction, Phase, Running, Failed, Prepared, Resolving, Leaving, Event, StartLeaving, EndTransaction, transaction_of, with_transaction, of_some, in_phase, left, after}
 use Rattle.kv_model.specs.Reads.{IsEnding}
@@ -12,7 +13,7 @@ use Rattle.kv_model.specs.Outside.{Storing, Stored, NoPlace, ReadFailed, Damaged
 use Rattle.failure.specs.declared.Fault.{Fault}
 use Rattle.wt_code.specs.declared.refusals.Refusal.TheVariants as told
 use Rattle.wt_code.specs.declared.refusals.Busy.{Busy}
-use Rattle.kv_model.specs.Decisions.{is_there, count_max}
+use Rattle.kv_model.specs.Decisions.{is_there}
 use Rattle.kv_model.specs.Closing.{close_busy, rolling_back, last_stored, last_checkpoint, closing, close_refused, close_decision, after_all}
 use Rattle.kv_model.specs.DecisionLaws.{EachMayCome}
 use Rattle.kv_model.proofs.Seats.{seat-inside}
@@ -123,7 +124,7 @@ stored-ends (WriteFailed fault) m q = ((tt, tt), q.nobody)
 
 last-ends : (number : ℕ) (storing : Storing) (m : Machine) → Quiet m → Ends m (last_checkpoint number storing).1
 unfolding Ends
-last-ends number storing m q = elim (cases_Bool (nat_le count_max number)) [
+last-ends number storing m q = elim (cases_Bool (nat_le NUMBER_MAX number)) [
   | inl is ↦ rw is (tt, q.nobody)
   | inr isnt ↦ rw isnt (stored-ends storing m q)
 ]

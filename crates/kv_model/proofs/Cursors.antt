@@ -17,7 +17,7 @@ none-positioned (suc (suc (suc (suc cursor)))) = refl
 pub cursors-taken : (sessions : List (Option Transaction)) (cursors : List (List (Option Position))) (s : ℕ) (t : Transaction) → s < length sessions → ValidCursors sessions cursors → ValidCursors (slice_set sessions s (Some t)) cursors
 cursors-taken sessions cursors s t inside v = record {
   seats = v.seats ∙ sym (length-set sessions s (Some t));
-  four = v.four;
+  all = v.all;
   reset = λ r cursor none. elim (cases_eq r s) [
     | inl same ↦ let some = get_or-set_same sessions s (Some t) None inside in let gone = subst (λ (i : ℕ). slice_index_or (slice_set sessions s (Some t)) i None ≡ None) same none in absurd (cc)
     | inr other ↦ v.reset r cursor (sym (get_or-set_other sessions s r (Some t) None other) ∙ none)
@@ -28,9 +28,9 @@ cursors-taken sessions cursors s t inside v = record {
 pub cursors-left : (sessions : List (Option Transaction)) (cursors : List (List (Option Position))) (s : ℕ) → s < length sessions → ValidCursors sessions cursors → ValidCursors (slice_set sessions s None) (slice_set cursors s no_cursors)
 cursors-left sessions cursors s inside v = record {
   seats = length-set cursors s no_cursors ∙ (v.seats ∙ sym (length-set sessions s None));
-  four = λ r lt. elim (cases_eq r s) [
+  all = λ r lt. elim (cases_eq r s) [
     | inl same ↦ ap length (ap (λ (i : ℕ). slice_index_or (slice_set cursors s no_cursors) i []) same ∙ at)
-    | inr other ↦ ap length (get_or-set_other cursors s r no_cursors [] other) ∙ v.four r (let e = length-set cursors s no_cursors in omega arith)
+    | inr other ↦ ap length (get_or-set_other cursors s r no_cursors [] other) ∙ v.all r (let e = length-set cursors s no_cursors in omega arith)
   ];
   reset = λ r cursor none. elim (cases_eq r s) [
     | inl same ↦ ap (λ (l : List (Option Position)). slice_index_or l cursor None) (ap (λ (i : ℕ). slice_index_or (slice_set cursors s no_cursors) i []) same ∙ at) ∙ none-positioned cursor
@@ -45,9 +45,9 @@ pub cursors-placed : (sessions : List (Option Transaction)) (cursors : List (Lis
     → ValidCursors sessions (slice_set cursors s (slice_set (slice_index_or cursors s []) cursor position))
 cursors-placed sessions cursors s cursor t position there inside v = record {
   seats = length-set cursors s now ∙ v.seats;
-  four = λ r lt. elim (cases_eq r s) [
-    | inl same ↦ ap length (ap (λ (i : ℕ). slice_index_or (slice_set cursors s now) i []) same ∙ get_or-set_same cursors s now [] low) ∙ (length-set (slice_index_or cursors s []) cursor position ∙ v.four s low)
-    | inr other ↦ ap length (get_or-set_other cursors s r now [] other) ∙ v.four r (let e = length-set cursors s now in omega arith)
+  all = λ r lt. elim (cases_eq r s) [
+    | inl same ↦ ap length (ap (λ (i : ℕ). slice_index_or (slice_set cursors s now) i []) same ∙ get_or-set_same cursors s now [] low) ∙ (length-set (slice_index_or cursors s []) cursor position ∙ v.all s low)
+    | inr other ↦ ap length (get_or-set_other cursors s r now [] other) ∙ v.all r (let e = length-set cursors s now in omega arith)
   ];
   reset = λ r at none. elim (cases_eq r s) [
     | inl same ↦ let gone = subst (λ (i : ℕ). slice_index_or sessions i None ≡ None) same none in absurd (cc)
@@ -81,8 +81,8 @@ seat-past (x ∷ xs) d (suc s) le = seat-past xs d s (omega arith)
 pub cursors-opened : (sessions : List (Option Transaction)) (cursors : List (List (Option Position))) → ValidCursors sessions cursors → ValidCursors (sessions ++ None ∷ []) (cursors ++ no_cursors ∷ [])
 cursors-opened sessions cursors v = record {
   seats = let a = length-append cursors (no_cursors ∷ []) in let b = length-append sessions (None ∷ []) in let c = v.seats in omega arith;
-  four = λ r lt. elim (nat-split r (length cursors)) [
-    | inl low ↦ ap length (seat-more cursors no_cursors [] r low) ∙ v.four r low
+  all = λ r lt. elim (nat-split r (length cursors)) [
+    | inl low ↦ ap length (seat-more cursors no_cursors [] r low) ∙ v.all r low
     | inr high ↦ ap length (seat-last cursors no_cursors [] r (let a = length-append cursors (no_cursors ∷ []) in omega arith))
   ];
   reset = λ r cursor none. elim (nat-split r (length cursors)) [

@@ -4,6 +4,7 @@ use Rattle.std.specs.Prelude.{Option, Some, None, not, nat_lt, nat_le, ◌==◌,
 use Rattle.std.proofs.lemmas.Bool.{cases_Bool, both_ways, eqb-true, lt-ltb, le-leb}
 use Rattle.std.proofs.lemmas.Slice.Eq.{bytes_eq-Decides}
 use Rattle.failure.specs.declared.Fault.{Fault}
+use Rattle.limits.specs.declared.TheConstants.{SESSIONS_MAX, NUMBER_MAX, TABLES_MAX}
 use Rattle.wt_code.specs.declared.refusals.Refusal.{Refusal}
 use Rattle.wt_code.specs.declared.refusals.Refusal.TheVariants as told
 use Rattle.wt_code.specs.declared.refusals.Invalid.{Invalid}
@@ -16,7 +17,7 @@ use Rattle.kv_model.specs.Machine.{Machine, Transaction, Phase, Running, Failed,
 use Rattle.kv_model.specs.Outside.{Storing, Stored, NoPlace, ReadFailed, Damaged, WriteFailed}
 use Rattle.kv_model.specs.Allowed.{Allowed, StampsFit, CommitsAt}
 use Rattle.kv_model.specs.Refusals.{first_of, stamp_of, or_stamp, durable_below, begin_rules, prepare_rules, commit_rules, resolve_rules, set_rules}
-use Rattle.kv_model.specs.Decisions.{Outcome, Done, End, Refused, refused, invalid, checked, ruled, with_session, in_state, running_session, first_session, is_resolving, is_there, unless_found, id_drawn, create_decision, same_formats, commit_decision, rollback_decision, Request, OpenCall, BeginCall, PrepareCall, CommitCall, RollbackCall, EndCall, HistoryCall, FindKey, FindToWrite, FindRow, CreateCall, SetCall, RtsCall, StartCall, StepCall, CaptureCall, FinishCall, stored_as, left_or_end, running_checkpoint, judged, decision, key_checks, write_checks, table_checks, is_name, is_on_page, while_up, count_max, tables_max}
+use Rattle.kv_model.specs.Decisions.{Outcome, Done, End, Refused, refused, invalid, checked, ruled, with_session, in_state, running_session, first_session, is_resolving, is_there, unless_found, id_drawn, create_decision, same_formats, commit_decision, rollback_decision, Request, OpenCall, BeginCall, PrepareCall, CommitCall, RollbackCall, EndCall, HistoryCall, FindKey, FindToWrite, FindRow, CreateCall, SetCall, RtsCall, StartCall, StepCall, CaptureCall, FinishCall, stored_as, left_or_end, running_checkpoint, judged, decision, key_checks, write_checks, table_checks, is_name, is_on_page, while_up}
 use Rattle.kv_model.specs.DecisionLaws.{Suits}
 use Rattle.kv_model.proofs.Newest.{find-none}
 
@@ -112,13 +113,13 @@ may-leave m s Leaving = tt
 
 may-draw : (m : Machine) (s : ℕ) (t : Transaction) → transaction_of m s ≡ Some t → t.phase ≡ Running → Allowed m (id_drawn m s t).1
 may-draw m s t there running = elim (cases_Bool (t.id == 0)) [
-  | inl none ↦ subst (λ b. Allowed m (if b then checked ((nat_lt count_max m.next, told.Limit counted.Ids) ∷ []) (Done, DrawId s) else (Done, Nothing)).1) (sym none)
-      (may-check m ((nat_lt count_max m.next, told.Limit counted.Ids) ∷ []) (Done, DrawId s) (λ e. (t, there, (running, eqb-true t.id 0 none))))
-  | inr has ↦ subst (λ b. Allowed m (if b then checked ((nat_lt count_max m.next, told.Limit counted.Ids) ∷ []) (Done, DrawId s) else (Done, Nothing)).1) (sym has) tt
+  | inl none ↦ subst (λ b. Allowed m (if b then checked ((nat_lt NUMBER_MAX m.next, told.Limit counted.Ids) ∷ []) (Done, DrawId s) else (Done, Nothing)).1) (sym none)
+      (may-check m ((nat_lt NUMBER_MAX m.next, told.Limit counted.Ids) ∷ []) (Done, DrawId s) (λ e. (t, there, (running, eqb-true t.id 0 none))))
+  | inr has ↦ subst (λ b. Allowed m (if b then checked ((nat_lt NUMBER_MAX m.next, told.Limit counted.Ids) ∷ []) (Done, DrawId s) else (Done, Nothing)).1) (sym has) tt
 ]
 
 may-create : (m : Machine) (table : Table) → ((t : Table) → Member t (created m.history) → t.number < table.number) → 0 < table.number → (o : Option Table) → named table.name (tables m.history) ≡ o → Allowed m (create_decision (tables m.history) table o).1
-may-create m table above some None e = may-check m ((nat_le tables_max (length (tables m.history)), told.Limit counted.Tables) ∷ []) (Done, CreateTable table) (λ passed. (
+may-create m table above some None e = may-check m ((nat_le TABLES_MAX (length (tables m.history)), told.Limit counted.Tables) ∷ []) (Done, CreateTable table) (λ passed. (
   record {
     number = above;
     name = λ t there same. find-none (λ (u : Table). bytes_eq u.name table.name) (tables m.history) e t there ((bytes_eq-Decides t.name table.name).1 same);
@@ -172,7 +173,7 @@ may-store m outcome event (Damaged offset want found) may = tt
 may-store m outcome event (WriteFailed fault) may = tt
 
 may-judge : (m : Machine) (s : ℕ) (request : Request) → Suits m s request → Allowed m (judged m s request).1
-may-judge m s OpenCall suits = may-check m ((nat_le 64 (length m.sessions), told.Limit counted.Sessions) ∷ []) (Done, OpenSession) (λ e. tt)
+may-judge m s OpenCall suits = may-check m ((nat_le SESSIONS_MAX (length m.sessions), told.Limit counted.Sessions) ∷ []) (Done, OpenSession) (λ e. tt)
 may-judge m s (BeginCall read) suits = may-some m (ruled (begin_rules m.oldest read) (BeginAt s (stamp_of read)) Nothing) (λ (t : Transaction). invalid why.InTxn) (transaction_of m s) (may-begin m s read suits) (λ t there. tt)
 may-judge m s (PrepareCall stamp) suits = may-run m s (λ t. ruled (prepare_rules m.stable stamp) (PrepareAt s stamp) Nothing) (may-prepare m s stamp)
 may-judge m s (CommitCall commit durable) suits = may-session m s (λ t. commit_decision t.phase m s t commit durable) (λ t there. may-commit m s t commit durable there t.phase refl)
@@ -184,13 +185,13 @@ may-judge m s (FindToWrite table key change) suits = may-run m s (λ t. checked 
 may-judge m s (FindRow table) suits = may-run m s (λ t. checked ((not (is_name table), told.Invalid why.BadName) ∷ table_checks m table) (Done, Nothing)) (λ t there running. may-check m ((not (is_name table), told.Invalid why.BadName) ∷ table_checks m table) (Done, Nothing) (λ e. tt))
 may-judge m s (CreateCall table) suits = may-check m ((not (is_name table.name), told.Invalid why.BadName) ∷ []) (create_decision (tables m.history) table (named table.name (tables m.history))) (λ e. may-create m table suits.0 suits.1 (named table.name (tables m.history)) refl)
 may-judge m s (SetCall oldest stable) suits = may-set m oldest stable
-may-judge m s RtsCall suits = may-some m (checked ((is_there m.checkpoint, told.Busy who.Checkpoint) ∷ (nat_le count_max m.rollbacks, told.Limit counted.Rollbacks) ∷ []) (Done, RollbackToStable)) (λ (r : ℕ). refused (told.Busy (who.Active r))) (first_session (λ t. true) 0 m.sessions)
-    (λ none. may-check m ((is_there m.checkpoint, told.Busy who.Checkpoint) ∷ (nat_le count_max m.rollbacks, told.Limit counted.Rollbacks) ∷ []) (Done, RollbackToStable)
-    (λ e. (nobody-there m none, not-there m.checkpoint (all-pass ((is_there m.checkpoint, told.Busy who.Checkpoint) ∷ (nat_le count_max m.rollbacks, told.Limit counted.Rollbacks) ∷ []) e).0)))
+may-judge m s RtsCall suits = may-some m (checked ((is_there m.checkpoint, told.Busy who.Checkpoint) ∷ (nat_le NUMBER_MAX m.rollbacks, told.Limit counted.Rollbacks) ∷ []) (Done, RollbackToStable)) (λ (r : ℕ). refused (told.Busy (who.Active r))) (first_session (λ t. true) 0 m.sessions)
+    (λ none. may-check m ((is_there m.checkpoint, told.Busy who.Checkpoint) ∷ (nat_le NUMBER_MAX m.rollbacks, told.Limit counted.Rollbacks) ∷ []) (Done, RollbackToStable)
+    (λ e. (nobody-there m none, not-there m.checkpoint (all-pass ((is_there m.checkpoint, told.Busy who.Checkpoint) ∷ (nat_le NUMBER_MAX m.rollbacks, told.Limit counted.Rollbacks) ∷ []) e).0)))
     (λ r found. tt)
-may-judge m s (StartCall number) suits = may-check m ((is_there m.checkpoint, told.Busy who.Checkpoint) ∷ []) (unless_found (first_session (λ t. is_resolving t.phase) 0 m.sessions) who.Resolving (checked ((nat_le count_max number, told.Limit counted.Checkpoints) ∷ []) (Done, CheckpointStart)))
-    (λ e. may-some m (checked ((nat_le count_max number, told.Limit counted.Checkpoints) ∷ []) (Done, CheckpointStart)) (λ (r : ℕ). refused (told.Busy (who.Resolving r))) (first_session (λ t. is_resolving t.phase) 0 m.sessions)
-    (λ none. may-check m ((nat_le count_max number, told.Limit counted.Checkpoints) ∷ []) (Done, CheckpointStart) (λ few. (
+may-judge m s (StartCall number) suits = may-check m ((is_there m.checkpoint, told.Busy who.Checkpoint) ∷ []) (unless_found (first_session (λ t. is_resolving t.phase) 0 m.sessions) who.Resolving (checked ((nat_le NUMBER_MAX number, told.Limit counted.Checkpoints) ∷ []) (Done, CheckpointStart)))
+    (λ e. may-some m (checked ((nat_le NUMBER_MAX number, told.Limit counted.Checkpoints) ∷ []) (Done, CheckpointStart)) (λ (r : ℕ). refused (told.Busy (who.Resolving r))) (first_session (λ t. is_resolving t.phase) 0 m.sessions)
+    (λ none. may-check m ((nat_le NUMBER_MAX number, told.Limit counted.Checkpoints) ∷ []) (Done, CheckpointStart) (λ few. (
       not-there m.checkpoint (all-pass ((is_there m.checkpoint, told.Busy who.Checkpoint) ∷ []) e).0,
       λ r t there is. resolving-is t.phase (none-found (λ t. is_resolving t.phase) 0 m.sessions none r t there) is,
     )))

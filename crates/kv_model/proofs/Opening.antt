@@ -298,7 +298,7 @@ start-valid c r = record {
   checkpoint = λ k runs. let none : None ≡ Some k = runs in absurd (cc);
   cursors = record {
     seats = refl;
-    four = λ s lt. absurd (omega arith);
+    all = λ s lt. absurd (omega arith);
     reset = λ s cursor none. refl;
   };
 }

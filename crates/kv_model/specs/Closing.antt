@@ -1,5 +1,6 @@
 -- Close: what it answers, and the events that it makes.
 use Rattle.std.specs.Prelude.{ℕ, ◌+◌, Bool, true, false, ◌||◌, nat_le, List, [], ◌∷◌, ◌++◌, Option, Some, None, option_map, slice_index_or, if◌then◌else◌}
+use Rattle.limits.specs.declared.TheConstants.{NUMBER_MAX}
 use Rattle.wt_code.specs.declared.refusals.Refusal.{Refusal}
 use Rattle.wt_code.specs.declared.refusals.Refusal.TheVariants as told
 use Rattle.wt_code.specs.declared.refusals.Busy.{Busy}
@@ -7,7 +8,7 @@ use Rattle.wt_code.specs.declared.refusals.Busy.TheVariants as who
 use Rattle.wt_code.specs.declared.refusals.Limit.TheVariants as counted
 use Rattle.kv_model.specs.Machine.{Machine, Transaction, Phase, Resolving, Leaving, of_some, Event, StartLeaving, EndTransaction, CheckpointStart, CheckpointFinish, GoDown, after}
 use Rattle.kv_model.specs.Outside.{Storing, Stored, NoPlace, ReadFailed, Damaged, WriteFailed, Unfinished}
-use Rattle.kv_model.specs.Decisions.{Outcome, Done, Refused, is_there, count_max}
+use Rattle.kv_model.specs.Decisions.{Outcome, Done, Refused, is_there}
 
 -- its commit or rollback was decided and has not ended
 abbrev pub is_ending : Phase → Bool
@@ -46,7 +47,7 @@ last_stored (WriteFailed fault) = (Refused told.DiskFault, GoDown fault ∷ [])
 
 -- number: that of the last completed checkpoint, 0 where there is none
 abbrev pub last_checkpoint : ℕ → Storing → Outcome × List Event
-last_checkpoint number storing = if nat_le count_max number then (Refused (told.Limit counted.Checkpoints), []) else last_stored storing
+last_checkpoint number storing = if nat_le NUMBER_MAX number then (Refused (told.Limit counted.Checkpoints), []) else last_stored storing
 
 -- the transactions are rolled back first
 abbrev pub closing : Machine → Outcome × List Event → Outcome × List Event

@@ -1,6 +1,7 @@
 -- What each call answers where the machine determines it, and the event that it makes. Its checks are lists, in the order of refusals.
 use Rattle.std.specs.Prelude.{◌≡◌, ℕ, ◌+◌, ◌-◌, ◌^◌, Bool, true, false, not, ◌&&◌, ◌==◌, nat_lt, nat_le, List, [], ◌∷◌, ◌++◌, length, Option, Some, None, if◌then◌else◌}
 use Rattle.std.specs.List.{list_all}
+use Rattle.limits.specs.declared.TheConstants.{KEY_MAX, VALUE_MAX, TABLE_NAME_MAX, TABLES_MAX, SESSIONS_MAX, NUMBER_MAX}
 use Rattle.item.specs.declared.Change.{Change}
 use Rattle.item.specs.declared.Format.{Format}
 use Rattle.item.specs.declared.Format.TheVariants.{S, U}
@@ -89,13 +90,7 @@ abbrev pub is_name_byte : ℕ → Bool
 is_name_byte b = nat_lt 32 b && (not (b == 58) && not (b == 127))
 
 abbrev pub is_name : List ℕ → Bool
-is_name name = nat_lt 0 (length name) && (nat_le (length name) 128 && list_all is_name_byte name)
-
-abbrev pub key_max : ℕ
-key_max = 1024
-
-abbrev pub value_max : ℕ
-value_max = 16384
+is_name name = nat_lt 0 (length name) && (nat_le (length name) TABLE_NAME_MAX && list_all is_name_byte name)
 
 abbrev pub value_length : Change → ℕ
 value_length change = of_some 0 (λ v. length v) (put_of change)
@@ -104,20 +99,16 @@ abbrev pub table_checks : Machine → List ℕ → List (Bool × Refusal)
 table_checks m name = (not (is_there (named name (tables m.history))), NoTable) ∷ []
 
 abbrev pub key_checks : Machine → List ℕ → List ℕ → List (Bool × Refusal)
-key_checks m name key = (not (is_name name), told.Invalid why.BadName) ∷ (nat_lt key_max (length key), told.Invalid (why.KeyLong (length key))) ∷ table_checks m name
+key_checks m name key = (not (is_name name), told.Invalid why.BadName) ∷ (nat_lt KEY_MAX (length key), told.Invalid (why.KeyLong (length key))) ∷ table_checks m name
 
 abbrev pub write_checks : Machine → List ℕ → List ℕ → Change → List (Bool × Refusal)
 write_checks m name key change =
-    (not (is_name name), told.Invalid why.BadName) ∷ (nat_lt key_max (length key), told.Invalid (why.KeyLong (length key)))
-    ∷ (nat_lt value_max (value_length change), told.Invalid (why.ValueLong (value_length change))) ∷ table_checks m name
-
--- ids, checkpoint numbers and rollbacks to stable are at most 2 ^ 62 - 1
-abbrev pub count_max : ℕ
-count_max = 2 ^ 62 - 1
+    (not (is_name name), told.Invalid why.BadName) ∷ (nat_lt KEY_MAX (length key), told.Invalid (why.KeyLong (length key)))
+    ∷ (nat_lt VALUE_MAX (value_length change), told.Invalid (why.ValueLong (value_length change))) ∷ table_checks m name
 
 -- the first write of a transaction draws its id
 abbrev pub id_drawn : Machine → ℕ → Transaction → Outcome × Event
-id_drawn m session t = if t.id == 0 then checked ((nat_lt count_max m.next, told.Limit counted.Ids) ∷ []) (Done, DrawId session) else (Done, Nothing)
+id_drawn m session t = if t.id == 0 then checked ((nat_lt NUMBER_MAX m.next, told.Limit counted.Ids) ∷ []) (Done, DrawId session) else (Done, Nothing)
 
 -- ---- calls
 
@@ -129,12 +120,9 @@ same_format _ _ = false
 abbrev pub same_formats : Formats → Formats → Bool
 same_formats f g = same_format f.key g.key && same_format f.value g.value
 
-abbrev pub tables_max : ℕ
-tables_max = 1024
-
 -- Create, whose table bears the number that a new one would have; old: the table of its name
 abbrev pub create_decision : List Table → Table → Option Table → Outcome × Event
-create_decision known table None = checked ((nat_le tables_max (length known), told.Limit counted.Tables) ∷ []) (Done, CreateTable table)
+create_decision known table None = checked ((nat_le TABLES_MAX (length known), told.Limit counted.Tables) ∷ []) (Done, CreateTable table)
 create_decision known table (Some old) = if same_formats table.formats old.formats then (Done, Nothing) else refused Exists
 
 abbrev pub commit_decision : Phase → Machine → ℕ → Transaction → Option ℕ → Option ℕ → Outcome × Event
@@ -200,7 +188,7 @@ abbrev pub running_checkpoint : Machine → List (Bool × Refusal)
 running_checkpoint m = (not (is_there m.checkpoint), told.Invalid why.NoCkpt) ∷ []
 
 abbrev pub judged : Machine → ℕ → Request → Outcome × Event
-judged m session OpenCall = checked ((nat_le 64 (length m.sessions), told.Limit counted.Sessions) ∷ []) (Done, OpenSession)
+judged m session OpenCall = checked ((nat_le SESSIONS_MAX (length m.sessions), told.Limit counted.Sessions) ∷ []) (Done, OpenSession)
 judged m session (BeginCall read) = of_some (ruled (begin_rules m.oldest read) (BeginAt session (stamp_of read)) Nothing) (λ t. invalid why.InTxn) (transaction_of m session)
 judged m session (PrepareCall stamp) = running_session m session (λ t. ruled (prepare_rules m.stable stamp) (PrepareAt session stamp) Nothing)
 judged m session (CommitCall commit durable) = with_session m session (λ t. commit_decision t.phase m session t commit durable)
@@ -214,11 +202,11 @@ judged m session (CreateCall table) = checked ((not (is_name table.name), told.I
 judged m session (SetCall oldest stable) = ruled (set_rules m.oldest m.stable oldest stable) (SetStamps (stamp_of oldest) (stamp_of stable)) Nothing
 judged m session RtsCall =
     unless_found (first_session (λ t. true) 0 m.sessions) who.Active
-    (checked ((is_there m.checkpoint, told.Busy who.Checkpoint) ∷ (nat_le count_max m.rollbacks, told.Limit counted.Rollbacks) ∷ []) (Done, RollbackToStable))
+    (checked ((is_there m.checkpoint, told.Busy who.Checkpoint) ∷ (nat_le NUMBER_MAX m.rollbacks, told.Limit counted.Rollbacks) ∷ []) (Done, RollbackToStable))
 judged m session (StartCall number) =
     checked ((is_there m.checkpoint, told.Busy who.Checkpoint) ∷ [])
     (unless_found (first_session (λ t. is_resolving t.phase) 0 m.sessions) who.Resolving
-    (checked ((nat_le count_max number, told.Limit counted.Checkpoints) ∷ []) (Done, CheckpointStart)))
+    (checked ((nat_le NUMBER_MAX number, told.Limit counted.Checkpoints) ∷ []) (Done, CheckpointStart)))
 judged m session (StepCall left) = checked (running_checkpoint m) (if left then Done else End, Nothing)
 judged m session (CaptureCall left storing) = checked (running_checkpoint m) (stored_as storing (left_or_end left, Nothing))
 judged m session (FinishCall left storing) = checked (running_checkpoint m ++ (left, told.Invalid why.CkptLeft) ∷ []) (stored_as storing (Done, CheckpointFinish))

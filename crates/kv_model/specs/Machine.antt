@@ -1,5 +1,6 @@
 -- The machine of transactions, and what each event makes of it.
 use Rattle.std.specs.Prelude.{ℕ, ◌+◌, not, ◌==◌, max, List, [], ◌∷◌, ◌++◌, length, map, filter, replicate, Option, Some, None, if◌then◌else◌, option_map, slice_index_or, slice_set}
+use Rattle.limits.specs.declared.TheConstants.{CURSORS_MAX}
 use Rattle.item.specs.declared.Change.{Change}
 use Rattle.stamp.specs.declared.Name.{Name}
 use Rattle.failure.specs.declared.Fault.{Fault}
@@ -75,7 +76,7 @@ cursor_of m session cursor = slice_index_or (cursors_of m session) cursor None
 
 -- the cursors of a session, none of them positioned
 abbrev pub no_cursors : List (Option Position)
-no_cursors = replicate 4 None
+no_cursors = replicate CURSORS_MAX None
 
 abbrev pub with_transaction : Machine → ℕ → Option Transaction → Machine
 with_transaction m session t = record m { sessions = slice_set m.sessions session t }

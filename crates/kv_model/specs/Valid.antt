@@ -1,6 +1,7 @@
 -- What every machine has that is reached from an opening by events that may come.
 use Rattle.std.specs.Prelude.{◌≡◌, ◌≢◌, ◌⊎◌, ◌<◌, ◌≤◌, ℕ, true, false, List, [], ◌∷◌, ◌++◌, length, filter, Option, Some, None, slice_index_or}
 use Rattle.std.specs.Option.{option_to_list}
+use Rattle.limits.specs.declared.TheConstants.{CURSORS_MAX}
 use Rattle.item.specs.declared.Change.{Change}
 use Rattle.stamp.specs.declared.Name.{Name}
 use Rattle.stamp.specs.declared.Version.{Version}
@@ -80,10 +81,10 @@ pub record ValidCheckpoint (history : List Entry) (now_oldest now_stable : ℕ) 
   pub stable : c.stable ≤ now_stable
   pub stamps : StampsFit c.oldest c.stable
 
--- each session has four cursors, none of which is positioned where it has no transaction
+-- each session has as many cursors as there may be, none of which is positioned where it has no transaction
 pub record ValidCursors (sessions : List (Option Transaction)) (cursors : List (List (Option Position))) : Type 0 where
   pub seats : length cursors ≡ length sessions
-  pub four : (s : ℕ) → s < length cursors → length (slice_index_or cursors s []) ≡ 4
+  pub all : (s : ℕ) → s < length cursors → length (slice_index_or cursors s []) ≡ CURSORS_MAX
   pub reset : (s cursor : ℕ) → slice_index_or sessions s None ≡ None → slice_index_or (slice_index_or cursors s []) cursor None ≡ None
 
 pub record Valid (m : Machine) : Type 0 where

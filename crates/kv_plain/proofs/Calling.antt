@@ -2,6 +2,7 @@
 use Rattle.std.proofs.Common.{◌≡◌, ◌∙◌, ap, sym, refl, subst, ℕ, ◌≢◌, Bool, true, false, List, [], ◌∷◌, length, zero, suc, inl, inr}
 use Rattle.std.specs.Prelude.{◌⊎◌, Option, Some, None, option_map, not, nat_lt, ◌==◌, slice_index_or, slice_set, MatchBool, if◌then◌else◌}
 use Rattle.std.proofs.lemmas.Bool.{cases_Bool}
+use Rattle.limits.specs.declared.TheConstants.{KEY_MAX, VALUE_MAX, NUMBER_MAX}
 use Rattle.item.specs.declared.Change.{Change}
 use Rattle.wt_code.specs.declared.answers.Answer.{Answer}
 use Rattle.wt_code.specs.declared.refusals.Refusal.{Refusal}
@@ -12,7 +13,7 @@ use Rattle.wt_code.specs.declared.refusals.Limit.TheVariants as counted
 use Rattle.kv_model.specs.History.{Table, tables, named}
 use Rattle.kv_model.specs.Machine.{Machine, Transaction, Phase, Running, Failed, Prepared, Resolving, Leaving, transaction_of, of_some, Event, DrawId, Nothing, after}
 use Rattle.kv_model.specs.Refusals.{first_of}
-use Rattle.kv_model.specs.Decisions.{Outcome, Done, Refused, Request, FindKey, FindRow, FindToWrite, StepCall, CaptureCall, decision, judged, refused, invalid, in_state, running_session, checked, key_checks, write_checks, table_checks, id_drawn, key_max, value_max, value_length, count_max, is_name, is_there}
+use Rattle.kv_model.specs.Decisions.{Outcome, Done, Refused, Request, FindKey, FindRow, FindToWrite, StepCall, CaptureCall, decision, judged, refused, invalid, in_state, running_session, checked, key_checks, write_checks, table_checks, id_drawn, value_length, is_name, is_there}
 use Rattle.kv_model.specs.Told.{Tells}
 use Rattle.kv_model.specs.Outside.{Storing}
 use Rattle.kv_model.specs.Calls.{Actor, Session, System, Call, Begin, GetKey, PutKey, RemoveKey, SeekKey, NextRow, Reset, Prepare, Commit, Rollback, Create, Set, CkptStart, CkptStep, CkptFinish, Evict, Rts, Close, Finds, AtPlace, Judged, IsTaken, SystemJudged, Answers, SystemAnswers, evict_decision}
@@ -84,7 +85,7 @@ module _ (m : Machine) (s : ℕ) (name : List ℕ) where
     key-table : first_of (key_checks m name key) ≡ None → is_there (named name (tables m.history)) ≡ true
     key-table e =
         let known = table_checks m name in
-        let long : Bool × Refusal = (nat_lt key_max (length key), told.Invalid (why.KeyLong (length key))) in
+        let long : Bool × Refusal = (nat_lt KEY_MAX (length key), told.Invalid (why.KeyLong (length key))) in
         last-none (is_there (named name (tables m.history))) told.NoTable (later-none long.0 long.1 known (later-none (not (is_name name)) (told.Invalid why.BadName) (long ∷ known) e))
 
     pub key-goes : Goes (decision m s (FindKey name key))
@@ -94,8 +95,8 @@ module _ (m : Machine) (s : ℕ) (name : List ℕ) where
       write-table : first_of (write_checks m name key change) ≡ None → is_there (named name (tables m.history)) ≡ true
       write-table e =
           let known = table_checks m name in
-          let large : Bool × Refusal = (nat_lt value_max (value_length change), told.Invalid (why.ValueLong (value_length change))) in
-          let long : Bool × Refusal = (nat_lt key_max (length key), told.Invalid (why.KeyLong (length key))) in
+          let large : Bool × Refusal = (nat_lt VALUE_MAX (value_length change), told.Invalid (why.ValueLong (value_length change))) in
+          let long : Bool × Refusal = (nat_lt KEY_MAX (length key), told.Invalid (why.KeyLong (length key))) in
           last-none (is_there (named name (tables m.history))) told.NoTable (later-none large.0 large.1 known
           (later-none long.0 long.1 (large ∷ known) (later-none (not (is_name name)) (told.Invalid why.BadName) (long ∷ large ∷ known) e)))
 
@@ -106,7 +107,7 @@ module _ (m : Machine) (s : ℕ) (name : List ℕ) where
 
       drawn : (t : Transaction) → transaction_of m s ≡ Some t → is_there (named name (tables m.history)) ≡ true → Goes (id_drawn m s t)
       drawn t there known = elim (cases_Bool (t.id == 0)) [
-        | inl is ↦ rw is (pick Goes (Done, DrawId s) refused (first_of ((nat_lt count_max m.next, told.Limit counted.Ids) ∷ []))
+        | inl is ↦ rw is (pick Goes (Done, DrawId s) refused (first_of ((nat_lt NUMBER_MAX m.next, told.Limit counted.Ids) ∷ []))
             (λ none. inl (refl, record { transaction = numbered t there; table = known }))
             (λ r some. refuses r))
         | inr isnt ↦ rw isnt (inl (refl, record { transaction = ap is_there there; table = known }))

@@ -1,5 +1,6 @@
 -- What the facts that decisions take stand for, and parts of decisions.
 use Rattle.std.specs.Prelude.{ℕ, nat_le, [], ◌∷◌, Option, Some, None, Result, Ok, Err, if◌then◌else◌}
+use Rattle.limits.specs.declared.TheConstants.{TABLES_MAX}
 use Rattle.item.specs.declared.Formats.{Formats}
 use Rattle.kv_model.specs.History.{Table}
 use Rattle.kv_model.specs.Machine as model
@@ -28,5 +29,5 @@ run_or go (Err reason) = answer.invalid reason
 
 -- Create, where so many tables are known, of which the one of its name has these formats
 abbrev pub created_with : ℕ → Table → Option Formats → answer.Outcome × model.Event
-created_with known table None = answer.checked ((nat_le answer.tables_max known, told.Limit counted.Tables) ∷ []) (answer.Done, model.CreateTable table)
+created_with known table None = answer.checked ((nat_le TABLES_MAX known, told.Limit counted.Tables) ∷ []) (answer.Done, model.CreateTable table)
 created_with known table (Some formats) = if answer.same_formats table.formats formats then (answer.Done, model.Nothing) else answer.refused told.Exists

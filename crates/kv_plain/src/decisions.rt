@@ -309,7 +309,7 @@ fn name_check(name: &Item) -> Check
 }
 
 fn key_check(key: &Item) -> Check
-    ensures { check_in result ≡ (nat_lt answer.key_max (length key.now), Refusal.Invalid (Invalid.KeyLong (length key.now))) }
+    ensures { check_in result ≡ (nat_lt KEY_MAX (length key.now), Refusal.Invalid (Invalid.KeyLong (length key.now))) }
 {
     Check {
         holds: KEY_MAX < key.len(),
@@ -329,7 +329,7 @@ fn value_len(change: &Change) -> usize
 }
 
 fn value_check(change: &Change) -> Check
-    ensures { check_in result ≡ (nat_lt answer.value_max (answer.value_length change.now), Refusal.Invalid (Invalid.ValueLong (answer.value_length change.now))) }
+    ensures { check_in result ≡ (nat_lt VALUE_MAX (answer.value_length change.now), Refusal.Invalid (Invalid.ValueLong (answer.value_length change.now))) }
 {
     let len = value_len(change);
     Check {
@@ -612,7 +612,7 @@ fn running_check(m: &Machine) -> Check
 }
 
 fn decide_idle(m: &Machine, active: Option<u32>) -> Decision
-    ensures { decision_in result ≡ answer.unless_found active Busy.Active (answer.checked ((answer.is_there (machine_in m.now).checkpoint, Refusal.Busy Busy.Checkpoint) ∷ (nat_le answer.count_max (machine_in m.now).rollbacks, Refusal.Limit Limit.Rollbacks) ∷ []) (answer.Done, model.RollbackToStable)) }
+    ensures { decision_in result ≡ answer.unless_found active Busy.Active (answer.checked ((answer.is_there (machine_in m.now).checkpoint, Refusal.Busy Busy.Checkpoint) ∷ (nat_le NUMBER_MAX (machine_in m.now).rollbacks, Refusal.Limit Limit.Rollbacks) ∷ []) (answer.Done, model.RollbackToStable)) }
 {
     match active {
         Some(session) => refused(Refusal::Busy(Busy::Active(session))),
@@ -635,7 +635,7 @@ pub(crate) fn decide_rts(m: &Machine) -> Result<Decision, NoMemory>
 }
 
 fn decide_started(resolving: Option<u32>, number: u64) -> Decision
-    ensures { decision_in result ≡ answer.unless_found resolving Busy.Resolving (answer.checked ((nat_le answer.count_max number, Refusal.Limit Limit.Checkpoints) ∷ []) (answer.Done, model.CheckpointStart)) }
+    ensures { decision_in result ≡ answer.unless_found resolving Busy.Resolving (answer.checked ((nat_le NUMBER_MAX number, Refusal.Limit Limit.Checkpoints) ∷ []) (answer.Done, model.CheckpointStart)) }
 {
     match resolving {
         Some(session) => refused(Refusal::Busy(Busy::Resolving(session))),

@@ -1,6 +1,7 @@
 -- The memory of a table over its calls.
 use Rattle.std.proofs.Common.{◌≡◌, ◌≤◌, ◌-◌, ◌+◌, ℕ, zero, suc, refl, ap, sym, ◌∙◌, List, [], ◌∷◌, ◌++◌, length, replicate, subst, arith, length-append}
 use Rattle.std.proofs.lemmas.List.{length-set}
+use Rattle.limits.specs.declared.TheConstants.{SESSIONS_MAX}
 use Rattle.txn_table.specs.SessionData.{SessionData, opened}
 use Rattle.txn_table.specs.Tabled.{Table, HasRoom, IsStocked}
 use Rattle.txn_table.proofs.TableLemmas.{changed, room-opened}
@@ -11,7 +12,7 @@ stocked t s u list next ids more places spare old grows room = record {
   room = room;
   ids = (let least = old.ids in omega arith);
   places = old.places;
-  spare = old.spare ∙ ap (λ n. replicate (64 - n) (opened t.run)) (sym (length-set t.sessions s u));
+  spare = old.spare ∙ ap (λ n. replicate (SESSIONS_MAX - n) (opened t.run)) (sym (length-set t.sessions s u));
 }
 
 -- so where an id is drawn
@@ -35,7 +36,7 @@ last-new (suc n) x y (z ∷ rest) e =
 pub stocked-opened : (t : Table) (ids places more : ℕ) (old rest : List SessionData) (x : SessionData) → IsStocked t ids places old → old ≡ rest ++ x ∷ [] → places ≤ more
     → (x ≡ opened t.run) × IsStocked (record { run = t.run; next = t.next; running = t.running; sessions = t.sessions ++ x ∷ [] }) ids more rest
 stocked-opened t ids places more old rest x stocks is grows =
-    let last = last-new (64 - length t.sessions) x (opened t.run) rest (sym stocks.spare ∙ is) in
+    let last = last-new (SESSIONS_MAX - length t.sessions) x (opened t.run) rest (sym stocks.spare ∙ is) in
     let count = last.1 in
     let longer = length-append t.sessions (x ∷ []) in (
       last.0,
@@ -43,6 +44,6 @@ stocked-opened t ids places more old rest x stocks is grows =
         room = subst (λ y. HasRoom (record { run = t.run; next = t.next; running = t.running; sessions = t.sessions ++ y ∷ [] })) (sym last.0) (room-opened t stocks.room (omega arith));
         ids = stocks.ids;
         places = (let least = stocks.places in omega arith);
-        spare = last.2 ∙ ap (λ n. replicate n (opened t.run)) (let left : length rest ≡ 64 - length (t.sessions ++ x ∷ []) = omega arith in left);
+        spare = last.2 ∙ ap (λ n. replicate n (opened t.run)) (let left : length rest ≡ SESSIONS_MAX - length (t.sessions ++ x ∷ []) = omega arith in left);
       },
     )

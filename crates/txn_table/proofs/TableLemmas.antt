@@ -5,6 +5,7 @@ use Rattle.std.specs.List.{sum_by}
 use Rattle.std.proofs.lemmas.Bool.{cases_Bool, cases_eq, both_ways, lt-ltb}
 use Rattle.std.proofs.lemmas.List.{get_or-set_same, get_or-set_other, length-set, length-replicate, get_or_read}
 use Rattle.std.proofs.lemmas.List.Sums.{sum_by-set, sum_by-append}
+use Rattle.limits.specs.declared.TheConstants.{SESSIONS_MAX}
 use Rattle.snapshot.specs.Sight.{Ascends, is_listed}
 use Rattle.snapshot.proofs.Listed.{listed-within, ascends-bound}
 use Rattle.txn_table.specs.declared.phase.Phase.{Phase}
@@ -88,7 +89,7 @@ weight-runs u is = ap (λ b. if b then 1 else 0) is
 pub weight-rests : (u : SessionData) → runs u ≡ false → weight u ≡ 0
 weight-rests u isnt = ap (λ b. if b then 1 else 0) isnt
 
-pub states-kept : (t : Table) (s : ℕ) (u : SessionData) → HasRoom t → length (slice_set t.sessions s u) ≤ 64
+pub states-kept : (t : Table) (s : ℕ) (u : SessionData) → HasRoom t → length (slice_set t.sessions s u) ≤ SESSIONS_MAX
 states-kept t s u h = let e = length-set t.sessions s u in let most = h.sessions in omega arith
 
 -- ---- changes that leave the running ids
@@ -214,7 +215,7 @@ table-opened t h = record {
       h.distinct a b (ap runs (sym e) ∙ one) (ap runs (sym f) ∙ two) (ap (λ (x : SessionData). x.id) (sym e) ∙ (same ∙ ap (λ (x : SessionData). x.id) f));
 }
 
-pub room-opened : (t : Table) → HasRoom t → length t.sessions < 64 → HasRoom (record { run = t.run; next = t.next; running = t.running; sessions = t.sessions ++ opened t.run ∷ [] })
+pub room-opened : (t : Table) → HasRoom t → length t.sessions < SESSIONS_MAX → HasRoom (record { run = t.run; next = t.next; running = t.running; sessions = t.sessions ++ opened t.run ∷ [] })
 room-opened t h less = record {
   table = table-opened t h.table;
   few = (let w = sum_by-append weight t.sessions (opened t.run ∷ []) in let f = h.few in omega arith);
@@ -235,7 +236,7 @@ table-new run n = record {
   distinct = λ a b one. let e = ap runs (new-state run n a) in absurd (both_ways (runs (slice_index_or (replicate n (opened run)) a (opened run))) e one);
 }
 
-pub room-new : (run n : ℕ) → n ≤ 64 → HasRoom (record { run = run; next = 1; running = []; sessions = replicate n (opened run) })
+pub room-new : (run n : ℕ) → n ≤ SESSIONS_MAX → HasRoom (record { run = run; next = 1; running = []; sessions = replicate n (opened run) })
 room-new run n le = record {
   table = table-new run n;
   few = omega arith;
@@ -301,11 +302,11 @@ few-weigh [] = omega arith
 few-weigh (x ∷ xs) = let rest = few-weigh xs in let one = light x in let e = sum_by-append weight (x ∷ []) xs in omega arith
 
 -- as many ids run as a snapshot has room for
-pub few-run : (t : Table) → HasRoom t → length t.running ≤ 64
+pub few-run : (t : Table) → HasRoom t → length t.running ≤ SESSIONS_MAX
 few-run t h = let few = h.few in let most = few-weigh t.sessions in let sessions = h.sessions in omega arith
 
 -- with room for one more of who has no id
-pub id-fits : (t now : Table) (s : ℕ) → t ≡ now → HasRoom t → s < length now.sessions → (session_of now s).id ≡ 0 → length t.running < 64
+pub id-fits : (t now : Table) (s : ℕ) → t ≡ now → HasRoom t → s < length now.sessions → (session_of now s).id ≡ 0 → length t.running < SESSIONS_MAX
 id-fits t now s e h inside none =
     let within : s < length t.sessions = subst (λ (z : Table). s < length z.sessions) (sym e) inside in
     let zero_id : (session_of t s).id ≡ 0 = ap (λ z. (session_of z s).id) e ∙ none in

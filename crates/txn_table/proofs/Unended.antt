@@ -4,6 +4,7 @@ use Rattle.std.specs.Prelude.{fold, Option, Some, None, IfSome, ◌==◌, if◌t
 use Rattle.std.specs.List.{filter_map}
 use Rattle.std.proofs.lemmas.Bool.{both_ways}
 use Rattle.std.proofs.lemmas.List.{get_or_read}
+use Rattle.limits.specs.declared.TheConstants.{SESSIONS_MAX}
 use Rattle.snapshot.specs.Sight.{Sight, SnapshotValue, sight_at, with_id}
 use Rattle.snapshot.proofs.Listed.{with-length}
 use Rattle.txn_table.specs.SessionData.{SessionData, opened, is_idle, unended_id}
@@ -89,5 +90,5 @@ unended-drawn t states i least now x o h same lt read is c =
     let drawn = h.table.drawn i in
     subst (λ z. IfSome z (λ id. (1 ≤ id) × (id < now.sight.max))) (sym is) (some-below x now.sight.max (omega arith))
 
-pub unended-fits : (t : Table) (states : List SessionData) (i least : ℕ) (now : SnapshotValue) → HasRoom t → states ≡ t.sessions → i < length states → 64 ≤ least → Counting t.run t.next states i least now → length now.sight.list < now.room
+pub unended-fits : (t : Table) (states : List SessionData) (i least : ℕ) (now : SnapshotValue) → HasRoom t → states ≡ t.sessions → i < length states → SESSIONS_MAX ≤ least → Counting t.run t.next states i least now → length now.sight.list < now.room
 unended-fits t states i least now h same lt enough c = let n = ap length same in let few = c.few in let room = c.room in let most = h.sessions in omega arith

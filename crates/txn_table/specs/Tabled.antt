@@ -1,6 +1,7 @@
 -- What the table keeps, and what each call makes of it.
 use Rattle.std.specs.Prelude.{◌≡◌, ℕ, ◌+◌, ◌-◌, ◌<◌, ◌≤◌, ◌==◌, Bool, true, not, min, List, [], ◌∷◌, ◌++◌, length, filter, fold, Option, Some, None, option_map, if◌then◌else◌, slice_index_or, slice_set, replicate}
 use Rattle.std.specs.List.{filter_map, sum_by}
+use Rattle.limits.specs.declared.TheConstants.{SESSIONS_MAX}
 use Rattle.stamp.specs.declared.Name.{Name}
 use Rattle.snapshot.specs.Sight.{Sight, SnapshotValue, Ascends, counting, is_listed, sight_at, with_id}
 use Rattle.txn_table.specs.declared.written_leaf.WrittenLeaf.{WrittenLeaf}
@@ -121,11 +122,11 @@ weight s = if runs s then 1 else 0
 pub record HasRoom (t : Table) : Type 0 where
   pub table : IsTable t
   pub few : length t.running ≤ sum_by weight t.sessions
-  pub sessions : length t.sessions ≤ 64
+  pub sessions : length t.sessions ≤ SESSIONS_MAX
 
 -- with room for the ids that run and the sessions that are open, and with those that are not open yet
 pub record IsStocked (t : Table) (id_room session_room : ℕ) (unopened : List SessionData) : Type 0 where
   pub room : HasRoom t
-  pub ids : 64 ≤ id_room
-  pub places : 64 ≤ session_room
-  pub spare : unopened ≡ replicate (64 - length t.sessions) (opened t.run)
+  pub ids : SESSIONS_MAX ≤ id_room
+  pub places : SESSIONS_MAX ≤ session_room
+  pub spare : unopened ≡ replicate (SESSIONS_MAX - length t.sessions) (opened t.run)

@@ -7,7 +7,8 @@
 //! released in the entries before its transaction began. Every snapshot sees what lies below the
 //! floor (`floors_are_seen`), the pin stamp is the machine's (`pins_are_the_machines`), and the
 //! snapshot of a checkpoint sees what the checkpoint captures (`checkpoints_see`). Memory is taken when the table is made,
-//! for 64 sessions, and when a written leaf is registered: no other call may want it. Leaves to the caller when each call may come, and what is in the pages.
+//! for `SESSIONS_MAX` sessions of `limits`, and when a written leaf is registered: no other call may
+//! want it. Leaves to the caller when each call may come, and what is in the pages.
 #![tactic(auto)]
 
 ghost use Rattle.txn_table.specs.Checkpoints.{CheckpointsSee, EndedAreSeen};
@@ -23,7 +24,6 @@ mod written_leaf;
 
 pub use failure::NoMemory;
 pub use phase::Phase;
-pub use session::SESSIONS_MAX;
 pub use txns::Txns;
 pub use written_leaf::WrittenLeaf;
 

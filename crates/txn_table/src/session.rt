@@ -6,14 +6,12 @@ ghost use Rattle.snapshot.specs.Sight.{Ascends, IsSight, sight_at, sight_of};
 use crate::phase::Phase;
 use crate::written_leaf::WrittenLeaf;
 use failure::NoMemory;
+use limits::SESSIONS_MAX;
 use snapshot::Snapshot;
 use stamp::View;
 use std::alloc::Global;
 use std::marker::Model;
 use std::mem::replace;
-
-/// The greatest number of sessions.
-pub const SESSIONS_MAX: usize = 64;
 
 #[derive(Drop)]
 pub(crate) struct Session {
@@ -27,6 +25,7 @@ pub(crate) struct Session {
 
 impl Model for Session {
     ghost use Rattle.std.specs.Prelude.{◌≤◌, length};
+    ghost use Rattle.limits.specs.declared.TheConstants.{SESSIONS_MAX};
     ghost use Rattle.txn_table.specs.SessionData.{SessionData};
 
     ghost Value = { SessionData };
@@ -35,7 +34,7 @@ impl Model for Session {
         record { phase = s.phase; id = s.id; read = s.read; sight = s.snapshot.sight; written = s.written.items } };
 
     ghost invariant = { λ s.
-        (64 ≤ s.snapshot.room) × (length s.snapshot.sight.list ≤ 64) };
+        (SESSIONS_MAX ≤ s.snapshot.room) × (length s.snapshot.sight.list ≤ SESSIONS_MAX) };
 }
 
 impl Session {
@@ -55,7 +54,7 @@ impl Session {
 
     pub(crate) fn begin(&mut self, run: u64, next: u64, running: &[u64], read: u64)
         requires ascending { Ascends 1 running.now next }
-        requires few { length running.now ≤ 64 }
+        requires few { length running.now ≤ SESSIONS_MAX }
         ensures { self.new ≡ record { phase = Phase.Running; id = 0; read = read; sight = sight_at run next running.now; written = [] } }
     {
         self.snapshot.fill(run, next, running);
@@ -141,7 +140,7 @@ impl Session {
         ensures own { result.own ≡ self.now.id }
         ensures read { result.read ≡ self.now.read }
         ensures lent { IsSight (sight_of result) }
-        ensures few { length result.list.now ≤ 64 }
+        ensures few { length result.list.now ≤ SESSIONS_MAX }
     {
         self.snapshot.view(self.id, self.read)
     }

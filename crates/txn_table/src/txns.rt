@@ -29,17 +29,15 @@ ghost use Rattle.txn_table.specs.Tabled.{
 };
 
 use crate::phase::Phase;
-use crate::session::{SESSIONS_MAX, Session};
+use crate::session::Session;
 use crate::written_leaf::WrittenLeaf;
 use failure::NoMemory;
+use limits::{NUMBER_MAX, SESSIONS_MAX};
 use snapshot::Snapshot;
 use stamp::{Name, View};
 use std::alloc::Global;
 use std::marker::Model;
 use wt_code::{Limit, Refusal};
-
-/// The greatest id of a run.
-const ID_MAX: u64 = (1 << 62) - 1;
 
 /// The sessions of an engine and their transactions. A session that is named is open.
 #[derive(Drop)]
@@ -49,7 +47,7 @@ pub struct Txns {
     next: u64,
     // The ids that are drawn and not released, ascending. With room for one of each session.
     running: Vec<u64>,
-    // By session. With room for 64.
+    // By session. With room for as many as there may be.
     sessions: Vec<Session>,
     // Those that can still be opened.
     spare: Vec<Session>,
@@ -70,10 +68,10 @@ impl Model for Txns {
 
 impl Txns {
     /// The table of a run, with this many sessions open, none of which has a transaction. Takes the
-    /// memory of 64 sessions and of their running ids: of the other calls `register` alone may want
-    /// memory.
+    /// memory of `SESSIONS_MAX` sessions and of their running ids: of the other calls `register`
+    /// alone may want memory.
     pub fn new(alloc: Global, run: u64, sessions: u32) -> Result<Txns, NoMemory>
-        requires { sessions ≤ 64 }
+        requires { sessions ≤ SESSIONS_MAX }
         ensures { IfOk result (λ t. t ≡ fresh run sessions) }
     {
         let running = Vec::with_capacity(alloc, SESSIONS_MAX)?;
@@ -88,13 +86,13 @@ impl Txns {
         })
     }
 
-    /// Opens a session, and gives its number. Refused exactly where 64 are open. Takes no memory.
-    /// `O(1)`.
+    /// Opens a session, and gives its number. Refused exactly where `SESSIONS_MAX` are open. Takes
+    /// no memory. `O(1)`.
     pub fn open_session(&mut self) -> Result<u32, Refusal>
-        ensures ok { OnOk result ((length self.old.sessions < 64) × (self.new ≡ one_more self.old)) }
+        ensures ok { OnOk result ((length self.old.sessions < SESSIONS_MAX) × (self.new ≡ one_more self.old)) }
         ensures number { IfOk result (λ session. session ≡ length self.old.sessions) }
         ensures kept { OnErr result (self.new ≡ self.old) }
-        ensures refused { IfErr result (λ e. (e ≡ Refusal.Limit Limit.Sessions) × (64 ≤ length self.old.sessions)) }
+        ensures refused { IfErr result (λ e. (e ≡ Refusal.Limit Limit.Sessions) × (SESSIONS_MAX ≤ length self.old.sessions)) }
     {
         let session = self.sessions.len() as u32;
         match self.spare.pop() {
@@ -109,7 +107,7 @@ impl Txns {
     /// How many sessions are open.
     pub fn sessions(&self) -> u32
         ensures count { result ≡ length self.now.sessions }
-        ensures few { result ≤ 64 }
+        ensures few { result ≤ SESSIONS_MAX }
     {
         self.sessions.len() as u32
     }
@@ -164,18 +162,18 @@ impl Txns {
     }
 
     /// Draws the id of a transaction that has none. Refused exactly where the next id is past
-    /// 2^62 - 1. Takes no memory. `O(1)`.
+    /// `NUMBER_MAX`. Takes no memory. `O(1)`.
     pub fn draw_id(&mut self, session: u32) -> Result<u64, Refusal>
         requires open { session < length self.old.sessions }
         requires running { phase_of self.old session ≡ Phase.Running }
         requires undrawn { (session_of self.old session).id ≡ 0 }
-        ensures ok { OnOk result ((self.old.next < 2 ^ 62) × (self.new ≡ drawn self.old session)) }
+        ensures ok { OnOk result ((self.old.next ≤ NUMBER_MAX) × (self.new ≡ drawn self.old session)) }
         ensures id { IfOk result (λ id. id ≡ self.old.next) }
         ensures kept { OnErr result (self.new ≡ self.old) }
-        ensures refused { IfErr result (λ e. (e ≡ Refusal.Limit Limit.Ids) × (2 ^ 62 ≤ self.old.next)) }
+        ensures refused { IfErr result (λ e. (e ≡ Refusal.Limit Limit.Ids) × (NUMBER_MAX < self.old.next)) }
     {
         let id = self.next;
-        if id > ID_MAX {
+        if id > NUMBER_MAX {
             return Err(Refusal::Limit(Limit::Ids));
         }
         self.running.push_reserved(id);
@@ -302,9 +300,9 @@ impl Txns {
     /// not ended, prepared and resolving ones too. Takes no memory. `O(n log n)` in the sessions,
     /// and one move of the ids above each.
     pub fn checkpoint_snapshot(&self, snapshot: &mut Snapshot)
-        requires room { 64 ≤ snapshot.old.room }
+        requires room { SESSIONS_MAX ≤ snapshot.old.room }
         ensures sight { snapshot.new.sight ≡ sight_at self.now.run self.now.next (unended self.now) }
-        ensures few { length snapshot.new.sight.list ≤ 64 }
+        ensures few { length snapshot.new.sight.list ≤ SESSIONS_MAX }
         ensures room { snapshot.old.room ≤ snapshot.new.room }
     {
         snapshot.fill(self.run, self.next, &[]);
@@ -330,7 +328,7 @@ impl Txns {
         ensures own { IfSome result (λ v. v.own ≡ (session_of self.now session).id) }
         ensures read { IfSome result (λ v. v.read ≡ (session_of self.now session).read) }
         ensures lent { IfSome result (λ v. IsSight (sight_of v)) }
-        ensures few { IfSome result (λ v. length v.list.now ≤ 64) }
+        ensures few { IfSome result (λ v. length v.list.now ≤ SESSIONS_MAX) }
     {
         let state = &self.sessions[session as usize];
         match state.phase() {
@@ -367,10 +365,10 @@ impl Txns {
     }
 }
 
-// So many sessions without a transaction, with room for 64.
+// So many sessions without a transaction, with room for as many as there may be.
 fn new_sessions(alloc: Global, run: u64, count: usize) -> Result<Vec<Session>, NoMemory>
     ensures items { IfOk result (λ v. v.items ≡ replicate count (opened run)) }
-    ensures room { IfOk result (λ v. 64 ≤ vec_capacity v) }
+    ensures room { IfOk result (λ v. SESSIONS_MAX ≤ vec_capacity v) }
 {
     let mut made = Vec::with_capacity(alloc, SESSIONS_MAX)?;
     for _ in 0..count {

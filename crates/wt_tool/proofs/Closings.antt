@@ -9,11 +9,12 @@ use Rattle.disk_model.proofs.Crash.{widened}
 use Rattle.disk_model.specs.declared.disk.Disk.{Ghosts}
 use Rattle.device_layout.specs.declared.slot.Slot.{Slot}
 use Rattle.turtle.specs.Slots.{IsNext}
+use Rattle.limits.specs.declared.TheConstants.{NUMBER_MAX}
 use Rattle.kv_model.specs.AgreementLaws.{head_of}
 use Rattle.kv_model.specs.History.{Table, line, cut}
 use Rattle.kv_model.specs.Machine.{Machine, Completed, Event, CheckpointStart, CheckpointFinish, GoDown}
 use Rattle.kv_model.specs.Outside.{Storing, Stored, NoPlace, ReadFailed, WriteFailed, Unfinished}
-use Rattle.kv_model.specs.Decisions.{Outcome, Done as IsDone, Refused as NotDone, count_max}
+use Rattle.kv_model.specs.Decisions.{Outcome, Done as IsDone, Refused as NotDone}
 use Rattle.kv_model.specs.Closing.{close_busy, close_decision, rolling_back, last_checkpoint, last_stored, after_all}
 use Rattle.kv_model.specs.Told.{Tells}
 use Rattle.kv_model.specs.Calls.{IsTaken, rolled_back}
@@ -119,8 +120,8 @@ pub record IsIdle (m : Machine) : Type 0 where
 
 -- below the last number a checkpoint is as the device takes it
 below_last : (number : ℕ) (storing : Storing) → number < last_number → last_checkpoint number storing ≡ last_stored storing
-below_last number storing less = elim (cases_Bool (nat_le count_max number)) [
-  | inl high ↦ absurd (omega (arith, less, leb-true count_max number high))
+below_last number storing less = elim (cases_Bool (nat_le NUMBER_MAX number)) [
+  | inl high ↦ absurd (omega (arith, less, leb-true NUMBER_MAX number high))
   | inr low ↦ rw low refl
 ]
 
