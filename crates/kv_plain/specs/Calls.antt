@@ -10,64 +10,18 @@ use Rattle.kv_model.specs.History.{Table, tables, named}
 use Rattle.kv_model.specs.Machine.{Machine, Transaction, transaction_of, Event, Nothing, after}
 use Rattle.kv_model.specs.Outside as outside
 use Rattle.kv_model.specs.Reads.{Found, Value, Conflict}
-use Rattle.kv_model.specs.Decisions.{Outcome, Gives, Refused, Request, FindToWrite, CreateCall, SetCall, RtsCall, StartCall, StepCall, CaptureCall, FinishCall, Demand, Anything, Vacant, Occupied, GetAnswer, WriteAnswer, is_there}
+use Rattle.kv_model.specs.Decisions.{Outcome, Gives, Refused, Request, FindToWrite, CreateCall, SetCall, RtsCall, StartCall, StepCall, CaptureCall, FinishCall, Demand, GetAnswer, WriteAnswer, is_there}
 use Rattle.kv_model.specs.Rows.{Way, NextAnswer, SeekAnswer}
 use Rattle.kv_model.specs.Closing.{close_decision, after_all}
 use Rattle.kv_model.specs.Told.{Tells}
 use Rattle.kv_model.specs.Calls as model
 use Rattle.kv_model.specs.Calls.{Finds, AtPlace, Judged, Decided, IsTableFor, evict_decision}
-use Rattle.kv_plain.specs.declared.calls.SessionCall.{SessionCall}
-use Rattle.kv_plain.specs.declared.calls.SessionCall.TheVariants as session
-use Rattle.kv_plain.specs.declared.calls.SystemCall.{SystemCall}
-use Rattle.kv_plain.specs.declared.calls.SystemCall.TheVariants as system
-use Rattle.kv_plain.specs.declared.calls.Call.{Call}
-use Rattle.kv_plain.specs.declared.calls.Call.TheVariants as plain
 use Rattle.kv_plain.specs.declared.calls.Unfinished.{Unfinished}
 use Rattle.kv_plain.specs.declared.calls.Around.{Around}
-use Rattle.kv_plain.specs.declared.key_calls.Demand.{Demand as PlainDemand}
-use Rattle.kv_plain.specs.declared.key_calls.Demand.TheVariants as demand
 use Rattle.kv_plain.specs.declared.event.Turn.{Turn}
 use Rattle.kv_plain.specs.Machine.{machine_in}
 use Rattle.kv_plain.specs.Outcome.{outcome_in}
-use Rattle.kv_plain.specs.Walk.{way_in}
 use Rattle.kv_plain.specs.Decisions.{storing_in}
-
--- ---- calls
-
-abbrev pub demand_in : PlainDemand → Demand
-demand_in demand.Anything = Anything
-demand_in demand.Vacant = Vacant
-demand_in demand.Occupied = Occupied
-
-abbrev pub session_call_in : SessionCall → model.Call
-session_call_in (session.Begin read) = model.Begin read
-session_call_in (session.Get table key) = model.GetKey table key
-session_call_in (session.Put table key value demand) = model.PutKey table key value (demand_in demand)
-session_call_in (session.Remove table key) = model.RemoveKey table key
-session_call_in (session.Seek cursor table key) = model.SeekKey cursor table key
-session_call_in (session.Step cursor table way) = model.NextRow cursor table (way_in way)
-session_call_in (session.Reset cursor) = model.Reset cursor
-session_call_in (session.Prepare stamp) = model.Prepare stamp
-session_call_in (session.Commit commit durable) = model.Commit commit durable
-session_call_in session.Rollback = model.Rollback
-
-abbrev pub system_call_in : SystemCall → model.Call
-system_call_in (system.Create table formats) = model.Create table formats
-system_call_in (system.SetStamps oldest stable) = model.Set oldest stable
-system_call_in system.RollbackToStable = model.Rts
-system_call_in system.StartCheckpoint = model.CkptStart
-system_call_in system.StepCheckpoint = model.CkptStep
-system_call_in system.FinishCheckpoint = model.CkptFinish
-system_call_in (system.Evict table key) = model.Evict table key
-system_call_in system.Close = model.Close
-
-abbrev pub actor_in : Call → model.Actor
-actor_in (plain.Session number call) = model.Session number
-actor_in (plain.System number call) = model.System number
-
-abbrev pub call_in : Call → model.Call
-call_in (plain.Session number call) = session_call_in call
-call_in (plain.System number call) = system_call_in call
 
 -- ---- what lies outside
 

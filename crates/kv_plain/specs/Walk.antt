@@ -5,16 +5,11 @@ use Rattle.kv_model.specs.Machine.{Machine, Transaction}
 use Rattle.kv_model.specs.Reads.{Found, Value, Conflict}
 use Rattle.wt_code.specs.declared.refusals.Refusal.TheVariants.{NotFound, PrepareConflict}
 use Rattle.kv_model.specs.Decisions.{Outcome, GivesRow, Refused}
-use Rattle.kv_model.specs.Rows.{Way, Up, Down, comes_after, is_past}
-use Rattle.kv_plain.specs.declared.walk.Way.{Way as PlainWay}
-use Rattle.kv_plain.specs.declared.walk.Way.TheVariants as plain
+use Rattle.kv_model.specs.Rows.{Way, comes_after, is_past}
+use Rattle.wt_calls.specs.Calls.{way_in}
 use Rattle.kv_plain.specs.declared.walk.Walk.{Walk as PlainWalk}
 use Rattle.kv_plain.specs.Machine.{machine_in, transaction_in}
 use Rattle.kv_plain.specs.Choices.{read_of}
-
-abbrev pub way_in : PlainWay → Way
-way_in plain.Up = Up
-way_in plain.Down = Down
 
 -- a row, or a conflict at one
 abbrev pub is_row : Found → Bool

@@ -7,7 +7,8 @@ ghost use Rattle.kv_model.specs.Calls.{Answers, OpensSession};
 ghost use Rattle.kv_plain.specs.Machine.{machine_in};
 ghost use Rattle.kv_plain.specs.Decisions.{storing_in};
 ghost use Rattle.kv_plain.specs.Outcome.{outcome_in, decision_in};
-ghost use Rattle.kv_plain.specs.Calls.{Leads, Makes, Ends, Settles, step_request, Decides, SystemDecided, IsExact, actor_in, call_in, session_call_in, system_call_in, around_in};
+ghost use Rattle.wt_calls.specs.Calls.{actor_in, call_in, session_call_in, system_call_in};
+ghost use Rattle.kv_plain.specs.Calls.{Leads, Makes, Ends, Settles, step_request, Decides, SystemDecided, IsExact, around_in};
 
 use crate::after::apply;
 use crate::closing::close;
@@ -18,100 +19,14 @@ use crate::decisions::{
     decide_set, decide_start, decide_step, new_table, transaction_at,
 };
 use crate::event::{Answered, Decision, Event, Turn};
-use crate::key_calls::{Demand, get, put, remove};
+use crate::key_calls::{get, put, remove};
 use crate::machine::Machine;
 use crate::outcome::{Outcome, told};
-use crate::walk::Way;
 use failure::NoMemory;
 use item::{Formats, Item};
 use std::alloc::Global;
+use wt_calls::{Call, SessionCall, SystemCall};
 use wt_code::{Answer, Invalid, Refusal};
-
-/// A call of a session. Tables are named by their bytes; a stamp that is not given is none.
-#[derive(Drop)]
-pub enum SessionCall {
-    /// Begin a transaction, at this read stamp.
-    Begin(Option<u64>),
-    /// Read the key.
-    Get {
-        table: Item,
-        key: Item,
-    },
-    /// Give the key this value, where it meets the demand.
-    Put {
-        table: Item,
-        key: Item,
-        value: Item,
-        demand: Demand,
-    },
-    /// Remove the key, which must have a value.
-    Remove {
-        table: Item,
-        key: Item,
-    },
-    /// Take this cursor, from 0 upwards, to the key.
-    Seek {
-        cursor: u32,
-        table: Item,
-        key: Item,
-    },
-    /// Take this cursor to the next row of the table, or to the previous one.
-    Step {
-        cursor: u32,
-        table: Item,
-        way: Way,
-    },
-    /// Let this cursor stand nowhere.
-    Reset(u32),
-    /// Prepare the transaction at this stamp.
-    Prepare(u64),
-    /// Commit the transaction, at these stamps.
-    Commit {
-        commit: Option<u64>,
-        durable: Option<u64>,
-    },
-    /// Roll the transaction back.
-    Rollback,
-}
-
-/// A call of the system.
-#[derive(Drop)]
-pub enum SystemCall {
-    /// Make a table of this name; its number is one above the greatest that was ever made.
-    Create {
-        table: Item,
-        formats: Formats,
-    },
-    /// Raise the oldest and the stable stamp.
-    SetStamps {
-        oldest: Option<u64>,
-        stable: Option<u64>,
-    },
-    /// Take out what is durable after the stable stamp.
-    RollbackToStable,
-    /// Start a checkpoint of what is there now.
-    StartCheckpoint,
-    /// Capture one leaf of the running checkpoint.
-    StepCheckpoint,
-    /// Complete the running checkpoint, whose leaves are all captured.
-    FinishCheckpoint,
-    /// Evict the leaf of the key.
-    Evict {
-        table: Item,
-        key: Item,
-    },
-    /// Roll back what is open, prepared too, and take a checkpoint of all that stands.
-    Close,
-}
-
-/// A call with who makes it, by number: a session, or an actor of the system.
-#[derive(Drop)]
-pub enum Call {
-    /// Of this session, from 0 upwards.
-    Session(u32, SessionCall),
-    /// Of this actor of the system.
-    System(u32, SystemCall),
-}
 
 /// The calls that have begun and have not answered.
 #[derive(Drop)]

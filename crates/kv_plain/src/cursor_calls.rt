@@ -4,7 +4,7 @@ ghost use Rattle.std.specs.Prelude.{IfOk};
 ghost use Rattle.kv_model.specs.Calls as model;
 ghost use Rattle.kv_plain.specs.Machine.{machine_in};
 ghost use Rattle.kv_plain.specs.Outcome.{outcome_in, event_in};
-ghost use Rattle.kv_plain.specs.Walk.{way_in};
+ghost use Rattle.wt_calls.specs.Calls.{way_in};
 ghost use Rattle.kv_plain.specs.Calls.{Leads, Steps, Seeks, IsFound};
 
 use crate::after::apply;
@@ -13,10 +13,11 @@ use crate::event::{Decision, Turn};
 use crate::key_calls::{known_table, seated};
 use crate::machine::Machine;
 use crate::outcome::Outcome;
-use crate::walk::{Way, next_row, seek};
+use crate::walk::{next_row, seek};
 use failure::NoMemory;
 use item::Item;
 use std::alloc::Global;
+use wt_calls::Way;
 
 fn judge_step(
     m: &Machine,

@@ -7,10 +7,11 @@ ghost use Rattle.kv_model.specs.Reads.{present as found_present};
 ghost use Rattle.kv_model.specs.Decisions as answer;
 ghost use Rattle.kv_model.specs.Decisions.{is_there, unmet as unmet_by, WriteAnswer};
 ghost use Rattle.kv_model.specs.Calls as model;
+ghost use Rattle.wt_calls.specs.Calls.{demand_in};
 ghost use Rattle.kv_plain.specs.Plain.{table_in};
 ghost use Rattle.kv_plain.specs.Machine.{transaction_in, machine_in};
 ghost use Rattle.kv_plain.specs.Outcome.{outcome_in, event_in};
-ghost use Rattle.kv_plain.specs.Calls.{Leads, LooksUp, Changes, WritesKey, demand_in, IsFound};
+ghost use Rattle.kv_plain.specs.Calls.{Leads, LooksUp, Changes, WritesKey, IsFound};
 
 use crate::after::apply;
 use crate::decisions::{decide_find, decide_write, table_named, transaction_at};
@@ -23,18 +24,8 @@ use crate::reads::{outcome_of, own_write, read, write_refusal};
 use failure::NoMemory;
 use item::{Change, Item};
 use std::alloc::Global;
+use wt_calls::Demand;
 use wt_code::Refusal;
-
-/// What a write asks of its key.
-#[derive(Clone, Copy, PartialEq, Eq, Debug)]
-pub enum Demand {
-    /// Nothing.
-    Anything,
-    /// No value.
-    Vacant,
-    /// A value.
-    Occupied,
-}
 
 /// The session's transaction.
 pub(crate) fn seated(m: &Machine, session: usize) -> &Transaction

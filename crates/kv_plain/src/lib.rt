@@ -27,12 +27,10 @@ mod standing;
 mod walk;
 mod writes;
 
-pub use calls::{Around, Call, SessionCall, SystemCall, Unfinished, open_session, run};
+pub use calls::{Around, Unfinished, open_session, run};
 pub use decisions::Storing;
 pub use event::Answered;
 pub use history::{Placed, Table};
-pub use key_calls::Demand;
 pub use machine::Machine;
 pub use opening::{Content, Snapshot, new_device, open};
 pub use standing::standing_versions;
-pub use walk::Way;

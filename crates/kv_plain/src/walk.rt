@@ -4,11 +4,12 @@ ghost use Rattle.std.specs.Prelude.{◌≡◌, map, option_map, Some, IfOk};
 ghost use Rattle.kv_model.specs.Machine.{cursor_of};
 ghost use Rattle.kv_model.specs.Reads.{ReadAnswer};
 ghost use Rattle.kv_model.specs.Rows.{key_lt, comes_after, is_past, starts_at, row_event, seek_event, RowAnswer, NextAnswer, SeekAnswer};
+ghost use Rattle.wt_calls.specs.Calls.{way_in};
 ghost use Rattle.kv_plain.specs.Plain.{write_in, entry_in, history_in};
 ghost use Rattle.kv_plain.specs.Machine.{transaction_in, position_in, sessions_in, cursors_in, machine_in};
 ghost use Rattle.kv_plain.specs.Outcome.{outcome_in, event_in};
 ghost use Rattle.kv_plain.specs.Answers.{read_in};
-ghost use Rattle.kv_plain.specs.Walk.{way_in, walk_in, is_row, is_met, is_nearer, nearer, read_at, nearest_written, nearest_entered, nearest_stored, nearest_held, nearest_of, row_answer, answer_at};
+ghost use Rattle.kv_plain.specs.Walk.{walk_in, is_row, is_met, is_nearer, nearer, read_at, nearest_written, nearest_entered, nearest_stored, nearest_held, nearest_of, row_answer, answer_at};
 
 use crate::event::{Decision, Event};
 use crate::history::{Entry, Write};
@@ -17,16 +18,8 @@ use crate::outcome::Outcome;
 use crate::reads::{Reading, outcome_of, read};
 use failure::NoMemory;
 use item::Item;
+use wt_calls::Way;
 use wt_code::Refusal;
-
-/// To greater keys, or to smaller ones.
-#[derive(Clone, Copy, PartialEq, Eq, Debug)]
-pub enum Way {
-    /// To the next row.
-    Up,
-    /// To the previous row.
-    Down,
-}
 
 /// A transaction's way over a table, from a key or from the end.
 #[derive(Clone, Copy)]

@@ -1,5 +1,5 @@
 use Rattle.kv_plain.specs.Machine.{machine_in}
-use Rattle.kv_plain.specs.Calls.{actor_in, call_in}
+use Rattle.wt_calls.specs.Calls.{actor_in, call_in}
 use Rattle.kv_plain.proofs.PlainStanding.{ok_each}
 use Rattle.kv_plain.proofs.Calling.{exact-answers}
 use Rattle.kv_plain.proofs.calls.run.Goals as goal

@@ -1,7 +1,8 @@
 use Rattle.std.proofs.Common.{sym, subst}
+use Rattle.wt_calls.specs.Calls.{system_call_in}
 use Rattle.kv_plain.specs.Machine.{machine_in}
 use Rattle.kv_plain.specs.Outcome.{outcome_in}
-use Rattle.kv_plain.specs.Calls.{Leads, SystemDecided, system_call_in}
+use Rattle.kv_plain.specs.Calls.{Leads, SystemDecided}
 use Rattle.kv_plain.proofs.calls.system_turn.Goals as goal
 
 pub returns-in-Create : goal.returns-in-Create

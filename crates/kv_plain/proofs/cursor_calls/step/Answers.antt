@@ -3,7 +3,7 @@ use Rattle.kv_model.specs.Decisions.{FindRow}
 use Rattle.kv_model.specs.Rows.{NextAnswer}
 use Rattle.kv_plain.specs.Machine.{machine_in}
 use Rattle.kv_plain.specs.Outcome.{outcome_in, event_in, decision_in}
-use Rattle.kv_plain.specs.Walk.{way_in}
+use Rattle.wt_calls.specs.Calls.{way_in}
 use Rattle.kv_plain.proofs.Calling.{row-goes, place-found, place-done, place-refused}
 use Rattle.kv_plain.proofs.cursor_calls.step.Goals as goal
 

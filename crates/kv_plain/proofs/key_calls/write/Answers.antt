@@ -2,7 +2,7 @@ use Rattle.std.proofs.Common.{ap}
 use Rattle.kv_model.specs.Decisions.{FindToWrite, WriteAnswer}
 use Rattle.kv_plain.specs.Machine.{machine_in}
 use Rattle.kv_plain.specs.Outcome.{outcome_in, event_in, decision_in}
-use Rattle.kv_plain.specs.Calls.{demand_in}
+use Rattle.wt_calls.specs.Calls.{demand_in}
 use Rattle.kv_plain.proofs.Calling.{write-goes, place-found, place-done, place-refused}
 use Rattle.kv_plain.proofs.key_calls.write.Goals as goal
 
