@@ -8,6 +8,8 @@
 
 mod after;
 mod calls;
+#[cfg(test)]
+mod case_tests;
 mod checks;
 mod closing;
 mod cursor_calls;
@@ -19,12 +21,16 @@ mod key_calls;
 mod looks;
 mod machine;
 mod opening;
+#[cfg(test)]
+mod opening_tests;
 mod outcome;
 mod reads;
 mod seats;
 mod settling;
 mod standing;
 mod walk;
+#[cfg(test)]
+mod worked_cases;
 mod writes;
 
 pub use calls::{Around, Unfinished, open_session, run};
