@@ -44,3 +44,5 @@ pub mod CapturedKeys
 pub mod WorkedKeys
 pub mod FrameKeys
 pub mod TrimmedKeys
+pub mod KeyOrder
+pub mod RowRanges

@@ -28,6 +28,7 @@ pub mod ReconcileLaws
 pub mod Elsewhere
 pub mod Passing
 pub mod PassingLaws
+pub mod RowLaws
 pub mod Marks
 pub mod MarkLaws
 pub mod StableLaws

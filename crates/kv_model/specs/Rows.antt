@@ -31,16 +31,20 @@ abbrev pub starts_at : ℕ → Option Position → Option (List ℕ)
 starts_at table None = None
 starts_at table (Some p) = if p.table == table then Some p.key else None
 
--- each key between reads as absent; Reads: the answers that a read of a key may give
-abbrev pub AbsentBefore : (List ℕ → Found → Type 0) → Way → Option (List ℕ) → List ℕ → Type 0
-AbsentBefore Reads way from key = (k : List ℕ) → is_past way from k ≡ true → comes_after way k key ≡ true → Reads k (Value None)
+-- each key of a range before this one reads as absent; Reads: the answers that a read of a key may give
+abbrev pub AbsentBefore : (List ℕ → Found → Type 0) → Way → (List ℕ → Bool) → List ℕ → Type 0
+AbsentBefore Reads way within key = (k : List ℕ) → within k ≡ true → comes_after way k key ≡ true → Reads k (Value None)
 
--- the nearest key whose read is not absent: its row or its conflict, or not found where there is none
+-- the nearest key of a range whose read is not absent: its row or its conflict, or not found where there is none
+abbrev pub RangeAnswer : (List ℕ → Found → Type 0) → Way → (List ℕ → Bool) → Outcome → Type 0
+RangeAnswer Reads way within (GivesRow key v) = (within key ≡ true) × Reads key (Value (Some v)) × AbsentBefore Reads way within key
+RangeAnswer Reads way within (Refused (PrepareConflict id)) = (key : List ℕ) × (within key ≡ true) × Reads key (Conflict id) × AbsentBefore Reads way within key
+RangeAnswer Reads way within (Refused NotFound) = (k : List ℕ) → within k ≡ true → Reads k (Value None)
+RangeAnswer Reads way within _ = ⊥
+
+-- of all keys that come after the start
 abbrev pub RowAnswer : (List ℕ → Found → Type 0) → Way → Option (List ℕ) → Outcome → Type 0
-RowAnswer Reads way from (GivesRow key v) = (is_past way from key ≡ true) × Reads key (Value (Some v)) × AbsentBefore Reads way from key
-RowAnswer Reads way from (Refused (PrepareConflict id)) = (key : List ℕ) × (is_past way from key ≡ true) × Reads key (Conflict id) × AbsentBefore Reads way from key
-RowAnswer Reads way from (Refused NotFound) = (k : List ℕ) → is_past way from k ≡ true → Reads k (Value None)
-RowAnswer Reads way from _ = ⊥
+RowAnswer Reads way from outcome = RangeAnswer Reads way (is_past way from) outcome
 
 -- a row takes the cursor to it, not found leaves it unpositioned, a conflict where it was
 abbrev pub row_event : ℕ → ℕ → ℕ → Outcome → Event

@@ -17,6 +17,7 @@ mod openings;
 mod passing;
 mod reconciling;
 mod rollbacks;
+mod rows;
 mod stores;
 mod sweeps;
 
@@ -51,6 +52,7 @@ pub use reconciling::{
     leaves_are_held, prefixes_begin, prefixes_go_on,
 };
 pub use rollbacks::{clean_rolls_back, frame_rolls_back, leaf_rolls_back, marked_rolls_back};
+pub use rows::{absences_go_on, cuts_part_ranges, rows_compose};
 pub use stores::{
     captures_keep_stores, evictions_keep_stores, rollbacks_keep_stores, stores_answer,
 };

@@ -1,43 +1,18 @@
 -- The nearest key of all that were written is that of the next row.
 use Rattle.std.proofs.Common.{◌≡◌, ◌∙◌, ap, refl, subst, ℕ, zero, suc, true, false, ◌&&◌, List, [], ◌∷◌, ◌++◌, map, inl, inr}
 use Rattle.std.specs.Prelude.{Option, Some, None, filter, find, slice_index_or, bytes_eq, ◌==◌}
-use Rattle.std.specs.declared.cmp.Ordering.{Ordering}
-use Rattle.std.specs.declared.cmp.Ordering.TheVariants.{Less, Equal, Greater}
-use Rattle.std.specs.Ordering.{nat_cmp, is_lt}
-use Rattle.std.specs.Cmp.Lexicographic.{slice_cmp}
-use Rattle.std.proofs.lemmas.Cmp.{nat_list_cmp_total, tied_itself}
 use Rattle.std.proofs.lemmas.Bool.{cases_Bool, both_ways, and_parts, and_from}
 use Rattle.std.proofs.lemmas.Slice.Eq.{bytes_eq-Decides}
 use Rattle.kv_model.specs.History.{Entry, Create, Commit, Prepare, Resolve, Undo, Rts, Write, line, writes_at, version_of, is_by}
 use Rattle.kv_model.specs.Machine.{Transaction}
 use Rattle.kv_model.specs.Reads.{own_write, is_own, Found, Value, Conflict, ReadAnswer}
-use Rattle.kv_model.specs.Rows.{Way, Up, Down, key_lt, comes_after, is_past, AbsentBefore, RowAnswer}
+use Rattle.kv_model.specs.Rows.{Way, comes_after, is_past, AbsentBefore, RowAnswer}
 use Rattle.kv_model.proofs.Agrees.{line-rts}
+use Rattle.kv_model.proofs.KeyOrder.{after-trans, after-itself}
 use Rattle.kv_model.proofs.Ordering.{line-writes}
 use Rattle.kv_plain.specs.Choices.{met}
 use Rattle.kv_plain.specs.Walk.{Walk, is_row, read_at, is_met, is_nearer, nearer, nearest_written, nearest_entered, nearest_stored, nearest_held, nearest_of, row_answer, answer_at}
 use Rattle.kv_plain.proofs.Choosing.{reads-others, read-answers}
-
--- ---- the order of keys
-
-less : (o : Ordering) → is_lt o ≡ true → o ≡ Less
-less Less e = refl
-less Equal e = absurd (cc)
-less Greater e = absurd (cc)
-
-below-trans : (a b c : List ℕ) → key_lt a b ≡ true → key_lt b c ≡ true → key_lt a c ≡ true
-below-trans a b c one two = ap is_lt (nat_list_cmp_total.trans a b c (less (slice_cmp nat_cmp a b) one) (less (slice_cmp nat_cmp b c) two))
-
-below-itself : (a : List ℕ) → key_lt a a ≡ false
-below-itself a = ap is_lt (tied_itself nat_list_cmp_total a)
-
-after-trans : (way : Way) (a b c : List ℕ) → comes_after way a b ≡ true → comes_after way b c ≡ true → comes_after way a c ≡ true
-after-trans Up a b c one two = below-trans a b c one two
-after-trans Down a b c one two = below-trans c b a two one
-
-after-itself : (way : Way) (a : List ℕ) → comes_after way a a ≡ false
-after-itself Up a = below-itself a
-after-itself Down a = below-itself a
 
 -- ---- what the nearest key so far keeps
 
@@ -184,7 +159,7 @@ module _ (w : Walk) where
   unfolding IsMet
   nearest-met = (improves-held w stored w.machine.sessions).keeps ((improves-stored w own w.machine.history).keeps ((improves-written w None w.transaction.writes).keeps tt))
 
-  row-there : (key : List ℕ) → is_past w.way w.from key ≡ true → AbsentBefore Reads w.way w.from key → (found : Found) → read_at w key ≡ found → is_row found ≡ true → RowAnswer Reads w.way w.from (row_answer key found)
+  row-there : (key : List ℕ) → is_past w.way w.from key ≡ true → AbsentBefore Reads w.way (is_past w.way w.from) key → (found : Found) → read_at w key ≡ found → is_row found ≡ true → RowAnswer Reads w.way w.from (row_answer key found)
   row-there key past before (Value (Some v)) e is = (past, subst (Reads key) e (read-answers w.machine w.session w.transaction w.table key), before)
   row-there key past before (Value None) e is = absurd (cc)
   row-there key past before (Conflict id) e is = (key, past, subst (Reads key) e (read-answers w.machine w.session w.transaction w.table key), before)
