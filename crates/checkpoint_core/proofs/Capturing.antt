@@ -4,7 +4,7 @@ use Rattle.std.proofs.Common.{sym, ◌∙◌, ap}
 use Rattle.std.proofs.lemmas.Bool.{false≢true}
 use Rattle.disk_model.specs.Disk.{put}
 use Rattle.disk_model.specs.Crash.{Each}
-use Rattle.device_layout.specs.declared.addr.Addr.{Addr as BlockAddr}
+use Rattle.device_layout.specs.declared.addr.Addr.{Addr}
 use Rattle.extent_list.specs.Space.{IsSpot}
 use Rattle.block_mgr.specs.declared.cell.Cell.{Cell}
 use Rattle.block_mgr.specs.Cells.{AreUnits, cell_at, is_used, captured as captured_cells}
@@ -17,19 +17,19 @@ use Rattle.checkpoint_core.specs.Stands.{AreInUse, Stands, blocks_of}
 use Rattle.checkpoint_core.proofs.Recording.{image_still, seen_still}
 
 -- a block that was in use still is
-still_used : (old new : Books) (a : BlockAddr) (i n : ℕ) → Added old new a → Has old.cells i n → Has new.cells i n
+still_used : (old new : Books) (a : Addr) (i n : ℕ) → Added old new a → Has old.cells i n → Has new.cells i n
 still_used old new a i n added has = has_added (λ (c : Cell). is_used c ≡ true) (λ is. false≢true is) old new a i n added has
 
 -- and so is the new one
-pub has_new : (old new : Books) (a : BlockAddr) → Added old new a → Has new.cells a.offset a.size
+pub has_new : (old new : Books) (a : Addr) → Added old new a → Has new.cells a.offset a.size
 has_new old new a added = (added.unit, added.offset, added.size ∙ ap (λ (c : Cell). 4096 * c.units) (sym added.put.here), ap is_used added.put.here)
 
-pub in_use_added : (old new : Books) (a : BlockAddr) (blocks : List Block) → Added old new a → AreInUse old.cells blocks → AreInUse new.cells blocks
+pub in_use_added : (old new : Books) (a : Addr) (blocks : List Block) → Added old new a → AreInUse old.cells blocks → AreInUse new.cells blocks
 in_use_added old new a [] added in_use = tt
 in_use_added old new a (x ∷ blocks) added in_use = (still_used old new a x.place.offset x.place.size added in_use.0, in_use_added old new a blocks added in_use.1)
 
 -- once a block was written, the old checkpoint stands as before
-pub captured : (seen now bytes : List ℕ) (images left : List ℕ → Type 0) (books after : Books) (capacity : ℕ) (old : Option Stored) (a : BlockAddr) → Stands seen images books old → AreUnits books.cells books.space → 1 ≤ length bytes
+pub captured : (seen now bytes : List ℕ) (images left : List ℕ → Type 0) (books after : Books) (capacity : ℕ) (old : Option Stored) (a : Addr) → Stands seen images books old → AreUnits books.cells books.space → 1 ≤ length bytes
     → IsSpot books.space (length bytes) capacity a.offset → now ≡ put seen a.offset bytes → Each left (FromBase books.is_synced a.offset (length bytes) seen images) → Added books after a → Stands now left after old
 captured seen now bytes images left books after capacity old a stands units some spot written from added = record {
   seen_has = seen_still seen images books old stands units now bytes capacity a.offset some spot written;
@@ -42,5 +42,5 @@ pub live_captured : (cells : List Cell) (u at n : ℕ) → HasLive cells at n �
 live_captured cells u at n has = has_set (λ (c : Cell). c.is_live ≡ true) cells at n u (record (cell_at cells u) { is_running = true }) (λ is. is) has
 
 -- a block that was written is live
-pub live_added : (old new : Books) (a : BlockAddr) → Added old new a → HasLive new.cells a.offset a.size
+pub live_added : (old new : Books) (a : Addr) → Added old new a → HasLive new.cells a.offset a.size
 live_added old new a added = (added.unit, added.offset, added.size ∙ ap (λ (c : Cell). 4096 * c.units) (sym added.put.here), ap (λ (c : Cell). c.is_live) added.put.here)

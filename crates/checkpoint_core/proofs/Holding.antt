@@ -9,11 +9,9 @@ use Rattle.turtle.specs.Slots.{Chooses}
 use Rattle.block_mgr.specs.declared.cell.Cell.{Cell}
 use Rattle.block_mgr.specs.Blocks.{Has}
 use Rattle.stored.specs.Blocks.{Block, IsAddressed, Holds, Same}
-use Rattle.stored.specs.Slots.{SameSlots}
-use Rattle.stored.specs.Stored.{Stored, stored_blocks, IsWhole, IsOn}
+use Rattle.stored.specs.Stored.{Stored, SameSlots, stored_blocks, IsWhole, IsOn}
 use Rattle.stored.proofs.Device.{frame_on, frame_blank}
-use Rattle.checkpoint_core.specs.Stands.{slot_of, HasStill, chosen_of, blocks_of, AreInUse}
-use Rattle.checkpoint_core.proofs.Slots.{on_chooses, blank_chooses, chooses_blank, chooses_chosen}
+use Rattle.checkpoint_core.specs.Stands.{HasStill, chosen_of, blocks_of, AreInUse}
 
 -- ---- a write away from the blocks
 
@@ -58,18 +56,18 @@ holds_behind c d (b ∷ blocks) same long also addressed holds = (
 )
 
 -- the slots choose a checkpoint whose blocks are there
-pub chosen_on : (s : Stored) (c d : List ℕ) → IsWhole s → Holds d (stored_blocks s) → drop 8192 c ≡ drop 8192 d → 8192 ≤ length c → 8192 ≤ length d → Chooses c (Some (slot_of s.slot)) → IsOn c s
+pub chosen_on : (s : Stored) (c d : List ℕ) → IsWhole s → Holds d (stored_blocks s) → drop 8192 c ≡ drop 8192 d → 8192 ≤ length c → 8192 ≤ length d → Chooses c (Some s.slot) → IsOn c s
 chosen_on s c d whole holds same long also chooses = record {
   whole = whole;
   long = long;
-  chosen = chooses_chosen c (slot_of s.slot) chooses;
+  chosen = chooses;
   holds = holds_behind c d (stored_blocks s) same long also whole.addressed holds;
 }
 
 pub still_behind : (old : Option Stored) (c d : List ℕ) → HasStill old d → drop 8192 c ≡ drop 8192 d → 8192 ≤ length c → Chooses c (chosen_of old) → HasStill old c
-still_behind None c d has same long chooses = chooses_blank c long chooses
+still_behind None c d has same long chooses = record { long = long; shut = chooses }
 still_behind (Some s) c d has same long chooses = chosen_on s c d has.whole has.holds same long has.long chooses
 
 pub still_chooses : (old : Option Stored) (bytes : List ℕ) → HasStill old bytes → Chooses bytes (chosen_of old)
-still_chooses None bytes has = blank_chooses bytes has
-still_chooses (Some s) bytes has = on_chooses bytes s has
+still_chooses None bytes has = has.shut
+still_chooses (Some s) bytes has = has.chosen

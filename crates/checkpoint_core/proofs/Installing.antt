@@ -1,6 +1,6 @@
 -- What a sync and the install of a slot leave.
 use Rattle.std.specs.Prelude.{◌≡◌, ◌⊎◌, ℕ, ◌<◌, ◌≤◌, ◌^◌, List, length, take, drop, Option, Some, Result, Ok, Err, OnOk, IfErr, refl}
-use Rattle.std.proofs.Common.{inl, inr, sym, ◌∙◌, ap, subst, arith}
+use Rattle.std.proofs.Common.{inl, inr, sym, ◌∙◌, ap, subst}
 use Rattle.failure.specs.declared.Fault.{Fault}
 use Rattle.disk_model.specs.Disk.{Only}
 use Rattle.disk_model.specs.declared.disk.Disk.{Ghosts}
@@ -10,15 +10,15 @@ use Rattle.extent_list.specs.Space.{Space, HasNoRoom}
 use Rattle.wt_code.specs.declared.store_error.StoreError.{StoreError}
 use Rattle.wt_code.specs.declared.store_error.StoreError.TheVariants.{NoMemory, NoSpace, Read, Down}
 use Rattle.wt_code.specs.StoreErrors.{OnRead, IfDown, IsOfDisk}
-use Rattle.device_layout.specs.declared.addr.Addr.{Addr as BlockAddr}
+use Rattle.device_layout.specs.declared.addr.Addr.{Addr}
 use Rattle.device_layout.specs.declared.slot.Slot.{Slot}
 use Rattle.turtle.specs.Slots.{Chooses, IsNext, Before, Behind, LeftOld, LeftEither, Installed}
 use Rattle.stored.specs.Stored.{Stored, IsOn}
-use Rattle.checkpoint_core.specs.Stands.{slot_of, at_slot, HasStill, chosen_of, IsWritten, placed_at}
-use Rattle.checkpoint_core.specs.Finishes.{IsOld, IsEither, HasOne, Installs, HadRoom, Finishes, place_of, units_of}
+use Rattle.checkpoint_core.specs.Stands.{HasStill, chosen_of, IsWritten, placed_at}
+use Rattle.checkpoint_core.specs.Finishes.{IsOld, IsEither, HasOne, Installs, HadRoom, Finishes, units_of}
 use Rattle.checkpoint_core.proofs.Holding.{still_long, still_behind, still_chooses, chosen_on}
 
-module _ (seen now : List ℕ) (images left : List ℕ → Type 0) (old : Option Stored) (new : Stored) (slot : Slot) (written : IsWritten seen images old new) (same : now ≡ seen) (only : Only now left) (is : new.slot ≡ at_slot slot) where
+module _ (seen now : List ℕ) (images left : List ℕ → Type 0) (old : Option Stored) (new : Stored) (slot : Slot) (written : IsWritten seen images old new) (same : now ≡ seen) (only : Only now left) (is : new.slot ≡ slot) where
   pub has_now : HasStill old now
   has_now = subst (λ (l : List ℕ). HasStill old l) (sym same) written.seen_has
 
@@ -33,12 +33,9 @@ module _ (seen now : List ℕ) (images left : List ℕ → Type 0) (old : Option
   old_left : (c : List ℕ) → Behind left c → Chooses c (chosen_of old) → HasStill old c
   old_left c (d, there, long, behind) chooses = still_behind old c now has_now (behind ∙ ap (λ (l : List ℕ). drop 8192 l) (only d there)) long chooses
 
-  named_slot : slot_of new.slot ≡ slot
-  named_slot = ap slot_of is
-
   new_left : (c : List ℕ) → drop 8192 c ≡ drop 8192 now → 8192 ≤ length c → Chooses c (Some slot) → IsOn c new
   new_left c behind long chooses =
-      chosen_on new c seen written.whole written.holds (behind ∙ ap (λ (l : List ℕ). drop 8192 l) same) long (still_long old seen written.seen_has) (subst (λ (x : Slot). Chooses c (Some x)) (sym named_slot) chooses)
+      chosen_on new c seen written.whole written.holds (behind ∙ ap (λ (l : List ℕ). drop 8192 l) same) long (still_long old seen written.seen_has) (subst (λ (x : Slot). Chooses c (Some x)) (sym is) chooses)
 
   pub left_old : (c : List ℕ) → LeftOld left (chosen_of old) c → HasStill old c
   left_old c left_is = old_left c left_is.0 left_is.1
@@ -74,26 +71,26 @@ module _ {D : Type 0} (g : Ghosts D) where
         | inr at_gate ↦ inr all
       ]
 
-  module _ (space : Space) (n capacity : ℕ) (old : Option Stored) (new : Stored) (a : BlockAddr) (start mid end : D) (first : Run start mid (IsOld (g.may_leave start) old)) where
-    one : (c : List ℕ) → HasOne old (placed_at new (place_of a)) c → IsEither (g.may_leave start) old (placed_at new (place_of a)) c
+  module _ (space : Space) (n capacity : ℕ) (old : Option Stored) (new : Stored) (a : Addr) (start mid end : D) (first : Run start mid (IsOld (g.may_leave start) old)) where
+    one : (c : List ℕ) → HasOne old (placed_at new a) c → IsEither (g.may_leave start) old (placed_at new a) c
     one c (inl still) = inl (inr still)
     one c (inr there) = inr there
 
     -- a write of the record, and then both
-    pub finished : (done : Unit {0}) → Installs g old (placed_at new (place_of a)) mid end (Ok done) → HadRoom space n capacity → Finishes g space n capacity old new start end (Ok a)
+    pub finished : (done : Unit {0}) → Installs g old (placed_at new a) mid end (Ok done) → HadRoom space n capacity → Finishes g space n capacity old new start end (Ok a)
     finished done rest room = (
       joined g start mid end _ _ (widened g start mid _ _ first (λ c is. inl is)) rest.0 (λ c is. one c is),
       rest.1,
       room,
     )
 
-    pub not_finished : (e : StoreError) → Installs g old (placed_at new (place_of a)) mid end (Err e) → Finishes g space n capacity old new start end (Err e)
+    pub not_finished : (e : StoreError) → Installs g old (placed_at new a) mid end (Err e) → Finishes g space n capacity old new start end (Err e)
     not_finished NoMemory rest = absurd rest
     not_finished NoSpace rest = absurd rest
     not_finished Read rest = joined g start mid end _ _ first rest (λ c is. inr is)
     not_finished (Down fault) rest = elim rest [
       | inl keeps ↦ inl (joined g start mid end _ _ first keeps (λ c is. inr is))
-      | inr all ↦ inr (place_of a, joined g start mid end _ _ (widened g start mid _ _ first (λ c is. inl is)) all one)
+      | inr all ↦ inr (a, joined g start mid end _ _ (widened g start mid _ _ first (λ c is. inl is)) all one)
     ]
 
   -- the write of the record was refused

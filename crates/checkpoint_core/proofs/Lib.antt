@@ -1,4 +1,3 @@
-pub mod Slots
 pub mod Holding
 pub mod Installing
 pub mod Recording

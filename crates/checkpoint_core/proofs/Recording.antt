@@ -1,5 +1,5 @@
 -- The block of a record, written behind the other blocks of a checkpoint.
-use Rattle.std.specs.Prelude.{◌≡◌, ℕ, ◌+◌, ◌≤◌, max, Bool, true, false, IsTrue, List, [], ◌∷◌, length, Option, refl}
+use Rattle.std.specs.Prelude.{◌≡◌, ℕ, ◌+◌, ◌≤◌, Bool, true, false, IsTrue, List, [], ◌∷◌, length, Option, refl}
 use Rattle.std.specs.List.{AllByRecursion}
 use Rattle.std.proofs.Common.{inl, inr, sym, ◌∙◌, ap, subst, arith}
 use Rattle.std.proofs.lemmas.Bool.{cases_lt}
@@ -12,16 +12,16 @@ use Rattle.disk_model.specs.Ranges.{range, range_put_same, length_put}
 use Rattle.disk_model.specs.Crash.{Keeps, Each, Apart as ApartFrom}
 use Rattle.extent_list.specs.Space.{Space, IsSpot, Taken}
 use Rattle.block_mgr.specs.declared.cell.Cell.{Cell}
-use Rattle.device_layout.specs.declared.addr.Addr.{Addr as BlockAddr}
+use Rattle.device_layout.specs.declared.addr.Addr.{Addr}
 use Rattle.block_mgr.specs.Cells.{AreUnits}
 use Rattle.block_mgr.specs.Blocks.{Books, Has}
 use Rattle.block_mgr.specs.Writes.{Base, FromBase, Wrote, IsAddress}
 use Rattle.block_mgr.proofs.HasLemmas.{spot_apart, spot_keeps}
-use Rattle.stored.specs.Blocks.{Addr, Block, IsAddressed, IsAt, Holds, AreApart}
+use Rattle.stored.specs.Blocks.{Block, IsAddressed, IsAt, Holds, AreApart}
 use Rattle.stored.specs.Records.{record_image}
 use Rattle.stored.specs.Stored.{Stored, record_block, stored_blocks, IsWhole}
 use Rattle.checkpoint_core.specs.Stands.{HasStill, AreInUse, Stands, body_blocks, IsReady, placed_at}
-use Rattle.checkpoint_core.specs.Finishes.{IsOld, place_of}
+use Rattle.checkpoint_core.specs.Finishes.{IsOld}
 use Rattle.checkpoint_core.proofs.Holding.{still_kept, holds_kept}
 
 -- the length of an image's block
@@ -50,20 +50,20 @@ module _ (seen : List ℕ) (images : List ℕ → Type 0) (books : Books) (old :
 
 -- ---- the new checkpoint
 
-are_apart : (a : BlockAddr) (b : Block) → ApartFrom a.offset a.size b.place.offset b.place.size → AreApart (place_of a) b.place
+are_apart : (a : Addr) (b : Block) → ApartFrom a.offset a.size b.place.offset b.place.size → AreApart a b.place
 are_apart a b apart = elim (cases_lt a.offset (b.place.offset + b.place.size)) [
   | inl meets ↦ inl (apart meets)
   | inr behind ↦ inr behind
 ]
 
-all_apart : (a : BlockAddr) (used : List Cell) (blocks : List Block) → ((i n : ℕ) → Has used i n → ApartFrom a.offset a.size i n) → AreInUse used blocks → AllByRecursion (λ (b : Block). AreApart (place_of a) b.place) blocks
+all_apart : (a : Addr) (used : List Cell) (blocks : List Block) → ((i n : ℕ) → Has used i n → ApartFrom a.offset a.size i n) → AreInUse used blocks → AllByRecursion (λ (b : Block). AreApart a b.place) blocks
 all_apart a used [] apart in_use = tt
 all_apart a used (b ∷ blocks) apart in_use = (are_apart a b (apart b.place.offset b.place.size in_use.0), all_apart a used blocks apart in_use.1)
 
-module _ (seen now image : List ℕ) (books : Books) (after : Space) (capacity : ℕ) (new : Stored) (a : BlockAddr) (ready : IsReady seen books image new) (units : AreUnits books.cells books.space)
+module _ (seen now image : List ℕ) (books : Books) (after : Space) (capacity : ℕ) (new : Stored) (a : Addr) (ready : IsReady seen books image new) (units : AreUnits books.cells books.space)
     (is : IsAddress (block_of image) a) (taken : Taken books.space after a.size capacity a.offset) (low : a.offset ≤ length seen) (written : now ≡ put seen a.offset (block_of image)) where
   abbrev placed : Stored
-  placed = placed_at new (place_of a)
+  placed = placed_at new a
 
   sized : a.size ≡ block_size (length image)
   sized = is.size ∙ block_length image

@@ -1,5 +1,5 @@
 -- The room for further blocks is told by the blocks that are there.
-use Rattle.std.specs.Prelude.{◌≡◌, ◌⊎◌, ℕ, ◌+◌, ◌<◌, ◌≤◌, List, [], ◌∷◌}
+use Rattle.std.specs.Prelude.{◌≡◌, ℕ, ◌+◌, List, [], ◌∷◌}
 use Rattle.std.proofs.Common.{inl, inr, sym, ◌∙◌, subst, arith}
 use Rattle.std.proofs.lemmas.Bool.{cases_lt}
 use Rattle.extent_list.specs.Space.{Space, IsFree, Fits, IsSpot, Took, Taken, HasNoRoom, end_of as space_end}

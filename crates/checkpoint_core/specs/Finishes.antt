@@ -5,11 +5,10 @@ use Rattle.disk_model.specs.declared.disk.Disk.{Ghosts}
 use Rattle.extent_list.specs.Space.{Space, Taken, HasNoRoom}
 use Rattle.wt_code.specs.declared.store_error.StoreError.{StoreError}
 use Rattle.wt_code.specs.declared.store_error.StoreError.TheVariants.{NoMemory, NoSpace, Read, Down}
-use Rattle.device_layout.specs.declared.addr.Addr.{Addr as BlockAddr}
+use Rattle.device_layout.specs.declared.addr.Addr.{Addr}
 use Rattle.block_mgr.specs.Cells.{captured, freed, done}
 use Rattle.block_mgr.specs.Blocks.{Books, unit_of}
 use Rattle.block_mgr.specs.Writes.{Added}
-use Rattle.stored.specs.Blocks.{Addr}
 use Rattle.stored.specs.Stored.{Stored, IsOn}
 use Rattle.checkpoint_core.specs.Stands.{HasStill, placed_at}
 
@@ -25,10 +24,6 @@ IsEither images old new c = IsOld images old c ⊎ IsOn c new
 abbrev pub units_of : ℕ → ℕ
 units_of n = (n + 4095) / 4096 * 4096
 
--- the address of a block, as a stored one has it
-abbrev pub place_of : BlockAddr → Addr
-place_of a = record { offset = a.offset; size = a.size; sum = a.sum }
-
 -- there was room for the record
 abbrev pub HadRoom : Space → ℕ → ℕ → Type 0
 HadRoom space n capacity = (after : Space) × (at : ℕ) × Taken space after (units_of n) capacity at
@@ -40,12 +35,12 @@ Fails g space n capacity old new before after NoSpace = HasNoRoom space (units_o
 Fails g space n capacity old new before after Read = LeavesOnly g before after (IsOld (g.may_leave before) old)
 Fails g space n capacity old new before after (Down fault) =
     LeavesOnly g before after (IsOld (g.may_leave before) old)
-    ⊎ ((place : Addr) × LeavesOnly g before after (IsEither (g.may_leave before) old (placed_at new place)))
+    ⊎ ((a : Addr) × LeavesOnly g before after (IsEither (g.may_leave before) old (placed_at new a)))
 
 -- At Ok each image has the new checkpoint, whose record stands at the address.
-abbrev pub Finishes : {D : Type 0} (g : Ghosts D) → Space → ℕ → ℕ → Option Stored → Stored → D → D → Result BlockAddr StoreError → Type 0
+abbrev pub Finishes : {D : Type 0} (g : Ghosts D) → Space → ℕ → ℕ → Option Stored → Stored → D → D → Result Addr StoreError → Type 0
 Finishes g space n capacity old new before after (Ok a) =
-    LeavesOnly g before after (IsEither (g.may_leave before) old (placed_at new (place_of a))) × Each (g.may_leave after) (λ c. IsOn c (placed_at new (place_of a))) × HadRoom space n capacity
+    LeavesOnly g before after (IsEither (g.may_leave before) old (placed_at new a)) × Each (g.may_leave after) (λ c. IsOn c (placed_at new a)) × HadRoom space n capacity
 Finishes g space n capacity old new before after (Err e) = Fails g space n capacity old new before after e
 
 -- an image that has the old checkpoint, or the new one
@@ -65,5 +60,5 @@ Installs g old new before after (Ok done) = LeavesOnly g before after (HasOne ol
 Installs g old new before after (Err e) = InstallFails g old new before after e
 
 -- The record is one of the last checkpoint's blocks, which are those that the running one had captured, and the live tree does not have it.
-abbrev pub IsLastNow : Books → Books → BlockAddr → Type 0
+abbrev pub IsLastNow : Books → Books → Addr → Type 0
 IsLastNow before after a = (mid : Books) × Added before mid a × (after.cells ≡ done (freed (captured mid.cells (unit_of a.offset)) (unit_of a.offset)))

@@ -4,22 +4,14 @@ use Rattle.std.specs.List.{AllByRecursion}
 use Rattle.disk_model.specs.Crash.{Each}
 use Rattle.block_mgr.specs.Blocks.{Books, Has}
 use Rattle.block_mgr.specs.declared.cell.Cell.{Cell}
-use Rattle.device_layout.specs.declared.addr.Addr.{Addr as BlockAddr}
+use Rattle.device_layout.specs.declared.addr.Addr.{Addr}
 use Rattle.device_layout.specs.declared.slot.Slot.{Slot}
-use Rattle.stored.specs.Blocks.{Addr, Block, IsAddressed, Holds, Apart}
-use Rattle.stored.specs.Slots.{Slot as AtSlot}
+use Rattle.device_layout.specs.Slots.{slot_at}
+use Rattle.stored.specs.Blocks.{Block, IsAddressed, Holds, Apart}
 use Rattle.stored.specs.Tree.{IsTree}
 use Rattle.stored.specs.HistoryTree.{history_kind, history_root_entry}
 use Rattle.stored.specs.Records.{IsRecord, record_image}
 use Rattle.stored.specs.Stored.{Stored, AreTrees, tables_blocks, history_blocks, stored_blocks, IsWhole, IsOn, IsBlank}
-
--- a slot as turtle has it
-abbrev pub slot_of : AtSlot → Slot
-slot_of s = record { sequence = s.sequence; offset = s.place.offset; size = s.place.size; sum = s.place.sum }
-
--- and as stored has it
-abbrev pub at_slot : Slot → AtSlot
-at_slot s = record { sequence = s.sequence; place = record { offset = s.offset; size = s.size; sum = s.sum } }
 
 -- the device has the checkpoint, or none
 abbrev pub HasStill : Option Stored → List ℕ → Type 0
@@ -28,7 +20,7 @@ HasStill (Some s) bytes = IsOn bytes s
 
 abbrev pub chosen_of : Option Stored → Option Slot
 chosen_of None = None
-chosen_of (Some s) = Some (slot_of s.slot)
+chosen_of (Some s) = Some s.slot
 
 abbrev pub blocks_of : Option Stored → List Block
 blocks_of None = []
@@ -59,9 +51,9 @@ pub record IsReady (seen : List ℕ) (books : Books) (image : List ℕ) (s : Sto
   pub holds : Holds seen (body_blocks s)
   pub in_use : AreInUse books.cells (body_blocks s)
 
--- the checkpoint, whose record stands at a place
+-- the checkpoint, whose record stands at an address
 abbrev pub placed_at : Stored → Addr → Stored
-placed_at s place = record s { slot = record { sequence = s.kept.sequence; place = place } }
+placed_at s a = record s { slot = slot_at s.kept.sequence a }
 
 -- All of both is on the device, but that the slots choose the old one. Each image has the old one.
 pub record IsWritten (seen : List ℕ) (images : List ℕ → Type 0) (old : Option Stored) (new : Stored) : Type 0 where
@@ -69,7 +61,3 @@ pub record IsWritten (seen : List ℕ) (images : List ℕ → Type 0) (old : Opt
   pub images_have : Each images (HasStill old)
   pub whole : IsWhole new
   pub holds : Holds seen (stored_blocks new)
-
--- the slot of a sequence that names a block
-abbrev pub named : ℕ → BlockAddr → Slot
-named sequence addr = record { sequence = sequence; offset = addr.offset; size = addr.size; sum = addr.sum }

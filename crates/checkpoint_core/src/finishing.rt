@@ -9,7 +9,7 @@ ghost use Rattle.device_layout.specs.declared.slot.Slot.{Slot as ASlot};
 ghost use Rattle.block_mgr.specs.Blocks.{HasLive, unit_of};
 ghost use Rattle.block_mgr.specs.Cells.{captured, freed};
 ghost use Rattle.stored.specs.Stored.{Stored};
-ghost use Rattle.checkpoint_core.specs.Stands.{Stands, IsReady, IsWritten, named, at_slot, chosen_of};
+ghost use Rattle.checkpoint_core.specs.Stands.{Stands, IsReady, IsWritten, chosen_of};
 ghost use Rattle.checkpoint_core.specs.Finishes.{Finishes, Installs, IsLastNow};
 
 use block_mgr::{Addr, Blocks};
@@ -53,7 +53,7 @@ pub fn finish<D: Disk>(
         Err(error) => return Err(error),
     };
     hand_over(blocks, addr);
-    match sync_and_install(disk, slot_at(sequence, addr)) {
+    match sync_and_install(disk, Slot::new(sequence, addr)) {
         Ok(()) => {
             blocks.ckpt_done();
             Ok(addr)
@@ -73,22 +73,11 @@ fn hand_over(blocks: &mut Blocks, addr: Addr)
     blocks.free(addr);
 }
 
-fn slot_at(sequence: u64, addr: Addr) -> Slot
-    ensures { result ≡ named sequence addr }
-{
-    Slot {
-        sequence,
-        offset: addr.offset,
-        size: addr.size,
-        sum: addr.sum,
-    }
-}
-
 // Syncs what was written, and installs the slot that names the record there.
 fn sync_and_install<D: Disk>(disk: &mut D, slot: Slot) -> Result<(), StoreError>
     requires sequence { slot.sequence < 2 ^ 62 }
     requires long { IsTrue (D.honest disk.old) → 8192 ≤ length (D.seen disk.old) }
-    ensures leaves { IsTrue (D.honest disk.old) → (old : Option Stored) (new : Stored) → IsWritten (D.seen disk.old) (D.may_leave disk.old) old new → new.slot ≡ at_slot slot → IsNext (chosen_of old) slot
+    ensures leaves { IsTrue (D.honest disk.old) → (old : Option Stored) (new : Stored) → IsWritten (D.seen disk.old) (D.may_leave disk.old) old new → new.slot ≡ slot → IsNext (chosen_of old) slot
         → Installs D.Disk old new disk.old disk.new result }
     ensures kind { IfErr result IsOfDisk }
     ensures rose { OnErr result (Rose (D.faults disk.old) (D.faults disk.new)) }

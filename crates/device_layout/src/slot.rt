@@ -1,6 +1,6 @@
 // The slot that names a checkpoint's record.
 ghost use Rattle.std.specs.Prelude.{◌≡◌};
-ghost use Rattle.device_layout.specs.Slots.{addr_in};
+ghost use Rattle.device_layout.specs.Slots.{addr_in, slot_at};
 
 use crate::Addr;
 
@@ -20,8 +20,7 @@ pub struct Slot {
 impl Slot {
     /// The slot of the checkpoint of this number, whose record stands at this address.
     pub fn new(sequence: u64, addr: Addr) -> Slot
-        ensures sequence { result.sequence ≡ sequence }
-        ensures addr { addr_in result ≡ addr }
+        ensures { result ≡ slot_at sequence addr }
     {
         Slot {
             sequence,

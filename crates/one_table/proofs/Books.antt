@@ -1,5 +1,5 @@
 -- The blocks of a device with one table of one leaf, as the books have them.
-use Rattle.std.specs.Prelude.{◌≡◌, ◌⊎◌, ℕ, zero, suc, ◌+◌, ◌-◌, ◌*◌, ◌/◌, ◌%◌, ◌<◌, ◌≤◌, ◌==◌, max, true, false, List, [], ◌∷◌, length, take, Bool, refl, if◌then◌else◌}
+use Rattle.std.specs.Prelude.{◌≡◌, ◌⊎◌, ℕ, zero, suc, ◌+◌, ◌-◌, ◌*◌, ◌/◌, ◌<◌, ◌≤◌, ◌==◌, max, List, [], ◌∷◌, length, take, refl}
 use Rattle.std.proofs.Common.{inl, inr, sym, ◌∙◌, ap, subst, arith}
 use Rattle.std.proofs.lemmas.Bool.{cases_Bool, eqb-true, eq-eqb, false≢true}
 use Rattle.std.proofs.lemmas.List.{take_all}
@@ -9,27 +9,27 @@ use Rattle.device_layout.specs.declared.addr.Addr.{Addr}
 use Rattle.device_layout.specs.declared.slot.Slot.{Slot}
 use Rattle.block_mgr.specs.declared.cell.Cell.{Cell}
 use Rattle.block_mgr.specs.declared.found.Found.{Found}
-use Rattle.block_mgr.specs.Cells.{AreUnits, cell_at}
+use Rattle.block_mgr.specs.Cells.{cell_at}
 use Rattle.block_mgr.specs.Blocks.{Books, Has, unit_of}
 use Rattle.block_mgr.specs.Places.{IsPlace}
 use Rattle.block_mgr.specs.Open.{AreStored, Agree, found_at, found_cell, last_end}
 use Rattle.block_mgr.proofs.OpenLemmas.{units_known, from_one}
 use Rattle.stored.specs.Blocks.{Block}
 use Rattle.checkpoint_core.specs.Stands.{AreInUse}
-use Rattle.checkpoint_core.specs.Room.{InBlocks, end_of, IsSpaceOf}
-use Rattle.one_table.specs.declared.leaf.Root.{Root}
-use Rattle.one_table.specs.Openings.{record_addr, record_found, leaf_found, found_of, HasBooks}
-use Rattle.one_table.proofs.Leaves.{addr_at}
+use Rattle.checkpoint_core.specs.Room.{InBlocks, IsSpaceOf}
+use Rattle.device_layout.specs.declared.link.Link.{Link}
+use Rattle.device_layout.specs.Slots.{addr_in}
+use Rattle.one_table.specs.Openings.{record_found, leaf_found, found_of, HasBooks}
 
 abbrev pub ends : Addr → ℕ
 ends a = a.offset + a.size
 
-pub one_found : (slot : Slot) (root : Root) → root.addr.offset ≡ 0 → found_of slot root ≡ record_found slot ∷ []
-one_found slot root is = rw (eq-eqb root.addr.offset 0 is) refl
+pub one_found : (slot : Slot) (link : Link) → link.addr.offset ≡ 0 → found_of slot link ≡ record_found slot ∷ []
+one_found slot link is = rw (eq-eqb link.addr.offset 0 is) refl
 
-pub two_found : (slot : Slot) (root : Root) → (root.addr.offset ≡ 0 → ⊥) → found_of slot root ≡ record_found slot ∷ leaf_found root ∷ []
-two_found slot root some = elim (cases_Bool (root.addr.offset == 0)) [
-  | inl is ↦ absurd (some (eqb-true root.addr.offset 0 is))
+pub two_found : (slot : Slot) (link : Link) → (link.addr.offset ≡ 0 → ⊥) → found_of slot link ≡ record_found slot ∷ leaf_found link ∷ []
+two_found slot link some = elim (cases_Bool (link.addr.offset == 0)) [
+  | inl is ↦ absurd (some (eqb-true link.addr.offset 0 is))
   | inr isnt ↦ rw isnt refl
 ]
 
@@ -40,15 +40,15 @@ one_stored_addr x len is within = record { fit = fit; agree = λ i j lt less. ab
     fit zero lt = (is, within)
     fit (suc i) lt = absurd (omega (arith, lt))
 
-pub two_stored : (slot : Slot) (root : Root) (len : ℕ) → IsPlace (record_addr slot) → IsPlace root.addr → (ends (record_addr slot) ≤ root.addr.offset) ⊎ (ends root.addr ≤ slot.offset) → ends (record_addr slot) ≤ len → ends root.addr ≤ len → AreStored (record_found slot ∷ leaf_found root ∷ []) len
-two_stored slot root len is also apart within end = record { fit = fit; agree = λ i j lt less. both i j lt less }
+pub two_stored : (slot : Slot) (link : Link) (len : ℕ) → IsPlace (addr_in slot) → IsPlace link.addr → (ends (addr_in slot) ≤ link.addr.offset) ⊎ (ends link.addr ≤ slot.offset) → ends (addr_in slot) ≤ len → ends link.addr ≤ len → AreStored (record_found slot ∷ leaf_found link ∷ []) len
+two_stored slot link len is also apart within end = record { fit = fit; agree = λ i j lt less. both i j lt less }
   where
-    fit : (i : ℕ) → i < 2 → IsPlace (found_at (record_found slot ∷ leaf_found root ∷ []) i).addr × (ends (found_at (record_found slot ∷ leaf_found root ∷ []) i).addr ≤ len)
+    fit : (i : ℕ) → i < 2 → IsPlace (found_at (record_found slot ∷ leaf_found link ∷ []) i).addr × (ends (found_at (record_found slot ∷ leaf_found link ∷ []) i).addr ≤ len)
     fit zero lt = (is, within)
     fit (suc zero) lt = (also, end)
     fit (suc (suc i)) lt = absurd (omega (arith, lt))
 
-    both : (i j : ℕ) → i < j → j < 2 → Agree (found_at (record_found slot ∷ leaf_found root ∷ []) i) (found_at (record_found slot ∷ leaf_found root ∷ []) j)
+    both : (i j : ℕ) → i < j → j < 2 → Agree (found_at (record_found slot ∷ leaf_found link ∷ []) i) (found_at (record_found slot ∷ leaf_found link ∷ []) j)
     both zero zero lt less = absurd (omega (arith, lt))
     both zero (suc zero) lt less = inl apart
     both zero (suc (suc j)) lt less = absurd (omega (arith, less))
@@ -56,8 +56,8 @@ two_stored slot root len is also apart within end = record { fit = fit; agree = 
     both (suc i) (suc zero) lt less = absurd (omega (arith, lt))
     both (suc i) (suc (suc j)) lt less = absurd (omega (arith, less))
 
-pub two_apart : (slot : Slot) (root : Root) (len : ℕ) → AreStored (record_found slot ∷ leaf_found root ∷ []) len → (ends (record_addr slot) ≤ root.addr.offset) ⊎ (ends root.addr ≤ slot.offset)
-two_apart slot root len are = elim (are.agree 0 1 (omega arith) (omega arith)) [
+pub two_apart : (slot : Slot) (link : Link) (len : ℕ) → AreStored (record_found slot ∷ leaf_found link ∷ []) len → (ends (addr_in slot) ≤ link.addr.offset) ⊎ (ends link.addr ≤ slot.offset)
+two_apart slot link len are = elim (are.agree 0 1 (omega arith) (omega arith)) [
   | inl apart ↦ apart
   | inr shared ↦ absurd (elim shared.shared [ inl none ↦ false≢true (sym none) | inr none ↦ false≢true (sym none) ])
 ]
@@ -105,10 +105,7 @@ module _ (found : List Found) (books : Books) (len : ℕ) (has : HasBooks found 
 
 -- ---- one block, or two
 
-abbrev pub addr_in : Block → Addr
-addr_in b = addr_at b.place
-
-pub one_told : (x : Block) (f : Found) (books : Books) (len : ℕ) → f.addr ≡ addr_in x → HasBooks (f ∷ []) books → AreStored (f ∷ []) len → Told books.cells (x ∷ []) books.space len
+pub one_told : (x : Block) (f : Found) (books : Books) (len : ℕ) → f.addr ≡ x.place → HasBooks (f ∷ []) books → AreStored (f ∷ []) len → Told books.cells (x ∷ []) books.space len
 one_told x f books len is has are = record {
   in_use = (used, tt);
   space_is = record {
@@ -144,7 +141,7 @@ one_told x f books len is has are = record {
     in_block b zero lt inside = (omega (arith, offset, inside.0), omega (arith, offset, size, inside.1))
     in_block b (suc j) lt inside = absurd (omega (arith, lt))
 
-pub two_told : (x y : Block) (f h : Found) (books : Books) (len : ℕ) → f.addr ≡ addr_in x → h.addr ≡ addr_in y → HasBooks (f ∷ h ∷ []) books → AreStored (f ∷ h ∷ []) len → Told books.cells (x ∷ y ∷ []) books.space len
+pub two_told : (x y : Block) (f h : Found) (books : Books) (len : ℕ) → f.addr ≡ x.place → h.addr ≡ y.place → HasBooks (f ∷ h ∷ []) books → AreStored (f ∷ h ∷ []) len → Told books.cells (x ∷ y ∷ []) books.space len
 two_told x y f h books len is also has are = record {
   in_use = (subst (λ (a : Addr). Has books.cells a.offset a.size) is (found_used (f ∷ h ∷ []) books len has are 0 (omega arith)), (subst (λ (a : Addr). Has books.cells a.offset a.size) also (found_used (f ∷ h ∷ []) books len has are 1 (omega arith)), tt));
   space_is = record {

@@ -6,8 +6,9 @@ use Rattle.std.proofs.lemmas.List.{append-nil, nil_from_length}
 use Rattle.kv_model.specs.History.{Table}
 use Rattle.row_page.specs.Rows.{Row, is_below}
 use Rattle.stored.specs.Blocks.{Block, IsAddressed, Holds, AreApart}
-use Rattle.stored.specs.Slots.{Slot as AtSlot}
-use Rattle.stored.specs.Links.{Link}
+use Rattle.device_layout.specs.declared.link.Link.{Link}
+use Rattle.device_layout.specs.declared.slot.Slot.{Slot}
+use Rattle.device_layout.specs.Slots.{addr_in}
 use Rattle.stored.specs.Tree.{IsTree, AllBear, bottom}
 use Rattle.stored.specs.TableTree.{table_kind, TableTree, Bears, Entry, root_entry, ends_below}
 use Rattle.stored.specs.Records.{Record}
@@ -52,7 +53,7 @@ tables_are n t link rows = append-nil (blocks_at link rows)
 pub record HasLeaf (bytes : List ℕ) (s : Stored) (link : Link) : Type 0 where
   pub rows : List Row
   pub leaf : LeafIs bytes link rows
-  pub apart : AllByRecursion (λ (b : Block). AreApart s.slot.place b.place) (blocks_at link rows)
+  pub apart : AllByRecursion (λ (b : Block). AreApart (addr_in s.slot) b.place) (blocks_at link rows)
 
 pub leaf_on : (bytes : List ℕ) (s : Stored) (n : Numbers) (t : Table) (link : Link) → IsOn bytes s → s.kept ≡ one_record n t link → HasLeaf bytes s link
 leaf_on bytes s n t link on kept =
@@ -66,7 +67,7 @@ leaf_on bytes s n t link on kept =
         addressed = subst (λ (l : List Block). AllByRecursion (λ (b : Block). IsAddressed b) l) blocks (all_front (λ (b : Block). IsAddressed b) (tables_blocks s.kept.tables s.trees) history on.whole.addressed.1);
         holds = subst (λ (l : List Block). Holds bytes l) blocks (holds_front bytes (tables_blocks s.kept.tables s.trees) history on.holds.1);
       };
-      apart = subst (λ (l : List Block). AllByRecursion (λ (b : Block). AreApart s.slot.place b.place) l) blocks (all_front (λ (b : Block). AreApart s.slot.place b.place) (tables_blocks s.kept.tables s.trees) history on.whole.apart.0);
+      apart = subst (λ (l : List Block). AllByRecursion (λ (b : Block). AreApart (addr_in s.slot) b.place) l) blocks (all_front (λ (b : Block). AreApart (addr_in s.slot) b.place) (tables_blocks s.kept.tables s.trees) history on.whole.apart.0);
     }
 
 -- ---- from the leaf to the device
@@ -83,6 +84,6 @@ pub leaf_tree : (link : Link) (rows : List Row) → Bears (root_entry link) rows
 leaf_tree link rows bears = record { levels = refl; lead = tt; bear = (bears, tt); parts = (tt, (stays rows, tt)) }
 
 -- the blocks of such a device: the record's, and the leaf's where it is stored
-pub blocks_are : (slot : AtSlot) (n : Numbers) (t : Table) (link : Link) (rows : List Row) → stored_blocks (one_stored slot n t link rows) ≡ record_block (one_stored slot n t link rows) ∷ blocks_at link rows
+pub blocks_are : (slot : Slot) (n : Numbers) (t : Table) (link : Link) (rows : List Row) → stored_blocks (one_stored slot n t link rows) ≡ record_block (one_stored slot n t link rows) ∷ blocks_at link rows
 blocks_are slot n t link rows =
     ap (λ (l : List Block). record_block (one_stored slot n t link rows) ∷ l) (ap (λ (l : List Block). l ++ []) (tables_are n t link rows) ∙ append-nil (blocks_at link rows))

@@ -13,7 +13,8 @@ use Rattle.le_codec.specs.Images.{padded, header, block_size, block_of}
 use Rattle.kv_model.specs.History.{Table}
 use Rattle.stored.specs.Records.{letter, record_body}
 use Rattle.one_table.specs.declared.record.Numbers.{Numbers}
-use Rattle.stored.specs.Links.{Link, link_text}
+use Rattle.device_layout.specs.declared.link.Link.{Link}
+use Rattle.stored.specs.Links.{link_text}
 use Rattle.one_table.specs.OneTable.{one_record, one_image, header_text, numbers_text, link_bytes, entry_text}
 
 -- a number of eight bytes that stands in a text
@@ -29,7 +30,7 @@ short_is bytes text i n r same is piece small =
 pub numbers_are : (m n : Numbers) → m.sequence ≡ n.sequence → m.marks.run ≡ n.marks.run → m.marks.oldest ≡ n.marks.oldest → m.marks.stable ≡ n.marks.stable → m.marks.min ≡ n.marks.min → m.marks.max ≡ n.marks.max → m.next_table ≡ n.next_table → m ≡ n
 numbers_are m n a b c d e f g = rw (a, b, c, d, e, f, g) refl
 
-pub link_is : (k l : Link) → k.place.offset ≡ l.place.offset → k.place.size ≡ l.place.size → k.place.sum ≡ l.place.sum → k.greatest.run ≡ l.greatest.run → k.greatest.id ≡ l.greatest.id → k.durable ≡ l.durable → k ≡ l
+pub link_is : (k l : Link) → k.addr.offset ≡ l.addr.offset → k.addr.size ≡ l.addr.size → k.addr.sum ≡ l.addr.sum → k.greatest.run ≡ l.greatest.run → k.greatest.id ≡ l.greatest.id → k.durable ≡ l.durable → k ≡ l
 link_is k l a b c d e f = rw (a, b, c, d, e, f) refl
 
 pub letter_once : (f g : Format) → letter f ≡ letter g → f ≡ g

@@ -20,7 +20,6 @@ use Rattle.block_mgr.specs.Writes.{IsAddress}
 use Rattle.block_mgr.proofs.HolderLemmas.{used_running}
 use Rattle.block_mgr.proofs.HasLemmas.{has_set}
 use Rattle.checkpoint_core.proofs.Recording.{block_length}
-use Rattle.wt_code.specs.declared.refusals.Refusal.{Refusal}
 use Rattle.wt_code.specs.declared.refusals.Refusal.TheVariants.{DiskFault}
 use Rattle.wt_code.specs.declared.store_error.StoreError.{StoreError}
 use Rattle.wt_code.specs.declared.store_error.StoreError.TheVariants.{NoMemory, NoSpace, Read, Down}
@@ -28,21 +27,21 @@ use Rattle.wt_code.specs.StoreErrors.{refusal_of, IsOfDisk}
 use Rattle.kv_model.specs.History.{Table}
 use Rattle.kv_model.specs.Content.{Content}
 use Rattle.row_page.specs.Rows.{Row, image, IsImage}
-use Rattle.stored.specs.Blocks.{Addr as AtAddr, Block, IsAddressed, IsAt, Holds, Apart}
+use Rattle.stored.specs.Blocks.{Block, IsAddressed, IsAt, Holds, Apart}
 use Rattle.row_page.specs.Greatest.{greatest_in, most_in}
-use Rattle.stored.specs.Links.{Link, nowhere}
+use Rattle.device_layout.specs.declared.link.Link.{Link}
+use Rattle.stored.specs.Links.{LinkFits, nowhere}
 use Rattle.stored.specs.Stored.{Stored, Reads, IsOn, IsBlank, content_of, placed_in}
 use Rattle.stored.specs.Tree.{join}
 use Rattle.stored.proofs.EmptyTrees.{history_empty}
 use Rattle.leaf_rows.specs.Rows.{image_length}
 use Rattle.leaf_rows.specs.Contents.{leaf_content}
 use Rattle.checkpoint_core.specs.Stands.{HasStill, blocks_of, body_blocks, IsReady, Stands, AreInUse, placed_at}
-use Rattle.checkpoint_core.specs.Finishes.{IsOld, IsEither, units_of, place_of, Finishes}
+use Rattle.checkpoint_core.specs.Finishes.{IsOld, IsEither, units_of, Finishes}
 use Rattle.checkpoint_core.specs.Room.{IsSpaceOf, NoRoomFor, IsFull}
 use Rattle.checkpoint_core.proofs.Rooms.{Alike, space_alike, one_had_room, two_had_room}
 use Rattle.one_table.specs.declared.record.Numbers.{Numbers}
-use Rattle.one_table.specs.declared.leaf.Root.{Root}
-use Rattle.one_table.specs.OneTable.{link_of, one_image, one_unplaced, IsInForm, IsLink}
+use Rattle.one_table.specs.OneTable.{one_image, one_unplaced, IsInForm}
 use Rattle.one_table.specs.Openings.{LeafIs, blocks_at}
 use Rattle.one_table.specs.Closings.{block_sizes, ReadsOld, ReadsEither, IsCloseRefusal, Installs, IsFullFor, content_was, told_of}
 use Rattle.one_table.proofs.Leaves.{block_at, stored_block, no_block}
@@ -51,8 +50,6 @@ use Rattle.one_table.proofs.Opens.{one_is_record}
 use Rattle.stored.proofs.Device.{one_stored as same_stored}
 use Rattle.device_layout.specs.declared.slot.Slot.{Slot}
 use Rattle.turtle.proofs.Choice.{chooses_one}
-use Rattle.checkpoint_core.proofs.Slots.{on_chooses, blank_chooses}
-use Rattle.checkpoint_core.specs.Stands.{slot_of}
 
 -- ---- all but the record
 
@@ -60,12 +57,12 @@ body_are : (n : Numbers) (t : Table) (link : Link) (rows : List Row) → body_bl
 body_are n t link rows = ap (λ (l : List Block). l ++ []) (tables_are n t link rows) ∙ append-nil (blocks_at link rows)
 
 apart_alone : (link : Link) (rows : List Row) → Apart (blocks_at link rows)
-apart_alone link rows = elim (cases_Bool (link.place.offset == 0)) [
-  | inl zero ↦ subst Apart (sym (no_block link rows (eqb-true link.place.offset 0 zero))) tt
-  | inr other ↦ subst Apart (sym (stored_block link rows (λ zero. both_ways (link.place.offset == 0) other (eq-eqb link.place.offset 0 zero)))) (tt, tt)
+apart_alone link rows = elim (cases_Bool (link.addr.offset == 0)) [
+  | inl zero ↦ subst Apart (sym (no_block link rows (eqb-true link.addr.offset 0 zero))) tt
+  | inr other ↦ subst Apart (sym (stored_block link rows (λ zero. both_ways (link.addr.offset == 0) other (eq-eqb link.addr.offset 0 zero)))) (tt, tt)
 ]
 
-pub ready_is : (bytes image : List ℕ) (books : Books) (n : Numbers) (t : Table) (link : Link) (rows : List Row) → IsInForm n t → IsLink link → image ≡ one_image n t link → LeafIs bytes link rows → AreInUse books.cells (blocks_at link rows) → IsReady bytes books image (one_unplaced n t link rows)
+pub ready_is : (bytes image : List ℕ) (books : Books) (n : Numbers) (t : Table) (link : Link) (rows : List Row) → IsInForm n t → LinkFits link → image ≡ one_image n t link → LeafIs bytes link rows → AreInUse books.cells (blocks_at link rows) → IsReady bytes books image (one_unplaced n t link rows)
 ready_is bytes image books n t link rows form fits is leaf in_use =
     let body = body_are n t link rows in
     record {
@@ -92,12 +89,12 @@ empty_leaf bytes = record {
 -- the link to a block that was written
 abbrev pub link_to : Addr → List Row → Link
 link_to a rows = record {
-  place = record { offset = a.offset; size = a.size; sum = a.sum };
+  addr = a;
   greatest = greatest_in (map {A = Row} (λ r. r.1.window.name) rows);
   durable = most_in (map {A = Row} (λ r. r.1.window.durable) rows);
 }
 
-not_nowhere : (a : Addr) (rows : List Row) (img : List ℕ) → IsAddress img a → (link_to a rows).place.offset ≡ 0 → ⊥
+not_nowhere : (a : Addr) (rows : List Row) (img : List ℕ) → IsAddress img a → (link_to a rows).addr.offset ≡ 0 → ⊥
 not_nowhere a rows img is zero = omega (arith, zero, is.place.behind)
 
 pub written_leaf : (seen new img : List ℕ) (a : Addr) (rows : List Row) → IsImage img rows → IsAddress (block_of img) a → a.offset ≤ length seen → new ≡ put seen a.offset (block_of img) → LeafIs new (link_to a rows) rows
@@ -112,7 +109,7 @@ written_leaf seen new img a rows is address low written =
       is = subst (λ k. range new a.offset k ≡ block_of img) (sym address.size) (ap (λ (l : List ℕ). range l a.offset (length (block_of img))) written ∙ range_put_same seen (block_of img) a.offset low) ∙ fills;
     } in
     record {
-      bears = record { leaf = is.admitted; empty = λ zero. absurd (not_nowhere a rows (block_of img) address (eqb-true link.place.offset 0 zero)); says = record { greatest = refl; durable = refl } };
+      bears = record { leaf = is.admitted; empty = λ zero. absurd (not_nowhere a rows (block_of img) address (eqb-true link.addr.offset 0 zero)); says = record { greatest = refl; durable = refl } };
       addressed = subst (λ (l : List Block). AllByRecursion (λ (b : Block). IsAddressed b) l) (sym one) (addressed, tt);
       holds = subst (λ (l : List Block). Holds new l) (sym one) (at, tt);
     }
@@ -126,20 +123,20 @@ pub still_reads : (old : Option Stored) (c : List ℕ) → HasStill old c → Re
 still_reads None c has = inl (has, refl)
 still_reads (Some s) c has = inr (s, has, refl)
 
-content_is : (n : Numbers) (t : Table) (link : Link) (rows : List Row) (place : AtAddr) → content_of (placed_at (one_unplaced n t link rows) place) ≡ leaf_content n.marks t rows
+content_is : (n : Numbers) (t : Table) (link : Link) (rows : List Row) (place : Addr) → content_of (placed_at (one_unplaced n t link rows) place) ≡ leaf_content n.marks t rows
 content_is n t link rows place =
     ap (λ cells. let c : Content = record { run = n.marks.run; oldest = n.marks.oldest; stable = n.marks.stable; snapshot = record { min = n.marks.min; max = n.marks.max; ids = [] }; tables = t ∷ []; cells = cells; records = [] } in c)
     (append-nil (placed_in t.number (join (rows ∷ []))) ∙ ap (λ (l : List Row). placed_in t.number l) (append-nil rows))
 
-pub new_reads : (n : Numbers) (t : Table) (link : Link) (rows : List Row) (place : AtAddr) (c : List ℕ) → IsOn c (placed_at (one_unplaced n t link rows) place) → Reads c (leaf_content n.marks t rows)
+pub new_reads : (n : Numbers) (t : Table) (link : Link) (rows : List Row) (place : Addr) (c : List ℕ) → IsOn c (placed_at (one_unplaced n t link rows) place) → Reads c (leaf_content n.marks t rows)
 new_reads n t link rows place c on = inr (placed_at (one_unplaced n t link rows) place, on, sym (content_is n t link rows place))
 
 -- ---- the room
 
 not_blank : (c : List ℕ) (s : Stored) → IsBlank c → IsOn c s → ⊥
-not_blank c s blank on = none_some (chooses_one c None (Some (slot_of s.slot)) (blank_chooses c blank) (on_chooses c s on))
+not_blank c s blank on = none_some (chooses_one c None (Some s.slot) blank.shut on.chosen)
   where
-    none_some : let none : Option Slot = None in none ≡ Some (slot_of s.slot) → ⊥
+    none_some : let none : Option Slot = None in none ≡ Some s.slot → ⊥
     none_some same = cc
 
 pub one_still : (old other : Option Stored) (c : List ℕ) → HasStill old c → HasStill other c → old ≡ other
@@ -167,7 +164,7 @@ module _ {D : Type 0} (g : Ghosts D) (fault : Type 0) (bytes : List ℕ) (capaci
   old_reads start c (inl image) = inl image
   old_reads start c (inr has) = inr (still_reads old c has)
 
-  either_reads : (start : D) (link : Link) (rows : List Row) (place : AtAddr) (c : List ℕ) → IsEither (g.may_leave start) old (placed_at (made link rows) place) c → ReadsEither (g.may_leave start) (content_was old) (leaf_content n.marks t rows) c
+  either_reads : (start : D) (link : Link) (rows : List Row) (place : Addr) (c : List ℕ) → IsEither (g.may_leave start) old (placed_at (made link rows) place) c → ReadsEither (g.may_leave start) (content_was old) (leaf_content n.marks t rows) c
   either_reads start link rows place c (inl before) = inl (old_reads start c before)
   either_reads start link rows place c (inr on) = inr (new_reads n t link rows place c on)
 
@@ -175,8 +172,8 @@ module _ {D : Type 0} (g : Ghosts D) (fault : Type 0) (bytes : List ℕ) (capaci
   pub record_alone : (done : Unit {0}) (space : Space) (link : Link) (start end : D) (a : Addr) → IsSpaceOf (blocks_of old) space → Finishes g space (159 + length t.name) capacity old (made link []) start end (Ok a)
       → Installs g fault (IsFullFor bytes capacity []) (content_was old) (leaf_content n.marks t []) start end (Ok done)
   record_alone done space link start end a is (run, each, (after, at, taken)) = (
-    widened g start end _ _ run (either_reads start link [] (place_of a)),
-    λ c left. new_reads n t link [] (place_of a) c (each c left),
+    widened g start end _ _ run (either_reads start link [] a),
+    λ c left. new_reads n t link [] a c (each c left),
     same_space old bytes space still is capacity (4096 ∷ []) (λ other alike. one_had_room space other after 4096 capacity at alike (subst (λ k. Taken space after k capacity at) (record_unit (length t.name) short) taken)),
   )
 
@@ -205,7 +202,7 @@ module _ {D : Type 0} (g : Ghosts D) (fault : Type 0) (bytes : List ℕ) (capaci
     kept_mid c (inl image) = inr (still_reads old c (images c image))
     kept_mid c (inr has) = inr (still_reads old c has)
 
-    from_mid : (place : AtAddr) (c : List ℕ) → IsEither (g.may_leave mid) old (placed_at (made link rows) place) c → ReadsEither (g.may_leave start) (content_was old) (leaf_content n.marks t rows) c
+    from_mid : (place : Addr) (c : List ℕ) → IsEither (g.may_leave mid) old (placed_at (made link rows) place) c → ReadsEither (g.may_leave start) (content_was old) (leaf_content n.marks t rows) c
     from_mid place c (inl (inl image)) = inl (inr (still_reads old c (images c image)))
     from_mid place c (inl (inr has)) = inl (inr (still_reads old c has))
     from_mid place c (inr on) = inr (new_reads n t link rows place c on)
@@ -216,8 +213,8 @@ module _ {D : Type 0} (g : Ghosts D) (fault : Type 0) (bytes : List ℕ) (capaci
     pub record_after : (done : Unit {0}) (a : Addr) → Finishes g mid_space (159 + length t.name) capacity old (made link rows) mid end (Ok a)
         → Installs g fault (IsFullFor bytes capacity rows) (content_was old) (leaf_content n.marks t rows) start end (Ok done)
     record_after done a (rest, each, (after, there, taken)) = (
-      joined g start mid end _ _ (widened g start mid _ _ run (λ c before. inl (old_reads start c before))) rest (λ c now. from_mid (place_of a) c now),
-      λ c left. new_reads n t link rows (place_of a) c (each c left),
+      joined g start mid end _ _ (widened g start mid _ _ run (λ c before. inl (old_reads start c before))) rest (λ c now. from_mid a c now),
+      λ c left. new_reads n t link rows a c (each c left),
       λ full. same_space old bytes space still is capacity (block_size (image_length rows) ∷ 4096 ∷ [])
           (λ other alike. two_had_room space other mid_space after (block_size (image_length rows)) 4096 capacity at there alike first (subst (λ k. Taken mid_space after k capacity there) (record_unit (length t.name) short) taken)) (subst (λ (l : List ℕ). IsFull bytes capacity l) sizes full),
     )
@@ -286,8 +283,8 @@ sizes_are (r ∷ rows) some = refl
 pub unsynced_stands : (seen : List ℕ) (images : List ℕ → Type 0) (books : Books) (old : Option Stored) → HasStill old seen → books.is_synced ≡ false → AreInUse books.cells (blocks_of old) → Stands seen images books old
 unsynced_stands seen images books old still fresh in_use = record { seen_has = still; images_have = λ synced. absurd (both_ways books.is_synced fresh synced); in_use = in_use }
 
-pub root_is : (root : Root) (a : Addr) (rows : List Row) → root.addr ≡ a → root.greatest ≡ greatest_in (map {A = Row} (λ r. r.1.window.name) rows) → root.durable ≡ most_in (map {A = Row} (λ r. r.1.window.durable) rows) → link_of root ≡ link_to a rows
-root_is root a rows one two three = rw (one, two, three) refl
+pub link_made : (link : Link) (a : Addr) (rows : List Row) → link.addr ≡ a → link.greatest ≡ greatest_in (map {A = Row} (λ r. r.1.window.name) rows) → link.durable ≡ most_in (map {A = Row} (λ r. r.1.window.durable) rows) → link ≡ link_to a rows
+link_made link a rows one two three = rw (one, two, three) refl
 
 -- ---- which call failed
 

@@ -6,15 +6,15 @@ use Rattle.le_codec.specs.Images.{block_of}
 use Rattle.kv_model.specs.History.{Table}
 use Rattle.kv_model.specs.Decisions.{is_name}
 use Rattle.row_page.specs.Rows.{Row}
-use Rattle.stored.specs.Links.{Link, nowhere}
-use Rattle.stored.specs.Records.{Root as TreeRoot, Record, letter, record_image}
-use Rattle.stored.specs.Slots.{Slot as AtSlot}
+use Rattle.device_layout.specs.declared.link.Link.{Link}
+use Rattle.device_layout.specs.declared.slot.Slot.{Slot}
+use Rattle.stored.specs.Links.{LinkFits, nowhere}
+use Rattle.stored.specs.Records.{Root, Record, letter, record_image}
 use Rattle.stored.specs.Stored.{Stored, IsOn, IsBlank}
 use Rattle.one_table.specs.declared.record.Numbers.{Numbers}
 use Rattle.one_table.specs.declared.record.Entry.{Entry}
 use Rattle.one_table.specs.declared.record.TableEntry.{TableEntry}
 use Rattle.one_table.specs.declared.record.OneRecord.{OneRecord}
-use Rattle.one_table.specs.declared.leaf.Root.{Root}
 
 -- the table of an entry
 abbrev pub table_of : Entry → Table
@@ -24,12 +24,8 @@ table_of e = record { number = e.number; name = e.name; formats = e.formats }
 abbrev pub lent : TableEntry → Table
 lent e = record { number = e.number; name = e.name.now; formats = e.formats }
 
--- what leads to the leaf
-abbrev pub link_of : Root → Link
-link_of r = record { place = record { offset = r.addr.offset; size = r.addr.size; sum = r.addr.sum }; greatest = r.greatest; durable = r.durable }
-
 -- the root of a history without records
-abbrev pub no_root : TreeRoot
+abbrev pub no_root : Root
 no_root = record { level = 0; link = nowhere }
 
 -- a record of one table of one leaf, without history, by a checkpoint that had no running transactions
@@ -49,7 +45,7 @@ abbrev pub one_image : Numbers → Table → Link → List ℕ
 one_image n t link = record_image (one_record n t link)
 
 -- what a device with it stores, whose slot is this and whose leaf has these rows
-abbrev pub one_stored : AtSlot → Numbers → Table → Link → List Row → Stored
+abbrev pub one_stored : Slot → Numbers → Table → Link → List Row → Stored
 one_stored slot n t link rows = record {
   slot = slot;
   kept = one_record n t link;
@@ -59,7 +55,7 @@ one_stored slot n t link rows = record {
 
 -- the same, before it has a place
 abbrev pub one_unplaced : Numbers → Table → Link → List Row → Stored
-one_unplaced n t link rows = one_stored (record { sequence = n.sequence; place = record { offset = 0; size = 0; sum = 0 } }) n t link rows
+one_unplaced n t link rows = one_stored (record { sequence = n.sequence; offset = 0; size = 0; sum = 0 }) n t link rows
 
 -- ---- the parts of the image, one behind the other
 
@@ -76,7 +72,7 @@ numbers_text n =
 -- the 40 bytes of a link
 abbrev pub link_bytes : Link → List ℕ
 link_bytes l =
-    to_le_bytes w64 l.place.offset ++ to_le_bytes w32 l.place.size ++ to_le_bytes w32 l.place.sum
+    to_le_bytes w64 l.addr.offset ++ to_le_bytes w32 l.addr.size ++ to_le_bytes w32 l.addr.sum
     ++ to_le_bytes w64 l.greatest.run ++ to_le_bytes w64 l.greatest.id ++ to_le_bytes w64 l.durable
 
 -- a table of one leaf
@@ -103,14 +99,6 @@ pub record IsTable (t : Table) : Type 0 where
   pub short : length t.name ≤ 128
   pub bytes : (i : ℕ) → slice_index_or t.name i 0 < 256
 
-pub record IsLink (l : Link) : Type 0 where
-  pub offset : l.place.offset < 2 ^ 64
-  pub size : l.place.size < 2 ^ 32
-  pub sum : l.place.sum < 2 ^ 32
-  pub run : l.greatest.run < 2 ^ 64
-  pub id : l.greatest.id < 2 ^ 64
-  pub durable : l.durable < 2 ^ 64
-
 pub record IsInForm (n : Numbers) (t : Table) : Type 0 where
   pub numbers : AreNumbers n
   pub table : IsTable t
@@ -119,13 +107,13 @@ pub record IsInForm (n : Numbers) (t : Table) : Type 0 where
 -- the block is that of this record
 pub record HoldsRecord (block : List ℕ) (r : OneRecord) : Type 0 where
   pub form : IsInForm r.numbers (lent r.entry)
-  pub link : IsLink (link_of r.entry.root)
-  pub is : block ≡ block_of (one_image r.numbers (lent r.entry) (link_of r.entry.root))
+  pub link : LinkFits r.entry.link
+  pub is : block ≡ block_of (one_image r.numbers (lent r.entry) r.entry.link)
 
 -- the block is that of no record with one table of one leaf
 abbrev pub HoldsNone : List ℕ → Type 0
-HoldsNone block = (n : Numbers) (t : Table) (l : Link) → IsInForm n t → IsLink l → block ≡ block_of (one_image n t l) → ⊥
+HoldsNone block = (n : Numbers) (t : Table) (l : Link) → IsInForm n t → LinkFits l → block ≡ block_of (one_image n t l) → ⊥
 
 -- the device has no checkpoint, or one of one table of one leaf: all that this crate reads
 abbrev pub HoldsOne : List ℕ → Type 0
-HoldsOne bytes = IsBlank bytes ⊎ ((slot : AtSlot) × (n : Numbers) × (t : Table) × (link : Link) × (rows : List Row) × IsInForm n t × IsOn bytes (one_stored slot n t link rows))
+HoldsOne bytes = IsBlank bytes ⊎ ((slot : Slot) × (n : Numbers) × (t : Table) × (link : Link) × (rows : List Row) × IsInForm n t × IsOn bytes (one_stored slot n t link rows))

@@ -7,8 +7,9 @@ use Rattle.block_mgr.specs.declared.found.Holder.TheVariants.{Tree, Last}
 use Rattle.block_mgr.specs.Cells.{AreUnits, cell_at}
 use Rattle.block_mgr.specs.Blocks.{Books}
 use Rattle.block_mgr.specs.Open.{found_cell, last_end}
-use Rattle.device_layout.specs.declared.addr.Addr.{Addr}
+use Rattle.device_layout.specs.declared.link.Link.{Link}
 use Rattle.device_layout.specs.declared.slot.Slot.{Slot}
+use Rattle.device_layout.specs.Slots.{addr_in}
 use Rattle.turtle.specs.Slots.{Chooses}
 use Rattle.le_codec.specs.Images.{block_of}
 use Rattle.kv_model.specs.History.{Table}
@@ -18,20 +19,19 @@ use Rattle.wt_code.specs.declared.refusals.Limit.TheVariants.{Tables, Checkpoint
 use Rattle.kv_model.specs.Content.{Content}
 use Rattle.row_page.specs.Rows.{Row, IsPage}
 use Rattle.stored.specs.Blocks.{Block, IsAddressed, Holds}
-use Rattle.stored.specs.Links.{Link, SaysOf}
+use Rattle.stored.specs.Links.{LinkFits, SaysOf}
 use Rattle.stored.specs.Tree.{leaf_blocks}
 use Rattle.stored.specs.TableTree.{table_kind, Bears, root_entry}
 use Rattle.stored.specs.Stored.{Stored, Reads}
 use Rattle.leaf_rows.specs.Contents.{kept_rows}
-use Rattle.checkpoint_core.specs.Stands.{HasStill, chosen_of, blocks_of, AreInUse, at_slot}
+use Rattle.checkpoint_core.specs.Stands.{HasStill, chosen_of, blocks_of, AreInUse}
 use Rattle.checkpoint_core.specs.Room.{IsSpaceOf}
 use Rattle.one_table.specs.declared.place.Place.{Place}
 use Rattle.one_table.specs.declared.opening.Kept.{Kept}
 use Rattle.one_table.specs.declared.opening.Opened.{Opened}
-use Rattle.one_table.specs.declared.leaf.Root.{Root}
 use Rattle.one_table.specs.declared.record.Numbers.{Numbers}
 use Rattle.one_table.specs.declared.record.OneRecord.{OneRecord}
-use Rattle.one_table.specs.OneTable.{table_of, lent, one_image, one_stored, HoldsOne, HoldsRecord, HoldsNone, IsInForm, IsLink}
+use Rattle.one_table.specs.OneTable.{table_of, lent, one_image, one_stored, HoldsOne, HoldsRecord, HoldsNone, IsInForm}
 
 -- the greatest run, and the greatest sequence
 abbrev pub last_number : ℕ
@@ -61,7 +61,7 @@ abbrev pub LeafRefused : (fault known : Type 0) → List ℕ → Link → Refusa
 LeafRefused fault known bytes link r =
     ((r ≡ DiskFault) × fault)
     ⊎ ((r ≡ NoMemory)
-    ⊎ (((found : ℕ) × (r ≡ Corrupt link.place.offset link.place.sum found)) × (known → NoLeaf bytes link)))
+    ⊎ (((found : ℕ) × (r ≡ Corrupt link.addr.offset link.addr.sum found)) × (known → NoLeaf bytes link)))
 
 -- The place keeps the slot and the books of a device that has this checkpoint, or none, and was not synced since.
 pub record Serves (bytes : List ℕ) (place : Place) (old : Option Stored) : Type 0 where
@@ -77,7 +77,7 @@ pub record Keeps (bytes : List ℕ) (place : Place) (k : Kept) : Type 0 where
   pub link : Link
   pub rows : List Row
   pub slot : Slot
-  pub serves : Serves bytes place (Some (one_stored (at_slot slot) k.numbers (table_of k.entry) link rows))
+  pub serves : Serves bytes place (Some (one_stored slot k.numbers (table_of k.entry) link rows))
   pub kept : k.rows ≡ kept_rows k.numbers.marks rows
   pub form : IsInForm k.numbers (table_of k.entry)
   pub sequence : k.numbers.sequence ≡ slot.sequence
@@ -114,20 +114,16 @@ pub record IsChosen (bytes : List ℕ) (slot : Slot) : Type 0 where
   pub long : 8192 ≤ length bytes
   pub chooses : Chooses bytes (Some slot)
 
--- the address of the record that a slot names
-abbrev pub record_addr : Slot → Addr
-record_addr slot = record { offset = slot.offset; size = slot.size; sum = slot.sum }
-
 -- the block of the record, which the last checkpoint alone has, and that of the leaf
 abbrev pub record_found : Slot → Found
-record_found slot = record { addr = record_addr slot; holder = Last }
+record_found slot = record { addr = addr_in slot; holder = Last }
 
-abbrev pub leaf_found : Root → Found
-leaf_found root = record { addr = root.addr; holder = Tree }
+abbrev pub leaf_found : Link → Found
+leaf_found link = record { addr = link.addr; holder = Tree }
 
 -- the record and the leaf, where it is stored
-abbrev pub found_of : Slot → Root → List Found
-found_of slot root = if root.addr.offset == 0 then record_found slot ∷ [] else record_found slot ∷ leaf_found root ∷ []
+abbrev pub found_of : Slot → Link → List Found
+found_of slot link = if link.addr.offset == 0 then record_found slot ∷ [] else record_found slot ∷ leaf_found link ∷ []
 
 -- the books are those of the blocks that were found
 pub record HasBooks (found : List Found) (books : Books) : Type 0 where
@@ -143,7 +139,7 @@ pub record IsRecordOf (slot : Slot) (block : List ℕ) (r : OneRecord) : Type 0 
 
 -- the block is that of a record with one table of one leaf
 abbrev pub IsBlockWith : List ℕ → (Numbers → Type 0) → Type 0
-IsBlockWith block P = (n : Numbers) × (t : Table) × (l : Link) × IsInForm n t × IsLink l × (block ≡ block_of (one_image n t l)) × P n
+IsBlockWith block P = (n : Numbers) × (t : Table) × (l : Link) × IsInForm n t × LinkFits l × (block ≡ block_of (one_image n t l)) × P n
 
 -- why the record of a slot is not read
 abbrev pub RecordRefused : Slot → List ℕ → Refusal → Type 0

@@ -15,7 +15,6 @@ mod record;
 mod tests;
 mod writing;
 
-pub use leaf::Root;
 pub use opening::{Kept, Opened, open};
 pub use place::Place;
 pub use record::{Entry, Numbers};

@@ -3,12 +3,13 @@ ghost use Rattle.std.specs.Prelude.{◌≡◌, ◌≢◌, ◌⊎◌, ◌≤◌, 
 ghost use Rattle.failure.specs.Counts.{Rose};
 ghost use Rattle.disk_model.specs.Crash.{Looked};
 ghost use Rattle.block_mgr.specs.Open.{AreStored};
-ghost use Rattle.one_table.specs.Openings.{IsOpened, InForm, OpenRefused, IsNothing, IsChosen, HasBooks, record_addr, found_of, IsRecordOf, RecordRefused, IsAssembled, last_number};
+ghost use Rattle.one_table.specs.Openings.{IsOpened, InForm, OpenRefused, IsNothing, IsChosen, HasBooks, found_of, IsRecordOf, RecordRefused, IsAssembled, last_number};
 
-use crate::leaf::{Root, load};
+use crate::leaf::load;
 use crate::place::Place;
 use crate::record::{Entry, Numbers, OneRecord, SEQUENCE_MAX, decode};
-use block_mgr::{Addr, Blocks, Found, Holder, OpenError, read_block};
+use block_mgr::{Blocks, Found, Holder, OpenError, read_block};
+use device_layout::Link;
 use disk_model::Disk;
 use item::Item;
 use leaf_rows::Rows;
@@ -72,7 +73,7 @@ fn open_at<D: Disk>(alloc: Global, disk: &mut D, slot: Slot) -> Result<Opened, R
     ensures looked { Looked D.Disk disk.old disk.new }
     ensures home { D.home disk.new ≡ D.home disk.old }
 {
-    let block = match read_block(alloc, disk, addr_of(slot)) {
+    let block = match read_block(alloc, disk, slot.addr()) {
         Ok(block) => block,
         Err(refusal) => return Err(refusal),
     };
@@ -80,7 +81,7 @@ fn open_at<D: Disk>(alloc: Global, disk: &mut D, slot: Slot) -> Result<Opened, R
         Ok(found) => found,
         Err(refusal) => return Err(refusal),
     };
-    let rows = match load(alloc, disk, found.entry.root) {
+    let rows = match load(alloc, disk, found.entry.link) {
         Ok(rows) => rows,
         Err(refusal) => return Err(refusal),
     };
@@ -88,7 +89,7 @@ fn open_at<D: Disk>(alloc: Global, disk: &mut D, slot: Slot) -> Result<Opened, R
         Ok(len) => len,
         Err(refusal) => return Err(refusal),
     };
-    let blocks = match books(alloc, slot, found.entry.root, len) {
+    let blocks = match books(alloc, slot, found.entry.link, len) {
         Ok(blocks) => blocks,
         Err(refusal) => return Err(refusal),
     };
@@ -104,16 +105,6 @@ fn length<D: Disk>(disk: &mut D) -> Result<u64, Refusal>
     match disk.len() {
         Ok(len) => Ok(len),
         Err(_) => Err(Refusal::DiskFault),
-    }
-}
-
-fn addr_of(slot: Slot) -> Addr
-    ensures { result ≡ record_addr slot }
-{
-    Addr {
-        offset: slot.offset,
-        size: slot.size,
-        sum: slot.sum,
     }
 }
 
@@ -148,21 +139,21 @@ fn why_not(slot: Slot, numbers: Numbers) -> Option<Limit>
 
 // The blocks in use: the record's, and the leaf's where it is stored. `Corrupt` comes exactly where
 // they overlap or reach past the device's end.
-fn books(alloc: Global, slot: Slot, root: Root, len: u64) -> Result<Blocks, Refusal>
-    ensures books { IfOk result (HasBooks (found_of slot root)) }
+fn books(alloc: Global, slot: Slot, link: Link, len: u64) -> Result<Blocks, Refusal>
+    ensures books { IfOk result (HasBooks (found_of slot link)) }
     ensures fresh { IfOk result (λ s. s.is_synced ≡ false) }
-    ensures stored { OnOk result (AreStored (found_of slot root) len) }
-    ensures err { IfErr result (λ r. (r ≡ Refusal.NoMemory) ⊎ ((r ≡ Refusal.Corrupt slot.offset slot.sum slot.sum) × (AreStored (found_of slot root) len → ⊥))) }
+    ensures stored { OnOk result (AreStored (found_of slot link) len) }
+    ensures err { IfErr result (λ r. (r ≡ Refusal.NoMemory) ⊎ ((r ≡ Refusal.Corrupt slot.offset slot.sum slot.sum) × (AreStored (found_of slot link) len → ⊥))) }
 {
     let record = Found {
-        addr: addr_of(slot),
+        addr: slot.addr(),
         holder: Holder::Last,
     };
     let leaf = Found {
-        addr: root.addr,
+        addr: link.addr,
         holder: Holder::Tree,
     };
-    if root.addr.offset == 0 {
+    if link.addr.offset == 0 {
         books_of(alloc, &[record], slot, len)
     } else {
         books_of(alloc, &[record, leaf], slot, len)

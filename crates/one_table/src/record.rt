@@ -6,12 +6,11 @@ ghost use Rattle.item.specs.declared.formats.Format.{Format};
 ghost use Rattle.le_codec.specs.Images.{block_of};
 ghost use Rattle.kv_model.specs.History.{Table};
 ghost use Rattle.kv_model.specs.Decisions.{is_name, is_name_byte};
-ghost use Rattle.stored.specs.Links.{Link};
+ghost use Rattle.stored.specs.Links.{LinkFits};
 ghost use Rattle.stored.specs.Records.{letter as letter_of};
-ghost use Rattle.one_table.specs.OneTable.{header_text, numbers_text, entry_text, link_bytes, link_of, lent, one_image, HoldsRecord, HoldsNone, AreNumbers, IsTable, IsLink, IsInForm};
+ghost use Rattle.one_table.specs.OneTable.{header_text, numbers_text, entry_text, link_bytes, lent, one_image, HoldsRecord, HoldsNone, AreNumbers, IsTable, IsInForm};
 
-use crate::leaf::Root;
-use block_mgr::Addr;
+use device_layout::{Addr, Link};
 use failure::NoMemory;
 use item::{Format, Formats, Item};
 use leaf_rows::Marks;
@@ -63,7 +62,7 @@ pub(crate) struct TableEntry<'a> {
     pub number: u32,
     pub formats: Formats,
     pub name: &'a [u8],
-    pub root: Root,
+    pub link: Link,
 }
 
 /// A record with one table.
@@ -111,29 +110,29 @@ fn numbers_bytes(alloc: Global, numbers: Numbers) -> Result<Vec<u8>, NoMemory>
     Ok(bytes)
 }
 
-fn link_bytes(alloc: Global, root: Root) -> Result<Vec<u8>, NoMemory>
-    ensures fits { IsLink (link_of root) }
-    ensures items { IfOk result (λ v. v.items ≡ link_bytes (link_of root)) }
+fn link_bytes(alloc: Global, link: Link) -> Result<Vec<u8>, NoMemory>
+    ensures fits { LinkFits link }
+    ensures items { IfOk result (λ v. v.items ≡ link_bytes link) }
     ensures len { IfOk result (λ v. length v.items ≡ 40) }
 {
     let mut bytes = Vec::new(alloc);
-    bytes.extend_from_slice(&root.addr.offset.to_le_bytes())?;
-    bytes.extend_from_slice(&root.addr.size.to_le_bytes())?;
-    bytes.extend_from_slice(&root.addr.sum.to_le_bytes())?;
-    bytes.extend_from_slice(&root.greatest.run.to_le_bytes())?;
-    bytes.extend_from_slice(&root.greatest.id.to_le_bytes())?;
-    bytes.extend_from_slice(&root.durable.to_le_bytes())?;
+    bytes.extend_from_slice(&link.addr.offset.to_le_bytes())?;
+    bytes.extend_from_slice(&link.addr.size.to_le_bytes())?;
+    bytes.extend_from_slice(&link.addr.sum.to_le_bytes())?;
+    bytes.extend_from_slice(&link.greatest.run.to_le_bytes())?;
+    bytes.extend_from_slice(&link.greatest.id.to_le_bytes())?;
+    bytes.extend_from_slice(&link.durable.to_le_bytes())?;
     Ok(bytes)
 }
 
 // The bytes of the table, with what leads to its leaf between its lengths and its name.
 fn entry_bytes(alloc: Global, entry: &TableEntry<'_>) -> Result<Vec<u8>, NoMemory>
     requires { length entry.now.name.now ≤ 128 }
-    ensures items { IfOk result (λ v. v.items ≡ entry_text entry.now.number entry.now.formats entry.now.name.now (link_of entry.now.root)) }
+    ensures items { IfOk result (λ v. v.items ≡ entry_text entry.now.number entry.now.formats entry.now.name.now entry.now.link) }
     ensures len { IfOk result (λ v. length v.items ≡ 48 + length entry.now.name.now) }
-    ensures fits { OnOk result (IsLink (link_of entry.now.root)) }
+    ensures fits { OnOk result (LinkFits entry.now.link) }
 {
-    let link = link_bytes(alloc, entry.root)?;
+    let link = link_bytes(alloc, entry.link)?;
     let mut bytes = Vec::new(alloc);
     bytes.extend_from_slice(&entry.number.to_le_bytes())?;
     bytes.extend_from_slice(&letter(entry.formats.key).to_le_bytes())?;
@@ -164,9 +163,9 @@ pub(crate) fn encode(
     entry: &TableEntry<'_>,
 ) -> Result<Vec<u8>, NoMemory>
     requires { length entry.now.name.now ≤ 128 }
-    ensures items { IfOk result (λ v. v.items ≡ one_image numbers (lent entry.now) (link_of entry.now.root)) }
+    ensures items { IfOk result (λ v. v.items ≡ one_image numbers (lent entry.now) entry.now.link) }
     ensures len { IfOk result (λ v. length v.items ≡ 159 + length entry.now.name.now) }
-    ensures fits { OnOk result (IsLink (link_of entry.now.root)) }
+    ensures fits { OnOk result (LinkFits entry.now.link) }
 {
     let body = numbers_bytes(alloc, numbers)?;
     let table = entry_bytes(alloc, entry)?;
@@ -184,7 +183,7 @@ fn encode_block(
     entry: &TableEntry<'_>,
 ) -> Result<Vec<u8>, NoMemory>
     requires { length entry.now.name.now ≤ 128 }
-    ensures { IfOk result (λ v. v.items ≡ block_of (one_image numbers (lent entry.now) (link_of entry.now.root))) }
+    ensures { IfOk result (λ v. v.items ≡ block_of (one_image numbers (lent entry.now) entry.now.link)) }
 {
     let mut block = encode(alloc, numbers, entry)?;
     block.resize(UNIT, 0)?;
@@ -217,9 +216,9 @@ pub(crate) fn decode<'a>(alloc: Global, block: &'a [u8]) -> Result<Option<OneRec
 // What stands at the places where a record with one table has its fields.
 fn at_its_places<'a>(block: &'a [u8]) -> Option<OneRecord<'a>>
     requires { length block.now ≡ 4096 }
-    ensures some { IfSome result (λ r. (n : Numbers) → (t : Table) → (l : Link) → IsInForm n t → IsLink l → block.now ≡ block_of (one_image n t l) → (r.numbers ≡ n) × (lent r.entry ≡ t) × (link_of r.entry.root ≡ l)) }
+    ensures some { IfSome result (λ r. (n : Numbers) → (t : Table) → (l : Link) → IsInForm n t → LinkFits l → block.now ≡ block_of (one_image n t l) → (r.numbers ≡ n) × (lent r.entry ≡ t) × (r.entry.link ≡ l)) }
     ensures none { IfNone result (HoldsNone block.now) }
-    ensures link { IfSome result (λ r. IsLink (link_of r.entry.root)) }
+    ensures link { IfSome result (λ r. LinkFits r.entry.link) }
 {
     let numbers = numbers_at(&block[HEADER_LEN..HEADER_LEN + NUMBERS_LEN]);
     match entry_at(&block[HEADER_LEN + NUMBERS_LEN..]) {
@@ -245,12 +244,12 @@ fn numbers_at(bytes: &[u8]) -> Numbers
     }
 }
 
-fn root_at(bytes: &[u8]) -> Root
+fn link_at(bytes: &[u8]) -> Link
     requires { length bytes.now ≡ 40 }
-    ensures is { (l : Link) → IsLink l → bytes.now ≡ link_bytes l → link_of result ≡ l }
-    ensures fits { IsLink (link_of result) }
+    ensures is { (l : Link) → LinkFits l → bytes.now ≡ link_bytes l → result ≡ l }
+    ensures fits { LinkFits result }
 {
-    Root {
+    Link {
         addr: Addr {
             offset: number_at(&bytes[..8]),
             size: short_at(&bytes[8..12]),
@@ -266,8 +265,8 @@ fn root_at(bytes: &[u8]) -> Root
 
 fn entry_at<'a>(bytes: &'a [u8]) -> Option<TableEntry<'a>>
     requires { 176 ≤ length bytes.now }
-    ensures some { IfSome result (λ e. (t : Table) (l : Link) (rest : List ℕ) → IsTable t → IsLink l → bytes.now ≡ entry_text t.number t.formats t.name l ++ rest → (lent e ≡ t) × (link_of e.root ≡ l)) }
-    ensures link { IfSome result (λ e. IsLink (link_of e.root)) }
+    ensures some { IfSome result (λ e. (t : Table) (l : Link) (rest : List ℕ) → IsTable t → LinkFits l → bytes.now ≡ entry_text t.number t.formats t.name l ++ rest → (lent e ≡ t) × (e.link ≡ l)) }
+    ensures link { IfSome result (λ e. LinkFits e.link) }
     ensures none { IfNone result ((t : Table) (l : Link) (rest : List ℕ) → IsTable t → bytes.now ≡ entry_text t.number t.formats t.name l ++ rest → ⊥) }
 {
     let len = bytes[7] as usize;
@@ -281,7 +280,7 @@ fn entry_at<'a>(bytes: &'a [u8]) -> Option<TableEntry<'a>>
         number: short_at(&bytes[..4]),
         formats: Formats { key, value },
         name: name_at(bytes, len),
-        root: root_at(&bytes[8..ENTRY_LEN]),
+        link: link_at(&bytes[8..ENTRY_LEN]),
     })
 }
 

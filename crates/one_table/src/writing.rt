@@ -15,15 +15,15 @@ ghost use Rattle.leaf_rows.specs.Rows.{image_length};
 ghost use Rattle.leaf_rows.specs.Contents.{leaf_content};
 ghost use Rattle.checkpoint_core.specs.Stands.{Stands, AreInUse, chosen_of};
 ghost use Rattle.checkpoint_core.specs.Finishes.{Finishes};
-ghost use Rattle.one_table.specs.OneTable.{table_of, link_of, one_unplaced, IsInForm};
+ghost use Rattle.one_table.specs.OneTable.{table_of, one_unplaced, IsInForm};
 ghost use Rattle.one_table.specs.Openings.{LeafIs, Serves, blocks_at};
 ghost use Rattle.one_table.specs.Closings.{Installs, IsFullFor, content_was, told_of};
 
-use crate::leaf::Root;
 use crate::place::Place;
 use crate::record::{Entry, Numbers, TableEntry, encode};
-use block_mgr::{Addr, Blocks};
+use block_mgr::Blocks;
 use checkpoint_core::finish;
+use device_layout::{Addr, Link};
 use disk_model::Disk;
 use leaf_rows::Rows;
 use stamp::Name;
@@ -50,8 +50,8 @@ pub fn close<D: Disk>(
     ensures disk { SameDisk D.Disk disk.old disk.new }
 {
     if rows.is_empty() {
-        let root = nowhere();
-        let record = write_record(alloc, disk, &mut place.blocks, numbers, entry, root);
+        let link = nowhere();
+        let record = write_record(alloc, disk, &mut place.blocks, numbers, entry, link);
         return told(record);
     }
     let Ok(image) = rows.encode(alloc) else {
@@ -60,12 +60,12 @@ pub fn close<D: Disk>(
     match place.blocks.write(alloc, disk, &image) {
         Ok(addr) => {
             capture(&mut place.blocks, addr);
-            let root = Root {
+            let link = Link {
                 addr,
                 greatest: rows.greatest(),
                 durable: rows.durable(),
             };
-            let record = write_record(alloc, disk, &mut place.blocks, numbers, entry, root);
+            let record = write_record(alloc, disk, &mut place.blocks, numbers, entry, link);
             told(record)
         }
         Err(error) => Err(refused(error)),
@@ -117,20 +117,20 @@ fn capture(blocks: &mut Blocks, addr: Addr)
     blocks.capture(addr);
 }
 
-// Writes the record of the table, whose leaf is where the root leads, and installs it.
+// Writes the record of the table, whose leaf is where the link leads, and installs it.
 fn write_record<D: Disk>(
     alloc: Global,
     disk: &mut D,
     blocks: &mut Blocks,
     numbers: Numbers,
     entry: &Entry,
-    root: Root,
+    link: Link,
 ) -> Result<Addr, StoreError>
     requires form { IsInForm numbers (table_of entry.now) }
     requires ready { IsTrue (D.honest disk.old) → (8192 ≤ length (D.seen disk.old)) × (end_of blocks.old.space ≤ length (D.seen disk.old)) }
-    ensures finishes { IsTrue (D.honest disk.old) → (old : Option Stored) (rows : List Row) → Stands (D.seen disk.old) (D.may_leave disk.old) blocks.old old → LeafIs (D.seen disk.old) (link_of root) rows → AreInUse blocks.old.cells (blocks_at (link_of root) rows)
+    ensures finishes { IsTrue (D.honest disk.old) → (old : Option Stored) (rows : List Row) → Stands (D.seen disk.old) (D.may_leave disk.old) blocks.old old → LeafIs (D.seen disk.old) link rows → AreInUse blocks.old.cells (blocks_at link rows)
         → ((slot : ASlot) → slot.sequence ≡ numbers.sequence → IsNext (chosen_of old) slot)
-        → Finishes D.Disk blocks.old.space (159 + length entry.now.name) (D.capacity disk.old) old (one_unplaced numbers (table_of entry.now) (link_of root) rows) disk.old disk.new result }
+        → Finishes D.Disk blocks.old.space (159 + length entry.now.name) (D.capacity disk.old) old (one_unplaced numbers (table_of entry.now) link rows) disk.old disk.new result }
     ensures fault { IfErr result (λ e. IsOfDisk e → Rose (D.faults disk.old) (D.faults disk.new)) }
     ensures disk { SameDisk D.Disk disk.old disk.new }
 {
@@ -138,7 +138,7 @@ fn write_record<D: Disk>(
         number: entry.number,
         formats: entry.formats,
         name: entry.name.as_bytes(),
-        root,
+        link,
     };
     let Ok(image) = encode(alloc, numbers, &entry) else {
         return Err(StoreError::NoMemory);
@@ -148,10 +148,10 @@ fn write_record<D: Disk>(
 }
 
 // What leads to a leaf without rows, which is not stored.
-fn nowhere() -> Root
-    ensures { link_of result ≡ nowhere_link }
+fn nowhere() -> Link
+    ensures { result ≡ nowhere_link }
 {
-    Root {
+    Link {
         addr: Addr {
             offset: 0,
             size: 0,

@@ -1,20 +1,18 @@
 -- A device has one content, and keeps it while the bytes that it uses stay.
-use Rattle.std.proofs.Common.{◌≡◌, ℕ, ◌<◌, ◌≤◌, ◌^◌, List, [], ◌∷◌, ◌++◌, length, drop, Option, refl, sym, ap, subst, ◌∙◌, arith, inl, inr, append_assoc}
-use Rattle.std.specs.Prelude.{slice_index}
-use Rattle.std.specs.Int.{w32, w64}
+use Rattle.std.proofs.Common.{◌≡◌, ℕ, ◌≤◌, List, [], ◌∷◌, length, Option, Some, None, refl, sym, ap, subst, ◌∙◌, arith, inl, inr}
 use Rattle.disk_model.specs.Disk.{Torn}
-use Rattle.le_codec.specs.Fields.{number_at, IsField}
-use Rattle.le_codec.specs.Combine.{then_at, as_at}
-use Rattle.le_codec.proofs.Laws.{field32, field64}
-use Rattle.le_codec.proofs.Combined.{then_field, as_field, again_field, one_value}
+use Rattle.turtle.specs.Slots.{Chooses}
+use Rattle.turtle.proofs.Choice.{chooses_one, chooses_still}
+use Rattle.device_layout.specs.Slots.{addr_in}
+use Rattle.le_codec.proofs.Laws.{some_is}
 use Rattle.kv_model.specs.Content.{Content}
 use Rattle.stored.specs.Blocks.{IsAt, Holds, Same, Away}
-use Rattle.stored.specs.Slots.{Slot, slot_fields, slot_text, HasSlot, IsShut, IsBefore, Chosen, first_text, second_text, SameSlots}
+use Rattle.device_layout.specs.declared.slot.Slot.{Slot}
 use Rattle.stored.specs.Tree.{IsTree, tree_blocks}
 use Rattle.stored.specs.TableTree.{table_kind, TableTree, root_entry}
 use Rattle.stored.specs.HistoryTree.{history_kind, HistoryTree, history_root_entry}
 use Rattle.stored.specs.Records.{Record, record_image, TableRoot}
-use Rattle.stored.specs.Stored.{Stored, tables_blocks, history_blocks, stored_blocks, AreTrees, IsOn, content_of, IsBlank, Reads}
+use Rattle.stored.specs.Stored.{Stored, tables_blocks, history_blocks, stored_blocks, AreTrees, SameSlots, IsOn, content_of, IsBlank, Reads}
 use Rattle.stored.proofs.Frame.{frame, torn_before, torn_same}
 use Rattle.stored.proofs.OneTree.{holds_front, holds_back, same_padded, one_tree}
 use Rattle.stored.proofs.Exact.{table_exact, history_exact, record_exact}
@@ -25,7 +23,7 @@ pub frame_on : (old new : List ℕ) (s : Stored) → length old ≤ length new �
 frame_on old new s longer slots same on = record {
   whole = on.whole;
   long = omega (arith, on.long, longer);
-  chosen = subst (λ (x : List ℕ). Chosen x (second_text new) s.slot) (sym slots.0) (subst (λ (x : List ℕ). Chosen (first_text old) x s.slot) (sym slots.1) on.chosen);
+  chosen = chooses_still old new (Some s.slot) slots.0 slots.1 on.chosen;
   holds = frame old new (stored_blocks s) longer same on.holds;
 }
 
@@ -35,7 +33,7 @@ torn_on at n old new s high torn away on =
     frame_on old new s torn.no_shorter (torn_before at n old new 0 36 torn (omega (arith, high)) (omega (arith, on.long)), torn_before at n old new 4096 36 torn (omega (arith, high)) (omega (arith, on.long))) (torn_same at n old new (stored_blocks s) torn away on.holds) on
 
 pub frame_blank : (old new : List ℕ) → length old ≤ length new → SameSlots old new → IsBlank old → IsBlank new
-frame_blank old new longer slots blank = record { long = omega (arith, blank.long, longer); first = subst IsShut (sym slots.0) blank.first; second = subst IsShut (sym slots.1) blank.second }
+frame_blank old new longer slots blank = record { long = omega (arith, blank.long, longer); shut = chooses_still old new None slots.0 slots.1 blank.shut }
 
 pub torn_blank : (at n : ℕ) (old new : List ℕ) → 8192 ≤ at → Torn at n old new → IsBlank old → IsBlank new
 torn_blank at n old new high torn blank =
@@ -43,62 +41,14 @@ torn_blank at n old new high torn blank =
 
 -- ---- one slot is chosen
 
-abbrev SlotParts : Type 0
-SlotParts = ℕ × (ℕ × (ℕ × ℕ))
+pub one_choice : (bytes : List ℕ) (s t : Slot) → Chooses bytes (Some s) → Chooses bytes (Some t) → s ≡ t
+one_choice bytes s t one two = some_is s t (chooses_one bytes (Some s) (Some t) one two)
 
-abbrev slot_of : SlotParts → Slot
-slot_of p = record { sequence = p.0; place = record { offset = p.1.0; size = p.1.1.0; sum = p.1.1.1 } }
-
-abbrev slot_parts : Slot → SlotParts
-slot_parts s = (s.sequence, (s.place.offset, (s.place.size, s.place.sum)))
-
-slot_at : List ℕ → Option (Slot × List ℕ)
-slot_at = as_at slot_of (then_at (number_at w64) (λ sequence. then_at (number_at w64) (λ offset. then_at (number_at w32) (λ size. number_at w32))))
-
-record SlotFits (s : Slot) : Type 0 where
-  sequence : s.sequence < 2 ^ 64
-  offset : s.place.offset < 2 ^ 64
-  size : s.place.size < 2 ^ 32
-  sum : s.place.sum < 2 ^ 32
-
-slot_field : IsField slot_fields slot_at SlotFits
-unfolding slot_at
-slot_field =
-    again_field slot_fields SlotFits (λ s. simp append_assoc refl) (λ s h. record { sequence = h.0; offset = h.1.0; size = h.1.1.0; sum = h.1.1.1 }) (λ s h. (h.sequence, (h.offset, (h.size, h.sum))))
-    (as_field slot_of slot_parts (λ p. refl) (λ s. refl) (then_field field64 (λ sequence. then_field field64 (λ offset. then_field field32 (λ size. field32)))))
-
-slot_fits : (text : List ℕ) (s : Slot) → HasSlot text s → SlotFits s
-slot_fits text s h = record { sequence = omega (arith, h.sequence.1); offset = h.offset; size = h.size; sum = h.sum }
-
-pub one_slot : (text : List ℕ) (s t : Slot) → HasSlot text s → HasSlot text t → s ≡ t
-one_slot text s t hs ht =
-    let same : drop 8 (slot_text s) ≡ drop 8 (slot_text t) = ap (λ (x : List ℕ). drop 8 x) (sym hs.is ∙ ht.is) in
-    let fields : slot_fields s ≡ slot_fields t = (one_value field32 1 1 (slot_fields s) (slot_fields t) (omega arith) (omega arith) same).1 in
-    (one_value slot_field s t [] [] (slot_fits text s hs) (slot_fits text t ht) (ap (λ (l : List ℕ). l ++ []) fields)).0
-
-is_open : (text : List ℕ) (s : Slot) → HasSlot text s → IsShut text → ⊥
-is_open text s h shut = shut (ap (λ (x : List ℕ). slice_index x 0) h.is)
-
--- two slots cannot each be after the other
-crossed : (a b : List ℕ) (s t : Slot) → HasSlot a s → HasSlot b t → IsBefore b s → IsBefore a t → ⊥
-crossed a b s t ha hb (inl shut) before = is_open b t hb shut
-crossed a b s t ha hb (inr other) (inl shut) = is_open a s ha shut
-crossed a b s t ha hb (inr other) (inr one) =
-    let x : other.0 ≡ t = one_slot b other.0 t other.1 hb in
-    let y : one.0 ≡ s = one_slot a one.0 s one.1 ha in
-    let lt : t.sequence < s.sequence = subst (λ (k : Slot). k.sequence < s.sequence) x other.2 in
-    let gt : s.sequence < t.sequence = subst (λ (k : Slot). k.sequence < t.sequence) y one.2 in
-    omega (arith, lt, gt)
-
-pub one_choice : (a b : List ℕ) (s t : Slot) → Chosen a b s → Chosen a b t → s ≡ t
-one_choice a b s t (inl x) (inl y) = one_slot a s t x.0 y.0
-one_choice a b s t (inr x) (inr y) = one_slot b s t x.0 y.0
-one_choice a b s t (inl x) (inr y) = absurd (crossed a b s t x.0 y.0 x.1 y.1)
-one_choice a b s t (inr x) (inl y) = absurd (crossed b a s t x.0 y.0 x.1 y.1)
-
-not_blank : (bytes : List ℕ) (s : Slot) → IsBlank bytes → Chosen (first_text bytes) (second_text bytes) s → ⊥
-not_blank bytes s blank (inl x) = is_open (first_text bytes) s x.0 blank.first
-not_blank bytes s blank (inr x) = is_open (second_text bytes) s x.0 blank.second
+not_blank : (bytes : List ℕ) (s : Slot) → IsBlank bytes → Chooses bytes (Some s) → ⊥
+not_blank bytes s blank is = none_some (chooses_one bytes None (Some s) blank.shut is)
+  where
+    none_some : let none : Option Slot = None in none ≡ Some s → ⊥
+    none_some same = cc
 
 -- ---- one content
 
@@ -117,10 +67,10 @@ one_forest bytes (x ∷ tables) (t ∷ trees) (u ∷ others) it iu ht hu =
 
 pub one_stored : (bytes : List ℕ) (s t : Stored) → IsOn bytes s → IsOn bytes t → s ≡ t
 one_stored bytes s t os ot =
-    let slot : s.slot ≡ t.slot = one_choice (first_text bytes) (second_text bytes) s.slot t.slot os.chosen ot.chosen in
-    let block : IsAt bytes (record { place = s.slot.place; image = record_image t.kept }) = subst (λ (x : Slot). IsAt bytes (record { place = x.place; image = record_image t.kept })) (sym slot) ot.holds.0 in
-    let size = s.slot.place.size in
-    let kept : s.kept ≡ t.kept = record_exact size size s.kept t.kept os.whole.is_record ot.whole.is_record (same_padded bytes s.slot.place (record_image s.kept) (record_image t.kept) os.holds.0 block) in
+    let slot : s.slot ≡ t.slot = one_choice bytes s.slot t.slot os.chosen ot.chosen in
+    let block : IsAt bytes (record { place = addr_in s.slot; image = record_image t.kept }) = subst (λ (x : Slot). IsAt bytes (record { place = addr_in x; image = record_image t.kept })) (sym slot) ot.holds.0 in
+    let size = s.slot.size in
+    let kept : s.kept ≡ t.kept = record_exact size size s.kept t.kept os.whole.is_record ot.whole.is_record (same_padded bytes (addr_in s.slot) (record_image s.kept) (record_image t.kept) os.holds.0 block) in
     let front_s = holds_front bytes (tables_blocks s.kept.tables s.trees) (history_blocks s.kept s.history) os.holds.1 in
     let back_s = holds_back bytes (tables_blocks s.kept.tables s.trees) (history_blocks s.kept s.history) os.holds.1 in
     let front_t = holds_front bytes (tables_blocks t.kept.tables t.trees) (history_blocks t.kept t.history) ot.holds.1 in

@@ -15,7 +15,8 @@ use Rattle.kv_model.specs.History.{Placed}
 use Rattle.kv_model.specs.Content.{Snapshot}
 use Rattle.row_page.specs.Rows.{Row, cell}
 use Rattle.row_page.proofs.Leaves.{leaf_exact, length-cell}
-use Rattle.stored.specs.Links.{Link, link_text, nowhere, is_nowhere}
+use Rattle.device_layout.specs.declared.link.Link.{Link}
+use Rattle.stored.specs.Links.{link_text, nowhere, is_nowhere}
 use Rattle.stored.specs.TableTree.{Entry, entry_text, EntryFits, AreEntries, inner_image, Bears, table_kind}
 use Rattle.stored.specs.HistoryTree.{HistoryEntry, history_entry_text, HistoryEntryFits, AreHistoryEntries, history_inner_image, record_text, AreRecords, history_image, history_kind}
 use Rattle.stored.specs.Records.{TableRoot, Record, SnapshotFits, TableFits, IdsAscend, IsRecord, record_body, record_image, table_text}
@@ -83,7 +84,7 @@ history_leaf_exact size p q hp hq same =
 
 -- ---- trees
 
-nothing_there : (e : Entry) (p q : List Row) → is_nowhere e.link.place ≡ true → Bears e p → Bears e q → p ≡ q
+nothing_there : (e : Entry) (p q : List Row) → is_nowhere e.link.addr ≡ true → Bears e p → Bears e q → p ≡ q
 nothing_there e p q is hp hq = (hp.empty is).1 ∙ sym (hq.empty is).1
 
 pub table_exact : IsExact table_kind
@@ -94,14 +95,14 @@ table_exact = record {
 }
 
 -- a leaf of the history is stored exactly where it has records
-stored_leaf : (size : ℕ) (e : HistoryEntry) (p q : List Placed) → ((e.link ≡ nowhere) × (p ≡ [])) ⊎ ((e.link.place.offset ≢ 0) × AreRecords p) → ((e.link ≡ nowhere) × (q ≡ [])) ⊎ ((e.link.place.offset ≢ 0) × AreRecords q)
+stored_leaf : (size : ℕ) (e : HistoryEntry) (p q : List Placed) → ((e.link ≡ nowhere) × (p ≡ [])) ⊎ ((e.link.addr.offset ≢ 0) × AreRecords p) → ((e.link ≡ nowhere) × (q ≡ [])) ⊎ ((e.link.addr.offset ≢ 0) × AreRecords q)
     → padded (history_image p) size ≡ padded (history_image q) size → p ≡ q
 stored_leaf size e p q (inl x) (inl y) same = x.1 ∙ sym y.1
-stored_leaf size e p q (inl x) (inr y) same = absurd (y.0 (ap (λ (l : Link). l.place.offset) x.0))
-stored_leaf size e p q (inr x) (inl y) same = absurd (x.0 (ap (λ (l : Link). l.place.offset) y.0))
+stored_leaf size e p q (inl x) (inr y) same = absurd (y.0 (ap (λ (l : Link). l.addr.offset) x.0))
+stored_leaf size e p q (inr x) (inl y) same = absurd (x.0 (ap (λ (l : Link). l.addr.offset) y.0))
 stored_leaf size e p q (inr x) (inr y) same = history_leaf_exact size p q x.1 y.1 same
 
-none_stored : (e : HistoryEntry) (p : List Placed) → is_nowhere e.link.place ≡ true → ((e.link ≡ nowhere) × (p ≡ [])) ⊎ ((e.link.place.offset ≢ 0) × AreRecords p) → p ≡ []
+none_stored : (e : HistoryEntry) (p : List Placed) → is_nowhere e.link.addr ≡ true → ((e.link ≡ nowhere) × (p ≡ [])) ⊎ ((e.link.addr.offset ≢ 0) × AreRecords p) → p ≡ []
 none_stored e p is (inl x) = x.1
 none_stored e p is (inr x) = absurd (x.0 (eqb-true _ _ is))
 

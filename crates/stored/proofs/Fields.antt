@@ -13,7 +13,8 @@ use Rattle.kv_model.specs.History.{Placed}
 use Rattle.kv_model.specs.Content.{Snapshot}
 use Rattle.row_page.specs.Rows.{key_most}
 use Rattle.row_page.proofs.Fields.{row_field}
-use Rattle.stored.specs.Links.{Link, link_text, LinkFits}
+use Rattle.device_layout.specs.declared.link.Link.{Link}
+use Rattle.stored.specs.Links.{link_text, LinkFits}
 use Rattle.stored.specs.TableTree.{Entry, entry_text}
 use Rattle.stored.specs.HistoryTree.{HistoryEntry, history_entry_text, record_text, RecordFits}
 use Rattle.stored.specs.Records.{TableRoot, Record, letter, table_text, snapshot_text, record_body}
@@ -22,7 +23,7 @@ use Rattle.stored.specs.Reading.{LinkParts, link_of, link_at, EntryParts, entry_
 -- ---- a link
 
 abbrev link_parts : Link → LinkParts
-link_parts l = (l.place.offset, (l.place.size, (l.place.sum, (l.greatest.run, (l.greatest.id, l.durable)))))
+link_parts l = (l.addr.offset, (l.addr.size, (l.addr.sum, (l.greatest.run, (l.greatest.id, l.durable)))))
 
 pub link_field : IsField link_text link_at LinkFits
 unfolding link_at

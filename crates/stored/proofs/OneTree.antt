@@ -1,7 +1,8 @@
 -- A device has one tree below a root.
 use Rattle.std.proofs.Common.{◌≡◌, ℕ, suc, Bool, true, false, cond, List, [], ◌∷◌, ◌++◌, length, refl, sym, ap, subst, ◌∙◌, arith}
 use Rattle.le_codec.specs.Images.{padded}
-use Rattle.stored.specs.Blocks.{Addr, Block, IsAt, Holds}
+use Rattle.device_layout.specs.declared.addr.Addr.{Addr}
+use Rattle.stored.specs.Blocks.{Block, IsAt, Holds}
 use Rattle.stored.specs.Links.{is_nowhere}
 use Rattle.stored.specs.Tree.{Layer, Kind, Tree, join, page_blocks, inner_blocks, bottom, leaf_blocks, Lead, AllLead, AllBear, tree_blocks, IsTree}
 

@@ -4,13 +4,9 @@ use Rattle.std.specs.List.{AllByRecursion}
 use Rattle.block_sum.specs.Sum.{sum_of}
 use Rattle.le_codec.specs.Images.{padded, block_size}
 use Rattle.disk_model.specs.Ranges.{range}
+use Rattle.device_layout.specs.declared.addr.Addr.{Addr}
 
--- where a block stands, its size in bytes, and the sum of its bytes
-pub record Addr : Type 0 where
-  pub offset : ℕ
-  pub size : ℕ
-  pub sum : ℕ
-
+-- a block: where it stands, and its image
 pub record Block : Type 0 where
   pub place : Addr
   pub image : List ℕ

@@ -12,7 +12,8 @@ use Rattle.le_codec.specs.Images.{framed}
 use Rattle.kv_model.specs.History.{Placed}
 use Rattle.row_page.specs.Rows.{key_most, cell, RowFits, IsName}
 use Rattle.row_page.specs.Greatest.{no_name}
-use Rattle.stored.specs.Links.{Link, link_text, LinkFits, nowhere, SaysOf}
+use Rattle.device_layout.specs.declared.link.Link.{Link}
+use Rattle.stored.specs.Links.{link_text, LinkFits, nowhere, SaysOf}
 use Rattle.stored.specs.Tree.{Kind, Tree, join}
 
 -- what orders records: the table's number, the key, the commit stamp, and the name
@@ -138,7 +139,7 @@ pub record HistoryLeads (level : ℕ) (e : HistoryEntry) (p : List HistoryEntry)
 
 -- a leaf begins with its entry's record; it has none exactly where it is stored nowhere
 pub record HistoryBears (e : HistoryEntry) (records : List Placed) : Type 0 where
-  pub leaf : (e.link ≡ nowhere) × (records ≡ []) ⊎ (e.link.place.offset ≢ 0) × AreRecords records
+  pub leaf : (e.link ≡ nowhere) × (records ≡ []) ⊎ (e.link.addr.offset ≢ 0) × AreRecords records
   pub begins : Begins e (first_record records)
   pub says : SaysOf e.link (map (λ (r : Placed). r.version.window.name) records) (map (λ (r : Placed). r.version.window.durable) records)
 
@@ -159,7 +160,7 @@ pub record HistoryParts (es : List HistoryEntry) (leaves : List (List Placed)) :
 
 abbrev pub history_kind : Kind HistoryEntry Placed
 history_kind = record {
-  place = λ e. e.link.place;
+  place = λ e. e.link.addr;
   inner = history_inner_image;
   leaf = history_image;
   Leads = HistoryLeads;

@@ -1,5 +1,4 @@
 pub mod Blocks
-pub mod Slots
 pub mod Links
 pub mod Tree
 pub mod TableTree

@@ -9,7 +9,7 @@ use Rattle.kv_model.specs.History.{Placed}
 use Rattle.kv_model.specs.Content.{Snapshot}
 use Rattle.row_page.specs.Rows.{Row, key_most}
 use Rattle.row_page.specs.Reading.{cell_at}
-use Rattle.stored.specs.Links.{Link}
+use Rattle.device_layout.specs.declared.link.Link.{Link}
 use Rattle.stored.specs.TableTree.{Entry}
 use Rattle.stored.specs.HistoryTree.{HistoryEntry}
 use Rattle.stored.specs.Records.{TableRoot, Record}
@@ -20,7 +20,7 @@ abbrev pub LinkParts : Type 0
 LinkParts = ℕ × (ℕ × (ℕ × (ℕ × (ℕ × ℕ))))
 
 abbrev pub link_of : LinkParts → Link
-link_of p = record { place = record { offset = p.0; size = p.1.0; sum = p.1.1.0 }; greatest = record { run = p.1.1.1.0; id = p.1.1.1.1.0 }; durable = p.1.1.1.1.1 }
+link_of p = record { addr = record { offset = p.0; size = p.1.0; sum = p.1.1.0 }; greatest = record { run = p.1.1.1.0; id = p.1.1.1.1.0 }; durable = p.1.1.1.1.1 }
 
 unfoldable pub link_at : List ℕ → Option (Link × List ℕ)
 link_at = as_at link_of (then_at (number_at w64) (λ offset. then_at (number_at w32) (λ size. then_at (number_at w32) (λ sum. then_at (number_at w64) (λ run. then_at (number_at w64) (λ id. number_at w64))))))

@@ -10,7 +10,8 @@ use Rattle.le_codec.specs.Images.{framed}
 use Rattle.kv_model.specs.History.{Table}
 use Rattle.kv_model.specs.Content.{Snapshot}
 use Rattle.row_page.specs.Rows.{is_below}
-use Rattle.stored.specs.Links.{Link, link_text, LinkFits}
+use Rattle.device_layout.specs.declared.link.Link.{Link}
+use Rattle.stored.specs.Links.{link_text, LinkFits}
 
 -- a tree: its level, 0 where its root is a leaf, and what leads to its root
 pub record Root : Type 0 where

@@ -1,11 +1,14 @@
 -- What a whole device reads as.
-use Rattle.std.specs.Prelude.{◌≡◌, ◌⊎◌, ℕ, ◌≤◌, List, [], ◌∷◌, ◌++◌, length, map}
+use Rattle.std.specs.Prelude.{◌≡◌, ◌⊎◌, ℕ, ◌≤◌, List, [], ◌∷◌, ◌++◌, length, map, Some, None}
 use Rattle.std.specs.List.{AllByRecursion}
 use Rattle.kv_model.specs.History.{Table, Placed}
 use Rattle.kv_model.specs.Content.{Content, nothing}
 use Rattle.row_page.specs.Rows.{Row}
+use Rattle.disk_model.specs.Ranges.{range}
+use Rattle.device_layout.specs.declared.slot.Slot.{Slot}
+use Rattle.device_layout.specs.Slots.{addr_in}
+use Rattle.turtle.specs.Slots.{Chooses}
 use Rattle.stored.specs.Blocks.{Block, IsAddressed, Holds, Apart}
-use Rattle.stored.specs.Slots.{Slot, Chosen, IsShut, first_text, second_text}
 use Rattle.stored.specs.Tree.{IsTree, tree_blocks, join}
 use Rattle.stored.specs.TableTree.{table_kind, TableTree, root_entry}
 use Rattle.stored.specs.HistoryTree.{history_kind, HistoryTree, history_root_entry}
@@ -29,7 +32,7 @@ abbrev pub history_blocks : Record → HistoryTree → List Block
 history_blocks r tree = tree_blocks history_kind (history_root_entry r.history.link) tree
 
 abbrev pub record_block : Stored → Block
-record_block s = record { place = s.slot.place; image = record_image s.kept }
+record_block s = record { place = addr_in s.slot; image = record_image s.kept }
 
 -- the record's block, those of the tables, and those of the history
 abbrev pub stored_blocks : Stored → List Block
@@ -52,11 +55,15 @@ pub record IsWhole (s : Stored) : Type 0 where
   pub addressed : AllByRecursion (λ (b : Block). IsAddressed b) (stored_blocks s)
   pub apart : Apart (stored_blocks s)
 
+-- two contents are the same where the slots stand
+abbrev pub SameSlots : List ℕ → List ℕ → Type 0
+SameSlots old new = (range new 0 36 ≡ range old 0 36) × (range new 4096 36 ≡ range old 4096 36)
+
 -- the device has it
 pub record IsOn (bytes : List ℕ) (s : Stored) : Type 0 where
   pub whole : IsWhole s
   pub long : 8192 ≤ length bytes
-  pub chosen : Chosen (first_text bytes) (second_text bytes) s.slot
+  pub chosen : Chooses bytes (Some s.slot)
   pub holds : Holds bytes (stored_blocks s)
 
 -- ---- the content, which knows no place
@@ -87,8 +94,7 @@ content_of s = record {
 -- no slot is open: no checkpoint was completed
 pub record IsBlank (bytes : List ℕ) : Type 0 where
   pub long : 8192 ≤ length bytes
-  pub first : IsShut (first_text bytes)
-  pub second : IsShut (second_text bytes)
+  pub shut : Chooses bytes None
 
 -- the device's bytes read as this content
 abbrev pub Reads : List ℕ → Content → Type 0

@@ -6,7 +6,8 @@ use Rattle.le_codec.specs.Fields.{le}
 use Rattle.le_codec.specs.Images.{first_format}
 use Rattle.le_codec.specs.Images.{framed}
 use Rattle.row_page.specs.Rows.{Row, key_most, is_below, image, AreRows}
-use Rattle.stored.specs.Links.{Link, link_text, LinkFits, nowhere, is_nowhere, SaysOf}
+use Rattle.device_layout.specs.declared.link.Link.{Link}
+use Rattle.stored.specs.Links.{link_text, LinkFits, nowhere, is_nowhere, SaysOf}
 use Rattle.stored.specs.Tree.{Kind, Tree}
 
 -- the least key that may stand below, and what leads there
@@ -61,7 +62,7 @@ pub record Leads (level : ℕ) (e : Entry) (p : List Entry) : Type 0 where
 -- a leaf, which is empty where it is stored nowhere, and whose entry says the greatest of what stands in it
 pub record Bears (e : Entry) (rows : List Row) : Type 0 where
   pub leaf : AreRows rows
-  pub empty : IsTrue (is_nowhere e.link.place) → (e.link ≡ nowhere) × (rows ≡ [])
+  pub empty : IsTrue (is_nowhere e.link.addr) → (e.link ≡ nowhere) × (rows ≡ [])
   pub says : SaysOf e.link (map (λ (r : Row). r.1.window.name) rows) (map (λ (r : Row). r.1.window.durable) rows)
 
 -- a leaf's keys are from its entry's key up to the next entry's
@@ -72,7 +73,7 @@ Stay (e ∷ es) (rows ∷ leaves) = AllByRecursion (λ (r : Row). IsTrue (not (i
 
 abbrev pub table_kind : Kind Entry Row
 table_kind = record {
-  place = λ e. e.link.place;
+  place = λ e. e.link.addr;
   inner = inner_image;
   leaf = image;
   Leads = Leads;

@@ -1,7 +1,8 @@
 -- A tree of pages, layer by layer: the entries of one layer's pages, one after the other, lead to the pages of the next.
 use Rattle.std.specs.Prelude.{◌≡◌, ℕ, suc, List, [], ◌∷◌, ◌++◌, length, if◌then◌else◌}
 use Rattle.std.specs.List.{flat_map}
-use Rattle.stored.specs.Blocks.{Addr, Block}
+use Rattle.device_layout.specs.declared.addr.Addr.{Addr}
+use Rattle.stored.specs.Blocks.{Block}
 use Rattle.stored.specs.Links.{is_nowhere}
 
 -- the entries of each page of a layer

@@ -4,7 +4,7 @@
 //! checkpoint it opens.
 //!
 //! It promises that a device reads as one content at most, and that it still does while the bytes
-//! of its slots and blocks stay. Code that reads or writes a part of the device stands in the
+//! of its slots and blocks stay. Which slot is chosen is `turtle`'s to say. Code that reads or writes a part of the device stands in the
 //! crates above, which prove it against these definitions.
 #![tactic(auto)]
 
@@ -13,9 +13,8 @@ ghost use Rattle.disk_model.specs.Disk.{Torn};
 ghost use Rattle.le_codec.specs.Images.{padded};
 ghost use Rattle.kv_model.specs.Content.{Content};
 ghost use Rattle.stored.specs.Blocks.{Same, Away};
-ghost use Rattle.stored.specs.Slots.{SameSlots};
 ghost use Rattle.stored.specs.Records.{Record, IsRecord, record_image};
-ghost use Rattle.stored.specs.Stored.{Stored, stored_blocks, IsOn, IsBlank, Reads};
+ghost use Rattle.stored.specs.Stored.{Stored, stored_blocks, SameSlots, IsOn, IsBlank, Reads};
 
 /// A device reads as one content, and has one record and one tree for each table and the history.
 pub fn one_content()

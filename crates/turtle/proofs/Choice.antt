@@ -116,6 +116,30 @@ newer_one first second (Some s) (Some t) one two = elim one [
   ]
 ]
 
+-- what is chosen is told by the bytes of the slots
+module _ (old new : List ℕ) where
+  same_gate : (at : ℕ) → range new at 36 ≡ range old at 36 → range new at 1 ≡ range old at 1
+  same_gate at same = gate_of new (range old at 36) at same ∙ sym (gate_of old (range old at 36) at refl)
+
+  shut_still : (at : ℕ) → range new at 36 ≡ range old at 36 → IsShut old at → IsShut new at
+  shut_still at same shut gate = shut (sym (same_gate at same) ∙ gate)
+
+  has_still : (at : ℕ) (s : Slot) → range new at 36 ≡ range old at 36 → HasSlot old at s → HasSlot new at s
+  has_still at s same has = record {
+    gate = same_gate at same ∙ has.gate;
+    fields = part_of new (range old at 36) at 1 35 same (omega arith) ∙ sym (part_of old (range old at 36) at 1 35 refl (omega arith)) ∙ has.fields;
+    is = has.is;
+  }
+
+  less_still : (at : ℕ) (s : Slot) → range new at 36 ≡ range old at 36 → (IsShut old at ⊎ ((x : Slot) × HasSlot old at x × (x.sequence < s.sequence))) → IsShut new at ⊎ ((x : Slot) × HasSlot new at x × (x.sequence < s.sequence))
+  less_still at s same (inl shut) = inl (shut_still at same shut)
+  less_still at s same (inr (x, has, less)) = inr (x, has_still at x same has, less)
+
+  pub chooses_still : (chosen : Option Slot) → range new 0 36 ≡ range old 0 36 → range new 4096 36 ≡ range old 4096 36 → Chooses old chosen → Chooses new chosen
+  chooses_still None first second is = (shut_still 0 first is.0, shut_still 4096 second is.1)
+  chooses_still (Some s) first second (inl here) = inl (has_still 0 s first here.0, less_still 4096 s second here.1)
+  chooses_still (Some s) first second (inr there) = inr (has_still 4096 s second there.0, less_still 0 s first there.1)
+
 pub chooses_one : (bytes : List ℕ) (a b : Option Slot) → Chooses bytes a → Chooses bytes b → a ≡ b
 chooses_one bytes a b one two =
     let x = chosen_stands bytes a one in

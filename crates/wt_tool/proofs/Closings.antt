@@ -20,14 +20,14 @@ use Rattle.kv_model.specs.Told.{Tells}
 use Rattle.kv_model.specs.Calls.{IsTaken, rolled_back}
 use Rattle.kv_model.specs.Content.{Content, base, start, IsLayered, OpensAs}
 use Rattle.row_page.specs.Rows.{Row}
-use Rattle.stored.specs.Links.{Link}
-use Rattle.stored.specs.Slots.{Slot as AtSlot, first_text, second_text}
+use Rattle.device_layout.specs.declared.link.Link.{Link}
+use Rattle.device_layout.specs.Slots.{addr_in}
 use Rattle.stored.specs.Stored.{Reads, IsOn}
 use Rattle.stored.specs.Opens.{Opens}
 use Rattle.stored.proofs.Device.{one_content, one_choice}
 use Rattle.leaf_rows.specs.Rows.{AreFit, image_length}
 use Rattle.leaf_rows.specs.Contents.{leaf_content}
-use Rattle.checkpoint_core.specs.Stands.{at_slot, chosen_of}
+use Rattle.checkpoint_core.specs.Stands.{chosen_of}
 use Rattle.one_table.specs.declared.record.Numbers.{Numbers}
 use Rattle.one_table.specs.declared.place.Place.{Place}
 use Rattle.one_table.specs.declared.opening.Kept.{Kept}
@@ -50,18 +50,18 @@ use Rattle.wt_tool.specs.Top.{OpensToOne, Pending}
 use Rattle.wt_tool.specs.Parts.{MeetsTable, Leaves, silent_run}
 
 -- the content of a device with one table
-pub one_reads : (slot : Slot) (n : Numbers) (t : Table) (link : Link) (rows : List Row) (c : List ℕ) → n.sequence ≡ slot.sequence → IsOn c (one_stored (at_slot slot) n t link rows) → Reads c (leaf_content n.marks t rows)
+pub one_reads : (slot : Slot) (n : Numbers) (t : Table) (link : Link) (rows : List Row) (c : List ℕ) → n.sequence ≡ slot.sequence → IsOn c (one_stored slot n t link rows) → Reads c (leaf_content n.marks t rows)
 one_reads slot n t link rows c same on =
-    new_reads n t link rows (at_slot slot).place c (subst (λ k. IsOn c (one_stored (record (at_slot slot) { sequence = k }) n t link rows)) (sym same) on)
+    new_reads n t link rows (addr_in slot) c (subst (λ k. IsOn c (one_stored (record slot { sequence = k }) n t link rows)) (sym same) on)
 
 -- ---- where a checkpoint follows
 
 pub follows : (bytes : List ℕ) (place : Place) (n : Numbers) (t : Table) (next : ℕ) (there : HasCheckpoint bytes place n t) (numbers : Numbers) → numbers ≡ next_numbers n next → (slot : Slot) → slot.sequence ≡ numbers.sequence
-    → IsNext (chosen_of (Some (one_stored (at_slot there.slot) n t there.link there.rows))) slot
+    → IsNext (chosen_of (Some (one_stored there.slot n t there.link there.rows))) slot
 follows bytes place n t next there numbers are slot is = is ∙ (ap (λ (m : Numbers). m.sequence) are ∙ ap (λ k. k + 1) there.sequence)
 
-pub content_there : (bytes : List ℕ) (place : Place) (n : Numbers) (t : Table) (there : HasCheckpoint bytes place n t) (content : Content) → Reads bytes content → content_was (Some (one_stored (at_slot there.slot) n t there.link there.rows)) ≡ content
-content_there bytes place n t there content reads = one_content bytes _ content (inr (one_stored (at_slot there.slot) n t there.link there.rows, there.serves.still, refl)) reads
+pub content_there : (bytes : List ℕ) (place : Place) (n : Numbers) (t : Table) (there : HasCheckpoint bytes place n t) (content : Content) → Reads bytes content → content_was (Some (one_stored there.slot n t there.link there.rows)) ≡ content
+content_there bytes place n t there content reads = one_content bytes _ content (inr (one_stored there.slot n t there.link there.rows, there.serves.still, refl)) reads
 
 -- a test of a length that fails
 pub not_fit : (b : Bool) (n most : ℕ) → (IsTrue b → n ≤ most) × (n ≤ most → IsTrue b) → b ≡ false → most < n
@@ -294,14 +294,14 @@ module _ {D : Type 0} (g : Ghosts D) (old new : D) (counts : g.moment old ≤ g.
   newest = newest_shown mid (n.marks.run + 1) next n.marks.oldest n.marks.stable t rows s
 
   numbered : IsNumberOf (g.seen old) n.sequence
-  numbered = inr (at_slot there.slot, there.serves.still.chosen, sym there.sequence)
+  numbered = inr (there.slot, there.serves.still.chosen, sym there.sequence)
 
   -- the number of the chosen slot
   not_last : n.sequence < last_number → IsNumberOf (g.seen old) last_number → ⊥
   not_last less (inl (blank, none)) = absurd (omega (arith, none))
   not_last less (inr (slot, chosen, last)) =
-      let one : slot ≡ at_slot there.slot = one_choice (first_text (g.seen old)) (second_text (g.seen old)) slot (at_slot there.slot) chosen there.serves.still.chosen in
-      absurd (omega (arith, less, there.sequence, last, ap (λ (x : AtSlot). x.sequence) one))
+      let one : slot ≡ there.slot = one_choice (g.seen old) slot there.slot chosen there.serves.still.chosen in
+      absurd (omega (arith, less, there.sequence, last, ap (λ (x : Slot). x.sequence) one))
 
   -- the next checkpoint of the table, at the end of a run
   pub ran_closes : (result : Result (Unit {0}) Refusal) → Closes g (Rose (g.faults old) (g.faults new)) (IsFullFor (g.seen old) (g.capacity old) rows) n t rows next content old new result

@@ -22,8 +22,6 @@ use Rattle.row_page.specs.Rows.{Row}
 use Rattle.stored.specs.Stored.{Reads, IsBlank}
 use Rattle.stored.proofs.Device.{one_content}
 use Rattle.leaf_rows.specs.Contents.{leaf_content}
-use Rattle.checkpoint_core.specs.Stands.{slot_of}
-use Rattle.checkpoint_core.proofs.Slots.{blank_chooses, chosen_chooses}
 use Rattle.one_table.specs.declared.record.Numbers.{Numbers}
 use Rattle.one_table.specs.declared.place.Place.{Place}
 use Rattle.one_table.specs.declared.opening.Kept.{Kept}
@@ -256,7 +254,7 @@ module _ {D : Type 0} (g : Ghosts D) (old new : D) (counts : g.moment old ≤ g.
     (count : g.faults old ≤ g.faults new) (name : List ℕ) (formats : Formats) (is : is_name name ≡ true) (blank : IsBlank (g.seen old)) where
   no_last : IsNumberOf (g.seen old) last_number → ⊥
   no_last (inl (shut, none)) = absurd (omega (arith, none))
-  no_last (inr (slot, chosen, last)) = some_none (slot_of slot) (chooses_one (g.seen old) (Some (slot_of slot)) None (chosen_chooses (g.seen old) slot chosen) (blank_chooses (g.seen old) blank))
+  no_last (inr (slot, chosen, last)) = some_none slot (chooses_one (g.seen old) (Some slot) None chosen blank.shut)
     where
       some_none : (s : Slot) → let one : Option Slot = Some s in one ≡ None → ⊥
       some_none s same = cc

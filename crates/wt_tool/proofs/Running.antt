@@ -13,7 +13,6 @@ use Rattle.wt_code.specs.declared.refusals.Refusal.{Refusal}
 use Rattle.wt_code.specs.declared.refusals.Refusal.TheVariants.{NoMemory, DiskFault, Invalid as Refusal_Invalid}
 use Rattle.wt_code.specs.declared.refusals.Invalid.TheVariants.{BadName}
 use Rattle.wt_io.specs.Streams.{Gave, Took}
-use Rattle.checkpoint_core.specs.Stands.{at_slot}
 use Rattle.one_table.specs.declared.opening.Kept.{Kept}
 use Rattle.one_table.specs.declared.opening.Opened.{Opened as Held}
 use Rattle.one_table.specs.OneTable.{HoldsOne, IsInForm, table_of, one_stored}
@@ -40,7 +39,7 @@ holds_one bytes o finds = of_kept o.kept finds
   where
     of_kept : (k : Option Kept) → KeepsOr bytes o.place k → HoldsOne bytes
     of_kept None serves = inl serves.still
-    of_kept (Some k) keeps = inr (at_slot keeps.slot, k.numbers, table_of k.entry, keeps.link, keeps.rows, keeps.form, keeps.serves.still)
+    of_kept (Some k) keeps = inr (keeps.slot, k.numbers, table_of k.entry, keeps.link, keeps.rows, keeps.form, keeps.serves.still)
 
 -- another run may follow the content's
 pub run_below : (bytes : List ℕ) (o : Held) (content : Content) → Finds bytes o → Reads bytes content → content.run < last_number
@@ -49,7 +48,7 @@ run_below bytes o content finds reads = of_kept o.kept finds
     of_kept : (k : Option Kept) → KeepsOr bytes o.place k → content.run < last_number
     of_kept None serves = subst (λ (x : Content). x.run < last_number) (sym (one_content _ _ _ reads (inl (serves.still, refl)))) (omega (arith))
     of_kept (Some k) keeps =
-        subst (λ (x : Content). x.run < last_number) (sym (one_content _ _ _ reads (inr (one_stored (at_slot keeps.slot) k.numbers (table_of k.entry) keeps.link keeps.rows, keeps.serves.still, refl)))) keeps.run
+        subst (λ (x : Content). x.run < last_number) (sym (one_content _ _ _ reads (inr (one_stored keeps.slot k.numbers (table_of k.entry) keeps.link keeps.rows, keeps.serves.still, refl)))) keeps.run
 
 -- and it reads
 pub finds_reads : (bytes : List ℕ) (o : Held) → Finds bytes o → IsOpenable bytes
@@ -57,7 +56,7 @@ finds_reads bytes o finds = of_kept o.kept finds
   where
     of_kept : (k : Option Kept) → KeepsOr bytes o.place k → IsOpenable bytes
     of_kept None serves = (nothing, inl (serves.still, refl))
-    of_kept (Some k) keeps = (content_of (one_stored (at_slot keeps.slot) k.numbers (table_of k.entry) keeps.link keeps.rows), inr (one_stored (at_slot keeps.slot) k.numbers (table_of k.entry) keeps.link keeps.rows, keeps.serves.still, refl))
+    of_kept (Some k) keeps = (content_of (one_stored keeps.slot k.numbers (table_of k.entry) keeps.link keeps.rows), inr (one_stored keeps.slot k.numbers (table_of k.entry) keeps.link keeps.rows, keeps.serves.still, refl))
 
 pub may_open : {D : Type 0} (g : Ghosts D) (disk : D) (o : Held) (content : Content) → Finds (g.seen disk) o → Reads (g.seen disk) content → MayOpen (point_of g (start content) disk)
 may_open g disk o content finds reads = record {

@@ -6,10 +6,9 @@ use Rattle.device_layout.specs.declared.slot.Slot.{Slot}
 use Rattle.kv_model.specs.History.{Table}
 use Rattle.kv_model.specs.Content.{Content}
 use Rattle.row_page.specs.Rows.{Row}
-use Rattle.stored.specs.Links.{Link}
+use Rattle.device_layout.specs.declared.link.Link.{Link}
 use Rattle.leaf_rows.specs.Rows.{image_length}
 use Rattle.leaf_rows.specs.Contents.{leaf_content}
-use Rattle.checkpoint_core.specs.Stands.{at_slot}
 use Rattle.one_table.specs.declared.record.Numbers.{Numbers}
 use Rattle.one_table.specs.declared.place.Place.{Place}
 use Rattle.one_table.specs.OneTable.{one_stored}
@@ -33,7 +32,7 @@ pub record HasCheckpoint (bytes : List ℕ) (place : Place) (n : Numbers) (t : T
   pub link : Link
   pub rows : List Row
   pub slot : Slot
-  pub serves : Serves bytes place (Some (one_stored (at_slot slot) n t link rows))
+  pub serves : Serves bytes place (Some (one_stored slot n t link rows))
   pub sequence : n.sequence ≡ slot.sequence
 
 -- what the next checkpoint with these rows leaves, on a device of this content

@@ -14,7 +14,8 @@ use Rattle.kv_model.specs.Outside.{Storing, Stored, NoPlace, ReadFailed, Damaged
 use Rattle.kv_model.specs.Closing.{after_all}
 use Rattle.kv_model.specs.Calls.{Actor, System, Call, Close as CloseCall, Around, Answers, OpensSession, rolled_back}
 use Rattle.row_page.specs.Rows.{Row}
-use Rattle.stored.specs.Slots.{Slot, Chosen, first_text, second_text}
+use Rattle.device_layout.specs.declared.slot.Slot.{Slot}
+use Rattle.turtle.specs.Slots.{Chooses}
 use Rattle.stored.specs.Stored.{Stored as OnDevice, IsBlank}
 use Rattle.checkpoint_core.specs.Stands.{HasStill}
 use Rattle.checkpoint_core.specs.Room.{IsFull}
@@ -106,7 +107,7 @@ last_number = 2 ^ 62 - 1
 
 -- the device's last completed checkpoint has this number
 abbrev pub IsNumberOf : List ℕ → ℕ → Type 0
-IsNumberOf bytes n = (IsBlank bytes × (n ≡ 0)) ⊎ ((slot : Slot) × Chosen (first_text bytes) (second_text bytes) slot × (slot.sequence ≡ n))
+IsNumberOf bytes n = (IsBlank bytes × (n ≡ 0)) ⊎ ((slot : Slot) × Chooses bytes (Some slot) × (slot.sequence ≡ n))
 
 -- the rows have the newest version of each key of the one table
 pub record NewestRows (m : Machine) (rows : List Row) : Type 0 where

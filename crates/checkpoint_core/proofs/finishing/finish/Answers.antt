@@ -5,22 +5,21 @@ use Rattle.disk_model.specs.Crash.{LeavesOnly}
 use Rattle.disk_model.proofs.Crash.{started, widened}
 use Rattle.extent_list.specs.Space.{IsSpot, Taken, HasNoRoom}
 use Rattle.le_codec.specs.Images.{block_of}
-use Rattle.device_layout.specs.declared.addr.Addr.{Addr as BlockAddr}
+use Rattle.device_layout.specs.declared.addr.Addr.{Addr}
 use Rattle.device_layout.specs.declared.slot.Slot.{Slot}
 use Rattle.block_mgr.specs.Cells.{done as done_cells}
 use Rattle.block_mgr.specs.Writes.{FromBase}
 use Rattle.block_mgr.proofs.WriteLemmas.{taken_low}
-use Rattle.stored.specs.Slots.{Slot as AtSlot}
-use Rattle.checkpoint_core.specs.Stands.{IsWritten, placed_at, named, at_slot}
-use Rattle.checkpoint_core.specs.Finishes.{IsOld, place_of}
+use Rattle.device_layout.specs.Slots.{slot_at}
+use Rattle.checkpoint_core.specs.Stands.{IsWritten, placed_at}
+use Rattle.checkpoint_core.specs.Finishes.{IsOld}
 use Rattle.checkpoint_core.proofs.Recording.{block_length, block_some, image_still, wrote_old, seen_still, whole_now, holds_now}
 use Rattle.checkpoint_core.proofs.Capturing.{live_added}
 use Rattle.checkpoint_core.proofs.Installing.{finished, not_finished, not_written}
 use Rattle.checkpoint_core.proofs.finishing.finish.Goals as goal
 
-named_is : (kept sequence : ℕ) (a : BlockAddr) (slot : Slot) → kept ≡ sequence → slot ≡ named sequence a → let at : AtSlot = record { sequence = kept; place = place_of a } in at ≡ at_slot slot
-named_is kept sequence a slot same is =
-    ap (λ (k : ℕ). let at : AtSlot = record { sequence = k; place = place_of a } in at) same ∙ ap at_slot (sym is)
+named_is : (kept sequence : ℕ) (a : Addr) (slot : Slot) → kept ≡ sequence → slot ≡ slot_at sequence a → slot_at kept a ≡ slot
+named_is kept sequence a slot same is = ap (λ (k : ℕ). slot_at k a) same ∙ sym is
 
 pub returns-in-Err-clause-finishes : goal.returns-in-Err-clause-finishes
 returns-in-Err-clause-finishes g c h old new stands ready sequence next =
@@ -63,8 +62,8 @@ returns-in-Ok-sync_and_install-clause-finishes g c h old new stands ready sequen
     let written : now ≡ put seen a.offset bytes = wrote.written h in
     let low : a.offset ≤ length seen = omega (arith, (c.requires.ready h).1, taken_low books.space c.write.new.self.space a.size capacity a.offset wrote.taken) in
     let spot : IsSpot books.space (length bytes) capacity a.offset = subst (λ (k : ℕ). IsSpot books.space k capacity a.offset) wrote.address.size wrote.taken.0 in
-    let made = placed_at new (place_of a) in
-    let slot_is : made.slot ≡ at_slot c.slot_at.result = named_is _ _ _ _ sequence c.slot_at.ensures in
+    let made = placed_at new a in
+    let slot_is : made.slot ≡ c.new.result = named_is _ _ _ _ sequence c.new.ensures in
     let done : IsWritten now (D.may_leave c.write.new.disk) old made = record {
       seen_has = seen_still seen images books old stands units now bytes capacity a.offset some spot written;
       images_have = λ d there. image_still seen images books old stands units d (length bytes) capacity a.offset some spot (subst (λ (k : ℕ). FromBase books.is_synced a.offset k seen images d) wrote.address.size (wrote.images d there));
@@ -72,7 +71,7 @@ returns-in-Ok-sync_and_install-clause-finishes g c h old new stands ready sequen
       holds = holds_now seen now image books c.write.new.self.space capacity new a ready units wrote.address wrote.taken low written;
     } in
     let first : LeavesOnly D c.args.disk.now c.write.new.disk (IsOld images old) = widened D _ _ _ _ c.write.ensures.leaves (wrote_old seen images books old stands units (length bytes) capacity some) in
-    finished D books.space (length image) capacity old new a c.args.disk.now c.write.new.disk c.sync_and_install.new.disk first tt (c.in-Ok-sync_and_install.ensures.leaves (c.write.ensures.disk.same ∙ h) old made done slot_is (next c.slot_at.result (ap (λ (s : Slot). s.sequence) c.slot_at.ensures)))
+    finished D books.space (length image) capacity old new a c.args.disk.now c.write.new.disk c.sync_and_install.new.disk first tt (c.in-Ok-sync_and_install.ensures.leaves (c.write.ensures.disk.same ∙ h) old made done slot_is (next c.new.result (ap (λ (s : Slot). s.sequence) c.new.ensures)))
     (c.write.new.self.space, a.offset, subst (λ (k : ℕ). Taken books.space c.write.new.self.space k capacity a.offset) (wrote.address.size ∙ block_length image) wrote.taken)
 
 pub returns-in-Ok-sync_and_install-clause-last : goal.returns-in-Ok-sync_and_install-clause-last
@@ -95,8 +94,8 @@ returns-in-Err-sync_and_install-clause-finishes g c h old new stands ready seque
     let written : now ≡ put seen a.offset bytes = wrote.written h in
     let low : a.offset ≤ length seen = omega (arith, (c.requires.ready h).1, taken_low books.space c.write.new.self.space a.size capacity a.offset wrote.taken) in
     let spot : IsSpot books.space (length bytes) capacity a.offset = subst (λ (k : ℕ). IsSpot books.space k capacity a.offset) wrote.address.size wrote.taken.0 in
-    let made = placed_at new (place_of a) in
-    let slot_is : made.slot ≡ at_slot c.slot_at.result = named_is _ _ _ _ sequence c.slot_at.ensures in
+    let made = placed_at new a in
+    let slot_is : made.slot ≡ c.new.result = named_is _ _ _ _ sequence c.new.ensures in
     let done : IsWritten now (D.may_leave c.write.new.disk) old made = record {
       seen_has = seen_still seen images books old stands units now bytes capacity a.offset some spot written;
       images_have = λ d there. image_still seen images books old stands units d (length bytes) capacity a.offset some spot (subst (λ (k : ℕ). FromBase books.is_synced a.offset k seen images d) wrote.address.size (wrote.images d there));
@@ -104,4 +103,4 @@ returns-in-Err-sync_and_install-clause-finishes g c h old new stands ready seque
       holds = holds_now seen now image books c.write.new.self.space capacity new a ready units wrote.address wrote.taken low written;
     } in
     let first : LeavesOnly D c.args.disk.now c.write.new.disk (IsOld images old) = widened D _ _ _ _ c.write.ensures.leaves (wrote_old seen images books old stands units (length bytes) capacity some) in
-    not_finished D books.space (length image) capacity old new a c.args.disk.now c.write.new.disk c.sync_and_install.new.disk first c.in-Err-sync_and_install.error (c.in-Err-sync_and_install.ensures.leaves (c.write.ensures.disk.same ∙ h) old made done slot_is (next c.slot_at.result (ap (λ (s : Slot). s.sequence) c.slot_at.ensures)))
+    not_finished D books.space (length image) capacity old new a c.args.disk.now c.write.new.disk c.sync_and_install.new.disk first c.in-Err-sync_and_install.error (c.in-Err-sync_and_install.ensures.leaves (c.write.ensures.disk.same ∙ h) old made done slot_is (next c.new.result (ap (λ (s : Slot). s.sequence) c.new.ensures)))

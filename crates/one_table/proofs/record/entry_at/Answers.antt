@@ -9,5 +9,5 @@ returns-clause-some c t l rest form fits is = (
       (letter_once _ _ (sym c.in-Some-Some.ensures.some ∙ ap (λ (k : List ℕ). slice_index_or k 4 0) is ∙ letter_is t.formats.key))
       (letter_once _ _ (sym c.in-Some-Some.ensures'.some ∙ ap (λ (k : List ℕ). slice_index_or k 5 0) is ∙ letter_is t.formats.value))
       (c.name_at.ensures ∙ name_is c.args.bytes.now rest t l _ is (ap (λ (k : List ℕ). slice_index_or k 7 0) is ∙ size_is _ form.short)),
-  c.root_at.ensures.is l fits (link_part c.args.bytes.now rest t l is),
+  c.link_at.ensures.is l fits (link_part c.args.bytes.now rest t l is),
 )

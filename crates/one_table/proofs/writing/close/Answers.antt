@@ -3,30 +3,26 @@ use Rattle.failure.specs.Counts.{Rose}
 use Rattle.disk_model.specs.Disk.{put}
 use Rattle.disk_model.specs.Crash.{LeavesOnly}
 use Rattle.disk_model.proofs.Crash.{started, widened}
-use Rattle.extent_list.specs.Space.{Space, IsSpot, Taken, HasNoRoom}
+use Rattle.extent_list.specs.Space.{Space, IsSpot, Taken}
 use Rattle.le_codec.specs.Images.{block_size, block_of}
 use Rattle.std.proofs.lemmas.Bool.{both_ways}
 use Rattle.wt_code.specs.declared.refusals.Refusal.{Refusal}
-use Rattle.wt_code.specs.declared.refusals.Refusal.TheVariants.{DiskFault}
-use Rattle.wt_code.specs.StoreErrors.{refusal_of}
-use Rattle.block_mgr.specs.declared.cell.Cell.{Cell}
 use Rattle.block_mgr.specs.Blocks.{unit_of}
 use Rattle.block_mgr.specs.Writes.{FromBase}
 use Rattle.block_mgr.proofs.WriteLemmas.{taken_low}
 use Rattle.row_page.specs.Rows.{Row, IsImage}
 use Rattle.row_page.proofs.Leaves.{length-image}
-use Rattle.stored.specs.Links.{Link}
+use Rattle.device_layout.specs.declared.link.Link.{Link}
 use Rattle.leaf_rows.specs.Rows.{image_length}
 use Rattle.leaf_rows.specs.Contents.{leaf_content}
 use Rattle.checkpoint_core.specs.Stands.{AreInUse}
 use Rattle.checkpoint_core.specs.Finishes.{IsOld, Finishes}
 use Rattle.checkpoint_core.proofs.Recording.{block_length, block_some, image_still, wrote_old}
 use Rattle.checkpoint_core.proofs.Capturing.{captured, has_new, live_added}
-use Rattle.one_table.specs.declared.leaf.Root.{Root}
-use Rattle.one_table.specs.OneTable.{table_of, link_of, one_unplaced}
+use Rattle.one_table.specs.OneTable.{table_of, one_unplaced}
 use Rattle.one_table.specs.Openings.{LeafIs, blocks_at}
-use Rattle.one_table.specs.Closings.{Installs, IsFullFor, content_was}
-use Rattle.one_table.proofs.Writes.{alone_told, after_told, empty_leaf, written_leaf, written_in_use, still_in_use, stands_captured, root_is, sizes_are, leaf_refused, unsynced_stands, told_fault, write_failed, refused_fault, if_err_map}
+use Rattle.one_table.specs.Closings.{Installs, IsFullFor, ReadsOld, content_was}
+use Rattle.one_table.proofs.Writes.{alone_told, after_told, empty_leaf, written_leaf, written_in_use, still_in_use, stands_captured, link_made, sizes_are, leaf_refused, unsynced_stands, write_failed, if_err_map}
 use Rattle.one_table.proofs.Opens.{rose_sooner}
 use Rattle.one_table.proofs.writing.close.Goals as goal
 
@@ -39,10 +35,10 @@ returns-then-is_empty-clause-installs g c h old serves next =
     let fault = Rose (D.faults c.args.disk.now) (D.faults c.write_record-record.new.disk) in
     let none : c.args.rows.now ≡ [] = c.if-is_empty.ensures.0 refl in
     let stands = unsynced_stands seen (D.may_leave c.args.disk.now) books old serves.still serves.unsynced serves.in_use in
-    let leaf = subst (λ (l : Link). LeafIs seen l []) (sym c.nowhere-root.ensures) (empty_leaf seen) in
-    let in_use = subst (λ (l : Link). AreInUse books.cells (blocks_at l [])) (sym c.nowhere-root.ensures) tt in
+    let leaf = subst (λ (l : Link). LeafIs seen l []) (sym c.nowhere-link.ensures) (empty_leaf seen) in
+    let in_use = subst (λ (l : Link). AreInUse books.cells (blocks_at l [])) (sym c.nowhere-link.ensures) tt in
     subst (λ (r : Result (Unit {0}) Refusal). Installs D fault (IsFullFor seen (D.capacity c.args.disk.now) c.args.rows.now) (content_was old) (leaf_content c.args.numbers.marks t c.args.rows.now) c.args.disk.now c.write_record-record.new.disk r) (sym c.told.ensures)
-    (rw none (alone_told D fault seen (D.capacity c.args.disk.now) old c.args.numbers t serves.still c.requires.form.table.short books.space (link_of c.nowhere-root.result) c.args.disk.now c.write_record-record.new.disk c.write_record-record.result serves.space
+    (rw none (alone_told D fault seen (D.capacity c.args.disk.now) old c.args.numbers t serves.still c.requires.form.table.short books.space c.nowhere-link.result c.args.disk.now c.write_record-record.new.disk c.write_record-record.result serves.space
     (c.write_record-record.ensures.finishes h old [] stands leaf in_use next) c.write_record-record.ensures.fault))
 
 pub write-requires-clause-some : goal.write-requires-clause-some
@@ -84,20 +80,20 @@ returns-in-Ok-write-clause-installs g c h old serves next =
     let from = λ (d : List ℕ) (there : D.may_leave mid d). subst (λ (k : ℕ). FromBase books.is_synced a.offset k seen images d) wrote.address.size (wrote.images d there) in
     let after = captured seen (D.seen mid) bytes images (D.may_leave mid) books c.write.new.self capacity old a stands units some_bytes spot written from wrote.added in
     let held = stands_captured (D.seen mid) (D.may_leave mid) c.write.new.self c.capture.new.blocks (unit_of a.offset) old c.capture.ensures.cells c.capture.ensures.synced after in
-    let root : Root = record { addr = a; greatest = c.greatest.result; durable = c.durable.result } in
-    let link_same = root_is root a rows refl c.greatest.ensures c.durable.ensures in
+    let link : Link = record { addr = a; greatest = c.greatest.result; durable = c.durable.result } in
+    let link_same = link_made link a rows refl c.greatest.ensures c.durable.ensures in
     let leaf = written_leaf seen (D.seen mid) img a rows is_img wrote.address low written in
     let in_use = still_in_use c.write.new.self.cells c.capture.new.blocks.cells (unit_of a.offset) _ c.capture.ensures.cells (written_in_use c.write.new.self.cells bytes a rows wrote.address (has_new books c.write.new.self a wrote.added)) in
     let fault = Rose (D.faults c.args.disk.now) (D.faults end) in
     let finishes = c.write_record-record-in-Ok-write.ensures.finishes (c.write.ensures.disk.same ∙ h) old rows held (subst (λ (l : Link). LeafIs (D.seen mid) l rows) (sym link_same) leaf) (subst (λ (l : Link). AreInUse c.capture.new.blocks.cells (blocks_at l rows)) (sym link_same) in_use) next in
     subst (λ (r : Result (Unit {0}) Refusal). Installs D fault (IsFullFor seen capacity rows) (content_was old) (leaf_content c.args.numbers.marks t rows) c.args.disk.now end r) (sym c.told-in-Ok-write.ensures)
-    (after_told D fault seen capacity old c.args.numbers t serves.still c.requires.form.table.short books.space c.write.new.self.space a.offset rows (link_of root) c.args.disk.now mid end (sizes_are rows some) serves.space
+    (after_told D fault seen capacity old c.args.numbers t serves.still c.requires.form.table.short books.space c.write.new.self.space a.offset rows link c.args.disk.now mid end (sizes_are rows some) serves.space
     (subst (λ k. Taken books.space c.write.new.self.space k capacity a.offset) size wrote.taken)
     (widened D _ _ _ _ c.write.ensures.leaves (wrote_old seen images books old stands units (length bytes) capacity some_bytes))
     (λ d there. image_still seen images books old stands units d (length bytes) capacity a.offset some_bytes spot (from d there))
     c.write_record-record-in-Ok-write.result
-    (subst (λ (s : Space). Finishes D s (159 + length c.args.entry.now.name) capacity old (one_unplaced c.args.numbers t (link_of root) rows) mid end c.write_record-record-in-Ok-write.result) c.capture.ensures.space
-    (subst (λ k. Finishes D c.capture.new.blocks.space (159 + length c.args.entry.now.name) k old (one_unplaced c.args.numbers t (link_of root) rows) mid end c.write_record-record-in-Ok-write.result) c.write.ensures.disk.room finishes))
+    (subst (λ (s : Space). Finishes D s (159 + length c.args.entry.now.name) capacity old (one_unplaced c.args.numbers t link rows) mid end c.write_record-record-in-Ok-write.result) c.capture.ensures.space
+    (subst (λ k. Finishes D c.capture.new.blocks.space (159 + length c.args.entry.now.name) k old (one_unplaced c.args.numbers t link rows) mid end c.write_record-record-in-Ok-write.result) c.write.ensures.disk.room finishes))
     (if_err_map c.write_record-record-in-Ok-write.result c.write_record-record-in-Ok-write.ensures.fault (λ e failed of_disk. rose_sooner _ _ _ c.write.ensures.disk.later (failed of_disk))))
 
 pub returns-clause-installs : goal.returns-clause-installs
@@ -121,3 +117,8 @@ returns-clause-installs g c h old serves next =
     ] in
     subst (λ (r : Refusal). Installs D fault (IsFullFor seen capacity rows) (content_was old) (leaf_content c.args.numbers.marks (table_of c.args.entry.now) rows) c.args.disk.now c.write.new.disk (Err r)) (sym c.refused.ensures)
     (leaf_refused D fault seen capacity old serves.still _ books.space rows (length bytes) c.args.disk.now c.write.new.disk c.in-Err.error (sizes_are rows some) size serves.space (λ is. (c.in-Err.ensures.no_space is).1) (λ of_disk. write_failed c.in-Err.error c.in-Err.ensures.rose of_disk) leaves)
+
+pub returns-in_default-clause-installs : goal.returns-in_default-clause-installs
+returns-in_default-clause-installs g c h old serves next =
+    let D = g.D.Disk in
+    (inl refl, inl (started D c.args.disk.now (ReadsOld (D.may_leave c.args.disk.now) (content_was old)) (λ d there. inl (g.met.D.Disk.only_now _ d there))))

@@ -1,7 +1,6 @@
 use Rattle.std.proofs.Common.{refl, inl, inr, arith, Some}
 use Rattle.disk_model.proofs.Crash.{started}
 use Rattle.leaf_rows.specs.Rows.{image_length}
-use Rattle.checkpoint_core.specs.Stands.{at_slot}
 use Rattle.one_table.specs.OneTable.{one_stored, table_of}
 use Rattle.one_table.specs.Closings.{IsFullFor, content_was}
 use Rattle.failure.specs.Counts.{Rose}
@@ -26,7 +25,7 @@ returns-clause-closes g c h content reads =
     let k = c.args.kept.now in
     let t = table_of k.entry in
     let there = c.requires.there h in
-    let s = one_stored (at_slot there.slot) k.numbers t there.link there.rows in
+    let s = one_stored there.slot k.numbers t there.link there.rows in
     let installs = c.close.ensures.installs h (Some s) there.serves (follows _ _ k.numbers t c.args.next there c.next_numbers-numbers.result c.next_numbers-numbers.ensures) in
     inr (inr (
       omega (arith, c.if-kept-ge-NUMBER_MAX.false),
