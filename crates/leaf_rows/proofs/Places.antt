@@ -4,8 +4,8 @@ use Rattle.std.specs.Prelude.{bytes_eq, slice_set}
 use Rattle.std.specs.List.{AllByRecursion}
 use Rattle.std.proofs.lemmas.Bool.{cases_Bool, both_ways}
 use Rattle.std.proofs.lemmas.Slice.Eq.{bytes_eq-Decides}
-use Rattle.item.specs.declared.change.Change.{Change}
 use Rattle.stamp.specs.declared.version.Version.{Version}
+use Rattle.row_page.specs.Changes.{PageChange}
 use Rattle.row_page.specs.Rows.{Row, is_below, comes_after, Ascends, RowFits, key_most}
 use Rattle.leaf_rows.specs.Rows.{AreFit, SplitsAt, version_at, put_row}
 use Rattle.leaf_rows.proofs.Keys.{below_trans, keys_part, below_differs, above_differs, all_above, above_at}
@@ -66,13 +66,13 @@ version_nowhere before (x ∷ rows) key (suc i) ascend splits other =
 
 -- ---- a put
 
-pub put_there : (rows : List Row) (key : List ℕ) (v : Version Change) (i : ℕ) (d : Row) → SplitsAt rows key i → i < length rows → bytes_eq (get_or rows i d).0 key ≡ true → slice_set rows i (key, v) ≡ put_row key v rows
+pub put_there : (rows : List Row) (key : List ℕ) (v : Version PageChange) (i : ℕ) (d : Row) → SplitsAt rows key i → i < length rows → bytes_eq (get_or rows i d).0 key ≡ true → slice_set rows i (key, v) ≡ put_row key v rows
 put_there [] key v i d splits lt same = absurd (omega (arith, lt))
 put_there (x ∷ rows) key v zero d splits lt same = rw (splits.above.0, same) refl
 put_there (x ∷ rows) key v (suc i) d splits lt same =
     rw splits.below.0 (ap (λ (l : List Row). x ∷ l) (put_there rows key v i d (record { within = omega (arith, splits.within); below = splits.below.1; above = splits.above }) (omega (arith, lt)) same))
 
-pub put_new : (rows : List Row) (key : List ℕ) (v : Version Change) (i : ℕ) → SplitsAt rows key i → ((d : Row) → i < length rows → bytes_eq (get_or rows i d).0 key ≡ false) → take i rows ++ (key, v) ∷ drop i rows ≡ put_row key v rows
+pub put_new : (rows : List Row) (key : List ℕ) (v : Version PageChange) (i : ℕ) → SplitsAt rows key i → ((d : Row) → i < length rows → bytes_eq (get_or rows i d).0 key ≡ false) → take i rows ++ (key, v) ∷ drop i rows ≡ put_row key v rows
 put_new [] key v zero splits other = refl
 put_new [] key v (suc i) splits other = absurd (omega (arith, splits.within))
 put_new (x ∷ rows) key v zero splits other = rw (splits.above.0, other x (omega arith)) refl
@@ -81,7 +81,7 @@ put_new (x ∷ rows) key v (suc i) splits other =
 
 -- ---- what a put keeps
 
-fit_put : (key : List ℕ) (v : Version Change) (rows : List Row) → RowFits [] key_most (key, v) → AllByRecursion (λ (r : Row). RowFits [] key_most r) rows → AllByRecursion (λ (r : Row). RowFits [] key_most r) (put_row key v rows)
+fit_put : (key : List ℕ) (v : Version PageChange) (rows : List Row) → RowFits [] key_most (key, v) → AllByRecursion (λ (r : Row). RowFits [] key_most r) rows → AllByRecursion (λ (r : Row). RowFits [] key_most r) (put_row key v rows)
 fit_put key v [] new fit = (new, tt)
 fit_put key v (r ∷ rows) new fit = elim (cases_Bool (is_below r.0 key)) [
   | inl is ↦ rw is (fit.0, fit_put key v rows new fit.1)
@@ -91,7 +91,7 @@ fit_put key v (r ∷ rows) new fit = elim (cases_Bool (is_below r.0 key)) [
   ]
 ]
 
-ascend_put : (before : Option (List ℕ)) (key : List ℕ) (v : Version Change) (rows : List Row) → comes_after before key ≡ true → Ascends before rows → Ascends before (put_row key v rows)
+ascend_put : (before : Option (List ℕ)) (key : List ℕ) (v : Version PageChange) (rows : List Row) → comes_after before key ≡ true → Ascends before rows → Ascends before (put_row key v rows)
 ascend_put before key v [] after ascend = (after, tt)
 ascend_put before key v (r ∷ rows) after ascend = elim (cases_Bool (is_below r.0 key)) [
   | inl is ↦ rw is (ascend.0, ascend_put (Some r.0) key v rows is ascend.1)
@@ -101,5 +101,5 @@ ascend_put before key v (r ∷ rows) after ascend = elim (cases_Bool (is_below r
   ]
 ]
 
-pub put_fit : (key : List ℕ) (v : Version Change) (rows : List Row) → RowFits [] key_most (key, v) → AreFit rows → AreFit (put_row key v rows)
+pub put_fit : (key : List ℕ) (v : Version PageChange) (rows : List Row) → RowFits [] key_most (key, v) → AreFit rows → AreFit (put_row key v rows)
 put_fit key v rows new are = record { fit = fit_put key v rows new are.fit; ascend = ascend_put None key v rows refl are.ascend }

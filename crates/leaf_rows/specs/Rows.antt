@@ -1,8 +1,8 @@
 -- Rows in the order of their keys, as a map from keys to versions.
 use Rattle.std.specs.Prelude.{◌≡◌, ℕ, ◌+◌, ◌≤◌, List, [], ◌∷◌, length, take, drop, true, false, Option, Some, None, bytes_eq, if◌then◌else◌}
 use Rattle.std.specs.List.{AllByRecursion}
-use Rattle.item.specs.declared.change.Change.{Change}
 use Rattle.stamp.specs.declared.version.Version.{Version}
+use Rattle.row_page.specs.Changes.{PageChange}
 use Rattle.row_page.specs.Rows.{Row, RowFits, Ascends, key_most, is_below, cells}
 
 -- each row fits a leaf, and the keys ascend; the image may be longer than a leaf's
@@ -11,12 +11,12 @@ pub record AreFit (rows : List Row) : Type 0 where
   pub ascend : Ascends None rows
 
 -- the version of a key
-abbrev pub version_at : List ℕ → List Row → Option (Version Change)
+abbrev pub version_at : List ℕ → List Row → Option (Version PageChange)
 version_at key [] = None
 version_at key (r ∷ rows) = if bytes_eq r.0 key then Some r.1 else version_at key rows
 
 -- with this version of a key, in place of the one that it had
-abbrev pub put_row : List ℕ → Version Change → List Row → List Row
+abbrev pub put_row : List ℕ → Version PageChange → List Row → List Row
 put_row key v [] = (key, v) ∷ []
 put_row key v (r ∷ rows) = if is_below r.0 key then r ∷ put_row key v rows else if bytes_eq r.0 key then (key, v) ∷ rows else (key, v) ∷ (r ∷ rows)
 

@@ -8,8 +8,8 @@ ghost use Rattle.leaf_rows.specs.Contents.{is_kept_window, kept_rows};
 
 use crate::Marks;
 use failure::NoMemory;
-use item::{Change, Item};
-use row_page::{Page, encode};
+use item::Item;
+use row_page::{CellChange, Page, encode};
 use stamp::{Name, Version, Window};
 use std::alloc::Global;
 use std::marker::Model;
@@ -23,7 +23,7 @@ const NUMBERS_LEN: u64 = 39; // bytes of a cell beside its key and its value
 /// Rows in the order of their keys: each key with its newest version. It is seen as their list.
 #[derive(Drop)]
 pub struct Rows {
-    rows: Vec<(Item, Version<Change>)>,
+    rows: Vec<(Item, Version<CellChange<Item>>)>,
 }
 
 impl Model for Rows {
@@ -63,7 +63,7 @@ impl Rows {
     }
 
     /// The version of a key. `O(log n)` in the number of rows.
-    pub fn version(&self, key: &[u8]) -> Option<&Version<Change>>
+    pub fn version(&self, key: &[u8]) -> Option<&Version<CellChange<Item>>>
         ensures { option_map (λ v. v.now) result ≡ version_at key.now self.now }
     {
         let i = first_not_below(&self.rows, key);
@@ -77,7 +77,7 @@ impl Rows {
     /// Puts a version of a key in place of the one that it had. `O(log n)` in the number of rows to
     /// find its place, and a move of those behind it where the key is new. Where memory is short
     /// nothing is changed.
-    pub fn put(&mut self, key: Item, version: Version<Change>) -> Result<(), NoMemory>
+    pub fn put(&mut self, key: Item, version: Version<CellChange<Item>>) -> Result<(), NoMemory>
         requires { RowFits [] key_most (key, version) }
         ensures put { OnOk result (self.new ≡ put_row key version self.old) }
         ensures same { OnErr result (self.new ≡ self.old) }
@@ -149,13 +149,13 @@ impl Rows {
     }
 }
 
-fn cell_len(row: &(Item, Version<Change>)) -> u64
+fn cell_len(row: &(Item, Version<CellChange<Item>>)) -> u64
     requires { RowFits [] key_most row.now }
     ensures { result ≡ length (cell row.now) }
 {
     let value = match &row.1.change {
-        Change::Put(value) => value.len(),
-        Change::Remove => 0,
+        CellChange::Put(value) => value.len(),
+        CellChange::Remove => 0,
     };
     NUMBERS_LEN + row.0.len() as u64 + value as u64
 }
@@ -179,7 +179,7 @@ fn greater(a: u64, b: u64) -> u64
 }
 
 // Whether the i-th row has the key.
-fn is_there(rows: &[(Item, Version<Change>)], i: usize, key: &[u8]) -> bool
+fn is_there(rows: &[(Item, Version<CellChange<Item>>)], i: usize, key: &[u8]) -> bool
     ensures within { result ≡ true → i < length rows.now }
     ensures same { (d : Row) → i < length rows.now → result ≡ bytes_eq (slice_index_or rows.now i d).0 key.now }
 {
@@ -187,7 +187,7 @@ fn is_there(rows: &[(Item, Version<Change>)], i: usize, key: &[u8]) -> bool
 }
 
 // How many rows, from the first on, have keys below this one, by halving.
-fn first_not_below(rows: &[(Item, Version<Change>)], key: &[u8]) -> usize
+fn first_not_below(rows: &[(Item, Version<CellChange<Item>>)], key: &[u8]) -> usize
     requires { Ascends None rows.now }
     ensures { SplitsAt rows.now key.now result }
 {
@@ -211,7 +211,11 @@ fn is_below(key: &[u8], other: &[u8]) -> bool
 }
 
 // There is room for the row, so it takes no memory.
-fn insert_at(rows: &mut Vec<(Item, Version<Change>)>, i: usize, row: (Item, Version<Change>))
+fn insert_at(
+    rows: &mut Vec<(Item, Version<CellChange<Item>>)>,
+    i: usize,
+    row: (Item, Version<CellChange<Item>>),
+)
     requires within { i ≤ vec_len rows.old }
     requires room { vec_len rows.old < vec_capacity rows.old }
     ensures { rows.new.items ≡ take i rows.old.items ++ row ∷ drop i rows.old.items }
@@ -219,7 +223,7 @@ fn insert_at(rows: &mut Vec<(Item, Version<Change>)>, i: usize, row: (Item, Vers
     let _inserted = rows.insert(i, row);
 }
 
-fn keep(rows: &mut Vec<(Item, Version<Change>)>, marks: Marks)
+fn keep(rows: &mut Vec<(Item, Version<CellChange<Item>>)>, marks: Marks)
     ensures { rows.new.items ≡ kept_rows marks rows.old.items }
 {
     rows.retain(|row| is_kept(&marks, &row.1.window));

@@ -2,8 +2,8 @@
 ghost use Rattle.std.specs.Prelude.{◌≡◌};
 
 use crate::Rows;
-use item::{Change, Item};
-use row_page::Page;
+use item::Item;
+use row_page::{CellChange, Page};
 use stamp::{Name, Version, Window};
 use std::alloc::Global;
 use std::process::Abort;
@@ -31,7 +31,7 @@ fn rows_are_kept_in_the_order_of_their_keys(rt: HostRuntime) {
     for (key, id) in [(b"b\0", 1u64), (b"a\0", 2), (b"c\0", 3), (b"a\0", 4)] {
         let version = Version {
             window: window(id, 0),
-            change: Change::Put(item(&rt, alloc, b"1\0")),
+            change: CellChange::Put(item(&rt, alloc, b"1\0")),
         };
         rows.put(item(&rt, alloc, key), version)
             .expect(&rt, "there is memory");
@@ -50,7 +50,7 @@ fn the_image_of_one_row_is_these_bytes(rt: HostRuntime) {
     assert!(&rt; rows.is_empty());
     let version = Version {
         window: window(1, 0),
-        change: Change::Put(item(&rt, alloc, b"1\0")),
+        change: CellChange::Put(item(&rt, alloc, b"1\0")),
     };
     rows.put(item(&rt, alloc, b"a\0"), version)
         .expect(&rt, "there is memory");

@@ -9,9 +9,11 @@ use Rattle.item.specs.declared.change.Change.{Change}
 use Rattle.stamp.specs.declared.version.Version.{Version}
 use Rattle.kv_model.specs.History.{Placed, of_key, is_at}
 use Rattle.kv_model.specs.Content.{inserted, descending}
+use Rattle.row_page.specs.Changes.{PageChange, version_in}
 use Rattle.row_page.specs.Rows.{Row, is_below, Ascends}
 use Rattle.stored.specs.Stored.{placed_in}
 use Rattle.leaf_rows.specs.Rows.{version_at, put_row}
+use Rattle.one_session.specs.Shows.{shown_at}
 use Rattle.leaf_rows.proofs.Keys.{keys_part, below_differs, above_differs, all_above, below_trans}
 
 pub key_self : (key : List ℕ) → bytes_eq key key ≡ true
@@ -26,7 +28,7 @@ pub none_above : (key : List ℕ) (rows : List Row) → AllByRecursion (λ (r : 
 none_above key [] all = refl
 none_above key (r ∷ rows) all = rw (above_differs r.0 key all.0) (none_above key rows all.1)
 
-pub put_finds : (key : List ℕ) (v : Version Change) (rows : List Row) → version_at key (put_row key v rows) ≡ Some v
+pub put_finds : (key : List ℕ) (v : Version PageChange) (rows : List Row) → version_at key (put_row key v rows) ≡ Some v
 put_finds key v [] = rw (key_self key) refl
 put_finds key v (r ∷ rows) = elim (cases_Bool (is_below r.0 key)) [
   | inl is ↦ rw (is, below_differs r.0 key is) (put_finds key v rows)
@@ -36,7 +38,7 @@ put_finds key v (r ∷ rows) = elim (cases_Bool (is_below r.0 key)) [
   ]
 ]
 
-pub put_passes : (key other : List ℕ) (v : Version Change) (rows : List Row) → bytes_eq key other ≡ false → version_at other (put_row key v rows) ≡ version_at other rows
+pub put_passes : (key other : List ℕ) (v : Version PageChange) (rows : List Row) → bytes_eq key other ≡ false → version_at other (put_row key v rows) ≡ version_at other rows
 put_passes key other v [] differs = rw differs refl
 put_passes key other v (r ∷ rows) differs = elim (cases_Bool (is_below r.0 key)) [
   | inl is ↦ rw is (elim (cases_Bool (bytes_eq r.0 other)) [
@@ -82,7 +84,7 @@ alike before prior (r ∷ rows) (s ∷ others) up too same = elim (cases_Bool (b
       let there : version_at r.0 (s ∷ others) ≡ Some s.1 = rw (subst (λ (k : List ℕ). bytes_eq s.0 k ≡ true) (sym key) (key_self s.0)) refl in
       let both : Some r.1 ≡ Some s.1 = sym here ∙ (same r.0 ∙ there) in
       let version : r.1 ≡ s.1 = cc in
-      ap (λ (k : List ℕ). (k, r.1) ∷ rows) key ∙ (ap (λ (v : Version Change). (s.0, v) ∷ rows) version ∙ ap (λ (l : List Row). s ∷ l) tails)
+      ap (λ (k : List ℕ). (k, r.1) ∷ rows) key ∙ (ap (λ (v : Version PageChange). (s.0, v) ∷ rows) version ∙ ap (λ (l : List Row). s ∷ l) tails)
 
   rest : r.0 ≡ s.0 → (key : List ℕ) → version_at key rows ≡ version_at key others
   rest first key = elim (cases_Bool (bytes_eq r.0 key)) [
@@ -103,10 +105,10 @@ none_placed number key [] all = refl
 none_placed number key (r ∷ rows) all = rw (eq-eqb number number refl, above_differs r.0 key all.0) (none_placed number key rows all.1)
 
 -- the version of a key, or none
-pub of_key_rows : (number : ℕ) (key : List ℕ) (before : Option (List ℕ)) (rows : List Row) → Ascends before rows → of_key number key (placed_in number rows) ≡ option_to_list (version_at key rows)
+pub of_key_rows : (number : ℕ) (key : List ℕ) (before : Option (List ℕ)) (rows : List Row) → Ascends before rows → of_key number key (placed_in number rows) ≡ option_to_list (shown_at key rows)
 of_key_rows number key before [] up = refl
 of_key_rows number key before (r ∷ rows) up = elim (cases_Bool (bytes_eq r.0 key)) [
-  | inl same ↦ rw (eq-eqb number number refl, same) (ap (λ (l : List (Version Change)). r.1 ∷ l)
+  | inl same ↦ rw (eq-eqb number number refl, same) (ap (λ (l : List (Version Change)). version_in r.1 ∷ l)
       (none_placed number key rows (subst (λ (k : List ℕ). AllByRecursion (λ (q : Row). is_below k q.0 ≡ true) rows) (same_key r.0 key same) (all_above r.0 rows up.1))))
   | inr other ↦ rw (eq-eqb number number refl, other) (of_key_rows number key (Some r.0) rows up.1)
 ]
@@ -119,7 +121,7 @@ of_key_elsewhere number table key (r ∷ rows) other = rw other (of_key_elsewher
 -- at most one of each key
 pub of_key_one : (number table : ℕ) (key : List ℕ) (rows : List Row) → Ascends None rows → (o : Option (Version Change)) × (of_key table key (placed_in number rows) ≡ option_to_list o)
 of_key_one number table key rows up = elim (cases_Bool (number == table)) [
-  | inl same ↦ (version_at key rows, subst (λ (n : ℕ). of_key n key (placed_in number rows) ≡ option_to_list (version_at key rows)) (eqb-true number table same) (of_key_rows number key None rows up))
+  | inl same ↦ (shown_at key rows, subst (λ (n : ℕ). of_key n key (placed_in number rows) ≡ option_to_list (shown_at key rows)) (eqb-true number table same) (of_key_rows number key None rows up))
   | inr other ↦ (None, of_key_elsewhere number table key rows other)
 ]
 

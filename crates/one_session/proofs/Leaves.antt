@@ -14,6 +14,7 @@ use Rattle.kv_model.specs.Valid.{Valid, IsDrawn}
 use Rattle.kv_model.proofs.Finishing.{line-base, tables-base, line-cut, first-start}
 use Rattle.kv_model.proofs.Opening.{start-valid}
 use Rattle.kv_model.proofs.Capturing.{member-out}
+use Rattle.row_page.specs.Changes.{version_in}
 use Rattle.row_page.specs.Rows.{Row, RowFits, key_most, is_below, Ascends}
 use Rattle.stored.specs.Stored.{placed_in}
 use Rattle.leaf_rows.specs.declared.marks.Marks.{Marks}
@@ -36,10 +37,10 @@ filter_all f (x ∷ xs) all = rw (all x (inl refl)) (ap (λ l. x ∷ l) (filter_
 -- ---- what rows place
 
 abbrev at : ℕ → Row → Placed
-at number r = record { table = number; key = r.0; version = r.1 }
+at number r = record { table = number; key = r.0; version = version_in r.1 }
 
 -- a version of a key is a row's
-of_rows : (number table : ℕ) (key : List ℕ) (rows : List Row) (v : Version Change) → Member v (of_key table key (placed_in number rows)) → (r : Row) × Member r rows × (v ≡ r.1)
+of_rows : (number table : ℕ) (key : List ℕ) (rows : List Row) (v : Version Change) → Member v (of_key table key (placed_in number rows)) → (r : Row) × Member r rows × (v ≡ version_in r.1)
 of_rows number table key [] v there = absurd there
 of_rows number table key (q ∷ rows) v there = elim (cases_Bool ((number == table) && bytes_eq q.0 key)) [
   | inl is ↦ elim (rw is at there) [
@@ -50,10 +51,10 @@ of_rows number table key (q ∷ rows) v there = elim (cases_Bool ((number == tab
 ]
 
 -- and a row's version is of its key
-row_there : (number : ℕ) (rows : List Row) (r : Row) → Member r rows → Member r.1 (of_key number r.0 (placed_in number rows))
+row_there : (number : ℕ) (rows : List Row) (r : Row) → Member r rows → Member (version_in r.1) (of_key number r.0 (placed_in number rows))
 row_there number [] r there = absurd there
-row_there number (q ∷ rows) r (inl same) = subst (λ (x : Row). Member x.1 (of_key number x.0 (placed_in number (q ∷ rows)))) (sym same) (here (eq-eqb number number refl) (key_self q.0)) where
-  here : (number == number) ≡ true → bytes_eq q.0 q.0 ≡ true → Member q.1 (of_key number q.0 (placed_in number (q ∷ rows)))
+row_there number (q ∷ rows) r (inl same) = subst (λ (x : Row). Member (version_in x.1) (of_key number x.0 (placed_in number (q ∷ rows)))) (sym same) (here (eq-eqb number number refl) (key_self q.0)) where
+  here : (number == number) ≡ true → bytes_eq q.0 q.0 ≡ true → Member (version_in q.1) (of_key number q.0 (placed_in number (q ∷ rows)))
   here a b = rw (a, b) (inl refl)
 row_there number (q ∷ rows) r (inr later) = elim (cases_Bool ((number == number) && bytes_eq q.0 r.0)) [
   | inl is ↦ rw is (inr (row_there number rows r later))
@@ -117,8 +118,8 @@ regular m t rows are stamps = record {
   fit = stamps;
 }
 
-kept_stable : (m : Marks) (r : Row) → is_kept_row m r ≡ true → is_stable m.stable r.1 ≡ true
-kept_stable m r is = (and_parts (sees_name m.run (record { min = m.min; max = m.max; ids = [] }) r.1.window.name) (is_stable m.stable r.1) is).1
+kept_stable : (m : Marks) (r : Row) → is_kept_row m r ≡ true → is_stable m.stable (version_in r.1) ≡ true
+kept_stable m r is = (and_parts (sees_name m.run (record { min = m.min; max = m.max; ids = [] }) r.1.window.name) (is_stable m.stable (version_in r.1)) is).1
 
 pub opening : OpeningShows
 opening m t rows are stamps = record {
@@ -146,13 +147,13 @@ module _ (run next oldest stable : ℕ) (t : Table) (rows : List Row) (history :
   abbrev marks : Marks
   marks = record { run = run; oldest = oldest; stable = stable; min = next; max = next }
 
-  row_in_line : (r : Row) → Member r rows → Member r.1 (line history t.number r.0)
-  row_in_line r there = core_within oldest (line history t.number r.0) r.1 (subst (λ (l : List (Version Change)). Member r.1 l) (sym (s.cores t.number r.0)) (row_there t.number rows r there))
+  row_in_line : (r : Row) → Member r rows → Member (version_in r.1) (line history t.number r.0)
+  row_in_line r there = core_within oldest (line history t.number r.0) (version_in r.1) (subst (λ (l : List (Version Change)). Member (version_in r.1) l) (sym (s.cores t.number r.0)) (row_there t.number rows r there))
 
   row_kept : (r : Row) → Member r rows → is_kept_row marks r ≡ true
-  row_kept r there = and_from (sees_name run (record { min = next; max = next; ids = [] }) r.1.window.name) (is_stable stable r.1)
-      (seen_drawn run next r.1.window.name (s.drawn r.1.window.name (line_released history s.orderly t.number r.0 r.1 (row_in_line r there))))
-      (s.durable t.number r.0 r.1 (row_in_line r there))
+  row_kept r there = and_from (sees_name run (record { min = next; max = next; ids = [] }) r.1.window.name) (is_stable stable (version_in r.1))
+      (seen_drawn run next r.1.window.name (s.drawn r.1.window.name (line_released history s.orderly t.number r.0 (version_in r.1) (row_in_line r there))))
+      (s.durable t.number r.0 (version_in r.1) (row_in_line r there))
 
   all_kept : kept_rows marks rows ≡ rows
   all_kept = filter_all (is_kept_row marks) rows row_kept

@@ -1,6 +1,6 @@
 -- A put of a value and the rows with it show the history with its commit.
 use Rattle.std.proofs.Common.{◌≡◌, ◌<◌, ◌≤◌, ◌+◌, ◌^◌, ℕ, true, false, List, [], ◌∷◌, length, Option, Some, None, refl, sym, ap, subst, ◌∙◌, inl, inr, arith}
-use Rattle.std.specs.Prelude.{bytes_eq, filter, ◌==◌}
+use Rattle.std.specs.Prelude.{bytes_eq, filter, option_map, ◌==◌}
 use Rattle.std.specs.Option.{option_to_list}
 use Rattle.std.proofs.lemmas.Bool.{cases_Bool, eqb-true, eq-eqb, le-leb, or_right}
 use Rattle.item.specs.declared.change.Change.{Change}
@@ -14,6 +14,7 @@ use Rattle.kv_model.specs.Valid.{IsDrawn}
 use Rattle.kv_model.proofs.Ordering.{line-writes}
 use Rattle.kv_model.proofs.Releases.{released-whole, released-cases, name_eq-same}
 use Rattle.kv_model.proofs.OwnWrites.{at-parts}
+use Rattle.row_page.specs.Changes.{PageChange, version_in}
 use Rattle.row_page.specs.Rows.{Row, RowFits, key_most}
 use Rattle.stored.specs.Stored.{placed_in}
 use Rattle.leaf_rows.specs.Rows.{AreFit, put_row}
@@ -41,8 +42,11 @@ module _ (c : Content) (next : ℕ) (t : Table) (rows : List Row) (history : Lis
   abbrev new_write : Write
   new_write = plain_write t.number key value
 
-  abbrev new_version : Version Change
+  abbrev new_version : Version PageChange
   new_version = plain_version (c.run + 1) next value
+
+  abbrev shown : Version Change
+  shown = version_in new_version
 
   abbrev later : List Entry
   later = put_into c history next t key value
@@ -50,7 +54,7 @@ module _ (c : Content) (next : ℕ) (t : Table) (rows : List Row) (history : Lis
   abbrev new_rows : List Row
   new_rows = put_row key new_version rows
 
-  line_here : (table : ℕ) (k : List ℕ) → writes_at table k new_write ≡ true → line later table k ≡ new_version ∷ line history table k
+  line_here : (table : ℕ) (k : List ℕ) → writes_at table k new_write ≡ true → line later table k ≡ shown ∷ line history table k
   line_here table k is = line-writes name (new_write ∷ []) history table k ∙ (rw is refl)
 
   line_there : (table : ℕ) (k : List ℕ) → writes_at table k new_write ≡ false → line later table k ≡ line history table k
@@ -70,27 +74,27 @@ module _ (c : Content) (next : ℕ) (t : Table) (rows : List Row) (history : Lis
       | inl at ↦
           let other : bytes_eq key k ≡ false = rw at at isnt in
           subst (λ (n : ℕ). of_key n k (placed_in t.number rows) ≡ of_key n k (placed_in t.number new_rows)) (eqb-true t.number table at)
-          (of_key_rows t.number k None rows s.fit.ascend ∙ (ap option_to_list (sym (put_passes key k new_version rows other)) ∙ sym (of_key_rows t.number k None new_rows fit.ascend)))
+          (of_key_rows t.number k None rows s.fit.ascend ∙ (ap (λ (o : Option (Version PageChange)). option_to_list (option_map version_in o)) (sym (put_passes key k new_version rows other)) ∙ sym (of_key_rows t.number k None new_rows fit.ascend)))
       | inr away ↦ of_key_elsewhere t.number table k rows away ∙ sym (of_key_elsewhere t.number table k new_rows away)
     ]
 
-    placed_here : (table : ℕ) (k : List ℕ) → writes_at table k new_write ≡ true → of_key table k (placed_in t.number new_rows) ≡ new_version ∷ []
+    placed_here : (table : ℕ) (k : List ℕ) → writes_at table k new_write ≡ true → of_key table k (placed_in t.number new_rows) ≡ shown ∷ []
     placed_here table k is =
         let parts : (t.number ≡ table) × (key ≡ k) = at-parts table k new_write is in
-        subst (λ (n : ℕ). of_key n k (placed_in t.number new_rows) ≡ new_version ∷ []) parts.0
-        (subst (λ (x : List ℕ). of_key t.number x (placed_in t.number new_rows) ≡ new_version ∷ []) parts.1
-        (of_key_rows t.number key None new_rows fit.ascend ∙ ap option_to_list (put_finds key new_version rows)))
+        subst (λ (n : ℕ). of_key n k (placed_in t.number new_rows) ≡ shown ∷ []) parts.0
+        (subst (λ (x : List ℕ). of_key t.number x (placed_in t.number new_rows) ≡ shown ∷ []) parts.1
+        (of_key_rows t.number key None new_rows fit.ascend ∙ ap (λ (o : Option (Version PageChange)). option_to_list (option_map version_in o)) (put_finds key new_version rows)))
 
     cores_then : (table : ℕ) (k : List ℕ) → core c.oldest (line later table k) ≡ of_key table k (placed_in t.number new_rows)
     cores_then table k = elim (cases_Bool (writes_at table k new_write)) [
-      | inl is ↦ ap (core c.oldest) (line_here table k is) ∙ (core_plain c.oldest new_version (line history table k) refl ∙ sym (placed_here table k is))
+      | inl is ↦ ap (core c.oldest) (line_here table k is) ∙ (core_plain c.oldest shown (line history table k) refl ∙ sym (placed_here table k is))
       | inr isnt ↦ ap (core c.oldest) (line_there table k isnt) ∙ (s.cores table k ∙ placed_there table k isnt)
     ]
 
     durable_then : (table : ℕ) (k : List ℕ) (v : Version Change) → Member v (line later table k) → is_stable c.stable v ≡ true
     durable_then table k v there = elim (cases_Bool (writes_at table k new_write)) [
       | inl is ↦ elim (subst (λ (l : List (Version Change)). Member v l) (line_here table k is) there) [
-        | inl same ↦ subst (λ (x : Version Change). is_stable c.stable x ≡ true) (sym same) (or_right (c.stable == 0) (is_by c.stable new_version) (le-leb 0 c.stable (omega arith)))
+        | inl same ↦ subst (λ (x : Version Change). is_stable c.stable x ≡ true) (sym same) (or_right (c.stable == 0) (is_by c.stable shown) (le-leb 0 c.stable (omega arith)))
         | inr old ↦ s.durable table k v old
       ]
       | inr isnt ↦ s.durable table k v (subst (λ (l : List (Version Change)). Member v l) (line_there table k isnt) there)

@@ -1,7 +1,7 @@
 -- A machine of one session between its calls, and the rows that show its one table.
-use Rattle.std.specs.Prelude.{◌≡◌, ℕ, ◌+◌, true, List, [], ◌∷◌, length, Option, Some, None, option_and_then}
+use Rattle.std.specs.Prelude.{◌≡◌, ℕ, ◌+◌, true, List, [], ◌∷◌, length, Option, Some, None, option_map, option_and_then}
 use Rattle.item.specs.declared.change.Change.{Change}
-use Rattle.item.specs.declared.change.Change.TheVariants.{Put}
+use Rattle.item.specs.declared.change.Change.TheVariants.{Put as Puts}
 use Rattle.stamp.specs.declared.name.Name.{Name}
 use Rattle.stamp.specs.declared.version.Version.{Version}
 use Rattle.kv_model.specs.Holds.{Member}
@@ -10,9 +10,11 @@ use Rattle.kv_model.specs.Machine.{Machine, Running, no_cursors}
 use Rattle.kv_model.specs.Content.{Content, base}
 use Rattle.kv_model.specs.Ordered.{IsOrderly}
 use Rattle.kv_model.specs.Valid.{IsDrawn}
+use Rattle.row_page.specs.declared.change.CellChange.TheVariants.{Put}
+use Rattle.row_page.specs.Changes.{PageChange, change_in, version_in}
 use Rattle.row_page.specs.Rows.{Row}
 use Rattle.stored.specs.Stored.{placed_in}
-use Rattle.leaf_rows.specs.Rows.{AreFit}
+use Rattle.leaf_rows.specs.Rows.{AreFit, version_at}
 
 -- The machine that an opening of the content made, with one session that has no transaction, this history, and this next id.
 abbrev pub resting : Content → List Entry → ℕ → Machine
@@ -38,10 +40,10 @@ beginning c history next = record (resting c history next) {
 
 -- the write of a value without stamps
 abbrev pub plain_write : ℕ → List ℕ → List ℕ → Write
-plain_write table key value = record { table = table; key = key; change = Put value; commit = 0; durable = 0 }
+plain_write table key value = record { table = table; key = key; change = Puts value; commit = 0; durable = 0 }
 
--- and the version that it makes
-abbrev pub plain_version : ℕ → ℕ → List ℕ → Version Change
+-- and the version that a page then has of the key
+abbrev pub plain_version : ℕ → ℕ → List ℕ → Version PageChange
 plain_version run id value = record { window = record { name = record { run = run; id = id }; commit = 0; durable = 0 }; change = Put value }
 
 -- the history once the transaction of this id has put a value
@@ -58,5 +60,9 @@ pub record Shows (run next oldest stable : ℕ) (t : Table) (rows : List Row) (h
   pub fit : AreFit rows
 
 -- the value of a version, where there is one
-abbrev pub value_in : Option (Version Change) → Option (List ℕ)
-value_in o = option_and_then (λ v. put_of v.change) o
+abbrev pub value_in : Option (Version PageChange) → Option (List ℕ)
+value_in o = option_and_then (λ v. put_of (change_in v.change)) o
+
+-- the version of a key that the rows show
+abbrev pub shown_at : List ℕ → List Row → Option (Version Change)
+shown_at key rows = option_map version_in (version_at key rows)

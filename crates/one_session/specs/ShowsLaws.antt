@@ -1,18 +1,18 @@
 -- What rows that show a history tell.
 use Rattle.std.specs.Prelude.{◌≡◌, ◌⊎◌, ℕ, ◌+◌, ◌<◌, ◌≤◌, ◌^◌, List, length, Option, Some, None}
-use Rattle.item.specs.declared.change.Change.{Change}
 use Rattle.stamp.specs.declared.version.Version.{Version}
 use Rattle.kv_model.specs.History.{Entry, Table, line, value, cut}
 use Rattle.kv_model.specs.Content.{Content, base, OpensAs}
 use Rattle.kv_model.specs.AgreementLaws.{head_of}
 use Rattle.kv_model.specs.Refusals.{newest_durable}
+use Rattle.row_page.specs.Changes.{PageChange}
 use Rattle.row_page.specs.Rows.{Row, key_most}
 use Rattle.leaf_rows.specs.declared.marks.Marks.{Marks}
 use Rattle.leaf_rows.specs.Rows.{AreFit, version_at, put_row}
 use Rattle.leaf_rows.specs.Contents.{leaf_content, kept_rows}
-use Rattle.one_session.specs.Shows.{Shows, put_into, plain_version, value_in}
+use Rattle.one_session.specs.Shows.{Shows, put_into, plain_version, value_in, shown_at}
 
-abbrev pub durable_in : Option (Version Change) → ℕ
+abbrev pub durable_in : Option (Version PageChange) → ℕ
 durable_in None = 0
 durable_in (Some v) = v.window.durable
 
@@ -30,7 +30,7 @@ PutShows = (c : Content) (next : ℕ) (t : Table) (rows : List Row) (history : L
 -- the rows have each key's newest version
 abbrev pub HeadsShow : Type 0
 HeadsShow = (run next oldest stable : ℕ) (t : Table) (rows : List Row) (history : List Entry) (key : List ℕ) → Shows run next oldest stable t rows history
-    → head_of (line history t.number key) ≡ version_at key rows
+    → head_of (line history t.number key) ≡ shown_at key rows
 
 -- which is what a read without a stamp gives
 abbrev pub ValuesShow : Type 0
@@ -42,9 +42,9 @@ abbrev pub DurablesShow : Type 0
 DurablesShow = (run next oldest stable : ℕ) (t : Table) (rows : List Row) (history : List Entry) (key : List ℕ) → Shows run next oldest stable t rows history
     → newest_durable (line history t.number key) ≡ durable_in (version_at key rows)
 
--- rows in order are told by their look-ups
+-- rows in order are told by what they show
 abbrev pub RowsAreOne : Type 0
-RowsAreOne = (rows others : List Row) → AreFit rows → AreFit others → ((key : List ℕ) → version_at key rows ≡ version_at key others) → rows ≡ others
+RowsAreOne = (rows others : List Row) → AreFit rows → AreFit others → ((key : List ℕ) → shown_at key rows ≡ shown_at key others) → rows ≡ others
 
 -- A device that holds the rows, by a checkpoint of this run with no transaction running, opens as the checkpoint that the machine takes.
 abbrev pub ClosingOpens : Type 0

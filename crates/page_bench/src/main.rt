@@ -7,7 +7,7 @@ ghost use Rattle.std.specs.Prelude.{◌≤◌, length};
 
 use block_sum::sum;
 use failure::NoMemory;
-use row_page::{Cell, Leaf, LeafWriter};
+use row_page::{Cell, CellChange, Leaf, LeafWriter};
 use stamp::{Name, Window};
 use std::alloc::{AllocError, Global};
 use std::{env, io};
@@ -54,7 +54,7 @@ fn push_row<'a>(writer: &mut LeafWriter, key: &'a [u8], value: &'a [u8]) -> bool
             commit: 1,
             durable: 1,
         },
-        change: Some(value),
+        change: CellChange::Put(value),
     };
     writer.push(&cell)
 }

@@ -5,14 +5,14 @@ use Rattle.std.specs.List.{flat_map}
 use Rattle.std.proofs.lemmas.Bool.{leb-true, ltb-true, le-leb, lt-ltb}
 use Rattle.std.proofs.lemmas.Option.{cond_some}
 use Rattle.std.proofs.lemmas.List.{drop_at, length-drop}
-use Rattle.item.specs.declared.change.Change.{Change}
-use Rattle.item.specs.declared.change.Change.TheVariants.{Put, Remove}
 use Rattle.stamp.specs.declared.version.Window.{Window}
 use Rattle.le_codec.specs.Fields.{IsField}
 use Rattle.le_codec.specs.Combine.{Chained}
 use Rattle.le_codec.proofs.Laws.{byte_field, field16, field32, field64, slice_field, some_is, bind_some}
 use Rattle.le_codec.proofs.Combined.{then_field, as_field, again_field, try_field}
 use Rattle.le_codec.proofs.Chains.{chain_field}
+use Rattle.row_page.specs.declared.change.CellChange.TheVariants.{Put, Remove}
+use Rattle.row_page.specs.Changes.{PageChange}
 use Rattle.row_page.specs.Rows.{Row, Raw, raw_text, window_text, tail_of, cell_under, code_of, value_of, IsNumber, WindowFits, RowFits, comes_after, key_of}
 use Rattle.row_page.specs.Reading.{Numbers, window_of, window_at, Parts, raw_of, raw_at, change_of, is_number, window_fits, row_fits, row_under, cell_at, row_at, rows_at}
 
@@ -67,18 +67,18 @@ and_is : (b c : Bool) → (b && c) ≡ true → (b ≡ true) × (c ≡ true)
 and_is true c e = (refl, e)
 and_is false c e = absurd cc
 
-change_takes : (code : ℕ) (value : List ℕ) (c : Change) → change_of code value ≡ Some c → (code_of c ≡ code) × (value_of c ≡ value)
+change_takes : (code : ℕ) (value : List ℕ) (c : PageChange) → change_of code value ≡ Some c → (code_of c ≡ code) × (value_of c ≡ value)
 change_takes zero value c e = absurd cc
-change_takes (suc zero) value c e = subst (λ (x : Change). (code_of x ≡ 1) × (value_of x ≡ value)) (some_is (Put value) c e) (refl, refl)
-change_takes (suc (suc zero)) [] c e = subst (λ (x : Change). (code_of x ≡ 2) × (value_of x ≡ [])) (some_is Remove c e) (refl, refl)
+change_takes (suc zero) value c e = subst (λ (x : PageChange). (code_of x ≡ 1) × (value_of x ≡ value)) (some_is (Put value) c e) (refl, refl)
+change_takes (suc (suc zero)) [] c e = subst (λ (x : PageChange). (code_of x ≡ 2) × (value_of x ≡ [])) (some_is Remove c e) (refl, refl)
 change_takes (suc (suc zero)) (b ∷ bs) c e = absurd cc
 change_takes (suc (suc (suc n))) value c e = absurd cc
 
-change_again : (c : Change) → change_of (code_of c) (value_of c) ≡ Some c
+change_again : (c : PageChange) → change_of (code_of c) (value_of c) ≡ Some c
 change_again (Put value) = refl
 change_again Remove = refl
 
-code_small : (c : Change) → code_of c < 2 ^ 8
+code_small : (c : PageChange) → code_of c < 2 ^ 8
 code_small (Put value) = omega arith
 code_small Remove = omega arith
 

@@ -1,8 +1,8 @@
 -- The rows of a leaf by where their cells begin, in bytes behind the header.
 use Rattle.std.specs.Prelude.{◌≡◌, ℕ, ◌≤◌, true, false, List, [], length, take, drop, map, Option, Some, None}
 use Rattle.std.specs.List.{AllByRecursion}
-use Rattle.item.specs.declared.change.Change.TheVariants.{Remove}
 use Rattle.stamp.specs.declared.name.Name.{Name}
+use Rattle.row_page.specs.declared.change.CellChange.TheVariants.{Remove}
 use Rattle.row_page.specs.Rows.{Row, key_most, is_below, Ascends}
 use Rattle.row_page.specs.Reading.{cell_at}
 use Rattle.row_page.specs.Greatest.{no_name, greatest_in, most_in, names_of, durables_of}

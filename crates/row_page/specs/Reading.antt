@@ -1,11 +1,11 @@
 -- Reading a leaf from left to right.
 use Rattle.std.specs.Prelude.{ℕ, zero, suc, ◌^◌, Bool, ◌&&◌, ◌==◌, nat_le, nat_lt, List, [], ◌∷◌, ◌++◌, length, Option, Some, None, if◌then◌else◌}
 use Rattle.std.specs.Int.{w8, w16, w32, w64}
-use Rattle.item.specs.declared.change.Change.{Change}
-use Rattle.item.specs.declared.change.Change.TheVariants.{Put, Remove}
 use Rattle.stamp.specs.declared.version.Window.{Window}
 use Rattle.le_codec.specs.Fields.{◌>>=◌, number_at, slice_at}
 use Rattle.le_codec.specs.Combine.{then_at, as_at, try_at, chain_at}
+use Rattle.row_page.specs.declared.change.CellChange.TheVariants.{Put, Remove}
+use Rattle.row_page.specs.Changes.{PageChange}
 use Rattle.row_page.specs.Rows.{Row, Raw, value_of, comes_after, key_of, key_most}
 
 abbrev pub Numbers : Type 0
@@ -28,7 +28,7 @@ unfoldable pub raw_at : List ℕ → Option (Raw × List ℕ)
 raw_at = try_at raw_of (then_at (number_at w16) (λ k. then_at (number_at w8) (λ c. then_at (number_at w32) (λ v. then_at window_at (λ w. then_at (slice_at k) (λ key. slice_at v))))))
 
 -- the change that a code and a value stand for
-abbrev pub change_of : ℕ → List ℕ → Option Change
+abbrev pub change_of : ℕ → List ℕ → Option PageChange
 change_of (suc zero) value = Some (Put value)
 change_of (suc (suc zero)) [] = Some Remove
 change_of (suc (suc zero)) (b ∷ bs) = None

@@ -4,18 +4,18 @@ use Rattle.std.specs.List.{flat_map, AllByRecursion}
 use Rattle.std.specs.Int.{w8, w16, w32, w64}
 use Rattle.std.specs.Ordering.{nat_cmp, is_lt}
 use Rattle.std.specs.Cmp.Lexicographic.{slice_cmp}
-use Rattle.item.specs.declared.change.Change.{Change}
-use Rattle.item.specs.declared.change.Change.TheVariants.{Put, Remove}
 use Rattle.stamp.specs.declared.name.Name.{Name}
 use Rattle.stamp.specs.declared.version.Window.{Window}
 use Rattle.stamp.specs.declared.version.Version.{Version}
 use Rattle.le_codec.specs.Fields.{le}
 use Rattle.le_codec.specs.Images.{first_format}
 use Rattle.le_codec.specs.Images.{framed, block_of}
+use Rattle.row_page.specs.declared.change.CellChange.TheVariants.{Put, Remove}
+use Rattle.row_page.specs.Changes.{PageChange}
 
 -- a row is a key and a version of it
 abbrev pub Row : Type 0
-Row = List ℕ × Version Change
+Row = List ℕ × Version PageChange
 
 -- keys by their bytes, a proper prefix first
 abbrev pub is_below : List ℕ → List ℕ → Bool
@@ -24,11 +24,11 @@ is_below x y = is_lt (slice_cmp nat_cmp x y)
 -- ---- the spelling
 
 -- how a change stands in a cell: a code and a value
-abbrev pub code_of : Change → ℕ
+abbrev pub code_of : PageChange → ℕ
 code_of (Put value) = 1
 code_of Remove = 2
 
-abbrev pub value_of : Change → List ℕ
+abbrev pub value_of : PageChange → List ℕ
 value_of (Put value) = value
 value_of Remove = []
 

@@ -1,19 +1,13 @@
 -- What the types of a leaf stand for, and where a key stands in a list of rows.
-use Rattle.std.specs.Prelude.{◌≡◌, ℕ, ◌≤◌, IsTrue, length, take, drop, slice_get, List, Option, Some, None, option_map}
+use Rattle.std.specs.Prelude.{◌≡◌, ℕ, ◌≤◌, IsTrue, length, take, drop, slice_get, List, Option, Some, None}
 use Rattle.std.specs.List.{AllByRecursion}
-use Rattle.item.specs.declared.change.Change.{Change}
-use Rattle.item.specs.declared.change.Change.TheVariants.{Put, Remove}
 use Rattle.row_page.specs.declared.cell.Cell.{Cell}
 use Rattle.row_page.specs.declared.cell.Parts.{Parts}
+use Rattle.row_page.specs.Changes.{change_seen}
 use Rattle.row_page.specs.Rows.{Row, Raw, is_below}
 
--- a value that was written, or a removal
-abbrev pub change_from : Option (List ℕ) → Change
-change_from (Some value) = Put value
-change_from None = Remove
-
 abbrev pub row_seen : Cell → Row
-row_seen c = (c.key.now, record { window = c.window; change = change_from (option_map (λ v. v.now) c.change) })
+row_seen c = (c.key.now, record { window = c.window; change = change_seen c.change })
 
 abbrev pub raw_seen : Parts → Raw
 raw_seen p = record { key = p.key.now; code = p.code; window = p.window; value = p.value.now }

@@ -3,8 +3,10 @@ ghost use Rattle.std.specs.Prelude.{◌≡◌, Option, Some, None, [], option_ma
 ghost use Rattle.le_codec.specs.Fields.{Gives};
 ghost use Rattle.row_page.specs.Rows.{comes_after, key_most};
 ghost use Rattle.row_page.specs.Reading.{window_at, raw_at, cell_at, row_at, is_number, window_fits, row_fits, row_under, change_of};
-ghost use Rattle.row_page.specs.Views.{change_from, row_seen, raw_seen};
+ghost use Rattle.row_page.specs.Changes.{change_seen};
+ghost use Rattle.row_page.specs.Views.{row_seen, raw_seen};
 
+use crate::change::CellChange;
 use byte_order::order;
 use le_codec::Reader;
 use stamp::{Name, Window};
@@ -22,8 +24,8 @@ pub struct Cell<'a> {
     pub key: &'a [u8],
     /// Who wrote the version, and from which stamps on it holds.
     pub window: Window,
-    /// The value that was put; none where the key was removed.
-    pub change: Option<&'a [u8]>,
+    /// What it says of the key.
+    pub change: CellChange<&'a [u8]>,
 }
 
 // The fields of a cell, before anything is asked of them.
@@ -84,18 +86,18 @@ fn fits(cell: &Cell<'_>) -> bool
     ensures { result ≡ row_fits key_most (row_seen cell.now) }
 {
     let value = match cell.change {
-        Some(value) => value.len(),
-        None => 0,
+        CellChange::Put(value) => value.len(),
+        CellChange::Remove => 0,
     };
     cell.key.len() <= KEY_MAX && value <= VALUE_MAX && window_fits(&cell.window)
 }
 
-fn change_of<'a>(code: u8, value: &'a [u8]) -> Option<Option<&'a [u8]>>
-    ensures { option_map (λ c. change_from (option_map (λ v. v.now) c)) result ≡ change_of code value.now }
+fn change_of<'a>(code: u8, value: &'a [u8]) -> Option<CellChange<&'a [u8]>>
+    ensures { option_map change_seen result ≡ change_of code value.now }
 {
     match code {
-        1 => Some(Some(value)),
-        2 if value.is_empty() => Some(None),
+        1 => Some(CellChange::Put(value)),
+        2 if value.is_empty() => Some(CellChange::Remove),
         _ => None,
     }
 }

@@ -6,6 +6,7 @@ ghost use Rattle.row_page.specs.Views.{row_seen};
 ghost use Rattle.row_page.specs.Writing.{Written, Wrote, size_with};
 
 use crate::cell::Cell;
+use crate::change::CellChange;
 use crate::page::LEAF_KIND;
 use failure::NoMemory;
 use le_codec::{FIRST_FORMAT, block_size, header_bytes};
@@ -95,8 +96,8 @@ fn value_of<'a>(cell: &Cell<'a>) -> &'a [u8]
     ensures { result.now ≡ value_of (row_seen cell.now).1.change }
 {
     match cell.change {
-        Some(value) => value,
-        None => &[],
+        CellChange::Put(value) => value,
+        CellChange::Remove => &[],
     }
 }
 
@@ -104,8 +105,8 @@ fn code_of(cell: &Cell<'_>) -> u8
     ensures { result ≡ code_of (row_seen cell.now).1.change }
 {
     match cell.change {
-        Some(_) => 1,
-        None => 2,
+        CellChange::Put(_) => 1,
+        CellChange::Remove => 2,
     }
 }
 

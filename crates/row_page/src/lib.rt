@@ -11,12 +11,14 @@ ghost use Rattle.std.specs.Prelude.{◌≡◌, ℕ, List};
 ghost use Rattle.row_page.specs.Rows.{Row, IsPage};
 
 mod cell;
+mod change;
 mod leaf;
 mod leaf_writer;
 mod page;
 mod write;
 
 pub use cell::Cell;
+pub use change::CellChange;
 pub use leaf::Leaf;
 pub use leaf_writer::LeafWriter;
 pub use page::Page;

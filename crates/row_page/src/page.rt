@@ -5,9 +5,10 @@ ghost use Rattle.row_page.specs.Reading.{read_rows, rows_in, leaf_at};
 ghost use Rattle.row_page.specs.Views.{row_seen, HasKeyAt, Splits};
 
 use crate::cell::{Cell, cell_of, next_cell};
+use crate::change::CellChange;
 use byte_order::order;
 use failure::NoMemory;
-use item::{Change, Item};
+use item::Item;
 use le_codec::{FIRST_FORMAT, Image, Reader, open_image};
 use stamp::Version;
 use std::alloc::{AllocError, Global};
@@ -102,13 +103,13 @@ fn item_of(alloc: Global, bytes: &[u8]) -> Result<Item, NoMemory>
 }
 
 // A row of its own, with the cell's key and version.
-fn owned(alloc: Global, cell: &Cell<'_>) -> Result<(Item, Version<Change>), NoMemory>
+fn owned(alloc: Global, cell: &Cell<'_>) -> Result<(Item, Version<CellChange<Item>>), NoMemory>
     ensures { IfOk result (λ row. row ≡ row_seen cell.now) }
 {
     let key = item_of(alloc, cell.key)?;
     let change = match cell.change {
-        Some(value) => Change::Put(item_of(alloc, value)?),
-        None => Change::Remove,
+        CellChange::Put(value) => CellChange::Put(item_of(alloc, value)?),
+        CellChange::Remove => CellChange::Remove,
     };
     Ok((
         key,
@@ -120,8 +121,8 @@ fn owned(alloc: Global, cell: &Cell<'_>) -> Result<(Item, Version<Change>), NoMe
 }
 
 fn push(
-    rows: &mut Vec<(Item, Version<Change>)>,
-    row: (Item, Version<Change>),
+    rows: &mut Vec<(Item, Version<CellChange<Item>>)>,
+    row: (Item, Version<CellChange<Item>>),
 ) -> Result<(), NoMemory>
     ensures { OnOk result (rows.new.items ≡ rows.old.items ++ row ∷ []) }
 {
@@ -132,7 +133,11 @@ fn push(
 }
 
 // The rows of so many cells, which fill the text.
-fn copied(alloc: Global, count: u16, text: &[u8]) -> Result<Vec<(Item, Version<Change>)>, NoMemory>
+fn copied(
+    alloc: Global,
+    count: u16,
+    text: &[u8],
+) -> Result<Vec<(Item, Version<CellChange<Item>>)>, NoMemory>
     requires whole { read_rows count text.now ≡ Some (rows_in count text.now, []) }
     ensures { IfOk result (λ v. v.items ≡ rows_in count text.now) }
 {
@@ -175,7 +180,7 @@ impl<'a> Page<'a> {
     }
 
     /// All rows, each key and value copied once. The error is want of memory. `O(bytes)`.
-    pub fn rows(&self, alloc: Global) -> Result<Vec<(Item, Version<Change>)>, NoMemory>
+    pub fn rows(&self, alloc: Global) -> Result<Vec<(Item, Version<CellChange<Item>>)>, NoMemory>
         ensures { IfOk result (λ v. v.items ≡ self.now) }
     {
         copied(alloc, self.count, self.text)

@@ -1,9 +1,10 @@
 ghost use Rattle.std.specs.Prelude.{◌≡◌, ◌++◌, ◌<◌, ◌^◌, [], length, OnOk, IfOk};
 ghost use Rattle.row_page.specs.Rows.{cell, code_of, value_of, window_text, key_most, RowFits, image, AreRows, IsImage};
 
+use crate::change::CellChange;
 use crate::page::LEAF_KIND;
 use failure::NoMemory;
-use item::{Change, Item};
+use item::Item;
 use le_codec::{FIRST_FORMAT, Writer, write_header};
 use stamp::{Version, Window};
 use std::alloc::Global;
@@ -17,25 +18,29 @@ fn put_window(out: &mut Writer, w: &Window) -> Result<(), NoMemory>
     out.u64(w.durable)
 }
 
-fn code(change: &Change) -> u8
+fn code(change: &CellChange<Item>) -> u8
     ensures { result ≡ code_of change.now }
 {
     match change {
-        Change::Put(_) => 1,
-        Change::Remove => 2,
+        CellChange::Put(_) => 1,
+        CellChange::Remove => 2,
     }
 }
 
-fn value(change: &Change) -> &[u8]
+fn value(change: &CellChange<Item>) -> &[u8]
     ensures { result.now ≡ value_of change.now }
 {
     match change {
-        Change::Put(value) => value.as_bytes(),
-        Change::Remove => &[],
+        CellChange::Put(value) => value.as_bytes(),
+        CellChange::Remove => &[],
     }
 }
 
-fn put_cell(out: &mut Writer, key: &Item, version: &Version<Change>) -> Result<(), NoMemory>
+fn put_cell(
+    out: &mut Writer,
+    key: &Item,
+    version: &Version<CellChange<Item>>,
+) -> Result<(), NoMemory>
     requires { RowFits [] key_most (key.now, version.now) }
     ensures { OnOk result (out.new ≡ out.old ++ cell (key.now, version.now)) }
 {
@@ -50,7 +55,7 @@ fn put_cell(out: &mut Writer, key: &Item, version: &Version<Change>) -> Result<(
 }
 
 /// The length of the rows' image in bytes, without what fills up its block. `O(rows)`.
-pub fn size_of(rows: &[(Item, Version<Change>)]) -> u64
+pub fn size_of(rows: &[(Item, Version<CellChange<Item>>)]) -> u64
     requires { length (image rows.now) < 2 ^ 64 }
     ensures { result ≡ length (image rows.now) }
 {
@@ -63,7 +68,10 @@ pub fn size_of(rows: &[(Item, Version<Change>)]) -> u64
 
 /// The image of a leaf with these rows; zeros up to the next multiple of 4,096 bytes make it the
 /// block that `Page::decode` reads. The error is want of memory. `O(bytes)`.
-pub fn encode(alloc: Global, rows: &[(Item, Version<Change>)]) -> Result<Vec<u8>, NoMemory>
+pub fn encode(
+    alloc: Global,
+    rows: &[(Item, Version<CellChange<Item>>)],
+) -> Result<Vec<u8>, NoMemory>
     requires { AreRows rows.now }
     ensures { IfOk result (λ v. IsImage v.items rows.now) }
 {

@@ -11,14 +11,13 @@ use Rattle.le_codec.specs.Images.{padded}
 use Rattle.le_codec.proofs.Laws.{length_8, length_16, length_32, length_64}
 use Rattle.le_codec.proofs.Combined.{many_field, one_value}
 use Rattle.le_codec.proofs.Heads.{same_framed}
-use Rattle.kv_model.specs.History.{Placed}
 use Rattle.kv_model.specs.Content.{Snapshot}
 use Rattle.row_page.specs.Rows.{Row, cell}
 use Rattle.row_page.proofs.Leaves.{leaf_exact, length-cell}
 use Rattle.device_layout.specs.declared.link.Link.{Link}
 use Rattle.stored.specs.Links.{link_text, nowhere, is_nowhere}
 use Rattle.stored.specs.TableTree.{Entry, entry_text, EntryFits, AreEntries, inner_image, Bears, table_kind}
-use Rattle.stored.specs.HistoryTree.{HistoryEntry, history_entry_text, HistoryEntryFits, AreHistoryEntries, history_inner_image, record_text, AreRecords, history_image, history_kind}
+use Rattle.stored.specs.HistoryTree.{HistoryEntry, HistoryRecord, history_entry_text, HistoryEntryFits, AreHistoryEntries, history_inner_image, record_text, AreRecords, history_image, history_kind}
 use Rattle.stored.specs.Records.{TableRoot, Record, SnapshotFits, TableFits, IdsAscend, IsRecord, record_body, record_image, table_text}
 use Rattle.stored.proofs.Fields.{EntrySpelled, entry_field, HistoryEntrySpelled, history_entry_field, placed_field, TableSpelled, SnapshotSpelled, RecordSpelled, record_field}
 use Rattle.stored.proofs.OneTree.{IsExact}
@@ -52,10 +51,10 @@ history_entries_upto : (es : List HistoryEntry) → 70 * length es ≤ length (f
 history_entries_upto [] = omega arith
 history_entries_upto (e ∷ es) = omega (arith, history_entries_upto es, length-append (history_entry_text e) (flat_map history_entry_text es), length-history-entry e)
 
-length-record : (r : Placed) → 39 ≤ length (record_text r)
+length-record : (r : HistoryRecord) → 39 ≤ length (record_text r)
 length-record r = omega (arith, length-append (le w32 r.table) (cell (r.key, r.version)), length-cell (r.key, r.version))
 
-records_upto : (rs : List Placed) → 39 * length rs ≤ length (flat_map record_text rs)
+records_upto : (rs : List HistoryRecord) → 39 * length rs ≤ length (flat_map record_text rs)
 records_upto [] = omega arith
 records_upto (r ∷ rs) = omega (arith, records_upto rs, length-append (record_text r) (flat_map record_text rs), length-record r)
 
@@ -77,7 +76,7 @@ history_inner_exact level size p q hp hq same =
     let both = same_framed 4 first_format level level (length p) (length q) (flat_map history_entry_text p) (flat_map history_entry_text q) size size (omega arith) (omega arith) (omega (arith, hp.high)) (omega (arith, hp.high)) (omega (arith, history_entries_upto p, hp.size)) (omega (arith, history_entries_upto q, hq.size)) (omega (arith, hp.size)) (omega (arith, hq.size)) same in
     same_list history_entry_field p q (all_more HistoryEntryFits HistoryEntrySpelled history_entry_spelled p hp.fit) (all_more HistoryEntryFits HistoryEntrySpelled history_entry_spelled q hq.fit) both.0 both.2
 
-history_leaf_exact : (size : ℕ) (p q : List Placed) → AreRecords p → AreRecords q → padded (history_image p) size ≡ padded (history_image q) size → p ≡ q
+history_leaf_exact : (size : ℕ) (p q : List HistoryRecord) → AreRecords p → AreRecords q → padded (history_image p) size ≡ padded (history_image q) size → p ≡ q
 history_leaf_exact size p q hp hq same =
     let both = same_framed 3 first_format 0 0 (length p) (length q) (flat_map record_text p) (flat_map record_text q) size size (omega arith) (omega arith) (omega arith) (omega arith) (omega (arith, records_upto p, hp.size)) (omega (arith, records_upto q, hq.size)) (omega (arith, hp.size)) (omega (arith, hq.size)) same in
     same_list placed_field p q hp.fit hq.fit both.0 both.2
@@ -95,14 +94,14 @@ table_exact = record {
 }
 
 -- a leaf of the history is stored exactly where it has records
-stored_leaf : (size : ℕ) (e : HistoryEntry) (p q : List Placed) → ((e.link ≡ nowhere) × (p ≡ [])) ⊎ ((e.link.addr.offset ≢ 0) × AreRecords p) → ((e.link ≡ nowhere) × (q ≡ [])) ⊎ ((e.link.addr.offset ≢ 0) × AreRecords q)
+stored_leaf : (size : ℕ) (e : HistoryEntry) (p q : List HistoryRecord) → ((e.link ≡ nowhere) × (p ≡ [])) ⊎ ((e.link.addr.offset ≢ 0) × AreRecords p) → ((e.link ≡ nowhere) × (q ≡ [])) ⊎ ((e.link.addr.offset ≢ 0) × AreRecords q)
     → padded (history_image p) size ≡ padded (history_image q) size → p ≡ q
 stored_leaf size e p q (inl x) (inl y) same = x.1 ∙ sym y.1
 stored_leaf size e p q (inl x) (inr y) same = absurd (y.0 (ap (λ (l : Link). l.addr.offset) x.0))
 stored_leaf size e p q (inr x) (inl y) same = absurd (x.0 (ap (λ (l : Link). l.addr.offset) y.0))
 stored_leaf size e p q (inr x) (inr y) same = history_leaf_exact size p q x.1 y.1 same
 
-none_stored : (e : HistoryEntry) (p : List Placed) → is_nowhere e.link.addr ≡ true → ((e.link ≡ nowhere) × (p ≡ [])) ⊎ ((e.link.addr.offset ≢ 0) × AreRecords p) → p ≡ []
+none_stored : (e : HistoryEntry) (p : List HistoryRecord) → is_nowhere e.link.addr ≡ true → ((e.link ≡ nowhere) × (p ≡ [])) ⊎ ((e.link.addr.offset ≢ 0) × AreRecords p) → p ≡ []
 none_stored e p is (inl x) = x.1
 none_stored e p is (inr x) = absurd (x.0 (eqb-true _ _ is))
 

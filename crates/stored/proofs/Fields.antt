@@ -9,14 +9,13 @@ use Rattle.item.specs.declared.formats.Format.TheVariants.{S, U}
 use Rattle.le_codec.specs.Fields.{le, IsField}
 use Rattle.le_codec.proofs.Laws.{byte_field, field16, field32, field64, slice_field, some_is}
 use Rattle.le_codec.proofs.Combined.{then_field, as_field, again_field, seen_field, try_field, many_field}
-use Rattle.kv_model.specs.History.{Placed}
 use Rattle.kv_model.specs.Content.{Snapshot}
 use Rattle.row_page.specs.Rows.{key_most}
 use Rattle.row_page.proofs.Fields.{row_field}
 use Rattle.device_layout.specs.declared.link.Link.{Link}
 use Rattle.stored.specs.Links.{link_text, LinkFits}
 use Rattle.stored.specs.TableTree.{Entry, entry_text}
-use Rattle.stored.specs.HistoryTree.{HistoryEntry, history_entry_text, record_text, RecordFits}
+use Rattle.stored.specs.HistoryTree.{HistoryEntry, HistoryRecord, history_entry_text, record_text, RecordFits}
 use Rattle.stored.specs.Records.{TableRoot, Record, letter, table_text, snapshot_text, record_body}
 use Rattle.stored.specs.Reading.{LinkParts, link_of, link_at, EntryParts, entry_of, entry_at, HistoryEntryParts, history_entry_of, history_entry_at, PlacedParts, placed_of, placed_at, format_of, format_at, TableParts, table_of, table_at, SnapshotParts, snapshot_of, snapshot_at, RecordParts, record_of, record_at}
 
@@ -82,7 +81,7 @@ history_entry_field =
 
 -- ---- a record of the history
 
-abbrev placed_parts : Placed → PlacedParts
+abbrev placed_parts : HistoryRecord → PlacedParts
 placed_parts r = (r.table, (r.key, r.version))
 
 pub placed_field : IsField record_text placed_at RecordFits

@@ -10,11 +10,23 @@ use Rattle.le_codec.specs.Fields.{le}
 use Rattle.le_codec.specs.Images.{first_format}
 use Rattle.le_codec.specs.Images.{framed}
 use Rattle.kv_model.specs.History.{Placed}
+use Rattle.stamp.specs.declared.version.Version.{Version}
+use Rattle.row_page.specs.Changes.{PageChange, version_in}
 use Rattle.row_page.specs.Rows.{key_most, cell, RowFits, IsName}
 use Rattle.row_page.specs.Greatest.{no_name}
 use Rattle.device_layout.specs.declared.link.Link.{Link}
 use Rattle.stored.specs.Links.{link_text, LinkFits, nowhere, SaysOf}
 use Rattle.stored.specs.Tree.{Kind, Tree, join}
+
+-- an older version of a key of a table
+pub record HistoryRecord : Type 0 where
+  pub table : ℕ
+  pub key : List ℕ
+  pub version : Version PageChange
+
+-- the same, in the model
+abbrev pub record_in : HistoryRecord → Placed
+record_in r = record { table = r.table; key = r.key; version = version_in r.version }
 
 -- what orders records: the table's number, the key, the commit stamp, and the name
 pub record Mark : Type 0 where
@@ -23,7 +35,7 @@ pub record Mark : Type 0 where
   pub commit : ℕ
   pub name : Name
 
-abbrev pub mark_of : Placed → Mark
+abbrev pub mark_of : HistoryRecord → Mark
 mark_of r = record { table = r.table; key = r.key; commit = r.version.window.commit; name = r.version.window.name }
 
 abbrev pub mark_cmp : Mark → Mark → Ordering
@@ -35,13 +47,13 @@ is_before x y = is_lt (mark_cmp x y)
 -- ---- a leaf
 
 -- the table's number, and then as a cell of a leaf
-abbrev pub record_text : Placed → List ℕ
+abbrev pub record_text : HistoryRecord → List ℕ
 record_text r = le w32 r.table ++ cell (r.key, r.version)
 
-abbrev pub history_image : List Placed → List ℕ
+abbrev pub history_image : List HistoryRecord → List ℕ
 history_image records = framed 3 first_format (length records) 0 (flat_map record_text records)
 
-pub record RecordFits (r : Placed) : Type 0 where
+pub record RecordFits (r : HistoryRecord) : Type 0 where
   pub table : r.table < 2 ^ 32
   pub row : RowFits [] key_most (r.key, r.version)
 
@@ -51,25 +63,25 @@ comes_behind None mark = true
 comes_behind (Some before) mark = is_before before mark
 
 -- the records ascend strictly
-abbrev pub RecordsAscend : Option Mark → List Placed → Type 0
+abbrev pub RecordsAscend : Option Mark → List HistoryRecord → Type 0
 RecordsAscend before [] = Unit {0}
 RecordsAscend before (r ∷ records) = IsTrue (comes_behind before (mark_of r)) × RecordsAscend (Some (mark_of r)) records
 
 -- two records are of one version of a key
-pub record AreAlike (r s : Placed) : Type 0 where
+pub record AreAlike (r s : HistoryRecord) : Type 0 where
   pub table : r.table ≡ s.table
   pub key : r.key ≡ s.key
   pub name : r.version.window.name ≡ s.version.window.name
 
 -- a name stands once for each key of a table
-abbrev pub NamesOnce : List Placed → Type 0
+abbrev pub NamesOnce : List HistoryRecord → Type 0
 NamesOnce [] = Unit {0}
-NamesOnce (r ∷ records) = AllByRecursion (λ (s : Placed). AreAlike r s → ⊥) records × NamesOnce records
+NamesOnce (r ∷ records) = AllByRecursion (λ (s : HistoryRecord). AreAlike r s → ⊥) records × NamesOnce records
 
 -- the records that a leaf of the history can have
-pub record AreRecords (records : List Placed) : Type 0 where
+pub record AreRecords (records : List HistoryRecord) : Type 0 where
   pub some : 1 ≤ length records
-  pub fit : AllByRecursion (λ (r : Placed). RecordFits r) records
+  pub fit : AllByRecursion (λ (r : HistoryRecord). RecordFits r) records
   pub ascend : RecordsAscend None records
   pub once : NamesOnce records
   pub size : 16 + length (flat_map record_text records) ≤ 32768
@@ -123,7 +135,7 @@ abbrev pub first_mark : List HistoryEntry → Option Mark
 first_mark [] = None
 first_mark (e ∷ es) = Some e.least
 
-abbrev pub first_record : List Placed → Option Mark
+abbrev pub first_record : List HistoryRecord → Option Mark
 first_record [] = None
 first_record (r ∷ records) = Some (mark_of r)
 
@@ -138,27 +150,27 @@ pub record HistoryLeads (level : ℕ) (e : HistoryEntry) (p : List HistoryEntry)
   pub says : SaysOf e.link (map (λ (x : HistoryEntry). x.link.greatest) p) (map (λ (x : HistoryEntry). x.link.durable) p)
 
 -- a leaf begins with its entry's record; it has none exactly where it is stored nowhere
-pub record HistoryBears (e : HistoryEntry) (records : List Placed) : Type 0 where
+pub record HistoryBears (e : HistoryEntry) (records : List HistoryRecord) : Type 0 where
   pub leaf : (e.link ≡ nowhere) × (records ≡ []) ⊎ (e.link.addr.offset ≢ 0) × AreRecords records
   pub begins : Begins e (first_record records)
-  pub says : SaysOf e.link (map (λ (r : Placed). r.version.window.name) records) (map (λ (r : Placed). r.version.window.durable) records)
+  pub says : SaysOf e.link (map (λ (r : HistoryRecord). r.version.window.name) records) (map (λ (r : HistoryRecord). r.version.window.durable) records)
 
 abbrev pub ends_before : Option Mark → Mark → Bool
 ends_before None mark = true
 ends_before (Some next) mark = is_before mark next
 
 -- a leaf's records are below the next entry's
-abbrev pub HistoryStays : List HistoryEntry → List (List Placed) → Type 0
+abbrev pub HistoryStays : List HistoryEntry → List (List HistoryRecord) → Type 0
 HistoryStays [] leaves = Unit {0}
 HistoryStays (e ∷ es) [] = Unit {0}
-HistoryStays (e ∷ es) (records ∷ leaves) = AllByRecursion (λ (r : Placed). IsTrue (ends_before (first_mark es) (mark_of r))) records × HistoryStays es leaves
+HistoryStays (e ∷ es) (records ∷ leaves) = AllByRecursion (λ (r : HistoryRecord). IsTrue (ends_before (first_mark es) (mark_of r))) records × HistoryStays es leaves
 
-pub record HistoryParts (es : List HistoryEntry) (leaves : List (List Placed)) : Type 0 where
+pub record HistoryParts (es : List HistoryEntry) (leaves : List (List HistoryRecord)) : Type 0 where
   pub climbs : HistoryClimbs es
   pub stays : HistoryStays es leaves
   pub once : NamesOnce (join leaves)
 
-abbrev pub history_kind : Kind HistoryEntry Placed
+abbrev pub history_kind : Kind HistoryEntry HistoryRecord
 history_kind = record {
   place = λ e. e.link.addr;
   inner = history_inner_image;
@@ -169,4 +181,4 @@ history_kind = record {
 }
 
 abbrev pub HistoryTree : Type 0
-HistoryTree = Tree HistoryEntry Placed
+HistoryTree = Tree HistoryEntry HistoryRecord

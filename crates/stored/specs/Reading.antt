@@ -5,13 +5,12 @@ use Rattle.item.specs.declared.formats.Format.{Format}
 use Rattle.item.specs.declared.formats.Format.TheVariants.{S, U}
 use Rattle.le_codec.specs.Fields.{number_at, slice_at}
 use Rattle.le_codec.specs.Combine.{then_at, many_at, as_at, try_at}
-use Rattle.kv_model.specs.History.{Placed}
 use Rattle.kv_model.specs.Content.{Snapshot}
 use Rattle.row_page.specs.Rows.{Row, key_most}
 use Rattle.row_page.specs.Reading.{cell_at}
 use Rattle.device_layout.specs.declared.link.Link.{Link}
 use Rattle.stored.specs.TableTree.{Entry}
-use Rattle.stored.specs.HistoryTree.{HistoryEntry}
+use Rattle.stored.specs.HistoryTree.{HistoryEntry, HistoryRecord}
 use Rattle.stored.specs.Records.{TableRoot, Record}
 
 -- ---- a link
@@ -52,10 +51,10 @@ history_entry_at = as_at history_entry_of (then_at (number_at w32) (λ table. th
 abbrev pub PlacedParts : Type 0
 PlacedParts = ℕ × Row
 
-abbrev pub placed_of : PlacedParts → Placed
+abbrev pub placed_of : PlacedParts → HistoryRecord
 placed_of p = record { table = p.0; key = p.1.0; version = p.1.1 }
 
-unfoldable pub placed_at : List ℕ → Option (Placed × List ℕ)
+unfoldable pub placed_at : List ℕ → Option (HistoryRecord × List ℕ)
 placed_at = as_at placed_of (then_at (number_at w32) (λ table. cell_at [] key_most))
 
 -- ---- the record of a checkpoint

@@ -3,6 +3,7 @@ use Rattle.std.specs.Prelude.{◌≡◌, ◌⊎◌, ℕ, ◌≤◌, List, [], �
 use Rattle.std.specs.List.{AllByRecursion}
 use Rattle.kv_model.specs.History.{Table, Placed}
 use Rattle.kv_model.specs.Content.{Content, nothing}
+use Rattle.row_page.specs.Changes.{version_in}
 use Rattle.row_page.specs.Rows.{Row}
 use Rattle.disk_model.specs.Ranges.{range}
 use Rattle.device_layout.specs.declared.slot.Slot.{Slot}
@@ -11,7 +12,7 @@ use Rattle.turtle.specs.Slots.{Chooses}
 use Rattle.stored.specs.Blocks.{Block, IsAddressed, Holds, Apart}
 use Rattle.stored.specs.Tree.{IsTree, tree_blocks, join}
 use Rattle.stored.specs.TableTree.{table_kind, TableTree, root_entry}
-use Rattle.stored.specs.HistoryTree.{history_kind, HistoryTree, history_root_entry}
+use Rattle.stored.specs.HistoryTree.{history_kind, HistoryTree, history_root_entry, HistoryRecord, record_in}
 use Rattle.stored.specs.Records.{TableRoot, Record, record_image, IsRecord}
 
 -- The chosen slot, the record that it names, the tree of each of its tables, in the record's order, and the tree of the history.
@@ -68,8 +69,9 @@ pub record IsOn (bytes : List ℕ) (s : Stored) : Type 0 where
 
 -- ---- the content, which knows no place
 
+-- rows of a table, in the model
 abbrev pub placed_in : ℕ → List Row → List Placed
-placed_in table rows = map {A = Row} (λ r. record { table = table; key = r.0; version = r.1 }) rows
+placed_in table rows = map {A = Row} (λ r. record { table = table; key = r.0; version = version_in r.1 }) rows
 
 abbrev pub cells_in : List TableRoot → List TableTree → List Placed
 cells_in [] trees = []
@@ -88,7 +90,7 @@ content_of s = record {
   snapshot = s.kept.snapshot;
   tables = tables_of s.kept.tables;
   cells = cells_in s.kept.tables s.trees;
-  records = join s.history.leaves;
+  records = map {A = HistoryRecord} record_in (join s.history.leaves);
 }
 
 -- no slot is open: no checkpoint was completed

@@ -19,7 +19,8 @@ use Rattle.turtle.specs.Slots.{Chooses}
 use Rattle.stored.specs.Stored.{Stored as OnDevice, IsBlank}
 use Rattle.checkpoint_core.specs.Stands.{HasStill}
 use Rattle.checkpoint_core.specs.Room.{IsFull}
-use Rattle.leaf_rows.specs.Rows.{AreFit, version_at}
+use Rattle.leaf_rows.specs.Rows.{AreFit}
+use Rattle.one_session.specs.Shows.{shown_at}
 use Rattle.one_table.specs.Closings.{block_sizes}
 
 -- a device at a point of a run: what a read gives, how much it may hold, how often it has failed, and its moment
@@ -114,7 +115,7 @@ pub record NewestRows (m : Machine) (rows : List Row) : Type 0 where
   pub table : Table
   pub only : tables m.history ≡ table ∷ []
   pub fit : AreFit rows
-  pub newest : (key : List ℕ) → head_of (line m.history table.number key) ≡ version_at key rows
+  pub newest : (key : List ℕ) → head_of (line m.history table.number key) ≡ shown_at key rows
 
 -- The sizes of the blocks that a checkpoint of this machine writes, in their order. While a table has one leaf the machine tells them.
 abbrev pub AreSizes : Machine → List ℕ → Type 0

@@ -19,9 +19,10 @@ ghost use Rattle.wt_tool.specs.Top.{EachReads};
 use crate::closing::close_next;
 use crate::names::{KEY_MAX, plain_formats, stored_as, stored_len};
 use disk_model::Disk;
-use item::{Change, Formats};
+use item::{Formats, Item};
 use leaf_rows::Rows;
 use one_table::{Entry, Kept, Opened};
+use row_page::CellChange;
 use stamp::{Name, Version, Window};
 use std::alloc::Global;
 use wt_code::{Invalid, Limit, Refusal};
@@ -155,7 +156,7 @@ fn put_one(
     let Ok(value) = stored_as(alloc, formats.value, value) else {
         return Err(Refusal::NoMemory);
     };
-    let change = Change::Put(value);
+    let change = CellChange::Put(value);
     match kept
         .rows
         .put(key, version(kept.numbers.marks.run + 1, id, change))
@@ -165,7 +166,7 @@ fn put_one(
     }
 }
 
-fn version(run: u64, id: u64, change: Change) -> Version<Change>
+fn version(run: u64, id: u64, change: CellChange<Item>) -> Version<CellChange<Item>>
     ensures { result ≡ record { window = record { name = record { run = run; id = id }; commit = 0; durable = 0 }; change = change } }
 {
     Version {
@@ -207,26 +208,26 @@ fn put_over(rows: &Rows, oldest: u64, id: u64, overwrite: bool, key: &[u8]) -> O
     None
 }
 
-fn has_value(version: Option<&Version<Change>>) -> bool
+fn has_value(version: Option<&Version<CellChange<Item>>>) -> bool
     ensures { IsTrue result ↔ ((value : List ℕ) × (value_in (option_map (λ v. v.now) version.entry) ≡ Some value)) }
 {
     value_in(version).is_some()
 }
 
 // The value of a version, where it has one.
-pub(crate) fn value_in<'a>(version: Option<&'a Version<Change>>) -> Option<&'a [u8]>
+pub(crate) fn value_in<'a>(version: Option<&'a Version<CellChange<Item>>>) -> Option<&'a [u8]>
     ensures { option_map (λ s. s.now) result ≡ value_in (option_map (λ v. v.now) version.entry) }
 {
     match version {
         Some(version) => match &version.change {
-            Change::Put(value) => Some(value.as_bytes()),
-            Change::Remove => None,
+            CellChange::Put(value) => Some(value.as_bytes()),
+            CellChange::Remove => None,
         },
         None => None,
     }
 }
 
-fn durable_in(version: Option<&Version<Change>>) -> u64
+fn durable_in(version: Option<&Version<CellChange<Item>>>) -> u64
     ensures { result ≡ durable_in (option_map (λ v. v.now) version.entry) }
 {
     match version {

@@ -5,7 +5,7 @@ use Rattle.kv_model.specs.Decisions.{Demand}
 use Rattle.row_page.specs.Rows.{Row, RowFits, key_most}
 use Rattle.one_session.specs.Shows.{plain_version}
 use Rattle.stamp.specs.declared.version.Version.{Version}
-use Rattle.item.specs.declared.change.Change.{Change}
+use Rattle.row_page.specs.Changes.{PageChange}
 use Rattle.wt_code.specs.declared.refusals.Refusal.TheVariants.{Invalid as Refusal_Invalid, Limit as Refusal_Limit}
 use Rattle.wt_code.specs.declared.refusals.Invalid.TheVariants.{KeyLong, ValueLong}
 use Rattle.wt_code.specs.declared.refusals.Limit.TheVariants.{Ids}
@@ -48,5 +48,5 @@ put-requires c =
     let lengths : (length c.in-Ok.key ≤ 1024) × (length c.in-Ok-stored_as.value ≤ 16384) = short c.in-Ok.key c.in-Ok-stored_as.value
     (c.in-None.ensures c.in-Ok.key c.in-Ok-stored_as.value (ap length c.in-Ok.ensures ∙ sym c.stored_len-key_len.ensures) (ap length c.in-Ok-stored_as.ensures ∙ sym c.stored_len-value_len.ensures)) in
     let low : c.args.id < 2 ^ 62 = low_id c.args.kept.now.numbers.marks.oldest c.args.id (demand_of c.args.overwrite) c.as_bytes-2.result.now c.args.kept.now.rows c.in-None-put_over.ensures in
-    subst (λ (v : Version Change). RowFits [] key_most (c.in-Ok.key, v)) (sym c.version.ensures)
+    subst (λ (v : Version PageChange). RowFits [] key_most (c.in-Ok.key, v)) (sym c.version.ensures)
     (row_fits c.args.kept.now.numbers.marks.run c.args.id c.in-Ok.key c.in-Ok-stored_as.value c.requires.run c.requires.some low lengths.0 lengths.1)

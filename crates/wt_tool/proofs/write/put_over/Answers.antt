@@ -1,6 +1,6 @@
 use Rattle.std.proofs.Common.{◌≡◌, ◌↔◌, ◌≤◌, ◌<◌, ◌^◌, ◌∙◌, ℕ, Bool, true, false, List, Option, Some, None, refl, sym, ap, subst, arith, IsTrue}
 use Rattle.std.proofs.lemmas.Bool.{lt-ltb, le-ltb, lt-leb}
-use Rattle.item.specs.declared.change.Change.{Change}
+use Rattle.row_page.specs.Changes.{PageChange}
 use Rattle.stamp.specs.declared.version.Version.{Version}
 use Rattle.kv_model.specs.Decisions.{Demand, Anything, Vacant, unmet}
 use Rattle.row_page.specs.Rows.{Row}
@@ -42,7 +42,7 @@ returns-then-prev-oldest c =
     let is : c.durable_in-prev.result ≡ durable_in (version_at c.args.key.now c.args.rows.now) = c.durable_in-prev.ensures ∙ ap durable_in c.version-version.ensures in
     let met : unmet (demand_of c.args.overwrite) (value_in (version_at c.args.key.now c.args.rows.now)) ≡ None = elim c.else-not-overwrite.branch [
       | else-not-overwrite-via-then-not-overwrite+else-has_value w ↦ over_none c.args.overwrite w.has_value.result (value_in (version_at c.args.key.now c.args.rows.now)) w.if-not-overwrite.true w.if-has_value.false
-          (subst (λ (o : Option (Version Change)). IsTrue w.has_value.result ↔ ((value : List ℕ) × (value_in o ≡ Some value))) c.version-version.ensures w.has_value.ensures)
+          (subst (λ (o : Option (Version PageChange)). IsTrue w.has_value.result ↔ ((value : List ℕ) × (value_in o ≡ Some value))) c.version-version.ensures w.has_value.ensures)
       | else-not-overwrite-via-else-not-overwrite w ↦ over_any c.args.overwrite (value_in (version_at c.args.key.now c.args.rows.now)) w.if-not-overwrite.false
     ] in
     stamped c.args.oldest c.args.id c.durable_in-prev.result (demand_of c.args.overwrite) c.args.key.now c.args.rows.now low met is c.if-prev-oldest.true
@@ -53,7 +53,7 @@ returns c =
     let is : c.durable_in-prev.result ≡ durable_in (version_at c.args.key.now c.args.rows.now) = c.durable_in-prev.ensures ∙ ap durable_in c.version-version.ensures in
     let met : unmet (demand_of c.args.overwrite) (value_in (version_at c.args.key.now c.args.rows.now)) ≡ None = elim c.else-not-overwrite.branch [
       | else-not-overwrite-via-then-not-overwrite+else-has_value w ↦ over_none c.args.overwrite w.has_value.result (value_in (version_at c.args.key.now c.args.rows.now)) w.if-not-overwrite.true w.if-has_value.false
-          (subst (λ (o : Option (Version Change)). IsTrue w.has_value.result ↔ ((value : List ℕ) × (value_in o ≡ Some value))) c.version-version.ensures w.has_value.ensures)
+          (subst (λ (o : Option (Version PageChange)). IsTrue w.has_value.result ↔ ((value : List ℕ) × (value_in o ≡ Some value))) c.version-version.ensures w.has_value.ensures)
       | else-not-overwrite-via-else-not-overwrite w ↦ over_any c.args.overwrite (value_in (version_at c.args.key.now c.args.rows.now)) w.if-not-overwrite.false
     ] in
     accepted c.args.oldest c.args.id c.durable_in-prev.result (demand_of c.args.overwrite) c.args.key.now c.args.rows.now low met is c.if-prev-oldest.false
