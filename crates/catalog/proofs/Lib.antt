@@ -1,0 +1,6 @@
+pub mod NameOrder
+pub mod Distinct
+pub mod Splitting
+pub mod Sorting
+pub mod Turning
+pub mod Deciding

@@ -1,0 +1,4 @@
+pub mod Known
+pub mod Order
+pub mod Creates
+pub mod Laws

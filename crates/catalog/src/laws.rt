@@ -1,0 +1,23 @@
+// What a catalog says of a machine.
+
+ghost use Rattle.catalog.specs.Laws.{CreatesAreJudged, CreatesSuit, NamesTurn, PlacesAreNamed};
+
+/// Among tables of which no two have one name, the order does not matter to a name.
+pub fn names_turn()
+    ensures { NamesTurn }
+{}
+
+/// The table of a name stands at its place.
+pub fn places_are_named()
+    ensures { PlacesAreNamed }
+{}
+
+/// What is decided of a create is what the machine judges whose tables these are, newest first.
+pub fn creates_are_judged()
+    ensures { CreatesAreJudged }
+{}
+
+/// The table that a create would make is one that the machine may make.
+pub fn creates_suit()
+    ensures { CreatesSuit }
+{}
