@@ -1,0 +1,5 @@
+pub mod Changes
+pub mod Installs
+pub mod Index
+pub mod Pushing
+pub mod Neighbours

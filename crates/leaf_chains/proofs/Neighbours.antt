@@ -1,0 +1,177 @@
+-- The nearest key above or below a bound, by the order of the slots.
+use Rattle.std.proofs.Common.{◌≡◌, ℕ, zero, suc, ◌+◌, ◌<◌, ◌≤◌, true, false, List, [], ◌∷◌, length, get_or, Option, Some, None, refl, sym, ap, subst, ◌∙◌, inl, inr, arith}
+use Rattle.std.specs.List.{HoldsAt}
+use Rattle.std.specs.Ordering.{nat_cmp, is_lt, ordering_index, ordering_reverse}
+use Rattle.std.specs.Cmp.Lexicographic.{slice_cmp}
+use Rattle.std.specs.declared.cmp.Ordering.{Ordering}
+use Rattle.std.specs.declared.cmp.Ordering.TheVariants.{Less, Equal, Greater}
+use Rattle.std.proofs.lemmas.Bool.{cases_lt, both_ways}
+use Rattle.std.proofs.lemmas.Cmp.{nat_list_cmp_total, tied_itself}
+use Rattle.std.proofs.lemmas.List.Elements.{at_from_Contains}
+use Rattle.kv_model.specs.Rows.{Way, Up, Down, is_past, comes_after}
+use Rattle.ordered_groups.specs.Groups.{entries}
+use Rattle.ordered_groups.specs.Places.{Rises, PartsAt, IsPlace, rank}
+use Rattle.ordered_groups.specs.declared.Place.{Place}
+use Rattle.leaf_chains.specs.declared.slot.KeyChain.{KeyChain}
+use Rattle.leaf_chains.specs.Slots.{key_at}
+use Rattle.leaf_chains.specs.Nearest.{IsNearest, NonePast}
+use Rattle.leaf_chains.specs.Order.{IsIndex, key_order, not_above, not_below}
+use Rattle.leaf_chains.proofs.Index.{rises, place_within}
+
+-- ---- how a search for a gap asks
+
+pub never_tied_above : (o : Ordering) → not_above o ≡ Equal → ⊥
+never_tied_above Less e = absurd cc
+never_tied_above Equal e = absurd cc
+never_tied_above Greater e = absurd cc
+
+pub never_tied_below : (o : Ordering) → not_below o ≡ Equal → ⊥
+never_tied_below Less e = absurd cc
+never_tied_below Equal e = absurd cc
+never_tied_below Greater e = absurd cc
+
+above_rises : (o p : Ordering) → ordering_index o ≤ ordering_index p → ordering_index (not_above o) ≤ ordering_index (not_above p)
+above_rises Less p h = omega arith
+above_rises Equal p h = omega arith
+above_rises Greater Less h = absurd (omega (arith, h))
+above_rises Greater Equal h = absurd (omega (arith, h))
+above_rises Greater Greater h = omega arith
+
+below_rises : (o p : Ordering) → ordering_index o ≤ ordering_index p → ordering_index (not_below o) ≤ ordering_index (not_below p)
+below_rises Less p h = omega arith
+below_rises Equal Less h = absurd (omega (arith, h))
+below_rises Equal Equal h = omega arith
+below_rises Equal Greater h = omega arith
+below_rises Greater Less h = absurd (omega (arith, h))
+below_rises Greater Equal h = absurd (omega (arith, h))
+below_rises Greater Greater h = omega arith
+
+pub rises_above : (slots : List KeyChain) (order : List ℕ) (key : List ℕ) → IsIndex slots order → Rises (λ i. not_above (key_order slots key i)) order
+rises_above slots order key ix i j d le lt = above_rises (key_order slots key (get_or order i d)) (key_order slots key (get_or order j d)) (rises slots order key ix i j d le lt)
+
+pub rises_below : (slots : List KeyChain) (order : List ℕ) (key : List ℕ) → IsIndex slots order → Rises (λ i. not_below (key_order slots key i)) order
+rises_below slots order key ix i j d le lt = below_rises (key_order slots key (get_or order i d)) (key_order slots key (get_or order j d)) (rises slots order key ix i j d le lt)
+
+-- ---- what its answers say of a key
+
+pub past_up : (key k : List ℕ) → not_above (slice_cmp nat_cmp k key) ≡ Greater → is_past Up (Some key) k ≡ true
+past_up key k h = by (slice_cmp nat_cmp k key) refl h where
+  by : (o : Ordering) → slice_cmp nat_cmp k key ≡ o → not_above o ≡ Greater → is_past Up (Some key) k ≡ true
+  by Less e g = absurd cc
+  by Equal e g = absurd cc
+  by Greater e g = ap is_lt (nat_list_cmp_total.antisymm key k ∙ ap ordering_reverse e)
+
+pub not_past_up : (key k : List ℕ) → not_above (slice_cmp nat_cmp k key) ≡ Less → is_past Up (Some key) k ≡ false
+not_past_up key k h = by (slice_cmp nat_cmp k key) refl h where
+  by : (o : Ordering) → slice_cmp nat_cmp k key ≡ o → not_above o ≡ Less → is_past Up (Some key) k ≡ false
+  by Less e g = ap is_lt (nat_list_cmp_total.antisymm key k ∙ ap ordering_reverse e)
+  by Equal e g = ap is_lt (nat_list_cmp_total.antisymm key k ∙ ap ordering_reverse e)
+  by Greater e g = absurd cc
+
+pub past_down : (key k : List ℕ) → not_below (slice_cmp nat_cmp k key) ≡ Less → is_past Down (Some key) k ≡ true
+past_down key k h = by (slice_cmp nat_cmp k key) refl h where
+  by : (o : Ordering) → slice_cmp nat_cmp k key ≡ o → not_below o ≡ Less → is_past Down (Some key) k ≡ true
+  by Less e g = ap is_lt e
+  by Equal e g = absurd cc
+  by Greater e g = absurd cc
+
+pub not_past_down : (key k : List ℕ) → not_below (slice_cmp nat_cmp k key) ≡ Greater → is_past Down (Some key) k ≡ false
+not_past_down key k h = by (slice_cmp nat_cmp k key) refl h where
+  by : (o : Ordering) → slice_cmp nat_cmp k key ≡ o → not_below o ≡ Greater → is_past Down (Some key) k ≡ false
+  by Less e g = absurd cc
+  by Equal e g = ap is_lt e
+  by Greater e g = ap is_lt e
+
+-- ---- the nearest
+
+key_read : (slots : List KeyChain) (i : ℕ) (d : KeyChain) → i < length slots → key_at slots i ≡ (get_or slots i d).key
+key_read [] i d lt = absurd (omega (arith, lt))
+key_read (s ∷ slots) zero d lt = refl
+key_read (s ∷ slots) (suc i) d lt = key_read slots i d (omega (arith, lt))
+
+-- no entry's key is past
+pub none_past : (way : Way) (from : Option (List ℕ)) (slots : List KeyChain) (order : List ℕ) → IsIndex slots order → ((k : ℕ) → k < length order → is_past way from (key_at slots (get_or order k 0)) ≡ false) → NonePast way from slots
+none_past way from slots order ix never i d lt =
+    let a = at_from_Contains order i (ix.whole i lt) in
+    subst (λ (k : List ℕ). is_past way from k ≡ false) (ap (key_at slots) (a.2 0) ∙ key_read slots i d lt) (never a.0 a.1)
+
+not_after_itself : (way : Way) (a : List ℕ) → comes_after way a a ≡ false
+not_after_itself Up a = ap is_lt (tied_itself nat_list_cmp_total a)
+not_after_itself Down a = ap is_lt (tied_itself nat_list_cmp_total a)
+
+back : (a b : List ℕ) → slice_cmp nat_cmp a b ≡ Less → is_lt (slice_cmp nat_cmp b a) ≡ false
+back a b e = ap is_lt (nat_list_cmp_total.antisymm b a ∙ ap ordering_reverse e)
+
+-- among the entries' keys, those that are past do not come before that of the entry at r
+pub near : (way : Way) (from : Option (List ℕ)) (slots : List KeyChain) (order : List ℕ) (r e : ℕ) → IsIndex slots order → r < length order → HoldsAt (λ y. e ≡ y) order r → is_past way from (key_at slots e) ≡ true
+    → ((k : ℕ) → k < length order → is_past way from (key_at slots (get_or order k 0)) ≡ true → comes_after way (key_at slots (get_or order k 0)) (key_at slots (get_or order r 0)) ≡ false)
+    → IsNearest way from slots e
+near way from slots order r e ix lt is past never = record {
+  is_slot = subst (λ (k : ℕ). k < length slots) (sym (is 0)) (ix.within r 0 lt);
+  past = past;
+  nearest = λ i d within.
+      let a = at_from_Contains order i (ix.whole i within) in
+      let same = ap (key_at slots) (a.2 0) ∙ key_read slots i d within in
+      subst (λ (k : List ℕ). is_past way from k ≡ true → comes_after way k (key_at slots e) ≡ false) same
+      (subst (λ (k : ℕ). is_past way from (key_at slots (get_or order a.0 0)) ≡ true → comes_after way (key_at slots (get_or order a.0 0)) (key_at slots k) ≡ false) (sym (is 0)) (never a.0 a.1));
+}
+
+-- on the way up: none of the entries before it is past
+pub near_up : (from : Option (List ℕ)) (slots : List KeyChain) (order : List ℕ) (r e : ℕ) → IsIndex slots order → r < length order → HoldsAt (λ y. e ≡ y) order r → is_past Up from (key_at slots e) ≡ true → ((k : ℕ) → k < r → is_past Up from (key_at slots (get_or order k 0)) ≡ false) → IsNearest Up from slots e
+near_up from slots order r e ix lt is past never = near Up from slots order r e ix lt is past (λ k within yes. elim (cases_lt k r) [
+  | inl b ↦ absurd (both_ways (is_past Up from (key_at slots (get_or order k 0))) (never k b) yes)
+  | inr g ↦ elim (cases_lt r k) [
+    | inl a ↦ back (key_at slots (get_or order r 0)) (key_at slots (get_or order k 0)) (ix.ascends r k 0 a within)
+    | inr h ↦
+        let same : r ≡ k = omega (arith, g, h) in
+        subst (λ (n : ℕ). comes_after Up (key_at slots (get_or order n 0)) (key_at slots (get_or order r 0)) ≡ false) same (not_after_itself Up (key_at slots (get_or order r 0)))
+  ]
+])
+
+-- on the way down: none of the entries behind it is past
+pub near_down : (from : Option (List ℕ)) (slots : List KeyChain) (order : List ℕ) (r e : ℕ) → IsIndex slots order → r < length order → HoldsAt (λ y. e ≡ y) order r → is_past Down from (key_at slots e) ≡ true → ((k : ℕ) → r < k → k < length order → is_past Down from (key_at slots (get_or order k 0)) ≡ false) → IsNearest Down from slots e
+near_down from slots order r e ix lt is past never = near Down from slots order r e ix lt is past (λ k within yes. elim (cases_lt r k) [
+  | inl a ↦ absurd (both_ways (is_past Down from (key_at slots (get_or order k 0))) (never k a within) yes)
+  | inr g ↦ elim (cases_lt k r) [
+    | inl b ↦ back (key_at slots (get_or order k 0)) (key_at slots (get_or order r 0)) (ix.ascends k r 0 b lt)
+    | inr h ↦
+        let same : r ≡ k = omega (arith, g, h) in
+        subst (λ (n : ℕ). comes_after Down (key_at slots (get_or order n 0)) (key_at slots (get_or order r 0)) ≡ false) same (not_after_itself Down (key_at slots (get_or order r 0)))
+  ]
+])
+
+-- ---- by the gap that a search finds
+
+pub above_found : (slots : List KeyChain) (gs : List (List ℕ)) (key : List ℕ) (gap p : Place) (e : ℕ) → IsIndex slots (entries gs) → PartsAt (λ i. not_above (key_order slots key i)) (entries gs) (rank gs gap) → IsPlace gs p → rank gs p ≡ rank gs gap → HoldsAt (λ y. e ≡ y) (entries gs) (rank gs p) → IsNearest Up (Some key) slots e
+above_found slots gs key gap p e ix splits here same is =
+    let order = entries gs in
+    let parts = splits (rises_above slots order key ix) in
+    let within = place_within gs p here in
+    let above = subst (λ (k : ℕ). not_above (key_order slots key k) ≡ Greater) (sym (is 0)) (parts.1 (rank gs p) 0 (omega (arith, same)) within) in
+    near_up (Some key) slots order (rank gs p) e ix within is (past_up key (key_at slots e) above) (λ k lt. not_past_up key (key_at slots (get_or order k 0)) (parts.0 k 0 (omega arith) (omega (arith, lt, same))))
+
+pub above_none : (slots : List KeyChain) (gs : List (List ℕ)) (key : List ℕ) (gap : Place) → IsIndex slots (entries gs) → PartsAt (λ i. not_above (key_order slots key i)) (entries gs) (rank gs gap) → rank gs gap ≡ length (entries gs) → NonePast Up (Some key) slots
+above_none slots gs key gap ix splits end =
+    let order = entries gs in
+    let parts = splits (rises_above slots order key ix) in
+    none_past Up (Some key) slots order ix (λ k lt. not_past_up key (key_at slots (get_or order k 0)) (parts.0 k 0 (omega arith) (omega (arith, lt, end))))
+
+pub below_found : (slots : List KeyChain) (gs : List (List ℕ)) (key : List ℕ) (gap p : Place) (e : ℕ) → IsIndex slots (entries gs) → PartsAt (λ i. not_below (key_order slots key i)) (entries gs) (rank gs gap) → IsPlace gs p → rank gs p + 1 ≡ rank gs gap → HoldsAt (λ y. e ≡ y) (entries gs) (rank gs p) → IsNearest Down (Some key) slots e
+below_found slots gs key gap p e ix splits here same is =
+    let order = entries gs in
+    let parts = splits (rises_below slots order key ix) in
+    let within = place_within gs p here in
+    let below = subst (λ (k : ℕ). not_below (key_order slots key k) ≡ Less) (sym (is 0)) (parts.0 (rank gs p) 0 (omega arith) (omega (arith, same))) in
+    near_down (Some key) slots order (rank gs p) e ix within is (past_down key (key_at slots e) below) (λ k lt last. not_past_down key (key_at slots (get_or order k 0)) (parts.1 k 0 (omega (arith, lt, same)) last))
+
+pub below_none : (slots : List KeyChain) (gs : List (List ℕ)) (key : List ℕ) (gap : Place) → IsIndex slots (entries gs) → PartsAt (λ i. not_below (key_order slots key i)) (entries gs) (rank gs gap) → rank gs gap ≡ 0 → NonePast Down (Some key) slots
+below_none slots gs key gap ix splits start =
+    let order = entries gs in
+    let parts = splits (rises_below slots order key ix) in
+    none_past Down (Some key) slots order ix (λ k lt. not_past_down key (key_at slots (get_or order k 0)) (parts.1 k 0 (omega (arith, start)) lt))
+
+pub least_found : (slots : List KeyChain) (gs : List (List ℕ)) (p : Place) (e : ℕ) → IsIndex slots (entries gs) → IsPlace gs p → rank gs p ≡ 0 → HoldsAt (λ y. e ≡ y) (entries gs) (rank gs p) → IsNearest Up None slots e
+least_found slots gs p e ix here first is = near_up None slots (entries gs) (rank gs p) e ix (place_within gs p here) is refl (λ k lt. absurd (omega (arith, lt, first)))
+
+pub greatest_found : (slots : List KeyChain) (gs : List (List ℕ)) (p : Place) (e : ℕ) → IsIndex slots (entries gs) → IsPlace gs p → rank gs p + 1 ≡ length (entries gs) → HoldsAt (λ y. e ≡ y) (entries gs) (rank gs p) → IsNearest Down None slots e
+greatest_found slots gs p e ix here last is = near_down None slots (entries gs) (rank gs p) e ix (place_within gs p here) is refl (λ k lt within. absurd (omega (arith, lt, within, last)))

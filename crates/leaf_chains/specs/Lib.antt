@@ -1,0 +1,4 @@
+pub mod Slots
+pub mod Nearest
+pub mod Order
+pub mod SlotLaws

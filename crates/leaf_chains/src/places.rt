@@ -1,0 +1,142 @@
+// Where keys stand in the order of a leaf's slots.
+
+ghost use Rattle.std.specs.Prelude.{◌≡◌, MatchOption, MatchResult, option_map};
+ghost use Rattle.kv_model.specs.Rows.{Up, Down};
+ghost use Rattle.ordered_groups.specs.Groups.{entries};
+ghost use Rattle.ordered_groups.specs.Places.{rank, Finds, IsGap, IsPlace, PartsAt};
+ghost use Rattle.leaf_chains.specs.Nearest.{NextAbove, NextBelow, NonePast};
+ghost use Rattle.leaf_chains.specs.Order.{IsIndex, key_order, not_above, not_below};
+ghost use Rattle.leaf_chains.specs.Slots.{key_at, slot_of};
+
+use crate::slot::KeyChain;
+use ordered_groups::{OrderedGroups, Place};
+use std::cmp::Ordering;
+
+// The key in a slot, the empty one where there is no such slot.
+#[inline(always)]
+fn key_in(slots: &[KeyChain], slot: u32) -> &[u8]
+    ensures { result.now ≡ key_at slots.now slot }
+{
+    match slots.get(slot as usize) {
+        None => &[],
+        Some(there) => there.key.as_bytes(),
+    }
+}
+
+#[inline(always)]
+fn compare(slots: &[KeyChain], slot: u32, key: &[u8]) -> Ordering
+    ensures { result ≡ key_order slots.now key.now slot }
+{
+    byte_order::order(key_in(slots, slot), key)
+}
+
+#[inline(always)]
+fn not_above(order: Ordering) -> Ordering
+    ensures { result ≡ not_above order }
+{
+    match order {
+        Ordering::Less => Ordering::Less,
+        Ordering::Equal => Ordering::Less,
+        Ordering::Greater => Ordering::Greater,
+    }
+}
+
+#[inline(always)]
+fn not_below(order: Ordering) -> Ordering
+    ensures { result ≡ not_below order }
+{
+    match order {
+        Ordering::Less => Ordering::Less,
+        Ordering::Equal => Ordering::Greater,
+        Ordering::Greater => Ordering::Greater,
+    }
+}
+
+// Where the slot of a key is named, or would be.
+fn place_of(slots: &[KeyChain], order: &OrderedGroups<u32>, key: &[u8]) -> Result<Place, Place>
+    ensures place { MatchResult result (IsPlace order.now) (IsGap order.now) }
+    ensures found { Finds (key_order slots.now key.now) order.now result }
+{
+    order.find(|slot: u32| compare(slots, slot, key))
+}
+
+// As `place_of`, but asks for the greatest key first.
+pub(crate) fn place_from_last(
+    slots: &[KeyChain],
+    order: &OrderedGroups<u32>,
+    key: &[u8],
+) -> Result<Place, Place>
+    ensures place { MatchResult result (IsPlace order.now) (IsGap order.now) }
+    ensures found { Finds (key_order slots.now key.now) order.now result }
+{
+    order.find_from_last(|slot: u32| compare(slots, slot, key))
+}
+
+// The slot of a key.
+pub(crate) fn slot_with(slots: &[KeyChain], order: &OrderedGroups<u32>, key: &[u8]) -> Option<u32>
+    requires { IsIndex slots.now (entries order.now) }
+    ensures { result ≡ slot_of key.now slots.now }
+{
+    match place_of(slots, order, key) {
+        Ok(place) => Some(order.get(place)),
+        Err(_) => None,
+    }
+}
+
+// The gap behind the slots whose keys are not above this one.
+fn gap_above(slots: &[KeyChain], order: &OrderedGroups<u32>, key: &[u8]) -> Place
+    ensures gap { IsGap order.now result }
+    ensures parts { PartsAt (λ i. not_above (key_order slots.now key.now i)) (entries order.now) (rank order.now result) }
+{
+    match order.find(|slot: u32| not_above(compare(slots, slot, key))) {
+        Ok(place) => place,
+        Err(gap) => gap,
+    }
+}
+
+// The gap behind the slots whose keys are below this one.
+fn gap_below(slots: &[KeyChain], order: &OrderedGroups<u32>, key: &[u8]) -> Place
+    ensures gap { IsGap order.now result }
+    ensures parts { PartsAt (λ i. not_below (key_order slots.now key.now i)) (entries order.now) (rank order.now result) }
+{
+    match order.find(|slot: u32| not_below(compare(slots, slot, key))) {
+        Ok(place) => place,
+        Err(gap) => gap,
+    }
+}
+
+// The slot of the least key above the bound, or of all.
+pub(crate) fn slot_above(
+    slots: &[KeyChain],
+    order: &OrderedGroups<u32>,
+    bound: Option<&[u8]>,
+) -> Option<u32>
+    requires { IsIndex slots.now (entries order.now) }
+    ensures { let from = option_map (λ k. k.now) bound.entry in MatchOption result (NonePast Up from slots.now) (λ i. NextAbove from slots.now i) }
+{
+    match bound {
+        None => Some(order.get(order.first()?)),
+        Some(key) => {
+            let gap = gap_above(slots, order, key);
+            Some(order.get(order.behind_gap(gap)?))
+        }
+    }
+}
+
+// The slot of the greatest key below the bound, or of all.
+pub(crate) fn slot_below(
+    slots: &[KeyChain],
+    order: &OrderedGroups<u32>,
+    bound: Option<&[u8]>,
+) -> Option<u32>
+    requires { IsIndex slots.now (entries order.now) }
+    ensures { let from = option_map (λ k. k.now) bound.entry in MatchOption result (NonePast Down from slots.now) (λ i. NextBelow from slots.now i) }
+{
+    match bound {
+        None => Some(order.get(order.last()?)),
+        Some(key) => {
+            let gap = gap_below(slots, order, key);
+            Some(order.get(order.before_gap(gap)?))
+        }
+    }
+}
