@@ -46,3 +46,4 @@ pub mod FrameKeys
 pub mod TrimmedKeys
 pub mod KeyOrder
 pub mod RowRanges
+pub mod CellUpdates

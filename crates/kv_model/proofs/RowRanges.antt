@@ -1,23 +1,20 @@
 -- The answers of a walk over one range after the other.
-use Rattle.std.proofs.Common.{◌≡◌, ◌≢◌, ◌∙◌, ap, sym, refl, subst, ℕ, Bool, true, false, not, ◌&&◌, List, [], ◌∷◌, inl, inr}
+use Rattle.std.proofs.Common.{◌≡◌, ◌≢◌, ◌∙◌, ap, sym, refl, ℕ, Bool, true, not, List, [], ◌∷◌, inl, inr}
 use Rattle.std.specs.Prelude.{Option, Some, None, option_and_then}
-use Rattle.std.proofs.lemmas.Bool.{cases_Bool, and_parts, and_from, and_left, and_right, not-true, not_from_false}
+use Rattle.std.proofs.lemmas.Bool.{cases_Bool, and_parts, and_from, not-true, not_from_false}
 use Rattle.item.specs.declared.Change.{Change}
 use Rattle.stamp.specs.declared.Version.{Version}
-use Rattle.wt_code.specs.declared.refusals.Refusal.{Refusal}
 use Rattle.wt_code.specs.declared.refusals.Refusal.TheVariants.{NotFound, PrepareConflict}
 use Rattle.kv_model.specs.History.{Write, put_of}
-use Rattle.kv_model.specs.Machine.{Machine, Transaction, transaction_of, after, Event, OpenSession, BeginAt, DrawId, AcceptWrite, RefuseWrite, PrepareAt, CommitAt, StartLeaving, EndTransaction, PlaceCursor, CreateTable, SetStamps, RollbackToStable, CheckpointStart, CheckpointFinish, CheckpointDrop, GoDown, Nothing}
-use Rattle.kv_model.specs.Reads.{own_write, Found, Value, Conflict, ReadAs, ReadAnswer}
+use Rattle.kv_model.specs.Machine.{Machine, Transaction, transaction_of, after, Event, CommitAt}
+use Rattle.kv_model.specs.Reads.{own_write, Found, Value, ReadAs, ReadAnswer}
 use Rattle.kv_model.specs.Allowed.{Allowed}
 use Rattle.kv_model.specs.Valid.{Valid}
-use Rattle.kv_model.specs.Decisions.{Outcome, Done, Gives, GivesRow, Left, End, Resumes, Refused}
-use Rattle.kv_model.specs.DecisionLaws.{EachMayCome}
-use Rattle.kv_model.specs.Closing.{after_all}
-use Rattle.kv_model.specs.Elsewhere.{IsOfOthers, AllOfOthers}
+use Rattle.kv_model.specs.Decisions.{Outcome, GivesRow, Refused}
+use Rattle.kv_model.specs.Elsewhere.{IsOfOthers}
 use Rattle.kv_model.specs.GoingOnLaws.{IsAnothers}
-use Rattle.kv_model.specs.Rows.{Way, Up, Down, key_lt, comes_after, RangeAnswer, AbsentBefore}
-use Rattle.kv_model.specs.RowLaws.{IsParted, before_cut, behind_cut, CutsPartRanges, PartsAnswer, RowsCompose, AbsencesGoOn}
+use Rattle.kv_model.specs.Rows.{Way, Up, Down, key_lt, RangeAnswer, AbsentBefore}
+use Rattle.kv_model.specs.RowLaws.{IsParted, CutsPartRanges, PartsAnswer, RowsCompose, AbsencesGoOn}
 use Rattle.kv_model.proofs.EveryEvent.{valid-after}
 use Rattle.kv_model.proofs.KeyOrder.{after-once, below-cut}
 use Rattle.kv_model.proofs.Meetings.{meets-go-on}

@@ -1,5 +1,5 @@
 -- What each call answers where the machine determines it, and the event that it makes. Its checks are lists, in the order of refusals.
-use Rattle.std.specs.Prelude.{◌≡◌, ℕ, ◌+◌, ◌-◌, ◌^◌, Bool, true, false, not, ◌&&◌, ◌==◌, nat_lt, nat_le, List, [], ◌∷◌, ◌++◌, length, Option, Some, None, if◌then◌else◌}
+use Rattle.std.specs.Prelude.{◌≡◌, ℕ, ◌+◌, Bool, true, false, not, ◌&&◌, ◌==◌, nat_lt, nat_le, List, [], ◌∷◌, ◌++◌, length, Option, Some, None, if◌then◌else◌}
 use Rattle.std.specs.List.{list_all}
 use Rattle.limits.specs.declared.TheConstants.{KEY_MAX, VALUE_MAX, TABLE_NAME_MAX, TABLES_MAX, SESSIONS_MAX, NUMBER_MAX}
 use Rattle.item.specs.declared.Change.{Change}

@@ -1,5 +1,5 @@
 -- What an eviction, a load and a capture leave of a key that stands.
-use Rattle.std.specs.Prelude.{◌≡◌, ℕ, Bool, true, List, [], ◌++◌, map, Option, Some}
+use Rattle.std.specs.Prelude.{◌≡◌, ℕ, Bool, true, List, [], ◌∷◌, ◌++◌, map, Option, Some, None}
 use Rattle.std.specs.Option.{option_to_list}
 use Rattle.item.specs.declared.Change.{Change}
 use Rattle.stamp.specs.declared.Version.{Version}
@@ -9,7 +9,7 @@ use Rattle.kv_model.specs.History.{line}
 use Rattle.kv_model.specs.Machine.{Machine, Checkpoint, Event, CheckpointStart, after}
 use Rattle.kv_model.specs.Allowed.{Allowed}
 use Rattle.kv_model.specs.Captures.{ReconciledLists, is_in, CapturedIn}
-use Rattle.kv_model.specs.Pending.{Update, settled, KeyStands}
+use Rattle.kv_model.specs.Pending.{Update, settled, HasEnded, KeyStands}
 use Rattle.kv_model.specs.Reconciling.{held_in, each_one, EndedWhere, PastCovers, LiesUnder, PrefixHasEnded}
 use Rattle.kv_model.specs.StoreLaws.{Held}
 use Rattle.kv_model.specs.Valid.{Valid}
@@ -28,6 +28,19 @@ FramesAlike = (m : Machine) (table : ℕ) (key : List ℕ) (held later_held : Li
     → EndedWhere m each_one (held ++ option_to_list cell) → later_held ++ option_to_list later_cell ≡ held ++ option_to_list cell
     → KeyStands m table key (map settled held) cell (Held records)
     → KeyStands m table key (map settled later_held) later_cell (Held records)
+
+-- the cell stands as the last update of the chain
+abbrev pub CellsAreUpdates : Type 0
+CellsAreUpdates = (m : Machine) (table : ℕ) (key : List ℕ) (chain : List Update) (v : Version Change) (records : List (Version Change))
+    → KeyStands m table key chain (Some v) (Held records)
+    → KeyStands m table key (chain ++ settled v ∷ []) None (Held records)
+
+-- and such an update as the cell, where it is not on top
+abbrev pub UpdatesAreCells : Type 0
+UpdatesAreCells = (m : Machine) (table : ℕ) (key : List ℕ) (chain : List Update) (v : Version Change) (records : List (Version Change))
+    → (chain ≡ [] → HasEnded m v.window.name)
+    → KeyStands m table key (chain ++ settled v ∷ []) None (Held records)
+    → KeyStands m table key chain (Some v) (Held records)
 
 -- a capture, which leaves the frame as it is; live: its transaction had ended when the leaf was looked up
 abbrev pub CaptureStands : Type 0

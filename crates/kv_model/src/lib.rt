@@ -48,8 +48,8 @@ pub use marks::{
 pub use openings::{finishes_open, starts_stand};
 pub use passing::{lines_grow, pins_begin, pins_go_on, reads_in_two_moments, snapshots_stand};
 pub use reconciling::{
-    captures_are_held, captures_go_on, captures_stand, evictions_stand, frames_are_alike,
-    leaves_are_held, prefixes_begin, prefixes_go_on,
+    captures_are_held, captures_go_on, captures_stand, cells_are_updates, evictions_stand,
+    frames_are_alike, leaves_are_held, prefixes_begin, prefixes_go_on, updates_are_cells,
 };
 pub use rollbacks::{clean_rolls_back, frame_rolls_back, leaf_rolls_back, marked_rolls_back};
 pub use rows::{absences_go_on, cuts_part_ranges, rows_compose};

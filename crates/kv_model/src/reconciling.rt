@@ -1,6 +1,6 @@
 //! Laws of evictions and captures, for a key that stands.
 
-ghost use Rattle.kv_model.specs.ReconcileLaws.{EvictionStands, CaptureStands, CaptureIsHeld, FramesAlike, LeafIsHeld, CapturesGoOn, PrefixesBegin, PrefixesGoOn};
+ghost use Rattle.kv_model.specs.ReconcileLaws.{EvictionStands, CaptureStands, CaptureIsHeld, CellsAreUpdates, FramesAlike, LeafIsHeld, CapturesGoOn, PrefixesBegin, PrefixesGoOn, UpdatesAreCells};
 
 /// A key stands after an eviction of its leaf, and so after a load of the image.
 pub fn evictions_stand()
@@ -10,6 +10,18 @@ pub fn evictions_stand()
 /// A key whose writers have ended stands whether a version is in the chain or the cell.
 pub fn frames_are_alike()
     ensures { FramesAlike }
+{}
+
+/// A key whose cell stands also stands with the cell as the last update of its chain. So the laws of
+/// chains serve a frame whose cell has a mark: as the last update, with no cell below it.
+pub fn cells_are_updates()
+    ensures { CellsAreUpdates }
+{}
+
+/// And with the last update as the cell, where it has no mark and its transaction has ended, or
+/// another update lies above it.
+pub fn updates_are_cells()
+    ensures { UpdatesAreCells }
 {}
 
 /// A key stands after a capture of its leaf.
