@@ -19,7 +19,8 @@ use Rattle.checkpoint_core.specs.Stands.{AreInUse}
 use Rattle.checkpoint_core.specs.Room.{InBlocks, IsSpaceOf}
 use Rattle.device_layout.specs.declared.link.Link.{Link}
 use Rattle.device_layout.specs.Slots.{addr_in}
-use Rattle.one_table.specs.Openings.{record_found, leaf_found, found_of, HasBooks}
+use Rattle.one_table.specs.Damage.{record_found, leaf_found, found_of}
+use Rattle.one_table.specs.Openings.{HasBooks}
 
 abbrev pub ends : Addr → ℕ
 ends a = a.offset + a.size

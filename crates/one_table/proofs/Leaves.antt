@@ -12,7 +12,8 @@ use Rattle.row_page.specs.Rows.{Row, image}
 use Rattle.row_page.proofs.Leaves.{length-image}
 use Rattle.stored.specs.Blocks.{Block, IsAddressed, IsAt, Holds}
 use Rattle.device_layout.specs.declared.link.Link.{Link}
-use Rattle.one_table.specs.Openings.{LeafIs, NoLeaf, PageIs, blocks_at}
+use Rattle.one_table.specs.Damage.{FoundNoLeaf}
+use Rattle.one_table.specs.Leaves.{LeafIs, NoLeaf, PageIs, blocks_at}
 
 abbrev pub block_at : Link → List Row → Block
 block_at link rows = record { place = link.addr; image = image rows }
@@ -60,10 +61,13 @@ leaf_there bytes link rows some leaf =
       (subst (λ (l : List Block). Holds bytes l) is leaf.holds).0,
     )
 
-pub spoilt_no_leaf : (bytes : List ℕ) (link : Link) (found : ℕ) → (link.addr.offset ≡ 0 → ⊥) → Spoils bytes link.addr found → NoLeaf bytes link
+spoilt_no_leaf : (bytes : List ℕ) (link : Link) (found : ℕ) → (link.addr.offset ≡ 0 → ⊥) → Spoils bytes link.addr found → NoLeaf bytes link
 spoilt_no_leaf bytes link found some spoils rows leaf =
     let there = leaf_there bytes link rows some leaf in
     there_not_spoilt bytes (block_at link rows) found (leaf_bytes rows) there.0 there.1 spoils
+
+pub found_spoilt : (bytes : List ℕ) (link : Link) (found : ℕ) → (link.addr.offset ≡ 0 → ⊥) → Spoils bytes link.addr found → FoundNoLeaf bytes link found
+found_spoilt bytes link found some spoils = (spoilt_no_leaf bytes link found some spoils, inl spoils)
 
 -- its block is a page
 pub page_there : (bytes block : List ℕ) (link : Link) (rows : List Row) → (link.addr.offset ≡ 0 → ⊥) → block ≡ range bytes link.addr.offset link.addr.size → LeafIs bytes link rows → PageIs block link rows

@@ -42,7 +42,9 @@ use Rattle.one_table.specs.OneTable.{table_of, lent, one_record, one_image, one_
 use Rattle.failure.specs.Counts.{Rose}
 use Rattle.wt_code.specs.declared.refusals.Refusal.{Refusal}
 use Rattle.wt_code.specs.declared.refusals.Refusal.TheVariants.{NoMemory, DiskFault, Corrupt}
-use Rattle.one_table.specs.Openings.{LeafIs, NoLeaf, KeepsOr, IsOpened, IsNothing, IsRecordOf, IsAssembled, RecordRefused, LeafRefused, OpenRefused, last_number, IsChosen, Serves, HasBooks, record_found, leaf_found, found_of, blocks_at, InForm}
+use Rattle.one_table.specs.Leaves.{LeafIs, NoLeaf, blocks_at}
+use Rattle.one_table.specs.Damage.{FoundNoLeaf, record_found, leaf_found, found_of, IsChosen, LeadsTo, RecordSpoils, IsDamage}
+use Rattle.one_table.specs.Openings.{KeepsOr, IsOpened, IsNothing, IsRecordOf, IsAssembled, RecordRefused, LeafRefused, OpenRefused, last_number, Serves, HasBooks, InForm}
 use Rattle.one_table.proofs.Spelling.{one_unit, block_length}
 use Rattle.one_table.proofs.Leaves.{block_at, stored_block, no_block, place_is, there_not_spoilt, leaf_there, leaf_bytes}
 use Rattle.one_table.proofs.Shapes.{leaf_on, leaf_tree, blocks_are}
@@ -277,17 +279,29 @@ record_refused fault known bytes block slot r (inr (inr (is, (n, t, l, form, lin
     most : (n : Numbers) → IsInForm n t → last_number ≤ n.marks.run → n.marks.run ≡ last_number
     most n form last = omega (arith, last, form.numbers.run.1, form.numbers.sequence)
 
-pub leaf_refused : (fault later known still : Type 0) (bytes now : List ℕ) (link : Link) (r : Refusal) → LeafRefused later still now link r → (later → fault) → (known → still) → now ≡ bytes → (known → NoLeaf bytes link → (content : Content) → Reads bytes content → ⊥) → OpenRefused fault known bytes r
+pub leaf_refused : (fault later known still : Type 0) (bytes now : List ℕ) (link : Link) (r : Refusal) → LeafRefused later still now link r → (later → fault) → (known → still) → now ≡ bytes → (known → (found : ℕ) → FoundNoLeaf bytes link found → IsDamage bytes link.addr.offset link.addr.sum found) → OpenRefused fault known bytes r
 leaf_refused fault later known still bytes now link r (inl failed) more k same none = inl (failed.0, more failed.1)
 leaf_refused fault later known still bytes now link r (inr (inl short)) more k same none = inr (inl short)
-leaf_refused fault later known still bytes now link r (inr (inr ((found, is), bad))) more k same none =
-    inr (inr (inr (inr ((link.addr.offset, link.addr.sum, found, is), λ h. none h (subst (λ (l : List ℕ). NoLeaf l link) same (bad (k h)))))))
+leaf_refused fault later known still bytes now link r (inr (inr (found, is, bad))) more k same none =
+    inr (inr (inr (inr (link.addr.offset, link.addr.sum, found, is, λ h. none h found (subst (λ (l : List ℕ). FoundNoLeaf l link found) same (bad (k h)))))))
 
 pub books_refused : (fault known : Type 0) (bytes : List ℕ) (slot : Slot) (link : Link) (len : ℕ) (r : Refusal) → (r ≡ NoMemory) ⊎ ((r ≡ Corrupt slot.offset slot.sum slot.sum) × (AreStored (found_of slot link) len → ⊥)) → (known → len ≡ length bytes)
-    → (known → (AreStored (found_of slot link) (length bytes) → ⊥) → (content : Content) → Reads bytes content → ⊥) → OpenRefused fault known bytes r
-books_refused fault known bytes slot link len r (inl none) long bad = inr (inl none)
-books_refused fault known bytes slot link len r (inr (is, none)) long bad =
-    inr (inr (inr (inr ((slot.offset, slot.sum, slot.sum, is), λ k. bad k (λ are. none (subst (λ m. AreStored (found_of slot link) m) (sym (long k)) are))))))
+    → (known → LeadsTo bytes slot link) → OpenRefused fault known bytes r
+books_refused fault known bytes slot link len r (inl none) long leads = inr (inl none)
+books_refused fault known bytes slot link len r (inr (is, none)) long leads =
+    inr (inr (inr (inr (
+      slot.offset,
+      slot.sum,
+      slot.sum,
+      is,
+      λ k. inr (inl (record {
+        slot = slot;
+        chosen = (leads k).chosen;
+        place = refl;
+        sum = refl;
+        why = inr (refl, (link, leads k, λ are. none (subst (λ m. AreStored (found_of slot link) m) (sym (long k)) are)));
+      })),
+    ))))
 
 pub rose_sooner : (first second third : ℕ) → first ≤ second → Rose second third → Rose first third
 rose_sooner first second third le rose = omega (arith, le, rose)
@@ -341,17 +355,52 @@ pub corrupt_no_content : (bytes : List ℕ) (at : ℕ) → IsCorruptAt bytes at 
 corrupt_no_content bytes at corrupt content (inl blank) = chosen_in_form bytes None at blank.0.long blank.0.shut corrupt
 corrupt_no_content bytes at corrupt content (inr (s, on, same)) = chosen_in_form bytes (Some s.slot) at on.long on.chosen corrupt
 
+record_block_of : (bytes : List ℕ) (slot : Slot) (link : Link) → LeadsTo bytes slot link → IsRecordBlock bytes slot (range bytes slot.offset slot.size)
+record_block_of bytes slot link leads = record { chosen = leads.chosen; there = leads.there; is = refl }
+
+-- a damaged device reads as nothing
+pub damage_no_content : (bytes : List ℕ) (at want found : ℕ) (content : Content) → IsDamage bytes at want found → Reads bytes content → ⊥
+damage_no_content bytes at want found content (inl slot) reads = corrupt_no_content bytes at slot.corrupt content reads
+damage_no_content bytes at want found content (inr (inl spoils)) reads = elim spoils.why [
+  | inl other ↦ spoilt_no_content bytes spoils.slot found spoils.chosen other content reads
+  | inr (same, (link, leads, clash)) ↦
+      no_books_no_content bytes spoils.slot (range bytes spoils.slot.offset spoils.slot.size) leads.numbers leads.table link (record_block_of bytes spoils.slot link leads) leads.form leads.fits leads.is clash content reads
+]
+damage_no_content bytes at want found content (inr (inr spoils)) reads =
+    let leads = spoils.leads in
+    no_leaf_no_content bytes spoils.slot (range bytes spoils.slot.offset spoils.slot.size) leads.numbers leads.table spoils.link (record_block_of bytes spoils.slot spoils.link leads) leads.form leads.fits leads.is spoils.why.0 content reads
+
+-- the record of a slot leads to its leaf
+pub leads_to : (bytes : List ℕ) (slot : Slot) (block : List ℕ) (n : Numbers) (t : Table) (l : Link) → IsRecordBlock bytes slot block → IsInForm n t → LinkFits l → block ≡ block_of (one_image n t l) → LeadsTo bytes slot l
+leads_to bytes slot block n t l is form fits spelled = record { chosen = is.chosen; there = is.there; numbers = n; table = t; form = form; fits = fits; is = sym is.is ∙ spelled }
+
+-- the record's block is not there
+pub record_spoilt : (bytes : List ℕ) (slot : Slot) (a : Addr) (found : ℕ) → a ≡ addr_in slot → IsChosen bytes slot → Spoils bytes a found → RecordSpoils bytes a.offset a.sum found
+record_spoilt bytes slot a found is chosen spoils = record {
+  slot = slot;
+  chosen = chosen;
+  place = ap (λ (x : Addr). x.offset) is;
+  sum = ap (λ (x : Addr). x.sum) is;
+  why = inl (subst (λ (x : Addr). Spoils bytes x found) is spoils);
+}
+
 -- a slot at fault
 pub slot_refused : (fault known : Type 0) (bytes : List ℕ) (r : Refusal) → ((r ≡ DiskFault) × fault) ⊎ ((at : ℕ) × (r ≡ Corrupt at 0 0)) → (known → (r ≡ DiskFault) ⊎ ((at : ℕ) × IsCorruptAt bytes at × (r ≡ Corrupt at 0 0))) → OpenRefused fault known bytes r
 slot_refused fault known bytes r (inl failed) why = inl failed
 slot_refused fault known bytes r (inr (at, is)) why = inr (inr (inr (inr (
-  (at, 0, 0, is),
+  at,
+  0,
+  0,
+  is,
   λ k. elim (why k) [
     | inl failed ↦ absurd (no_fault (sym failed ∙ is))
-    | inr (place, corrupt, same) ↦ corrupt_no_content bytes place corrupt
+    | inr (place, corrupt, same) ↦ inl (record { corrupt = subst (λ (m : ℕ). IsCorruptAt bytes m) (one_place place at (sym same ∙ is)) corrupt; sums = (refl, refl) })
   ],
 ))))
   where
+    one_place : (x y : ℕ) → Corrupt x 0 0 ≡ Corrupt y 0 0 → x ≡ y
+    one_place x y same = cc
+
     no_fault : DiskFault ≡ Corrupt at 0 0 → ⊥
     no_fault same = cc
 
@@ -360,7 +409,7 @@ open_further fault later h k bytes r (inl failed) more known = inl (failed.0, mo
 open_further fault later h k bytes r (inr (inl none)) more known = inr (inl none)
 open_further fault later h k bytes r (inr (inr (inl (is, why)))) more known = inr (inr (inl (is, λ x. why (known x))))
 open_further fault later h k bytes r (inr (inr (inr (inl (is, why))))) more known = inr (inr (inr (inl (is, λ x. why (known x)))))
-open_further fault later h k bytes r (inr (inr (inr (inr (is, why))))) more known = inr (inr (inr (inr (is, λ x. why (known x)))))
+open_further fault later h k bytes r (inr (inr (inr (inr (at, want, found, is, why))))) more known = inr (inr (inr (inr (at, want, found, is, λ x. why (known x)))))
 
 pub err_map : {T E : Type 0} {P Q : E → Type 0} (r : Result T E) → IfErr r P → ((e : E) → P e → Q e) → IfErr r Q
 err_map (Ok x) is more = tt

@@ -16,7 +16,7 @@ use Rattle.stored.specs.Stored.{Stored, AreTrees, tables_blocks, history_blocks,
 use Rattle.stored.proofs.OneTree.{holds_front}
 use Rattle.one_table.specs.declared.record.Numbers.{Numbers}
 use Rattle.one_table.specs.OneTable.{one_record, one_stored}
-use Rattle.one_table.specs.Openings.{LeafIs, blocks_at}
+use Rattle.one_table.specs.Leaves.{LeafIs, blocks_at}
 
 all_front : (P : Block → Type 0) (xs ys : List Block) → AllByRecursion P (xs ++ ys) → AllByRecursion P xs
 all_front P [] ys all = tt

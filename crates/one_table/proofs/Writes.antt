@@ -20,7 +20,6 @@ use Rattle.block_mgr.specs.Writes.{IsAddress}
 use Rattle.block_mgr.proofs.HolderLemmas.{used_running}
 use Rattle.block_mgr.proofs.HasLemmas.{has_set}
 use Rattle.checkpoint_core.proofs.Recording.{block_length}
-use Rattle.wt_code.specs.declared.refusals.Refusal.TheVariants.{DiskFault}
 use Rattle.wt_code.specs.declared.store_error.StoreError.{StoreError}
 use Rattle.wt_code.specs.declared.store_error.StoreError.TheVariants.{NoMemory, NoSpace, Read, Down}
 use Rattle.wt_code.specs.StoreErrors.{refusal_of, IsOfDisk}
@@ -42,7 +41,7 @@ use Rattle.checkpoint_core.specs.Room.{IsSpaceOf, NoRoomFor, IsFull}
 use Rattle.checkpoint_core.proofs.Rooms.{Alike, space_alike, one_had_room, two_had_room}
 use Rattle.one_table.specs.declared.record.Numbers.{Numbers}
 use Rattle.one_table.specs.OneTable.{one_image, one_unplaced, IsInForm}
-use Rattle.one_table.specs.Openings.{LeafIs, blocks_at}
+use Rattle.one_table.specs.Leaves.{LeafIs, blocks_at}
 use Rattle.one_table.specs.Closings.{block_sizes, ReadsOld, ReadsEither, IsCloseRefusal, Installs, IsFullFor, content_was, told_of}
 use Rattle.one_table.proofs.Leaves.{block_at, stored_block, no_block}
 use Rattle.one_table.proofs.Shapes.{leaf_tree, tables_are}
@@ -288,23 +287,10 @@ link_made link a rows one two three = rw (one, two, three) refl
 
 -- ---- which call failed
 
-pub told_fault : {P Q : Type 0} (r : Result Addr StoreError) → IfErr r (λ e. IsOfDisk e → P) → (P → Q) → IfErr (told_of r) (λ x. x ≡ DiskFault → Q)
-told_fault (Ok a) failed more = tt
-told_fault (Err NoMemory) failed more = λ is. cc
-told_fault (Err NoSpace) failed more = λ is. cc
-told_fault (Err Read) failed more = λ is. more (failed tt)
-told_fault (Err (Down f)) failed more = λ is. more (failed tt)
-
 pub write_failed : {P : Type 0} (e : StoreError) → (e ≡ NoMemory) ⊎ ((e ≡ NoSpace) ⊎ P) → IsOfDisk e → P
 write_failed e (inl is) of_disk = absurd (subst IsOfDisk is of_disk)
 write_failed e (inr (inl is)) of_disk = absurd (subst IsOfDisk is of_disk)
 write_failed e (inr (inr rose)) of_disk = rose
-
-pub refused_fault : {P : Type 0} (e : StoreError) → (IsOfDisk e → P) → refusal_of e ≡ DiskFault → P
-refused_fault NoMemory failed is = cc
-refused_fault NoSpace failed is = cc
-refused_fault Read failed is = failed tt
-refused_fault (Down f) failed is = failed tt
 
 pub if_err_map : {T E : Type 0} {P Q : E → Type 0} (r : Result T E) → IfErr r P → ((e : E) → P e → Q e) → IfErr r Q
 if_err_map (Ok x) is more = tt

@@ -31,6 +31,10 @@ ReadsEither images old new c = ReadsOld images old c ⊎ Reads c new
 abbrev pub IsCloseRefusal : (fault full : Type 0) → Refusal → Type 0
 IsCloseRefusal fault full r = (r ≡ NoMemory) ⊎ (((r ≡ NoSpace) × full) ⊎ ((r ≡ DiskFault) × fault))
 
+-- one of the refusals of a close, whatever the disk
+abbrev pub IsOfClose : Refusal → Type 0
+IsOfClose r = (r ≡ NoMemory) ⊎ ((r ≡ NoSpace) ⊎ (r ≡ DiskFault))
+
 -- what making a checkpoint leaves, at each moment and in each image
 abbrev pub Installs : {D : Type 0} (g : Ghosts D) (fault full : Type 0) → Content → Content → D → D → Result (Unit {0}) Refusal → Type 0
 Installs g fault full old new before after (Ok done) =

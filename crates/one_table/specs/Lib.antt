@@ -1,3 +1,5 @@
 pub mod OneTable
+pub mod Leaves
+pub mod Damage
 pub mod Openings
 pub mod Closings

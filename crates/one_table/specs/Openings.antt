@@ -1,27 +1,20 @@
 -- What an opening finds, and why it finds nothing.
-use Rattle.std.specs.Prelude.{◌≡◌, ◌≢◌, ◌⊎◌, ℕ, ◌≤◌, ◌<◌, ◌-◌, ◌^◌, ◌==◌, false, List, [], ◌∷◌, length, map, Option, Some, None, if◌then◌else◌}
-use Rattle.std.specs.List.{AllByRecursion}
+use Rattle.std.specs.Prelude.{◌≡◌, ◌≢◌, ◌⊎◌, ℕ, ◌≤◌, ◌<◌, ◌-◌, ◌^◌, ◌==◌, false, List, [], ◌∷◌, length, Option, Some, None, if◌then◌else◌}
 use Rattle.extent_list.specs.Space.{end_of, space_of}
 use Rattle.block_mgr.specs.declared.found.Found.{Found}
-use Rattle.block_mgr.specs.declared.found.Holder.TheVariants.{Tree, Last}
 use Rattle.block_mgr.specs.Cells.{AreUnits, cell_at}
 use Rattle.block_mgr.specs.Blocks.{Books}
 use Rattle.block_mgr.specs.Open.{found_cell, last_end}
 use Rattle.device_layout.specs.declared.link.Link.{Link}
 use Rattle.device_layout.specs.declared.slot.Slot.{Slot}
-use Rattle.device_layout.specs.Slots.{addr_in}
-use Rattle.turtle.specs.Slots.{Chooses}
 use Rattle.le_codec.specs.Images.{block_of}
 use Rattle.kv_model.specs.History.{Table}
 use Rattle.wt_code.specs.declared.refusals.Refusal.{Refusal}
 use Rattle.wt_code.specs.declared.refusals.Refusal.TheVariants.{Corrupt, DiskFault, NoMemory, Limit as Refusal_Limit}
 use Rattle.wt_code.specs.declared.refusals.Limit.TheVariants.{Tables, Checkpoints}
 use Rattle.kv_model.specs.Content.{Content}
-use Rattle.row_page.specs.Rows.{Row, IsPage}
-use Rattle.stored.specs.Blocks.{Block, IsAddressed, Holds}
-use Rattle.stored.specs.Links.{LinkFits, SaysOf}
-use Rattle.stored.specs.Tree.{leaf_blocks}
-use Rattle.stored.specs.TableTree.{table_kind, Bears, root_entry}
+use Rattle.row_page.specs.Rows.{Row}
+use Rattle.stored.specs.Links.{LinkFits}
 use Rattle.stored.specs.Stored.{Stored, Reads}
 use Rattle.leaf_rows.specs.Contents.{kept_rows}
 use Rattle.checkpoint_core.specs.Stands.{HasStill, chosen_of, blocks_of, AreInUse}
@@ -31,37 +24,19 @@ use Rattle.one_table.specs.declared.opening.Kept.{Kept}
 use Rattle.one_table.specs.declared.opening.Opened.{Opened}
 use Rattle.one_table.specs.declared.record.Numbers.{Numbers}
 use Rattle.one_table.specs.declared.record.OneRecord.{OneRecord}
+use Rattle.one_table.specs.Damage.{FoundNoLeaf, IsDamage}
 use Rattle.one_table.specs.OneTable.{table_of, lent, one_image, one_stored, HoldsOne, HoldsRecord, HoldsNone, IsInForm}
 
 -- the greatest run, and the greatest sequence
 abbrev pub last_number : ℕ
 last_number = 2 ^ 62 - 1
 
--- the blocks of a leaf: one, or none where it is stored nowhere
-abbrev pub blocks_at : Link → List Row → List Block
-blocks_at link rows = leaf_blocks table_kind (root_entry link ∷ []) (rows ∷ [])
-
--- the device has a leaf of these rows where the link leads
-pub record LeafIs (bytes : List ℕ) (link : Link) (rows : List Row) : Type 0 where
-  pub bears : Bears (root_entry link) rows
-  pub addressed : AllByRecursion (λ (b : Block). IsAddressed b) (blocks_at link rows)
-  pub holds : Holds bytes (blocks_at link rows)
-
--- no rows make it such a leaf
-abbrev pub NoLeaf : List ℕ → Link → Type 0
-NoLeaf bytes link = (rows : List Row) → LeafIs bytes link rows → ⊥
-
--- the block is that of a leaf of these rows, of which the link says the greatest
-pub record PageIs (block : List ℕ) (link : Link) (rows : List Row) : Type 0 where
-  pub page : IsPage block rows
-  pub says : SaysOf link (map (λ (r : Row). r.1.window.name) rows) (map (λ (r : Row). r.1.window.durable) rows)
-
 -- why the leaf is not loaded
 abbrev pub LeafRefused : (fault known : Type 0) → List ℕ → Link → Refusal → Type 0
 LeafRefused fault known bytes link r =
     ((r ≡ DiskFault) × fault)
     ⊎ ((r ≡ NoMemory)
-    ⊎ (((found : ℕ) × (r ≡ Corrupt link.addr.offset link.addr.sum found)) × (known → NoLeaf bytes link)))
+    ⊎ ((found : ℕ) × (r ≡ Corrupt link.addr.offset link.addr.sum found) × (known → FoundNoLeaf bytes link found)))
 
 -- The place keeps the slot and the books of a device that has this checkpoint, or none, and was not synced since.
 pub record Serves (bytes : List ℕ) (place : Place) (old : Option Stored) : Type 0 where
@@ -99,31 +74,16 @@ InForm (Some k) = KeptInForm k
 abbrev pub IsOpened : List ℕ → Opened → Type 0
 IsOpened bytes o = KeepsOr bytes o.place o.kept
 
--- Why an opening finds nothing: fault says that the disk's count of faults rose, known that what it holds is known. A device that is refused as corrupt reads as no content.
+-- Why an opening finds nothing: fault says that the disk's count of faults rose, known that what it holds is known.
 abbrev pub OpenRefused : (fault known : Type 0) → List ℕ → Refusal → Type 0
 OpenRefused fault known bytes r =
     ((r ≡ DiskFault) × fault)
     ⊎ ((r ≡ NoMemory)
     ⊎ (((r ≡ Refusal_Limit Tables) × (known → HoldsOne bytes → ⊥))
     ⊎ (((r ≡ Refusal_Limit Checkpoints) × (known → (content : Content) → Reads bytes content → content.run ≡ last_number))
-    ⊎ (((offset : ℕ) × (want : ℕ) × (found : ℕ) × (r ≡ Corrupt offset want found)) × (known → (content : Content) → Reads bytes content → ⊥)))))
+    ⊎ ((at : ℕ) × (want : ℕ) × (found : ℕ) × (r ≡ Corrupt at want found) × (known → IsDamage bytes at want found)))))
 
 -- ---- the steps of an opening
-
-pub record IsChosen (bytes : List ℕ) (slot : Slot) : Type 0 where
-  pub long : 8192 ≤ length bytes
-  pub chooses : Chooses bytes (Some slot)
-
--- the block of the record, which the last checkpoint alone has, and that of the leaf
-abbrev pub record_found : Slot → Found
-record_found slot = record { addr = addr_in slot; holder = Last }
-
-abbrev pub leaf_found : Link → Found
-leaf_found link = record { addr = link.addr; holder = Tree }
-
--- the record and the leaf, where it is stored
-abbrev pub found_of : Slot → Link → List Found
-found_of slot link = if link.addr.offset == 0 then record_found slot ∷ [] else record_found slot ∷ leaf_found link ∷ []
 
 -- the books are those of the blocks that were found
 pub record HasBooks (found : List Found) (books : Books) : Type 0 where

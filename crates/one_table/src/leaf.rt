@@ -4,7 +4,8 @@ ghost use Rattle.failure.specs.Counts.{Rose};
 ghost use Rattle.disk_model.specs.Crash.{Looked};
 ghost use Rattle.row_page.specs.Rows.{Row, IsPage};
 ghost use Rattle.stored.specs.Links.{nowhere, SaysOf};
-ghost use Rattle.one_table.specs.Openings.{LeafIs, PageIs, LeafRefused, NoLeaf};
+ghost use Rattle.one_table.specs.Leaves.{LeafIs, PageIs, NoLeaf};
+ghost use Rattle.one_table.specs.Openings.{LeafRefused};
 
 use block_mgr::read_block;
 use device_layout::{Addr, Link};

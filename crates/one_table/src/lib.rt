@@ -7,6 +7,7 @@
 //! rows mean.
 #![tactic(auto)]
 
+mod law;
 mod leaf;
 mod opening;
 mod place;
@@ -15,6 +16,7 @@ mod record;
 mod tests;
 mod writing;
 
+pub use law::a_damaged_device_reads_as_nothing;
 pub use opening::{Kept, Opened, open};
 pub use place::Place;
 pub use record::{Entry, Numbers};

@@ -3,7 +3,8 @@ ghost use Rattle.std.specs.Prelude.{◌≡◌, ◌≢◌, ◌⊎◌, ◌≤◌, 
 ghost use Rattle.failure.specs.Counts.{Rose};
 ghost use Rattle.disk_model.specs.Crash.{Looked};
 ghost use Rattle.block_mgr.specs.Open.{AreStored};
-ghost use Rattle.one_table.specs.Openings.{IsOpened, InForm, OpenRefused, IsNothing, IsChosen, HasBooks, found_of, IsRecordOf, RecordRefused, IsAssembled, last_number};
+ghost use Rattle.one_table.specs.Damage.{IsChosen, found_of};
+ghost use Rattle.one_table.specs.Openings.{IsOpened, InForm, OpenRefused, IsNothing, HasBooks, IsRecordOf, RecordRefused, IsAssembled, last_number};
 
 use crate::leaf::load;
 use crate::place::Place;
@@ -39,8 +40,10 @@ pub struct Opened {
 
 /// Finds the last completed checkpoint, and changes nothing. `75 limit tables` comes exactly where
 /// the device holds another one than of one table of one leaf, `75 limit checkpoints` exactly where
-/// no run may follow the one that made it. `Corrupt` comes only where the device reads as no
-/// content. `O(bytes)` of the record and the leaf.
+/// no run may follow the one that made it. `Corrupt` tells damage that the device has: the offset of
+/// a slot, with no sums, or of the record's block or the leaf's, with the sum that it should have
+/// and the sum that it has, or the same sum twice where that is not at fault. `O(bytes)` of the
+/// record and the leaf.
 pub fn open<D: Disk>(alloc: Global, disk: &mut D) -> Result<Opened, Refusal>
     ensures ok { IsTrue (D.honest disk.old) → IfOk result (IsOpened (D.seen disk.old)) }
     ensures form { IfOk result (λ o. InForm o.kept) }

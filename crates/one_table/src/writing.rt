@@ -16,8 +16,9 @@ ghost use Rattle.leaf_rows.specs.Contents.{leaf_content};
 ghost use Rattle.checkpoint_core.specs.Stands.{Stands, AreInUse, chosen_of};
 ghost use Rattle.checkpoint_core.specs.Finishes.{Finishes};
 ghost use Rattle.one_table.specs.OneTable.{table_of, one_unplaced, IsInForm};
-ghost use Rattle.one_table.specs.Openings.{LeafIs, Serves, blocks_at};
-ghost use Rattle.one_table.specs.Closings.{Installs, IsFullFor, content_was, told_of};
+ghost use Rattle.one_table.specs.Leaves.{LeafIs, blocks_at};
+ghost use Rattle.one_table.specs.Openings.{Serves};
+ghost use Rattle.one_table.specs.Closings.{Installs, IsFullFor, IsOfClose, content_was, told_of};
 
 use crate::place::Place;
 use crate::record::{Entry, Numbers, TableEntry, encode};
@@ -46,6 +47,7 @@ pub fn close<D: Disk>(
     requires ready { IsTrue (D.honest disk.old) → (old : Option Stored) × Serves (D.seen disk.old) place.old old }
     ensures installs { IsTrue (D.honest disk.old) → (old : Option Stored) → Serves (D.seen disk.old) place.old old → ((slot : ASlot) → slot.sequence ≡ numbers.sequence → IsNext (chosen_of old) slot)
         → Installs D.Disk (Rose (D.faults disk.old) (D.faults disk.new)) (IsFullFor (D.seen disk.old) (D.capacity disk.old) rows.now) (content_was old) (leaf_content numbers.marks (table_of entry.now) rows.now) disk.old disk.new result }
+    ensures refusals { IfErr result IsOfClose }
     ensures fault { IfErr result (λ r. r ≡ Refusal.DiskFault → Rose (D.faults disk.old) (D.faults disk.new)) }
     ensures disk { SameDisk D.Disk disk.old disk.new }
 {
@@ -74,7 +76,8 @@ pub fn close<D: Disk>(
 
 // The answer once the record was written, or was not.
 fn told(outcome: Result<Addr, StoreError>) -> Result<(), Refusal>
-    ensures { result ≡ told_of outcome }
+    ensures is { result ≡ told_of outcome }
+    ensures refusals { IfErr result IsOfClose }
 {
     match outcome {
         Ok(_) => Ok(()),
@@ -84,7 +87,8 @@ fn told(outcome: Result<Addr, StoreError>) -> Result<(), Refusal>
 
 // The refusal that tells of an error.
 fn refused(error: StoreError) -> Refusal
-    ensures { result ≡ refusal_of error }
+    ensures is { result ≡ refusal_of error }
+    ensures refusal { IsOfClose result }
 {
     match error {
         StoreError::NoMemory => Refusal::NoMemory,

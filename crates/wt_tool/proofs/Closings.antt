@@ -33,7 +33,7 @@ use Rattle.one_table.specs.declared.place.Place.{Place}
 use Rattle.one_table.specs.declared.opening.Kept.{Kept}
 use Rattle.one_table.specs.OneTable.{one_stored, table_of}
 use Rattle.one_table.specs.Openings.{Keeps}
-use Rattle.one_table.specs.Closings.{Installs, IsFullFor, IsCloseRefusal, ReadsOld, ReadsEither, content_was, block_sizes}
+use Rattle.one_table.specs.Closings.{Installs, IsFullFor, IsCloseRefusal, ReadsOld, ReadsEither, content_was, block_sizes, IsOfClose}
 use Rattle.one_table.proofs.Writes.{new_reads}
 use Rattle.one_session.specs.Shows.{Shows}
 use Rattle.one_session.proofs.Leaves.{opening, closing}
@@ -47,7 +47,7 @@ use Rattle.wt_tool.specs.Points.{Point, Ran, Installed, IsLater, DidClose, IsNum
 use Rattle.wt_tool.specs.Narrow.{IsOver, ClosesOne}
 use Rattle.wt_tool.specs.Closes.{next_numbers, HasCheckpoint, Closes}
 use Rattle.wt_tool.specs.Top.{OpensToOne, Pending}
-use Rattle.wt_tool.specs.Parts.{MeetsTable, Leaves, silent_run}
+use Rattle.wt_tool.specs.Parts.{MeetsTable, Leaves, silent_run, NoDamage}
 
 -- the content of a device with one table
 pub one_reads : (slot : Slot) (n : Numbers) (t : Table) (link : Link) (rows : List Row) (c : List ℕ) → n.sequence ≡ slot.sequence → IsOn c (one_stored slot n t link rows) → Reads c (leaf_content n.marks t rows)
@@ -315,3 +315,9 @@ module _ {D : Type 0} (g : Ghosts D) (old new : D) (counts : g.moment old ≤ g.
   ran_closes result (inr (inr (less, fits, installs))) =
       ran_close g old new counts now content layered Allowed mid idle same count reads embed rows newest n.sequence numbered less fits
       (leaf_content (next_numbers n next).marks t rows) (news_of mid n next t rows s oldest stable) result installs
+
+-- a close tells of no damage
+pub close_sound : (r : Refusal) → IsOfClose r → NoDamage r
+close_sound r (inl is) = subst NoDamage (sym is) tt
+close_sound r (inr (inl is)) = subst NoDamage (sym is) tt
+close_sound r (inr (inr is)) = subst NoDamage (sym is) tt

@@ -1,5 +1,6 @@
 -- What a get of a word answers is what the call of a session answers, on the machine that was opened.
 use Rattle.std.proofs.Common.{◌≡◌, ◌≢◌, ◌⊎◌, ◌≤◌, ◌<◌, ◌+◌, ◌++◌, ◌∙◌, ℕ, true, false, List, [], ◌∷◌, length, length-append, append_assoc, take, arith, Option, Some, None, inl, inr, refl, sym, ap, subst}
+use Rattle.std.specs.List.{AllByRecursion}
 use Rattle.std.specs.Result.{is_err}
 use Rattle.std.specs.Prelude.{OnOk, OnErr, Result, Ok, Err, IsTrue, bytes_eq, nat_lt, if◌then◌else◌}
 use Rattle.std.proofs.lemmas.List.{append-nil, take-append-le}
@@ -257,6 +258,10 @@ cut_more before mid now first second third text line extra (inr rose) low high (
     inr (rose_after first second third rose high, omega (arith, less, length-append text (line ++ extra), length-append line extra))
 cut_more before mid now first second third text line extra (inr rose) low high (inr (later, some)) =
     inr (rose_after first second third rose high, omega (arith, some, length-append text (line ++ extra), length-append line extra))
+
+pub each_behind : (P : Refusal → Type 0) (met : List Refusal) (r : Refusal) → AllByRecursion P met → P r → AllByRecursion P (met ++ r ∷ [])
+each_behind P [] r each one = (one, tt)
+each_behind P (x ∷ met) r each one = (each.0, each_behind P met r each.1 one)
 
 pub lines_behind : (met rest : List Refusal) → lines (met ++ rest) ≡ lines met ++ lines rest
 lines_behind [] rest = refl

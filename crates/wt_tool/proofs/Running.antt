@@ -1,6 +1,7 @@
 -- What a run of a command is to the definitions.
-use Rattle.std.specs.Prelude.{◌≡◌, ◌⊎◌, ℕ, ◌+◌, ◌<◌, List, [], ◌∷◌, ◌++◌, filter, length, Bool, Option, Some, None, MatchOption, IfSome, OnOk, Result, Ok, Err, refl}
+use Rattle.std.specs.Prelude.{◌≡◌, ◌⊎◌, ℕ, ◌+◌, ◌<◌, List, [], ◌∷◌, ◌++◌, filter, length, Bool, Option, Some, None, MatchOption, IfSome, IfErr, OnOk, Result, Ok, Err, refl}
 use Rattle.std.proofs.Common.{inl, inr, sym, ap, subst, ◌∙◌, arith}
+use Rattle.std.specs.List.{AllByRecursion}
 use Rattle.std.proofs.lemmas.List.{append-nil}
 use Rattle.failure.specs.Counts.{Rose, HasCause}
 use Rattle.disk_model.specs.Crash.{LeavesOnly, Looked}
@@ -10,13 +11,14 @@ use Rattle.kv_model.specs.Machine.{Machine, Completed}
 use Rattle.kv_model.specs.Content.{Content, nothing, start, IsLayered}
 use Rattle.stored.specs.Stored.{Reads, content_of}
 use Rattle.wt_code.specs.declared.refusals.Refusal.{Refusal}
-use Rattle.wt_code.specs.declared.refusals.Refusal.TheVariants.{NoMemory, DiskFault, Invalid as Refusal_Invalid}
+use Rattle.wt_code.specs.declared.refusals.Refusal.TheVariants.{NoMemory, DiskFault, Corrupt, Invalid as Refusal_Invalid}
 use Rattle.wt_code.specs.declared.refusals.Invalid.TheVariants.{BadName}
 use Rattle.wt_io.specs.Streams.{Gave, Took}
 use Rattle.one_table.specs.declared.opening.Kept.{Kept}
 use Rattle.one_table.specs.declared.opening.Opened.{Opened as Held}
 use Rattle.one_table.specs.OneTable.{HoldsOne, IsInForm, table_of, one_stored}
 use Rattle.one_table.specs.Openings.{IsOpened as Finds, KeepsOr, InForm, OpenRefused}
+use Rattle.one_table.proofs.Opens.{damage_no_content}
 use Rattle.stored.proofs.Device.{one_content}
 use Rattle.wt_line.specs.Line.{Asked, create, write, read}
 use Rattle.wt_tool.specs.Words.{name_in}
@@ -27,8 +29,8 @@ use Rattle.wt_tool.specs.Creates.{MakesTable}
 use Rattle.wt_tool.specs.Writes.{WritesPairs, demand_of}
 use Rattle.wt_tool.specs.Reads.{ReadsKeys}
 use Rattle.wt_tool.specs.Commands.{Runs, RunsOpened}
-use Rattle.wt_tool.specs.Parts.{Meets, Leaves, Reading, met_of, end_of, silent_run, uri_of}
-use Rattle.wt_tool.specs.Top.{Went, Telling, Tells, IsTold, IsCut, IsOpenable, Streams, Errors, OpensToLast, Stays, counts, lines, last_line, status_of, first_status, status_at}
+use Rattle.wt_tool.specs.Parts.{NoDamage, Meets, Leaves, Reading, met_of, end_of, silent_run, uri_of}
+use Rattle.wt_tool.specs.Top.{Went, Telling, IsSo, Tells, IsTold, IsCut, IsOpenable, Streams, Errors, OpensToLast, Stays, counts, lines, last_line, status_of, first_status, status_at}
 use Rattle.wt_tool.proofs.Closings.{keeps_meets, start_opens}
 
 -- ---- the opening
@@ -79,7 +81,7 @@ refused_open g old new known content r k reads (inl failed) = inl failed
 refused_open g old new known content r k reads (inr (inl none)) = inr (inl none)
 refused_open g old new known content r k reads (inr (inr (inl (is, why)))) = inr (inr (inl (is, why k)))
 refused_open g old new known content r k reads (inr (inr (inr (inl (is, why))))) = inr (inr (inr (is, ap (λ n. n + 1) (why k content reads))))
-refused_open g old new known content r k reads (inr (inr (inr (inr (is, why))))) = absurd (why k content reads)
+refused_open g old new known content r k reads (inr (inr (inr (inr (at, want, found, is, why))))) = absurd (damage_no_content (g.seen old) at want found content (why k) reads)
 
 -- a disk that was only looked at
 pub opens_of : {D : Type 0} (g : Ghosts D) (m : Machine) (old mid : D) → Looked g old mid → Opens (point_of g m old) (point_of g m mid)
@@ -127,8 +129,33 @@ result_told e result status told =
     (subst (λ (l : List ℕ). Tells e (lines (met_of result) ++ l) (first_status (met_of result)) status) (sym (quiet_end result))
     (subst (λ (l : List ℕ). Tells e l (first_status (met_of result)) status) (sym (append-nil (lines (met_of result)))) told))
 
-pub telling : (e : Errors) (result : Result (Unit {0}) Refusal) (status : ℕ) → Tells e (lines (met_of result)) (first_status (met_of result)) status → Telling e status
-telling e result status told = record { refusals = met_of result; replies = []; end = end_of result; told = result_told e result status told }
+met_each : (P : Refusal → Type 0) (result : Result (Unit {0}) Refusal) → IfErr result P → AllByRecursion P (met_of result)
+met_each P (Ok done) each = tt
+met_each P (Err r) each = (each, tt)
+
+pub telling : (P : Refusal → Type 0) (e : Errors) (result : Result (Unit {0}) Refusal) (status : ℕ) → Tells e (lines (met_of result)) (first_status (met_of result)) status → IfErr result P → Telling P e status
+telling P e result status told each = record { refusals = met_of result; each = met_each P result each; replies = []; end = end_of result; told = result_told e result status told }
+
+-- ---- what is told of damage
+
+pub no_damage_so : (honest : Type 0) (bytes : List ℕ) (r : Refusal) → NoDamage r → IsSo honest bytes r
+no_damage_so honest bytes (Corrupt at want found) none = absurd none
+no_damage_so honest bytes _ none = tt
+
+pub told_so : (honest : Type 0) (bytes : List ℕ) (e : Errors) (status : ℕ) → Telling NoDamage e status → Telling (IsSo honest bytes) e status
+told_so honest bytes e status t = record { refusals = t.refusals; each = each t.refusals t.each; replies = t.replies; end = t.end; told = t.told }
+  where
+    each : (met : List Refusal) → AllByRecursion NoDamage met → AllByRecursion (IsSo honest bytes) met
+    each [] none = tt
+    each (r ∷ met) none = (no_damage_so honest bytes r none.0, each met none.1)
+
+-- damage that an opening tells is there
+pub opening_so : (fault known : Type 0) (bytes : List ℕ) (r : Refusal) → OpenRefused fault known bytes r → IsSo known bytes r
+opening_so fault known bytes r (inl (is, failed)) = subst (IsSo known bytes) (sym is) tt
+opening_so fault known bytes r (inr (inl is)) = subst (IsSo known bytes) (sym is) tt
+opening_so fault known bytes r (inr (inr (inl (is, why)))) = subst (IsSo known bytes) (sym is) tt
+opening_so fault known bytes r (inr (inr (inr (inl (is, why))))) = subst (IsSo known bytes) (sym is) tt
+opening_so fault known bytes r (inr (inr (inr (inr (at, want, found, is, why))))) = subst (IsSo known bytes) (sym is) why
 
 pub status_some : (r : Refusal) (status : ℕ) → (status ≡ status_of r) ⊎ (status ≡ 12) → status ≡ 0 → ⊥
 status_some r status (inr twelve) none = omega (arith, twelve, none)

@@ -3,6 +3,7 @@ use Rattle.std.specs.Prelude.{◌≡◌, ℕ, ◌+◌, List, [], ◌∷◌, ◌+
 use Rattle.disk_model.specs.Crash.{LeavesOnly}
 use Rattle.disk_model.specs.declared.disk.Disk.{Ghosts}
 use Rattle.wt_code.specs.declared.refusals.Refusal.{Refusal}
+use Rattle.wt_code.specs.declared.refusals.Refusal.TheVariants.{Corrupt}
 use Rattle.kv_model.specs.Machine.{Machine}
 use Rattle.kv_model.specs.Content.{Content, base, nothing, start}
 use Rattle.one_table.specs.declared.opening.Kept.{Kept}
@@ -28,6 +29,11 @@ abbrev pub uri_of : Asked → List ℕ
 uri_of (create config uri) = uri
 uri_of (write overwrite uri pairs) = uri
 uri_of (read uri keys) = uri
+
+-- it tells of no damage
+abbrev pub NoDamage : Refusal → Type 0
+NoDamage (Corrupt at want found) = ⊥
+NoDamage _ = Unit {0}
 
 -- the refusals that a result tells, and how it ends its run
 abbrev pub met_of : Result (Unit {0}) Refusal → List Refusal

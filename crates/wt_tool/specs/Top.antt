@@ -1,6 +1,6 @@
 -- What the top call promises.
 use Rattle.std.specs.Prelude.{◌≡◌, ◌⊎◌, ℕ, ◌<◌, List, [], ◌∷◌, ◌++◌, length, take, filter, Bool, true, false, Option, Some, None, IsTrue, codes}
-use Rattle.std.specs.List.{flat_map}
+use Rattle.std.specs.List.{flat_map, AllByRecursion}
 use Rattle.failure.specs.Counts.{Rose}
 use Rattle.disk_model.specs.Crash.{Each}
 use Rattle.disk_model.specs.declared.disk.Disk.{Ghosts}
@@ -8,12 +8,13 @@ use Rattle.wt_io.specs.declared.streams.Source.{Ghosts as SourceGhosts}
 use Rattle.wt_io.specs.declared.streams.Sink.{Ghosts as SinkGhosts}
 use Rattle.wt_io.specs.Streams.{Gave, AtEnd, Took, TookFront}
 use Rattle.wt_code.specs.declared.refusals.Refusal.{Refusal}
-use Rattle.wt_code.specs.declared.refusals.Refusal.TheVariants.{NoMemory, DiskFault}
+use Rattle.wt_code.specs.declared.refusals.Refusal.TheVariants.{NoMemory, DiskFault, Corrupt}
 use Rattle.wt_code.specs.Text.{text_of_refusal}
 use Rattle.kv_model.specs.Machine.{Completed}
 use Rattle.kv_model.specs.Content.{Content, start, IsLayered, OpensAs}
 use Rattle.stored.specs.Stored.{Reads}
 use Rattle.stored.specs.Opens.{Opens}
+use Rattle.one_table.specs.Damage.{IsDamage}
 use Rattle.wt_line.specs.Line.{Asked, home_in}
 use Rattle.wt_tool.specs.Points.{Outside, Ran, Installed, End, Through, Stopped, InputFailed, OutputFailed, device_of, point_of}
 use Rattle.wt_tool.specs.Commands.{Runs}
@@ -165,9 +166,15 @@ pub record Went {D : Type 0} (g : Ghosts D) (o : Outside) (asked : Asked) (conte
   pub ever : (c : List ℕ) → g.left_since new (g.moment old) c → OpensToOne (start content).completed ran.made c
   pub stays : Stays (g.left_since new) ran.made
 
--- the refusals and the end that the status and the errors tell, whatever the disk
-pub record Telling (e : Errors) (status : ℕ) : Type 0 where
+-- What a refusal says of the device is so. Damage is told only where the device had it as the run began.
+abbrev pub IsSo : (honest : Type 0) → List ℕ → Refusal → Type 0
+IsSo honest bytes (Corrupt at want found) = honest → IsDamage bytes at want found
+IsSo honest bytes _ = Unit {0}
+
+-- the refusals and the end that the status and the errors tell, whatever the disk; this holds of each refusal
+pub record Telling (Holds : Refusal → Type 0) (e : Errors) (status : ℕ) : Type 0 where
   pub refusals : List Refusal
+  pub each : AllByRecursion Holds refusals
   pub replies : List Refusal
   pub end : End
   pub told : Tells e (lines refusals ++ last_line end) (status_at end (refusals ++ filter counts replies)) status
@@ -184,8 +191,8 @@ module _ {D S K E : Type 0} (g : Ghosts D) (s : SourceGhosts S) (k : SinkGhosts 
         → Went g (outside s k input input_now out out_now) asked content (streams_of s k e input input_now out out_now err err_now) disk disk_now status
     -- Words that are no command give the usage line and status 1, or 12 where memory is too short to read them.
     pub usage_told : command_of words ≡ None → Tells (errors_of e err err_now) usage 1 status × Took (k.written out) (k.written out_now) [] × (input_now ≡ input) × (disk_now ≡ disk)
-    -- Whatever the disk, the status is that of refusals whose lines are on the errors.
-    pub told : (asked : Asked) → command_of words ≡ Some asked → Telling (errors_of e err err_now) status
+    -- Whatever the disk, the status is that of refusals whose lines are on the errors. Damage that they tell of an honest disk is there.
+    pub told : (asked : Asked) → command_of words ≡ Some asked → Telling (IsSo (IsTrue (g.honest disk)) (g.seen disk)) (errors_of e err err_now) status
     -- Status 0 and a printed byte come only where an opening of the device is not refused for what it holds.
     pub opened : IsTrue (g.honest disk) → status ≡ 0 → IsOpenable (g.seen disk)
     pub silent : IsTrue (g.honest disk) → Took (k.written out) (k.written out_now) [] ⊎ IsOpenable (g.seen disk)

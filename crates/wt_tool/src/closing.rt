@@ -7,6 +7,7 @@ ghost use Rattle.stored.specs.Stored.{Reads};
 ghost use Rattle.one_table.specs.OneTable.{table_of, IsInForm};
 ghost use Rattle.one_table.specs.Closings.{IsFullFor};
 ghost use Rattle.wt_tool.specs.Points.{last_number};
+ghost use Rattle.wt_tool.specs.Parts.{NoDamage};
 ghost use Rattle.wt_tool.specs.Closes.{next_numbers, HasCheckpoint, Closes};
 
 use disk_model::Disk;
@@ -32,6 +33,7 @@ pub(crate) fn close_next<D: Disk>(
     requires there { IsTrue (D.honest disk.old) → HasCheckpoint (D.seen disk.old) place.old kept.now.numbers (table_of kept.now.entry) }
     ensures closes { IsTrue (D.honest disk.old) → (content : Content) → Reads (D.seen disk.old) content
         → Closes D.Disk (Rose (D.faults disk.old) (D.faults disk.new)) (IsFullFor (D.seen disk.old) (D.capacity disk.old) kept.now.rows) kept.now.numbers (table_of kept.now.entry) kept.now.rows next content disk.old disk.new result }
+    ensures sound { IfErr result NoDamage }
     ensures fault { IfErr result (λ r. r ≡ Refusal.DiskFault → Rose (D.faults disk.old) (D.faults disk.new)) }
     ensures disk { SameDisk D.Disk disk.old disk.new }
 {

@@ -12,7 +12,7 @@ ghost use Rattle.wt_tool.specs.Narrow.{ClosesOne};
 ghost use Rattle.wt_tool.specs.Openings.{Configured};
 ghost use Rattle.wt_tool.specs.Creates.{MakesTable};
 ghost use Rattle.wt_tool.specs.Closes.{first_numbers};
-ghost use Rattle.wt_tool.specs.Parts.{Leaves};
+ghost use Rattle.wt_tool.specs.Parts.{Leaves, NoDamage};
 ghost use Rattle.wt_tool.specs.Top.{EachReads};
 
 use crate::closing::close_next;
@@ -38,6 +38,7 @@ pub(crate) fn create<D: Disk>(
     requires finds { IsTrue (D.honest disk.old) → IsOpened (D.seen disk.old) opened }
     ensures run { IsTrue (D.honest disk.old) → (content : Content) → EachReads (D.may_leave disk.old) content →
         Leaves D.Disk (Configured (option_map (λ x. x.now) config.entry) (λ formats. MakesTable name.now formats ClosesOne)) content disk.old disk.new result }
+    ensures sound { IfErr result NoDamage }
     ensures fault { IfErr result (λ r. r ≡ Refusal.DiskFault → Rose (D.faults disk.old) (D.faults disk.new)) }
     ensures disk { SameDisk D.Disk disk.old disk.new }
 {
@@ -65,6 +66,7 @@ fn create_first<D: Disk>(
     requires serves { IsTrue (D.honest disk.old) → Serves (D.seen disk.old) place.old None }
     ensures run { IsTrue (D.honest disk.old) → (content : Content) → EachReads (D.may_leave disk.old) content →
         Leaves D.Disk (MakesTable name.now formats ClosesOne) content disk.old disk.new result }
+    ensures sound { IfErr result NoDamage }
     ensures fault { IfErr result (λ r. r ≡ Refusal.DiskFault → Rose (D.faults disk.old) (D.faults disk.new)) }
     ensures disk { SameDisk D.Disk disk.old disk.new }
 {
@@ -110,6 +112,7 @@ fn create_again<D: Disk>(
     requires keeps { IsTrue (D.honest disk.old) → Keeps (D.seen disk.old) place.old kept.now }
     ensures run { IsTrue (D.honest disk.old) → (content : Content) → EachReads (D.may_leave disk.old) content →
         Leaves D.Disk (MakesTable name.now formats ClosesOne) content disk.old disk.new result }
+    ensures sound { IfErr result NoDamage }
     ensures fault { IfErr result (λ r. r ≡ Refusal.DiskFault → Rose (D.faults disk.old) (D.faults disk.new)) }
     ensures disk { SameDisk D.Disk disk.old disk.new }
 {
@@ -121,6 +124,7 @@ fn create_again<D: Disk>(
 
 // Why the table that is there is not the one that is asked for.
 fn why_not(entry: &Entry, name: &[u8], formats: Formats) -> Option<Refusal>
+    ensures sound { IfSome result NoDamage }
     ensures other { entry.now.name ≢ name.now → result ≡ Some (Refusal.Limit Limit.Tables) }
     ensures formats { entry.now.name ≡ name.now → entry.now.formats ≢ formats → result ≡ Some Refusal.Exists }
     ensures none { entry.now.name ≡ name.now → entry.now.formats ≡ formats → result ≡ None }

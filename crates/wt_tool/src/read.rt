@@ -8,7 +8,7 @@ ghost use Rattle.one_session.specs.Shows.{value_in};
 ghost use Rattle.wt_tool.specs.Words.{printed_as};
 ghost use Rattle.wt_tool.specs.Answers.{get_answer, printed_by};
 ghost use Rattle.wt_tool.specs.Points.{Device};
-ghost use Rattle.wt_tool.specs.Parts.{Meets, Reading};
+ghost use Rattle.wt_tool.specs.Parts.{Meets, Reading, NoDamage};
 ghost use Rattle.wt_tool.specs.Top.{Telling, errors_of};
 
 use crate::names::{KEY_MAX, printed_as, stored_as, stored_len};
@@ -31,7 +31,7 @@ pub(crate) fn read<K: Sink, E: Sink>(
     ensures run { (content : Content) → Meets content (option_map (λ k. k.now) kept.entry) → (device : Device) →
         Reading (Rose (K.fault_count out.old) (K.fault_count out.new)) name.now (map (λ s. s.now) keys.now) (record { machine = start content; device = device })
         (K.written out.old) (K.written out.new) (errors_of E.Sink err.old err.new) result }
-    ensures told { Telling (errors_of E.Sink err.old err.new) result }
+    ensures told { Telling NoDamage (errors_of E.Sink err.old err.new) result }
     ensures status { (result ≡ 0) ⊎ ((result ≡ 1) ⊎ ((result ≡ 6) ⊎ (result ≡ 12))) }
     ensures output_fault { result ≡ 6 → Rose (K.fault_count out.old) (K.fault_count out.new) }
 {
@@ -74,6 +74,7 @@ fn get<'a>(
 ) -> Result<&'a [u8], Refusal>
     ensures ok { IfOk result (λ text. (value : List ℕ) × (get_answer (option_map (λ k. k.now) kept.entry) name.now key.now ≡ Ok value) × (text.now ≡ printed_by (option_map (λ k. k.now) kept.entry) value)) }
     ensures err { IfErr result (λ r. (r ≡ Refusal.NoMemory) ⊎ (get_answer (option_map (λ k. k.now) kept.entry) name.now key.now ≡ Err r)) }
+    ensures sound { IfErr result NoDamage }
 {
     match kept {
         None => Err(nowhere(key.len() as u64)),
@@ -83,7 +84,8 @@ fn get<'a>(
 
 // The refusal of a get where there is no table.
 fn nowhere(len: u64) -> Refusal
-    ensures { (word : List ℕ) → length word ≡ len → get_answer None [] word ≡ Err result }
+    ensures why { (word : List ℕ) → length word ≡ len → get_answer None [] word ≡ Err result }
+    ensures sound { NoDamage result }
 {
     if len > KEY_MAX {
         Refusal::Invalid(Invalid::KeyLong { len })
@@ -95,6 +97,7 @@ fn nowhere(len: u64) -> Refusal
 fn get_in<'a>(alloc: Global, kept: &'a Kept, name: &[u8], key: &str) -> Result<&'a [u8], Refusal>
     ensures ok { IfOk result (λ text. (value : List ℕ) × (get_answer (Some kept.now) name.now key.now ≡ Ok value) × (text.now ≡ printed_by (Some kept.now) value)) }
     ensures err { IfErr result (λ r. (r ≡ Refusal.NoMemory) ⊎ (get_answer (Some kept.now) name.now key.now ≡ Err r)) }
+    ensures sound { IfErr result NoDamage }
 {
     let format = formats_by(&kept.entry, name).key;
     let len = stored_len(format, key);

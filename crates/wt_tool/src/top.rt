@@ -6,7 +6,7 @@ ghost use Rattle.kv_model.specs.Content.{Content};
 ghost use Rattle.wt_io.specs.Streams.{Took};
 ghost use Rattle.wt_line.specs.Line.{command_of, meaning};
 ghost use Rattle.wt_tool.specs.Parts.{met_of, uri_of};
-ghost use Rattle.wt_tool.specs.Top.{Promise, EachReads, Went, Tells, Telling, IsAt, IsOpenable, IsStatus, outside, streams_of, errors_of, lines, first_status};
+ghost use Rattle.wt_tool.specs.Top.{Promise, EachReads, Went, Tells, Telling, IsSo, IsAt, IsOpenable, IsStatus, outside, streams_of, errors_of, lines, first_status};
 
 use crate::create::create;
 use crate::names::name_of;
@@ -70,7 +70,7 @@ fn run<S: Source, K: Sink, E: Sink, D: Home>(
     ensures run { IsTrue (D.honest disk.old) → (content : Content) → EachReads (D.may_leave disk.old) content →
         Went D.Disk (outside S.Source K.Sink input.old input.new out.old out.new) (meaning command.now) content
         (streams_of S.Source K.Sink E.Sink input.old input.new out.old out.new err.old err.new) disk.old disk.new result }
-    ensures told { Telling (errors_of E.Sink err.old err.new) result }
+    ensures told { Telling (IsSo (IsTrue (D.honest disk.old)) (D.seen disk.old)) (errors_of E.Sink err.old err.new) result }
     ensures opened { IsTrue (D.honest disk.old) → result ≡ 0 → IsOpenable (D.seen disk.old) }
     ensures silent { IsTrue (D.honest disk.old) → Took (K.written out.old) (K.written out.new) [] ⊎ IsOpenable (D.seen disk.old) }
     ensures home { IsAt D.Disk home.now disk.old disk.new result }

@@ -13,7 +13,7 @@ ghost use Rattle.wt_line.specs.Line.{pair_texts};
 ghost use Rattle.wt_tool.specs.Points.{last_number};
 ghost use Rattle.wt_tool.specs.Writes.{WritesPairs, demand_of};
 ghost use Rattle.wt_tool.specs.Answers.{Puts, put_nowhere, put_refusal, put_over, rows_put, too_long, formats_by};
-ghost use Rattle.wt_tool.specs.Parts.{Leaves};
+ghost use Rattle.wt_tool.specs.Parts.{Leaves, NoDamage};
 ghost use Rattle.wt_tool.specs.Top.{EachReads};
 
 use crate::closing::close_next;
@@ -44,6 +44,7 @@ pub(crate) fn write<D: Disk>(
     requires finds { IsTrue (D.honest disk.old) → IsOpened (D.seen disk.old) opened }
     ensures run { IsTrue (D.honest disk.old) → (content : Content) → EachReads (D.may_leave disk.old) content →
         Leaves D.Disk (WritesPairs name.now (demand_of overwrite) (pair_texts pairs.now)) content disk.old disk.new result }
+    ensures sound { IfErr result NoDamage }
     ensures fault { IfErr result (λ r. r ≡ Refusal.DiskFault → Rose (D.faults disk.old) (D.faults disk.new)) }
     ensures disk { SameDisk D.Disk disk.old disk.new }
 {
@@ -64,6 +65,7 @@ pub(crate) fn write<D: Disk>(
 fn put_nowhere(pairs: &[(&str, &str)]) -> Result<(), Refusal>
     ensures ok { OnOk result (put_nowhere (pair_texts pairs.now) ≡ None) }
     ensures err { IfErr result (λ r. put_nowhere (pair_texts pairs.now) ≡ Some r) }
+    ensures sound { IfErr result NoDamage }
 {
     match pairs {
         [] => Ok(()),
@@ -76,7 +78,8 @@ fn put_nowhere(pairs: &[(&str, &str)]) -> Result<(), Refusal>
 
 // Why a key and a value of these lengths, as stored, are none of any table.
 fn too_long(key: u64, value: u64) -> Option<Refusal>
-    ensures { (k v : List ℕ) → length k ≡ key → length v ≡ value → result ≡ too_long k v }
+    ensures why { (k v : List ℕ) → length k ≡ key → length v ≡ value → result ≡ too_long k v }
+    ensures sound { IfSome result NoDamage }
 {
     if key > KEY_MAX {
         Some(Refusal::Invalid(Invalid::KeyLong { len: key }))
@@ -98,6 +101,7 @@ fn put_all(
     requires run { kept.old.numbers.marks.run < last_number }
     ensures puts { Puts kept.old.numbers.marks.oldest (kept.old.numbers.marks.run + 1) kept.old.entry name.now (demand_of overwrite) (pair_texts pairs.now) 1 kept.old.rows result kept.new.rows }
     ensures next { IfOk result (λ n. (1 ≤ n) × (n ≤ 2 ^ 62)) }
+    ensures sound { IfErr result NoDamage }
     ensures numbers { kept.new.numbers ≡ kept.old.numbers }
     ensures entry { kept.new.entry ≡ kept.old.entry }
 {
@@ -127,6 +131,7 @@ fn put_one(
     ensures ok { OnOk result ((put_refusal kept.old.numbers.marks.oldest id kept.old.entry name.now (demand_of overwrite) (key.now, value.now) kept.old.rows ≡ None) × (kept.new.rows ≡ rows_put (kept.old.numbers.marks.run + 1) id kept.old.entry name.now (key.now, value.now) kept.old.rows)) }
     ensures err { IfErr result (λ r. ((r ≡ Refusal.NoMemory) ⊎ (put_refusal kept.old.numbers.marks.oldest id kept.old.entry name.now (demand_of overwrite) (key.now, value.now) kept.old.rows ≡ Some r)) × (kept.new.rows ≡ kept.old.rows)) }
     ensures id { OnOk result (id < 2 ^ 62) }
+    ensures sound { IfErr result NoDamage }
     ensures numbers { kept.new.numbers ≡ kept.old.numbers }
     ensures entry { kept.new.entry ≡ kept.old.entry }
 {
@@ -192,7 +197,8 @@ pub(crate) fn formats_by(entry: &Entry, name: &[u8]) -> Formats
 
 // Why a put of a key over what the rows have there is refused, or its commit.
 fn put_over(rows: &Rows, oldest: u64, id: u64, overwrite: bool, key: &[u8]) -> Option<Refusal>
-    ensures { result ≡ put_over oldest id (demand_of overwrite) key.now rows.now }
+    ensures why { result ≡ put_over oldest id (demand_of overwrite) key.now rows.now }
+    ensures sound { IfSome result NoDamage }
 {
     if id > ID_MAX {
         return Some(Refusal::Limit(Limit::Ids));

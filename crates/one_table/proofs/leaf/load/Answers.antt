@@ -1,5 +1,5 @@
 use Rattle.std.proofs.Common.{inl, inr}
-use Rattle.one_table.proofs.Leaves.{spoilt_no_leaf}
+use Rattle.one_table.proofs.Leaves.{found_spoilt}
 use Rattle.one_table.proofs.leaf.load.Goals as goal
 
 pub returns-in-Err-clause-err : goal.returns-in-Err-clause-err
@@ -9,6 +9,6 @@ returns-in-Err-clause-err g c =
       | inl none ↦ inr (inl none)
       | inr rest ↦ elim rest [
         | inl fault ↦ inl fault
-        | inr (found, is) ↦ inr (inr ((found, is), λ h. spoilt_no_leaf (D.seen c.args.disk.now) c.args.link found c.if-link-eq0.false (c.in-Err.ensures.corrupt h c.args.link.addr.offset c.args.link.addr.sum found is).2))
+        | inr (found, is) ↦ inr (inr (found, is, λ h. found_spoilt (D.seen c.args.disk.now) c.args.link found c.if-link-eq0.false (c.in-Err.ensures.corrupt h c.args.link.addr.offset c.args.link.addr.sum found is).2))
       ]
     ]

@@ -5,7 +5,7 @@ use Rattle.stamp.specs.declared.name.Name.{Name}
 use Rattle.row_page.specs.Greatest.{greatest_in, most_in}
 use Rattle.row_page.specs.Rows.{Row}
 use Rattle.row_page.proofs.Leaves.{one_page}
-use Rattle.one_table.specs.Openings.{PageIs}
+use Rattle.one_table.specs.Leaves.{PageIs}
 use Rattle.one_table.proofs.leaf.rows_of.Goals as goal
 use Rattle.one_table.proofs.leaf.rows_of.Goals.{else-eq-via-then-eq+else-durable-link, else-eq-via-else-eq}
 

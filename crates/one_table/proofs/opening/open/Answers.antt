@@ -3,7 +3,8 @@ use Rattle.failure.specs.Counts.{Rose}
 use Rattle.disk_model.proofs.Crash.{looked_then}
 use Rattle.device_layout.specs.declared.slot.Slot.{Slot}
 use Rattle.turtle.specs.Slots.{Chooses}
-use Rattle.one_table.specs.Openings.{IsOpened, IsChosen, OpenRefused}
+use Rattle.one_table.specs.Damage.{IsChosen}
+use Rattle.one_table.specs.Openings.{IsOpened, OpenRefused}
 use Rattle.one_table.proofs.Opens.{slot_refused, nothing_is, none_in_form, open_further, err_map, ok_map, rose_sooner}
 use Rattle.one_table.proofs.opening.open.Goals as goal
 

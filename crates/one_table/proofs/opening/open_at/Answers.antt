@@ -1,11 +1,10 @@
-use Rattle.std.proofs.Common.{inl, inr, ◌≡◌, ◌∙◌, ap, subst, List, ℕ, length}
+use Rattle.std.proofs.Common.{inl, inr, refl, ◌≡◌, ◌∙◌, ap, subst, List, ℕ, length}
 use Rattle.disk_model.proofs.Crash.{looked_then}
-use Rattle.device_layout.specs.declared.addr.Addr.{Addr}
-use Rattle.block_mgr.specs.Places.{Spoils}
 use Rattle.block_mgr.specs.Open.{AreStored}
 use Rattle.one_table.specs.OneTable.{lent}
-use Rattle.one_table.specs.Openings.{LeafIs, found_of}
-use Rattle.one_table.proofs.Opens.{block_there, spoilt_no_content, record_refused, leaf_refused, books_refused, no_leaf_no_content, no_books_no_content, opened_is, kept_in_form, ok_map, rose_sooner}
+use Rattle.one_table.specs.Leaves.{LeafIs}
+use Rattle.one_table.specs.Damage.{found_of}
+use Rattle.one_table.proofs.Opens.{block_there, record_spoilt, leads_to, record_refused, leaf_refused, books_refused, opened_is, kept_in_form, ok_map, rose_sooner}
 use Rattle.one_table.proofs.opening.open_at.Goals as goal
 
 pub returns-in-Err-clause-err : goal.returns-in-Err-clause-err
@@ -15,7 +14,7 @@ returns-in-Err-clause-err g c =
       | inl none ↦ inr (inl none)
       | inr rest ↦ elim rest [
         | inl fault ↦ inl fault
-        | inr (found, is) ↦ inr (inr (inr (inr ((_, _, found, is), λ h. spoilt_no_content (D.seen c.args.disk.now) c.args.slot found h.1 (subst (λ (a : Addr). Spoils (D.seen c.args.disk.now) a found) c.addr.ensures (c.in-Err.ensures.corrupt h.0 _ _ found is).2)))))
+        | inr (found, is) ↦ inr (inr (inr (inr (c.addr.result.offset, c.addr.result.sum, found, is, λ h. inr (inl (record_spoilt (D.seen c.args.disk.now) c.args.slot c.addr.result found c.addr.ensures h.1 (c.in-Err.ensures.corrupt h.0 _ _ found is).2))))))
       ]
     ]
 
@@ -31,8 +30,15 @@ returns-in-Err-load-clause-err g c =
     let found = c.in-Ok-record_of.ensures.ok in
     leaf_refused _ _ _ _ (D.seen c.args.disk.now) (D.seen c.read_block.new.disk) c.in-Ok-record_of.found.entry.link _ c.in-Err-load.ensures.err
     (rose_sooner _ _ _ c.read_block.ensures.looked.count) (λ h. c.read_block.ensures.looked.same ∙ h.0) c.read_block.ensures.looked.content
-    (λ h none. no_leaf_no_content (D.seen c.args.disk.now) c.args.slot c.deref.result.now c.in-Ok-record_of.found.numbers (lent c.in-Ok-record_of.found.entry) c.in-Ok-record_of.found.entry.link
-    (block_there (D.seen c.args.disk.now) c.args.slot c.addr.result c.in-Ok.block.items c.deref.result.now c.addr.ensures c.deref.ensures.value h.1 (c.in-Ok.ensures.bytes h.0)) found.holds.form found.holds.link found.holds.is none)
+    (λ h sum none. inr (inr (record {
+      slot = c.args.slot;
+      link = c.in-Ok-record_of.found.entry.link;
+      leads = leads_to (D.seen c.args.disk.now) c.args.slot c.deref.result.now c.in-Ok-record_of.found.numbers (lent c.in-Ok-record_of.found.entry) c.in-Ok-record_of.found.entry.link
+          (block_there (D.seen c.args.disk.now) c.args.slot c.addr.result c.in-Ok.block.items c.deref.result.now c.addr.ensures c.deref.ensures.value h.1 (c.in-Ok.ensures.bytes h.0)) found.holds.form found.holds.link found.holds.is;
+      place = refl;
+      sum = refl;
+      why = none;
+    })))
 
 pub returns-in-Err-books-clause-err : goal.returns-in-Err-books-clause-err
 returns-in-Err-books-clause-err g c =
@@ -40,8 +46,8 @@ returns-in-Err-books-clause-err g c =
     let found = c.in-Ok-record_of.ensures.ok in
     books_refused _ _ (D.seen c.args.disk.now) c.args.slot c.in-Ok-record_of.found.entry.link c.in-Ok-length.len _ c.in-Err-books.ensures.err
     (λ h. c.in-Ok-length.ensures.len (c.load.ensures.looked.same ∙ c.read_block.ensures.looked.same ∙ h.0) ∙ ap length (c.load.ensures.looked.content ∙ c.read_block.ensures.looked.content))
-    (λ h none. no_books_no_content (D.seen c.args.disk.now) c.args.slot c.deref.result.now c.in-Ok-record_of.found.numbers (lent c.in-Ok-record_of.found.entry) c.in-Ok-record_of.found.entry.link
-    (block_there (D.seen c.args.disk.now) c.args.slot c.addr.result c.in-Ok.block.items c.deref.result.now c.addr.ensures c.deref.ensures.value h.1 (c.in-Ok.ensures.bytes h.0)) found.holds.form found.holds.link found.holds.is none)
+    (λ h. leads_to (D.seen c.args.disk.now) c.args.slot c.deref.result.now c.in-Ok-record_of.found.numbers (lent c.in-Ok-record_of.found.entry) c.in-Ok-record_of.found.entry.link
+    (block_there (D.seen c.args.disk.now) c.args.slot c.addr.result c.in-Ok.block.items c.deref.result.now c.addr.ensures c.deref.ensures.value h.1 (c.in-Ok.ensures.bytes h.0)) found.holds.form found.holds.link found.holds.is)
 
 pub returns-in-Err-books-clause-looked : goal.returns-in-Err-books-clause-looked
 returns-in-Err-books-clause-looked g c =

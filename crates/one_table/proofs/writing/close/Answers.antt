@@ -20,7 +20,7 @@ use Rattle.checkpoint_core.specs.Finishes.{IsOld, Finishes}
 use Rattle.checkpoint_core.proofs.Recording.{block_length, block_some, image_still, wrote_old}
 use Rattle.checkpoint_core.proofs.Capturing.{captured, has_new, live_added}
 use Rattle.one_table.specs.OneTable.{table_of, one_unplaced}
-use Rattle.one_table.specs.Openings.{LeafIs, blocks_at}
+use Rattle.one_table.specs.Leaves.{LeafIs, blocks_at}
 use Rattle.one_table.specs.Closings.{Installs, IsFullFor, ReadsOld, content_was}
 use Rattle.one_table.proofs.Writes.{alone_told, after_told, empty_leaf, written_leaf, written_in_use, still_in_use, stands_captured, link_made, sizes_are, leaf_refused, unsynced_stands, write_failed, if_err_map}
 use Rattle.one_table.proofs.Opens.{rose_sooner}
@@ -37,7 +37,7 @@ returns-then-is_empty-clause-installs g c h old serves next =
     let stands = unsynced_stands seen (D.may_leave c.args.disk.now) books old serves.still serves.unsynced serves.in_use in
     let leaf = subst (λ (l : Link). LeafIs seen l []) (sym c.nowhere-link.ensures) (empty_leaf seen) in
     let in_use = subst (λ (l : Link). AreInUse books.cells (blocks_at l [])) (sym c.nowhere-link.ensures) tt in
-    subst (λ (r : Result (Unit {0}) Refusal). Installs D fault (IsFullFor seen (D.capacity c.args.disk.now) c.args.rows.now) (content_was old) (leaf_content c.args.numbers.marks t c.args.rows.now) c.args.disk.now c.write_record-record.new.disk r) (sym c.told.ensures)
+    subst (λ (r : Result (Unit {0}) Refusal). Installs D fault (IsFullFor seen (D.capacity c.args.disk.now) c.args.rows.now) (content_was old) (leaf_content c.args.numbers.marks t c.args.rows.now) c.args.disk.now c.write_record-record.new.disk r) (sym c.told.ensures.is)
     (rw none (alone_told D fault seen (D.capacity c.args.disk.now) old c.args.numbers t serves.still c.requires.form.table.short books.space c.nowhere-link.result c.args.disk.now c.write_record-record.new.disk c.write_record-record.result serves.space
     (c.write_record-record.ensures.finishes h old [] stands leaf in_use next) c.write_record-record.ensures.fault))
 
@@ -86,7 +86,7 @@ returns-in-Ok-write-clause-installs g c h old serves next =
     let in_use = still_in_use c.write.new.self.cells c.capture.new.blocks.cells (unit_of a.offset) _ c.capture.ensures.cells (written_in_use c.write.new.self.cells bytes a rows wrote.address (has_new books c.write.new.self a wrote.added)) in
     let fault = Rose (D.faults c.args.disk.now) (D.faults end) in
     let finishes = c.write_record-record-in-Ok-write.ensures.finishes (c.write.ensures.disk.same ∙ h) old rows held (subst (λ (l : Link). LeafIs (D.seen mid) l rows) (sym link_same) leaf) (subst (λ (l : Link). AreInUse c.capture.new.blocks.cells (blocks_at l rows)) (sym link_same) in_use) next in
-    subst (λ (r : Result (Unit {0}) Refusal). Installs D fault (IsFullFor seen capacity rows) (content_was old) (leaf_content c.args.numbers.marks t rows) c.args.disk.now end r) (sym c.told-in-Ok-write.ensures)
+    subst (λ (r : Result (Unit {0}) Refusal). Installs D fault (IsFullFor seen capacity rows) (content_was old) (leaf_content c.args.numbers.marks t rows) c.args.disk.now end r) (sym c.told-in-Ok-write.ensures.is)
     (after_told D fault seen capacity old c.args.numbers t serves.still c.requires.form.table.short books.space c.write.new.self.space a.offset rows link c.args.disk.now mid end (sizes_are rows some) serves.space
     (subst (λ k. Taken books.space c.write.new.self.space k capacity a.offset) size wrote.taken)
     (widened D _ _ _ _ c.write.ensures.leaves (wrote_old seen images books old stands units (length bytes) capacity some_bytes))
@@ -115,7 +115,7 @@ returns-clause-installs g c h old serves next =
       | inl same ↦ rw same (started D c.args.disk.now (IsOld images old) (λ d there. inl (g.met.D.Disk.only_now _ d there)))
       | inr units ↦ widened D _ _ _ _ c.write.ensures.leaves (wrote_old seen images books old stands units (length bytes) capacity some_bytes)
     ] in
-    subst (λ (r : Refusal). Installs D fault (IsFullFor seen capacity rows) (content_was old) (leaf_content c.args.numbers.marks (table_of c.args.entry.now) rows) c.args.disk.now c.write.new.disk (Err r)) (sym c.refused.ensures)
+    subst (λ (r : Refusal). Installs D fault (IsFullFor seen capacity rows) (content_was old) (leaf_content c.args.numbers.marks (table_of c.args.entry.now) rows) c.args.disk.now c.write.new.disk (Err r)) (sym c.refused.ensures.is)
     (leaf_refused D fault seen capacity old serves.still _ books.space rows (length bytes) c.args.disk.now c.write.new.disk c.in-Err.error (sizes_are rows some) size serves.space (λ is. (c.in-Err.ensures.no_space is).1) (λ of_disk. write_failed c.in-Err.error c.in-Err.ensures.rose of_disk) leaves)
 
 pub returns-in_default-clause-installs : goal.returns-in_default-clause-installs

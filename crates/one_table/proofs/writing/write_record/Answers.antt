@@ -4,7 +4,7 @@ use Rattle.block_mgr.specs.declared.cell.Cell.{Cell}
 use Rattle.checkpoint_core.specs.Stands.{AreInUse}
 use Rattle.checkpoint_core.specs.Finishes.{Finishes}
 use Rattle.one_table.specs.OneTable.{table_of, one_image, one_unplaced}
-use Rattle.one_table.specs.Openings.{blocks_at}
+use Rattle.one_table.specs.Leaves.{blocks_at}
 use Rattle.one_table.proofs.Writes.{ready_is, stands_begun}
 use Rattle.one_table.proofs.writing.write_record.Goals as goal
 

@@ -5,7 +5,8 @@ use Rattle.one_table.specs.OneTable.{one_stored, table_of}
 use Rattle.one_table.specs.Closings.{IsFullFor, content_was}
 use Rattle.failure.specs.Counts.{Rose}
 use Rattle.wt_tool.specs.Closes.{next_numbers}
-use Rattle.wt_tool.proofs.Closings.{follows, content_there, not_fit, installs_as}
+use Rattle.wt_tool.proofs.Closings.{follows, content_there, not_fit, installs_as, close_sound}
+use Rattle.one_table.proofs.Opens.{err_map}
 use Rattle.wt_tool.proofs.closing.close_next.Goals as goal
 
 pub returns-then-kept-ge-NUMBER_MAX-clause-closes : goal.returns-then-kept-ge-NUMBER_MAX-clause-closes
@@ -33,3 +34,6 @@ returns-clause-closes g c h content reads =
       installs_as D (Rose (D.faults c.args.disk.now) (D.faults c.close.new.disk)) (IsFullFor (D.seen c.args.disk.now) (D.capacity c.args.disk.now) k.rows) c.args.disk.now c.close.new.disk c.close.result t k.rows
           (content_was (Some s)) content c.next_numbers-numbers.result (next_numbers k.numbers c.args.next) (content_there _ _ k.numbers t there content reads) c.next_numbers-numbers.ensures installs,
     ))
+
+pub returns-clause-sound : goal.returns-clause-sound
+returns-clause-sound g c = err_map c.close.result c.close.ensures.refusals close_sound

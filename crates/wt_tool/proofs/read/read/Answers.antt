@@ -10,9 +10,10 @@ use Rattle.wt_io.specs.StreamLemmas.{took_more}
 use Rattle.wt_tool.specs.Points.{Device, Ran, Through, Stopped, OutputFailed, ends, prints, tells}
 use Rattle.wt_tool.specs.Reads.{GetsKeys}
 use Rattle.wt_tool.specs.Answers.{get_answer}
+use Rattle.wt_tool.specs.Parts.{NoDamage}
 use Rattle.one_table.specs.declared.opening.Kept.{Kept}
 use Rattle.wt_tool.specs.Top.{Errors, IsTold, Tells, lines, last_line, status_of, first_status, errors_of}
-use Rattle.wt_tool.proofs.Gets.{begun_at, behind, reading, reading_stopped, got_value, got_refused, more_value, failed_value, more_absent, rose_before, front_more, told_more, tells_more, ok_or_err, of_ok, of_err, lines_behind}
+use Rattle.wt_tool.proofs.Gets.{begun_at, behind, reading, reading_stopped, got_value, got_refused, more_value, failed_value, more_absent, rose_before, front_more, told_more, tells_more, ok_or_err, of_ok, of_err, each_behind, lines_behind}
 use Rattle.wt_tool.proofs.read.read.Goals as goal
 use Rattle.wt_tool.proofs.read.read.Goals.{in-Ok+else-is_err, in-Err+else-told-eq12+else-not-is_absence, then-told-eq12-via-then-told-eq12, then-told-eq12-via-else-told-eq12+then-not-is_absence}
 
@@ -24,6 +25,7 @@ pub loop-key-init : goal.loop-key-init
 loop-key-init g c = record {
   printed = [];
   met = [];
+  each = tt;
   out = took_none (g.K.Sink.written c.args.out.now);
   err = inl (took_none (g.E.Sink.written c.args.err.now));
   status = refl;
@@ -98,6 +100,7 @@ loop-key-preserved g c = elim c.match-get.branch [
       record {
         printed = i.printed ++ (w.in-Ok.text.now ++ 10 ∷ []);
         met = i.met;
+        each = i.each;
         out = subst (λ (o : Option (List ℕ)). Took (g.K.Sink.written c.args.out.now) o (i.printed ++ (w.in-Ok.text.now ++ 10 ∷ []))) (sym (ap g.K.Sink.written w.out-is)) (took_more _ _ _ i.printed (w.in-Ok.text.now ++ 10 ∷ []) i.out p);
         err = same_err _ _ _ _ _ _ (lines i.met) (ap g.E.Sink.written w.err-is) (ap g.E.Sink.fault_count w.err-is) i.err;
         status = w.status-is ∙ i.status;
@@ -125,6 +128,7 @@ loop-key-preserved g c = elim c.match-get.branch [
       record {
         printed = i.printed;
         met = i.met ++ NotFound ∷ [];
+        each = each_behind NoDamage i.met NotFound i.each tt;
         out = subst (λ (o : Option (List ℕ)). Took (g.K.Sink.written c.args.out.now) o i.printed) (sym (ap g.K.Sink.written w.out-is)) i.out;
         err = same_err _ _ _ _ _ _ (lines (i.met ++ NotFound ∷ [])) (ap g.E.Sink.written w.err-is) (ap g.E.Sink.fault_count w.err-is)
             (subst (λ (l : List ℕ). Took (g.E.Sink.written c.args.err.now) (g.E.Sink.written w.report-told.new.err) l ⊎ Rose (g.E.Sink.fault_count c.args.err.now) (g.E.Sink.fault_count w.report-told.new.err)) (sym (lines_behind i.met (NotFound ∷ []))) both);
@@ -207,6 +211,7 @@ returns-then-told-eq12-clause-run g c = λ content meets device.
 pub returns-then-is_err-clause-told : goal.returns-then-is_err-clause-told
 returns-then-is_err-clause-told g c = record {
   refusals = c.loop-key.invariant.met;
+  each = c.loop-key.invariant.each;
   replies = [];
   end = OutputFailed;
   told = inl (
@@ -219,7 +224,7 @@ returns-then-is_err-clause-told g c = record {
 pub returns-clause-told : goal.returns-clause-told
 returns-clause-told g c =
     let i = c.loop-key.invariant in
-    record { refusals = i.met; replies = []; end = Through; told = subst (λ (l : List Refusal). Tells (errors_of g.E.Sink c.args.err.now c.loop-key.err) (lines i.met ++ []) (first_status l) c.loop-key.status) (sym (append-nil i.met)) (inl (subst (λ (l : List ℕ). IsTold (errors_of g.E.Sink c.args.err.now c.loop-key.err) l) (sym (append-nil (lines i.met))) i.err, i.status)) }
+    record { refusals = i.met; each = i.each; replies = []; end = Through; told = subst (λ (l : List Refusal). Tells (errors_of g.E.Sink c.args.err.now c.loop-key.err) (lines i.met ++ []) (first_status l) c.loop-key.status) (sym (append-nil i.met)) (inl (subst (λ (l : List ℕ). IsTold (errors_of g.E.Sink c.args.err.now c.loop-key.err) l) (sym (append-nil (lines i.met))) i.err, i.status)) }
 
 pub returns-then-told-eq12-clause-told : goal.returns-then-told-eq12-clause-told
 returns-then-told-eq12-clause-told g c =
@@ -228,6 +233,7 @@ returns-then-told-eq12-clause-told g c =
     let higher : g.E.Sink.fault_count c.loop-key.err ≤ g.E.Sink.fault_count c.report-told.new.err = c.report-told.ensures.later in
     record {
       refusals = i.met ++ c.in-Err.refusal ∷ [];
+      each = each_behind NoDamage i.met c.in-Err.refusal i.each c.in-Err.ensures.sound;
       replies = [];
       end = Stopped c.in-Err.refusal;
       told = subst (λ (l : List ℕ). Tells (errors_of g.E.Sink c.args.err.now c.report-told.new.err) l (status_of c.in-Err.refusal) c.report-told.result) (sym (lines_behind i.met (c.in-Err.refusal ∷ [])) ∙ sym (append-nil (lines (i.met ++ c.in-Err.refusal ∷ []))))

@@ -11,6 +11,7 @@ use Rattle.wt_code.specs.declared.refusals.Invalid.TheVariants.{BadName}
 use Rattle.wt_line.specs.declared.command.Command.{Command}
 use Rattle.wt_line.specs.Line.{meaning, pair_texts, write, read}
 use Rattle.one_table.specs.declared.opening.Kept.{Kept}
+use Rattle.one_table.proofs.Opens.{err_map}
 use Rattle.wt_tool.specs.Words.{name_in}
 use Rattle.wt_tool.specs.Points.{Outside, Point, point_of}
 use Rattle.wt_tool.specs.Narrow.{ClosesOne}
@@ -20,7 +21,7 @@ use Rattle.wt_tool.specs.Writes.{WritesPairs, demand_of}
 use Rattle.wt_tool.specs.Commands.{RunsOpened}
 use Rattle.wt_tool.specs.Parts.{Meets, uri_of}
 use Rattle.wt_tool.specs.Top.{Streams, outside, streams_of}
-use Rattle.wt_tool.proofs.Running.{refused_open, may_open, finds_reads, opens_of, meets, bad_name, as_create, as_write, as_read, gave_none, telling, status_some, untold_at, stopped, left_by_calls, reading_went, kept_form}
+use Rattle.wt_tool.proofs.Running.{refused_open, may_open, finds_reads, opens_of, meets, bad_name, as_create, as_write, as_read, gave_none, telling, no_damage_so, told_so, opening_so, status_some, untold_at, stopped, left_by_calls, reading_went, kept_form}
 use Rattle.wt_tool.proofs.top.run.Goals as goal
 
 if_err : {T E : Type 0} (P : E → Type 0) (r : Result T E) (e : E) → r ≡ Err e → IfErr r P → P e
@@ -41,7 +42,7 @@ returns-in-Err-clause-run g c h content each =
     (λ d left. each.0 d (looked.images d left)) first.each (took_none _) c.report.ensures.told
 
 pub returns-in-Err-clause-told : goal.returns-in-Err-clause-told
-returns-in-Err-clause-told g c = telling _ (Err c.in-Err.refusal) c.report.result c.report.ensures.told
+returns-in-Err-clause-told g c = telling _ _ (Err c.in-Err.refusal) c.report.result c.report.ensures.told (opening_so _ _ _ c.in-Err.refusal c.in-Err.ensures.err)
 
 pub returns-in-Err-clause-opened : goal.returns-in-Err-clause-opened
 returns-in-Err-clause-opened g c h none = absurd (status_some c.in-Err.refusal c.report.result c.report.ensures.status none)
@@ -68,7 +69,7 @@ returns-in-None-clause-run g c h content each =
     (λ d left. each.0 d (looked.images d left)) first.each (took_none _) c.report-in-None.ensures.told
 
 pub returns-in-None-clause-told : goal.returns-in-None-clause-told
-returns-in-None-clause-told g c = telling _ (Err (Refusal_Invalid BadName)) c.report-in-None.result c.report-in-None.ensures.told
+returns-in-None-clause-told g c = telling _ _ (Err (Refusal_Invalid BadName)) c.report-in-None.result c.report-in-None.ensures.told tt
 
 pub returns-in-None-clause-opened : goal.returns-in-None-clause-opened
 returns-in-None-clause-opened g c h none = finds_reads _ c.in-Ok.opened (c.in-Ok.ensures.ok h)
@@ -100,7 +101,7 @@ returns-in-Create-clause-run g c h content each =
     (took_none _) c.told.ensures.told
 
 pub returns-in-Create-clause-told : goal.returns-in-Create-clause-told
-returns-in-Create-clause-told g c = telling _ c.create-result.result c.told.result c.told.ensures.told
+returns-in-Create-clause-told g c = telling _ _ c.create-result.result c.told.result c.told.ensures.told (err_map c.create-result.result c.create-result.ensures.sound (no_damage_so _ _))
 
 pub returns-in-Write-clause-run : goal.returns-in-Write-clause-run
 returns-in-Write-clause-run g c h content each =
@@ -123,7 +124,7 @@ returns-in-Write-clause-run g c h content each =
     (took_none _) c.told-in-Write.ensures.told
 
 pub returns-in-Write-clause-told : goal.returns-in-Write-clause-told
-returns-in-Write-clause-told g c = telling _ c.write-result.result c.told-in-Write.result c.told-in-Write.ensures.told
+returns-in-Write-clause-told g c = telling _ _ c.write-result.result c.told-in-Write.result c.told-in-Write.ensures.told (err_map c.write-result.result c.write-result.ensures.sound (no_damage_so _ _))
 
 pub returns-in-Read-clause-run : goal.returns-in-Read-clause-run
 returns-in-Read-clause-run g c h content each =
@@ -144,6 +145,9 @@ returns-in-Read-clause-run g c h content each =
     (as_read o q c.in-Read.uri.now name (subst (λ (a : Command). name_in (uri_of (meaning a)) ≡ Some name) c.in-Read.is named) keys ran run)))
     (λ d left. each.0 d (looked.images d left)) first.each
     (c.read.ensures.run content (subst (λ (k : Option Kept). Meets content k) (sym c.as_ref.ensures.value) (meets (D.seen c.args.disk.now) c.in-Ok.opened content (c.in-Ok.ensures.ok h) reads)) q.device)
+
+pub returns-in-Read-clause-told : goal.returns-in-Read-clause-told
+returns-in-Read-clause-told g c = told_so _ _ _ c.read.result c.read.ensures.told
 
 pub returns-in-Read-clause-silent : goal.returns-in-Read-clause-silent
 returns-in-Read-clause-silent g c h = inr (finds_reads _ c.in-Ok.opened (c.in-Ok.ensures.ok h))

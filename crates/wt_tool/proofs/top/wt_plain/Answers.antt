@@ -41,7 +41,7 @@ returns-in-Err-NoMemory g c =
           (inl (NoMemory, point_of D (start content) c.args.disk, opens_same D (start content) c.args.disk, inr (inl refl), refl))
           (λ d left. each.0 d left) (λ d left. each.0 d (g.met.D.Disk.only_now c.args.disk d left)) (took_none _) (inr (cut_all e (lines (NoMemory ∷ [])) (omega arith) (took_none _), refl));
       usage_told = λ none. (inr (cut_all e usage (omega arith) (took_none _), refl), took_none _, refl, refl);
-      told = λ asked is. record { refusals = NoMemory ∷ []; replies = []; end = Stopped NoMemory; told = inr (cut_all e _ (omega arith) (took_none _), refl) };
+      told = λ asked is. record { refusals = NoMemory ∷ []; each = (tt, tt); replies = []; end = Stopped NoMemory; told = inr (cut_all e _ (omega arith) (took_none _), refl) };
       opened = λ h is. absurd (omega (arith, is));
       silent = λ h. inl (took_none _);
       home = λ asked is. inr (refl, refl, inr refl);

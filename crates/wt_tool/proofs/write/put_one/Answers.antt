@@ -46,7 +46,7 @@ row_fits run id key value below some low fits small = record {
 pub put-requires : goal.put-requires
 put-requires c =
     let lengths : (length c.in-Ok.key ≤ 1024) × (length c.in-Ok-stored_as.value ≤ 16384) = short c.in-Ok.key c.in-Ok-stored_as.value
-    (c.in-None.ensures c.in-Ok.key c.in-Ok-stored_as.value (ap length c.in-Ok.ensures ∙ sym c.stored_len-key_len.ensures) (ap length c.in-Ok-stored_as.ensures ∙ sym c.stored_len-value_len.ensures)) in
-    let low : c.args.id < 2 ^ 62 = low_id c.args.kept.now.numbers.marks.oldest c.args.id (demand_of c.args.overwrite) c.as_bytes-2.result.now c.args.kept.now.rows c.in-None-put_over.ensures in
+    (c.in-None.ensures.why c.in-Ok.key c.in-Ok-stored_as.value (ap length c.in-Ok.ensures ∙ sym c.stored_len-key_len.ensures) (ap length c.in-Ok-stored_as.ensures ∙ sym c.stored_len-value_len.ensures)) in
+    let low : c.args.id < 2 ^ 62 = low_id c.args.kept.now.numbers.marks.oldest c.args.id (demand_of c.args.overwrite) c.as_bytes-2.result.now c.args.kept.now.rows c.in-None-put_over.ensures.why in
     subst (λ (v : Version PageChange). RowFits [] key_most (c.in-Ok.key, v)) (sym c.version.ensures)
     (row_fits c.args.kept.now.numbers.marks.run c.args.id c.in-Ok.key c.in-Ok-stored_as.value c.requires.run c.requires.some low lengths.0 lengths.1)

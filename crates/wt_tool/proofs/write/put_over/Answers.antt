@@ -36,8 +36,8 @@ accepted : (oldest id prev : ℕ) (demand : Demand) (key : List ℕ) (rows : Lis
     → None ≡ put_over oldest id demand key rows
 accepted oldest id prev demand key rows low met is le = rw (lt-leb (2 ^ 62) id low, met, sym is, le-ltb oldest prev le) refl
 
-pub returns-then-prev-oldest : goal.returns-then-prev-oldest
-returns-then-prev-oldest c =
+pub returns-then-prev-oldest-clause-why : goal.returns-then-prev-oldest-clause-why
+returns-then-prev-oldest-clause-why c =
     let low : c.args.id < 2 ^ 62 = omega (arith, c.if-id-gt-ID_MAX.false) in
     let is : c.durable_in-prev.result ≡ durable_in (version_at c.args.key.now c.args.rows.now) = c.durable_in-prev.ensures ∙ ap durable_in c.version-version.ensures in
     let met : unmet (demand_of c.args.overwrite) (value_in (version_at c.args.key.now c.args.rows.now)) ≡ None = elim c.else-not-overwrite.branch [
@@ -47,8 +47,8 @@ returns-then-prev-oldest c =
     ] in
     stamped c.args.oldest c.args.id c.durable_in-prev.result (demand_of c.args.overwrite) c.args.key.now c.args.rows.now low met is c.if-prev-oldest.true
 
-pub returns : goal.returns
-returns c =
+pub returns-clause-why : goal.returns-clause-why
+returns-clause-why c =
     let low : c.args.id < 2 ^ 62 = omega (arith, c.if-id-gt-ID_MAX.false) in
     let is : c.durable_in-prev.result ≡ durable_in (version_at c.args.key.now c.args.rows.now) = c.durable_in-prev.ensures ∙ ap durable_in c.version-version.ensures in
     let met : unmet (demand_of c.args.overwrite) (value_in (version_at c.args.key.now c.args.rows.now)) ≡ None = elim c.else-not-overwrite.branch [
