@@ -9,7 +9,6 @@ use Rattle.disk_model.proofs.Crash.{widened}
 use Rattle.disk_model.specs.declared.disk.Disk.{Ghosts}
 use Rattle.device_layout.specs.declared.slot.Slot.{Slot}
 use Rattle.turtle.specs.Slots.{IsNext}
-use Rattle.limits.specs.declared.TheConstants.{NUMBER_MAX}
 use Rattle.kv_model.specs.AgreementLaws.{head_of}
 use Rattle.kv_model.specs.History.{Table, line, cut}
 use Rattle.kv_model.specs.Machine.{Machine, Completed, Event, CheckpointStart, CheckpointFinish, GoDown}
@@ -120,8 +119,8 @@ pub record IsIdle (m : Machine) : Type 0 where
 
 -- below the last number a checkpoint is as the device takes it
 below_last : (number : ℕ) (storing : Storing) → number < last_number → last_checkpoint number storing ≡ last_stored storing
-below_last number storing less = elim (cases_Bool (nat_le NUMBER_MAX number)) [
-  | inl high ↦ absurd (omega (arith, less, leb-true NUMBER_MAX number high))
+below_last number storing less = elim (cases_Bool (nat_le last_number number)) [
+  | inl high ↦ absurd (omega (arith, less, leb-true last_number number high))
   | inr low ↦ rw low refl
 ]
 
