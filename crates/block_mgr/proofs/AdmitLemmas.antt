@@ -1,6 +1,6 @@
 -- The units of a block that an opening finds.
-use Rattle.std.specs.Prelude.{◌≡◌, ℕ, ◌+◌, ◌-◌, ◌*◌, ◌/◌, ◌%◌, ◌^◌, ◌<◌, ◌≤◌, ◌||◌, true, false, List, length, set, refl}
-use Rattle.std.proofs.Common.{inl, inr, sym, ◌∙◌, ap, subst, arith}
+use Rattle.std.specs.Prelude.{◌≡◌, ℕ, ◌+◌, ◌*◌, ◌/◌, ◌<◌, ◌≤◌, ◌||◌, true, List, length, set, refl}
+use Rattle.std.proofs.Common.{inl, sym, ◌∙◌, ap, subst, arith}
 use Rattle.std.proofs.lemmas.List.{get_or-set_same, get_or-set_other, length-set}
 use Rattle.extent_list.specs.Space.{Space, end_of, Fits as Fit, Took}
 use Rattle.block_mgr.specs.declared.cell.Cell.{Cell}
@@ -9,7 +9,7 @@ use Rattle.block_mgr.specs.declared.found.Holder.{Holder}
 use Rattle.block_mgr.specs.declared.found.Holder.TheVariants.{Tree, Last, Named}
 use Rattle.block_mgr.specs.Cells.{AreUnits, cell_at, nothing, is_used}
 use Rattle.block_mgr.specs.Blocks.{unit_of}
-use Rattle.block_mgr.specs.Found.{lasts, lives, name_count}
+use Rattle.block_mgr.specs.Found.{lasts, name_count}
 use Rattle.block_mgr.specs.Places.{IsPlace}
 use Rattle.block_mgr.specs.Open.{joined}
 use Rattle.block_mgr.proofs.HolderLemmas.{used_last, used_named}

@@ -1,5 +1,5 @@
 -- Blocks in use over the calls.
-use Rattle.std.specs.Prelude.{◌≡◌, ◌⊎◌, ℕ, ◌+◌, ◌-◌, ◌*◌, ◌/◌, ◌<◌, ◌≤◌, Bool, true, false, ◌||◌, nat_lt, cond, List, length, map, set, refl}
+use Rattle.std.specs.Prelude.{◌≡◌, ℕ, ◌+◌, ◌-◌, ◌*◌, ◌/◌, ◌<◌, ◌≤◌, Bool, true, false, ◌||◌, nat_lt, cond, List, length, map, set, refl}
 use Rattle.std.proofs.Common.{inl, inr, sym, ◌∙◌, ap, subst, arith}
 use Rattle.std.proofs.lemmas.Bool.{cases_lt, cases_eq, false≢true}
 use Rattle.std.proofs.lemmas.List.{get_or-set_same, get_or_past, set_past}
@@ -7,10 +7,10 @@ use Rattle.disk_model.specs.Disk.{Torn}
 use Rattle.disk_model.specs.Crash.{Apart, Keeps}
 use Rattle.disk_model.proofs.Crash.{keeps_torn}
 use Rattle.device_layout.specs.declared.addr.Addr.{Addr}
-use Rattle.extent_list.specs.Space.{Space, end_of, Fits, IsSpot}
+use Rattle.extent_list.specs.Space.{Space, Fits, IsSpot}
 use Rattle.block_mgr.specs.declared.cell.Cell.{Cell}
 use Rattle.block_mgr.specs.Cells.{AreUnits, cell_at, is_used, nothing, kept}
-use Rattle.block_mgr.specs.Blocks.{Books, HasCell, Has, unit_of}
+use Rattle.block_mgr.specs.Blocks.{Books, HasCell, Has}
 use Rattle.block_mgr.specs.Writes.{Added}
 use Rattle.block_mgr.proofs.HolderLemmas.{set_keeps, map_keeps, kept_used}
 

@@ -1,5 +1,5 @@
 -- The cells of the addresses that were found, and which of them agree.
-use Rattle.std.specs.Prelude.{◌≡◌, ◌⊎◌, ℕ, zero, suc, ◌+◌, ◌-◌, ◌*◌, ◌/◌, ◌%◌, ◌^◌, ◌<◌, ◌≤◌, ◌||◌, ◌++◌, ◌∷◌, [], Bool, true, false, cond, List, length, take, set, get_or, refl}
+use Rattle.std.specs.Prelude.{◌≡◌, ◌⊎◌, ℕ, zero, suc, ◌+◌, ◌-◌, ◌*◌, ◌/◌, ◌%◌, ◌^◌, ◌<◌, ◌≤◌, ◌||◌, ◌∷◌, [], Bool, true, false, cond, List, length, take, set, refl}
 use Rattle.std.specs.List.{fold}
 use Rattle.std.proofs.Common.{inl, inr, sym, ◌∙◌, ap, subst, arith, eq-eqb, add-one}
 use Rattle.std.proofs.Math.Seq.{take-suc}
@@ -11,10 +11,10 @@ use Rattle.block_mgr.specs.declared.cell.Cell.{Cell}
 use Rattle.block_mgr.specs.declared.found.Found.{Found}
 use Rattle.block_mgr.specs.declared.found.Holder.{Holder}
 use Rattle.block_mgr.specs.declared.found.Holder.TheVariants.{Tree, Last, Named}
-use Rattle.block_mgr.specs.Cells.{AreUnits, Covers, cell_at, nothing}
+use Rattle.block_mgr.specs.Cells.{AreUnits, cell_at, nothing}
 use Rattle.block_mgr.specs.Blocks.{unit_of}
 use Rattle.block_mgr.specs.Found.{lasts, name_count}
-use Rattle.block_mgr.specs.Open.{no_found, found_at, found_cell, joined, with_found, Fits, Agree, AreShared, AgreeUpTo}
+use Rattle.block_mgr.specs.Open.{no_found, found_at, found_cell, joined, with_found, Fits, Agree, AgreeUpTo}
 use Rattle.block_mgr.proofs.UnitLemmas.{unit_free}
 use Rattle.block_mgr.proofs.HasLemmas.{hit}
 

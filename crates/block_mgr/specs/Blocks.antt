@@ -2,7 +2,7 @@
 use Rattle.std.specs.Prelude.{◌≡◌, ℕ, ◌+◌, ◌-◌, ◌*◌, ◌/◌, ◌≤◌, Bool, true, List}
 use Rattle.extent_list.specs.Space.{Space}
 use Rattle.block_mgr.specs.declared.cell.Cell.{Cell}
-use Rattle.block_mgr.specs.Cells.{cell_at, is_used}
+use Rattle.block_mgr.specs.Cells.{MayBeNamed, cell_at, is_used}
 
 -- what the manager is seen as: the blocks in use, a cell for each unit; the free units and the end; whether the disk was synced since the opening; and whether a checkpoint runs
 pub record Books : Type 0 where
@@ -38,3 +38,7 @@ HasLast = HasCell (λ c. c.is_last ≡ true)
 -- a named checkpoint has it
 abbrev pub HasName : List Cell → ℕ → ℕ → Type 0
 HasName = HasCell (λ c. 1 ≤ c.names)
+
+-- the last completed checkpoint has it, and a named one may take it
+abbrev pub MayName : List Cell → ℕ → ℕ → Type 0
+MayName = HasCell MayBeNamed

@@ -49,6 +49,10 @@ dropped_cell c = kept (record c { is_running = false })
 abbrev pub dropped : List Cell → List Cell
 dropped cells = map dropped_cell cells
 
+-- the last completed checkpoint has the block, and one more name can be counted
+abbrev pub MayBeNamed : Cell → Type 0
+MayBeNamed c = (c.is_last ≡ true) × (c.names + 1 < 2 ^ 32)
+
 -- a named checkpoint takes the block at a unit, and lets go of it
 abbrev pub named : List Cell → ℕ → List Cell
 named cells u = slice_set cells u (record (cell_at cells u) { names = (cell_at cells u).names + 1 })

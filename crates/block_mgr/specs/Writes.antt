@@ -1,5 +1,5 @@
 -- What the write of a block leaves.
-use Rattle.std.specs.Prelude.{◌≡◌, ◌⊎◌, ℕ, Bool, true, false, List, length, ◌+◌, ◌*◌, ◌≤◌}
+use Rattle.std.specs.Prelude.{◌≡◌, ◌⊎◌, ℕ, Bool, true, false, List, length, ◌+◌, ◌*◌}
 use Rattle.failure.specs.declared.Fault.{Fault}
 use Rattle.failure.specs.declared.Fault.TheVariants.{Write, Sync}
 use Rattle.block_sum.specs.Sum.{sum_of}

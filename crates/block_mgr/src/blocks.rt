@@ -1,5 +1,5 @@
 // The blocks in use, and the free units between them.
-ghost use Rattle.std.specs.Prelude.{◌≡◌, ◌⊎◌, ◌↔◌, ◌+◌, ◌<◌, ◌≤◌, ◌^◌, ◌%◌, ℕ, [], length, true, false, IfOk, IfErr, OnOk, OnErr, IsTrue};
+ghost use Rattle.std.specs.Prelude.{◌≡◌, ◌⊎◌, ◌↔◌, ◌+◌, ◌*◌, ◌<◌, ◌≤◌, ◌^◌, ◌%◌, ℕ, [], length, true, false, IfOk, IfErr, IfSome, OnOk, OnErr, IsTrue, None};
 ghost use Rattle.failure.specs.declared.Fault.TheVariants.{Write, Sync};
 ghost use Rattle.failure.specs.Counts.{Rose};
 ghost use Rattle.wt_code.specs.declared.store_error.StoreError.TheVariants.{NoMemory as WantOfMemory, NoSpace, Read, Down};
@@ -8,8 +8,8 @@ ghost use Rattle.disk_model.specs.Crash.{SameDisk, LeavesOnly, Each, Looked};
 ghost use Rattle.disk_model.specs.Ranges.{range};
 ghost use Rattle.extent_list.specs.Space.{space_of, end_of, IsSpot, Taken, HasNoRoom};
 ghost use Rattle.le_codec.specs.Images.{block_of};
-ghost use Rattle.block_mgr.specs.Cells.{AreUnits, cell_at, captured, freed, done, dropped};
-ghost use Rattle.block_mgr.specs.Blocks.{Books, HasLive, unit_of};
+ghost use Rattle.block_mgr.specs.Cells.{AreUnits, cell_at, captured, freed, named, unnamed, done, dropped};
+ghost use Rattle.block_mgr.specs.Blocks.{Books, HasLive, HasName, MayName, unit_of};
 ghost use Rattle.block_mgr.specs.declared.found.OpenError.TheVariants.{NoPlace, Clash};
 ghost use Rattle.block_mgr.specs.Open.{AreStored, Fits, Agree, AgreeUpTo, found_at, found_cell, last_end};
 ghost use Rattle.block_mgr.specs.Places.{IsThere, Spoils};
@@ -235,12 +235,10 @@ impl Blocks {
     pub fn is_live(&self, addr: Addr) -> bool
         ensures { IsTrue result ↔ HasLive self.now.cells addr.offset addr.size }
     {
-        let size = addr.size as u64;
-        if addr.offset < SLOTS_END || addr.offset % UNIT != 0 || size % UNIT != 0 {
-            return false;
+        match span_of(addr) {
+            Some(span) => self.holders.is_live(span.first, span.units),
+            None => false,
         }
-        let unit = (addr.offset - SLOTS_END) / UNIT;
-        self.holders.is_live(unit, (size / UNIT) as u32)
     }
 
     /// A checkpoint begins to run. It has no block before it captures one. Takes no memory. `O(1)`.
@@ -282,6 +280,50 @@ impl Blocks {
         self.holders.free(unit);
     }
 
+    /// A named checkpoint takes a block of the last completed one: it has the block from now on, also
+    /// after later checkpoints are complete. `false` comes exactly where the last completed checkpoint
+    /// has no block of this place and size, or 2^32 - 1 names have it; nothing changes then. Takes
+    /// no memory. `O(1)`.
+    pub fn name(&mut self, addr: Addr) -> bool
+        ensures found { IsTrue result ↔ MayName self.old.cells addr.offset addr.size }
+        ensures cells { IsTrue result → self.new.cells ≡ named self.old.cells (unit_of addr.offset) }
+        ensures same { result ≡ false → self.new ≡ self.old }
+        ensures space { self.new.space ≡ self.old.space }
+        ensures synced { self.new.is_synced ≡ self.old.is_synced }
+        ensures held { self.new.is_held ≡ self.old.is_held }
+    {
+        let Some(span) = span_of(addr) else {
+            return false;
+        };
+        if !self.holders.may_name(span.first, span.units) {
+            return false;
+        }
+        self.holders.name(span.first as usize);
+        true
+    }
+
+    /// A named checkpoint lets go of a block. Its units are free at once where nobody has it any more.
+    /// `false` comes exactly where no named checkpoint has a block of this place and size; nothing
+    /// changes then. Takes no memory. `O(1)` in the number of blocks.
+    pub fn unname(&mut self, addr: Addr) -> bool
+        ensures found { IsTrue result ↔ HasName self.old.cells addr.offset addr.size }
+        ensures cells { IsTrue result → self.new.cells ≡ unnamed self.old.cells (unit_of addr.offset) }
+        ensures same { result ≡ false → self.new ≡ self.old }
+        ensures end { end_of self.new.space ≡ end_of self.old.space }
+        ensures units { IsTrue result → AreUnits self.new.cells self.new.space }
+        ensures synced { self.new.is_synced ≡ self.old.is_synced }
+        ensures held { self.new.is_held ≡ self.old.is_held }
+    {
+        let Some(span) = span_of(addr) else {
+            return false;
+        };
+        if !self.holders.is_named(span.first, span.units) {
+            return false;
+        }
+        self.holders.unname(span.first as usize);
+        true
+    }
+
     /// The running checkpoint is the last completed one now. The units of blocks that nobody has
     /// any more are free. Takes no memory. One pass over the units of the device.
     pub fn ckpt_done(&mut self)
@@ -309,6 +351,28 @@ impl Blocks {
         self.holders.let_go();
         self.is_held = false;
     }
+}
+
+// Units of a block: the first one, and how many.
+#[derive(Clone, Copy)]
+struct Span {
+    first: u64,
+    units: u32,
+}
+
+// The units of a block of this place and size.
+fn span_of(addr: Addr) -> Option<Span>
+    ensures some { IfSome result (λ s. (addr.offset ≡ 8192 + 4096 * s.first) × (addr.size ≡ 4096 * s.units)) }
+    ensures none { result ≡ None → (u n : ℕ) → addr.offset ≡ 8192 + 4096 * u → addr.size ≡ 4096 * n → ⊥ }
+{
+    let size = addr.size as u64;
+    if addr.offset < SLOTS_END || addr.offset % UNIT != 0 || size % UNIT != 0 {
+        return None;
+    }
+    Some(Span {
+        first: (addr.offset - SLOTS_END) / UNIT,
+        units: (size / UNIT) as u32,
+    })
 }
 
 // The unit at an offset behind the slots.

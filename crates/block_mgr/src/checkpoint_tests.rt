@@ -93,6 +93,32 @@ fn a_block_of_a_checkpoint_stays_until_the_next_is_complete(rt: HostRuntime) {
 }
 
 #[test]
+fn a_named_block_stays_until_it_is_unnamed(rt: HostRuntime) {
+    let alloc = rt.alloc();
+    let mut disk = new_disk(&rt, alloc, 1_048_576, &[]);
+    let mut blocks = Blocks::new(alloc);
+    let first = unit(&rt, alloc, &mut blocks, &mut disk);
+    assert!(&rt; !blocks.name(first));
+    begins(&rt, &mut blocks);
+    captures(&rt, &mut blocks, first);
+    ends(&rt, &mut blocks, true);
+    assert!(&rt; blocks.name(first) && blocks.name(first));
+    frees(&rt, &mut blocks, first);
+    begins(&rt, &mut blocks);
+    ends(&rt, &mut blocks, true);
+    // The last checkpoint has no block now, so no name can take one.
+    assert!(&rt; !blocks.name(first));
+    let second = unit(&rt, alloc, &mut blocks, &mut disk);
+    assert_eq!(rt; second.offset, 12288);
+    assert!(&rt; blocks.unname(first));
+    let third = unit(&rt, alloc, &mut blocks, &mut disk);
+    assert_eq!(rt; third.offset, 16384);
+    assert!(&rt; blocks.unname(first) && !blocks.unname(first));
+    let fourth = unit(&rt, alloc, &mut blocks, &mut disk);
+    assert_eq!(rt; fourth.offset, 8192);
+}
+
+#[test]
 fn a_leaf_that_each_checkpoint_writes_anew_takes_two_units(rt: HostRuntime) {
     let alloc = rt.alloc();
     let mut disk = new_disk(&rt, alloc, 16384, &[]);

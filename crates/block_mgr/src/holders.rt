@@ -10,6 +10,9 @@ ghost use Rattle.block_mgr.specs.Cells.{
   captured,
   Put,
   freed,
+  MayBeNamed,
+  named,
+  unnamed,
   done,
   dropped,
 };
@@ -131,6 +134,56 @@ impl Holders {
         let cell = self.cells[unit];
         let next = Cell {
             is_live: false,
+            ..cell
+        };
+        settle(&mut self.cells, &mut self.space, unit, next);
+    }
+
+    // Whether a named checkpoint may take a block of so many units here. `O(1)`.
+    pub(crate) fn may_name(&self, unit: u64, units: u32) -> bool
+        ensures { IsTrue result ↔ (((cell_at self.now.cells unit).units ≡ units) × MayBeNamed (cell_at self.now.cells unit)) }
+    {
+        if unit >= self.cells.len() as u64 {
+            return false;
+        }
+        let cell = self.cells[unit as usize];
+        cell.is_last && cell.names < u32::MAX && cell.units as u32 == units
+    }
+
+    // Whether a named checkpoint has a block of so many units here. `O(1)`.
+    pub(crate) fn is_named(&self, unit: u64, units: u32) -> bool
+        ensures { IsTrue result ↔ (((cell_at self.now.cells unit).units ≡ units) × (1 ≤ (cell_at self.now.cells unit).names)) }
+    {
+        if unit >= self.cells.len() as u64 {
+            return false;
+        }
+        let cell = self.cells[unit as usize];
+        1 <= cell.names && cell.units as u32 == units
+    }
+
+    // A named checkpoint takes a block of the last completed one. `O(1)`.
+    pub(crate) fn name(&mut self, unit: usize)
+        requires { MayBeNamed (cell_at self.old.cells unit) }
+        ensures cells { self.new.cells ≡ named self.old.cells unit }
+        ensures space { self.new.space ≡ self.old.space }
+    {
+        let cell = self.cells[unit];
+        self.cells[unit] = Cell {
+            names: cell.names + 1,
+            ..cell
+        };
+    }
+
+    // A named checkpoint lets go of a block. Takes no memory. `O(1)` in the number of blocks.
+    pub(crate) fn unname(&mut self, unit: usize)
+        requires { 1 ≤ (cell_at self.old.cells unit).names }
+        ensures cells { self.new.cells ≡ unnamed self.old.cells unit }
+        ensures end { end_of self.new.space ≡ end_of self.old.space }
+        ensures units { AreUnits self.new.cells self.new.space }
+    {
+        let cell = self.cells[unit];
+        let next = Cell {
+            names: cell.names - 1,
             ..cell
         };
         settle(&mut self.cells, &mut self.space, unit, next);

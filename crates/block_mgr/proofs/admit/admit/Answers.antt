@@ -1,4 +1,4 @@
-use Rattle.std.proofs.Common.{◌≡◌, ◌-◌, ◌/◌, ◌∙◌, sym, ap, arith}
+use Rattle.std.proofs.Common.{◌≡◌, ◌∙◌, sym, ap, arith}
 use Rattle.std.proofs.lemmas.Grind.{common_steps}
 use Rattle.block_mgr.specs.declared.cell.Cell.{Cell}
 use Rattle.block_mgr.specs.Cells.{cell_at}

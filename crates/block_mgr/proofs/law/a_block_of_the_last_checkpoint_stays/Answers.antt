@@ -1,13 +1,9 @@
-use Rattle.std.specs.Prelude.{◌≡◌, ◌⊎◌, ℕ, ◌+◌, ◌-◌, ◌*◌, ◌≤◌, true, false, refl}
-use Rattle.std.proofs.Common.{inl, inr, sym, ◌∙◌, ap, subst, arith}
+use Rattle.std.specs.Prelude.{◌≡◌, ◌+◌, ◌-◌, true, false, refl}
 use Rattle.std.proofs.lemmas.Bool.{false≢true}
-use Rattle.std.proofs.lemmas.List.{get_or-set_same, get_or-set_other}
 use Rattle.block_mgr.specs.declared.cell.Cell.{Cell}
-use Rattle.block_mgr.specs.Cells.{cell_at, nothing, kept, is_used, done_cell, dropped_cell}
-use Rattle.block_mgr.specs.Blocks.{HasCell}
-use Rattle.block_mgr.proofs.HolderLemmas.{at_map, used_live, used_running, used_last, used_named, kept_used, kept_last}
-use Rattle.block_mgr.proofs.LiveLemmas.{unit_is}
-use Rattle.block_mgr.proofs.HasLemmas.{Sized, has_set, has_map, has_added, sized_kept}
+use Rattle.block_mgr.specs.Cells.{cell_at, kept, dropped_cell}
+use Rattle.block_mgr.proofs.HolderLemmas.{used_last}
+use Rattle.block_mgr.proofs.HasLemmas.{has_set, has_map, has_added, sized_kept}
 use Rattle.block_mgr.proofs.law.a_block_of_the_last_checkpoint_stays.Goals as goal
 
 pub returns : goal.returns
@@ -17,4 +13,6 @@ returns c = record {
   over_capture = λ cells u at n has. has_set (λ (c : Cell). c.is_last ≡ true) cells at n u (record (cell_at cells u) { is_running = true }) (λ is. is) has;
   over_free = λ cells u at n has. has_set (λ (c : Cell). c.is_last ≡ true) cells at n u (kept (record (cell_at cells u) { is_live = false })) (λ is. sized_kept (λ (c : Cell). c.is_last ≡ true) n (record (cell_at cells u) { is_live = false }) (used_last (record (cell_at cells u) { is_live = false }) is.1) is) has;
   over_drop = λ cells at n has. has_map (λ (c : Cell). c.is_last ≡ true) dropped_cell cells at n refl (λ x is. sized_kept (λ (c : Cell). c.is_last ≡ true) n (record x { is_running = false }) (used_last (record x { is_running = false }) is.1) is) has;
+  over_name = λ cells u at n has. has_set (λ (c : Cell). c.is_last ≡ true) cells at n u (record (cell_at cells u) { names = (cell_at cells u).names + 1 }) (λ is. is) has;
+  over_unname = λ cells u at n has. has_set (λ (c : Cell). c.is_last ≡ true) cells at n u (kept (record (cell_at cells u) { names = (cell_at cells u).names - 1 })) (λ is. sized_kept (λ (c : Cell). c.is_last ≡ true) n (record (cell_at cells u) { names = (cell_at cells u).names - 1 }) (used_last (record (cell_at cells u) { names = (cell_at cells u).names - 1 }) is.1) is) has;
 }

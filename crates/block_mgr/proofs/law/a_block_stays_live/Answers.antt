@@ -1,13 +1,12 @@
-use Rattle.std.specs.Prelude.{◌≡◌, ◌⊎◌, ℕ, ◌+◌, ◌-◌, ◌*◌, ◌≤◌, true, false, refl}
-use Rattle.std.proofs.Common.{inl, inr, sym, ◌∙◌, ap, subst, arith}
+use Rattle.std.specs.Prelude.{◌≡◌, ◌+◌, ◌-◌, ◌*◌, true, false, refl}
+use Rattle.std.proofs.Common.{sym, ◌∙◌, ap, subst}
 use Rattle.std.proofs.lemmas.Bool.{false≢true}
-use Rattle.std.proofs.lemmas.List.{get_or-set_same, get_or-set_other}
+use Rattle.std.proofs.lemmas.List.{get_or-set_other}
 use Rattle.block_mgr.specs.declared.cell.Cell.{Cell}
-use Rattle.block_mgr.specs.Cells.{cell_at, nothing, kept, is_used, done_cell, dropped_cell}
-use Rattle.block_mgr.specs.Blocks.{HasCell}
-use Rattle.block_mgr.proofs.HolderLemmas.{at_map, used_live, used_running, used_last, used_named, kept_used, kept_last}
+use Rattle.block_mgr.specs.Cells.{cell_at, nothing, kept, done_cell, dropped_cell}
+use Rattle.block_mgr.proofs.HolderLemmas.{used_live}
 use Rattle.block_mgr.proofs.LiveLemmas.{unit_is}
-use Rattle.block_mgr.proofs.HasLemmas.{Sized, has_set, has_map, has_added, sized_kept}
+use Rattle.block_mgr.proofs.HasLemmas.{has_set, has_map, has_added, sized_kept}
 use Rattle.block_mgr.proofs.law.a_block_stays_live.Goals as goal
 
 pub returns : goal.returns
@@ -22,4 +21,6 @@ returns c = record {
       (v, place, subst (λ (c : Cell). n ≡ 4096 * c.units) (sym there) size, subst (λ (c : Cell). c.is_live ≡ true) (sym there) live);
   over_done = λ cells at n has. has_map (λ (c : Cell). c.is_live ≡ true) done_cell cells at n refl (λ x is. sized_kept (λ (c : Cell). c.is_live ≡ true) n (record x { is_running = false; is_last = x.is_running }) (used_live (record x { is_running = false; is_last = x.is_running }) is.1) is) has;
   over_drop = λ cells at n has. has_map (λ (c : Cell). c.is_live ≡ true) dropped_cell cells at n refl (λ x is. sized_kept (λ (c : Cell). c.is_live ≡ true) n (record x { is_running = false }) (used_live (record x { is_running = false }) is.1) is) has;
+  over_name = λ cells u at n has. has_set (λ (c : Cell). c.is_live ≡ true) cells at n u (record (cell_at cells u) { names = (cell_at cells u).names + 1 }) (λ is. is) has;
+  over_unname = λ cells u at n has. has_set (λ (c : Cell). c.is_live ≡ true) cells at n u (kept (record (cell_at cells u) { names = (cell_at cells u).names - 1 })) (λ is. sized_kept (λ (c : Cell). c.is_live ≡ true) n (record (cell_at cells u) { names = (cell_at cells u).names - 1 }) (used_live (record (cell_at cells u) { names = (cell_at cells u).names - 1 }) is.1) is) has;
 }

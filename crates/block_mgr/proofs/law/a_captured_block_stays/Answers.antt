@@ -1,13 +1,12 @@
-use Rattle.std.specs.Prelude.{◌≡◌, ◌⊎◌, ℕ, ◌+◌, ◌-◌, ◌*◌, ◌≤◌, true, false, refl}
-use Rattle.std.proofs.Common.{inl, inr, sym, ◌∙◌, ap, subst, arith}
+use Rattle.std.specs.Prelude.{◌≡◌, ℕ, ◌+◌, ◌-◌, ◌*◌, true, false, refl}
+use Rattle.std.proofs.Common.{sym, subst}
 use Rattle.std.proofs.lemmas.Bool.{false≢true}
-use Rattle.std.proofs.lemmas.List.{get_or-set_same, get_or-set_other}
+use Rattle.std.proofs.lemmas.List.{get_or-set_same}
 use Rattle.block_mgr.specs.declared.cell.Cell.{Cell}
-use Rattle.block_mgr.specs.Cells.{cell_at, nothing, kept, is_used, done_cell, dropped_cell}
-use Rattle.block_mgr.specs.Blocks.{HasCell}
-use Rattle.block_mgr.proofs.HolderLemmas.{at_map, used_live, used_running, used_last, used_named, kept_used, kept_last}
+use Rattle.block_mgr.specs.Cells.{cell_at, nothing, kept, done_cell}
+use Rattle.block_mgr.proofs.HolderLemmas.{at_map, used_running, used_last, kept_last}
 use Rattle.block_mgr.proofs.LiveLemmas.{unit_is}
-use Rattle.block_mgr.proofs.HasLemmas.{Sized, has_set, has_map, has_added, sized_kept}
+use Rattle.block_mgr.proofs.HasLemmas.{Sized, has_set, has_added, sized_kept}
 use Rattle.std.specs.Prelude.{map}
 use Rattle.block_mgr.specs.Blocks.{unit_of}
 use Rattle.block_mgr.proofs.law.a_captured_block_stays.Goals as goal
@@ -23,6 +22,8 @@ returns c = record {
   over_write = λ old new addr at n added has. has_added (λ (c : Cell). c.is_running ≡ true) (λ is. false≢true is) old new addr at n added has;
   over_capture = λ cells u at n has. has_set (λ (c : Cell). c.is_running ≡ true) cells at n u (record (cell_at cells u) { is_running = true }) (λ is. (is.0, refl)) has;
   over_free = λ cells u at n has. has_set (λ (c : Cell). c.is_running ≡ true) cells at n u (kept (record (cell_at cells u) { is_live = false })) (λ is. sized_kept (λ (c : Cell). c.is_running ≡ true) n (record (cell_at cells u) { is_live = false }) (used_running (record (cell_at cells u) { is_live = false }) is.1) is) has;
+  over_name = λ cells u at n has. has_set (λ (c : Cell). c.is_running ≡ true) cells at n u (record (cell_at cells u) { names = (cell_at cells u).names + 1 }) (λ is. is) has;
+  over_unname = λ cells u at n has. has_set (λ (c : Cell). c.is_running ≡ true) cells at n u (kept (record (cell_at cells u) { names = (cell_at cells u).names - 1 })) (λ is. sized_kept (λ (c : Cell). c.is_running ≡ true) n (record (cell_at cells u) { names = (cell_at cells u).names - 1 }) (used_running (record (cell_at cells u) { names = (cell_at cells u).names - 1 }) is.1) is) has;
   becomes_last = λ cells at n (u, place, size, is).
       let next : Cell = record (cell_at cells u) { is_running = false; is_last = (cell_at cells u).is_running } in
       let both : Sized (λ (c : Cell). c.is_last ≡ true) n (kept next) = sized_kept (λ (c : Cell). c.is_last ≡ true) n next (used_last next is) (size, is) in

@@ -1,9 +1,8 @@
-use Rattle.std.proofs.Common.{◌≡◌, ◌+◌, ◌-◌, ◌*◌, ◌/◌, ◌<◌, ◌≤◌, ℕ, List, length, take, inl, inr, refl, sym, ◌∙◌, ap, subst, arith}
+use Rattle.std.proofs.Common.{◌≡◌, ◌+◌, ◌*◌, ◌<◌, ℕ, List, length, take, inl, inr, refl, sym, ◌∙◌, ap, subst, arith}
 use Rattle.std.proofs.lemmas.Bool.{cases_eq}
 use Rattle.std.proofs.lemmas.List.{take_all}
 use Rattle.block_mgr.specs.declared.cell.Cell.{Cell}
 use Rattle.block_mgr.specs.declared.found.Found.{Found}
-use Rattle.block_mgr.specs.Cells.{cell_at}
 use Rattle.block_mgr.specs.Blocks.{unit_of}
 use Rattle.block_mgr.specs.Open.{Agree, found_at, found_cell}
 use Rattle.block_mgr.proofs.OpenLemmas.{agrees, clashes, names_few, not_running, cells_more, units_none}

@@ -1,5 +1,4 @@
-use Rattle.std.proofs.Common.{◌+◌, ◌<◌, ℕ, below_more}
-use Rattle.block_mgr.specs.Open.{Agree, found_at}
+use Rattle.std.proofs.Common.{below_more}
 use Rattle.block_mgr.proofs.open.first_clash.Goals as goal
 
 pub loop-j-preserved : goal.loop-j-preserved

@@ -1,4 +1,4 @@
-use Rattle.std.proofs.Common.{◌≡◌, List, set, sym, ◌∙◌, subst, arith}
+use Rattle.std.proofs.Common.{set, sym, ◌∙◌, subst, arith}
 use Rattle.block_mgr.specs.declared.cell.Cell.{Cell}
 use Rattle.block_mgr.specs.Cells.{AreUnits}
 use Rattle.block_mgr.proofs.UnitLemmas.{same_block, block_gone}

@@ -1,5 +1,5 @@
-use Rattle.std.proofs.Common.{◌≡◌, ◌+◌, ◌*◌, ◌/◌, ℕ, Option, List, length, IfSome, true, refl, sym, ◌∙◌, ap, subst, arith}
-use Rattle.extent_list.specs.Space.{end_of, IsSpot, Taken}
+use Rattle.std.proofs.Common.{◌≡◌, ◌+◌, ◌*◌, ◌/◌, ℕ, Option, length, IfSome, true, refl, sym, ◌∙◌, ap, subst, arith}
+use Rattle.extent_list.specs.Space.{IsSpot, Taken}
 use Rattle.disk_model.proofs.Crash.{widened}
 use Rattle.block_mgr.specs.Cells.{Holdings, AreUnits, Put, fresh}
 use Rattle.block_mgr.specs.Blocks.{Books}

@@ -1,7 +1,7 @@
-use Rattle.std.proofs.Common.{◌≡◌, ◌+◌, ◌-◌, ◌*◌, ◌/◌, ℕ, Option, List, length, IfSome, refl, sym, ◌∙◌, ap, subst, arith}
+use Rattle.std.proofs.Common.{◌≡◌, ◌+◌, ◌-◌, ◌*◌, ◌/◌, ℕ, Option, List, length, IfSome, sym, ap, subst, arith}
 use Rattle.extent_list.specs.Space.{Taken, IsPlace}
 use Rattle.block_mgr.specs.declared.cell.Cell.{Cell}
-use Rattle.block_mgr.specs.Cells.{Holdings, AreUnits, Put, fresh, is_used}
+use Rattle.block_mgr.specs.Cells.{Holdings, AreUnits, Put, is_used}
 use Rattle.block_mgr.proofs.UnitLemmas.{claimed_taken, block_new}
 use Rattle.block_mgr.proofs.holders.Holders.place.Goals as goal
 

@@ -1,6 +1,5 @@
-use Rattle.std.proofs.Common.{◌≡◌, ◌⊎◌, ◌+◌, ◌-◌, ◌*◌, ◌/◌, ℕ, List, length, inl, inr, sym, ◌∙◌, ap, subst, arith}
-use Rattle.extent_list.specs.Space.{Space, end_of, Taken}
-use Rattle.block_mgr.specs.declared.cell.Cell.{Cell}
+use Rattle.std.proofs.Common.{◌≡◌, ◌⊎◌, ◌+◌, ◌-◌, ◌*◌, ◌/◌, ℕ, length, inl, inr, sym, subst, arith}
+use Rattle.extent_list.specs.Space.{end_of, Taken}
 use Rattle.block_mgr.specs.Cells.{Holdings, cell_at, nothing, fresh, Put}
 use Rattle.block_mgr.proofs.UnitLemmas.{none_behind, block_withdrawn, withdrawn}
 use Rattle.block_mgr.proofs.holders.Holders.withdraw.Goals as goal
