@@ -49,6 +49,11 @@ dropped_cell c = kept (record c { is_running = false })
 abbrev pub dropped : List Cell → List Cell
 dropped cells = map dropped_cell cells
 
+-- the end of the running checkpoint, complete or not
+abbrev pub ended_cell : Bool → Cell → Cell
+ended_cell true c = done_cell c
+ended_cell false c = dropped_cell c
+
 -- the last completed checkpoint has the block, and one more name can be counted
 abbrev pub MayBeNamed : Cell → Type 0
 MayBeNamed c = (c.is_last ≡ true) × (c.names + 1 < 2 ^ 32)

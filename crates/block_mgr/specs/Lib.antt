@@ -1,6 +1,7 @@
 pub mod Blocks
 pub mod Cells
 pub mod Found
+pub mod Marks
 pub mod Open
 pub mod Places
 pub mod Writes

@@ -325,7 +325,8 @@ impl Blocks {
     }
 
     /// The running checkpoint is the last completed one now. The units of blocks that nobody has
-    /// any more are free. Takes no memory. One pass over the units of the device.
+    /// any more are free. Takes no memory. `O(1)` for each block that this checkpoint or the one before
+    /// has, and in no others.
     pub fn ckpt_done(&mut self)
         requires held { self.old.is_held ≡ true }
         ensures cells { self.new.cells ≡ done self.old.cells }
@@ -334,7 +335,7 @@ impl Blocks {
         ensures synced { self.new.is_synced ≡ self.old.is_synced }
         ensures held { self.new.is_held ≡ false }
     {
-        self.holders.complete();
+        self.holders.end_running(true);
         self.is_held = false;
     }
 
@@ -348,7 +349,7 @@ impl Blocks {
         ensures synced { self.new.is_synced ≡ self.old.is_synced }
         ensures held { self.new.is_held ≡ false }
     {
-        self.holders.let_go();
+        self.holders.end_running(false);
         self.is_held = false;
     }
 }

@@ -1,5 +1,5 @@
 // The blocks in use and the free units.
-ghost use Rattle.std.specs.Prelude.{◌≡◌, ◌⊎◌, ◌↔◌, ◌+◌, ◌*◌, ◌≤◌, ℕ, [], IfOk, IfSome, IsTrue, OnErr, None, length};
+ghost use Rattle.std.specs.Prelude.{◌≡◌, ◌⊎◌, ◌↔◌, ◌+◌, ◌*◌, ◌^◌, ◌<◌, ◌≤◌, ℕ, [], IfOk, IfSome, IsTrue, OnOk, OnErr, None, length, map, vec_capacity};
 ghost use Rattle.extent_list.specs.Space.{end_of, space_of, Taken, HasNoRoom};
 ghost use Rattle.block_mgr.specs.Cells.{
   Holdings,
@@ -13,13 +13,14 @@ ghost use Rattle.block_mgr.specs.Cells.{
   MayBeNamed,
   named,
   unnamed,
-  done,
-  dropped,
+  ended_cell,
 };
+ghost use Rattle.block_mgr.specs.Marks.{Listed};
 
 use crate::cell::Cell;
+use crate::marks::{drop_unmarked, end_marked, set_running};
 use crate::put::{put, take_away};
-use crate::settle::{settle, settle_done, settle_dropped};
+use crate::settle::settle;
 use extent_list::Extents;
 use failure::NoMemory;
 use limits::{SLOTS_END, UNIT};
@@ -33,6 +34,8 @@ use std::marker::Model;
 pub(crate) struct Holders {
     pub(crate) cells: Vec<Cell>,
     pub(crate) space: Extents,
+    // The units of the blocks that the running checkpoint or the last completed one has.
+    pub(crate) marked: Vec<usize>,
 }
 
 impl Model for Holders {
@@ -40,7 +43,7 @@ impl Model for Holders {
 
     ghost view = { λ s. record { cells = s.cells.items; space = s.space } };
 
-    ghost invariant = { λ s. AreUnits s.cells.items s.space };
+    ghost invariant = { λ s. AreUnits s.cells.items s.space × Listed s.cells.items s.marked.items (vec_capacity s.marked) };
 }
 
 impl Holders {
@@ -53,6 +56,7 @@ impl Holders {
         Holders {
             cells: Vec::new(alloc),
             space: Extents::new(alloc),
+            marked: Vec::new(alloc),
         }
     }
 
@@ -75,7 +79,7 @@ impl Holders {
         ensures units { AreUnits self.new.cells self.new.space }
         ensures before { AreUnits self.old.cells self.old.space }
     {
-        self.cells.reserve(units as usize)?;
+        reserve(&mut self.cells, &mut self.marked, units as usize)?;
         let at = match self.space.take(UNIT * units as u64, capacity)? {
             Some(at) => at,
             None => return Ok(None),
@@ -90,7 +94,7 @@ impl Holders {
     // was. Takes no memory.
     pub(crate) fn withdraw(&mut self, unit: usize, units: u16, end: u64)
         requires some { 1 ≤ units }
-        requires size { (cell_at self.old.cells unit).units ≡ units }
+        requires fresh { cell_at self.old.cells unit ≡ fresh units }
         requires end { (end ≡ end_of self.old.space) ⊎ ((end ≡ 8192 + 4096 * unit) × (8192 + 4096 * unit + 4096 * units ≡ end_of self.old.space)) }
         ensures { (before : Holdings) (capacity : ℕ) → AreUnits before.cells before.space → end ≡ end_of before.space
             → Taken before.space self.old.space (4096 * units) capacity (8192 + 4096 * unit) → Put before.cells self.old.cells (length self.old.space.units) unit (fresh units) → self.new ≡ before }
@@ -117,11 +121,7 @@ impl Holders {
         ensures cells { self.new.cells ≡ captured self.old.cells unit }
         ensures space { self.new.space ≡ self.old.space }
     {
-        let cell = self.cells[unit];
-        self.cells[unit] = Cell {
-            is_running: true,
-            ..cell
-        };
+        set_running(&mut self.cells, &mut self.marked, unit);
     }
 
     // The live tree lets go of a block. Takes no memory. `O(1)` in the number of blocks.
@@ -189,27 +189,31 @@ impl Holders {
         settle(&mut self.cells, &mut self.space, unit, next);
     }
 
-    // The running checkpoint is the last completed one. Takes no memory. One walk over the units.
-    pub(crate) fn complete(&mut self)
-        ensures cells { self.new.cells ≡ done self.old.cells }
+    // The running checkpoint ends: complete, so that it is the last completed one, or given up.
+    // Takes no memory. `O(1)` for each block that it or the last completed one has.
+    pub(crate) fn end_running(&mut self, is_complete: bool)
+        ensures cells { self.new.cells ≡ map (ended_cell is_complete) self.old.cells }
         ensures end { end_of self.new.space ≡ end_of self.old.space }
         ensures units { AreUnits self.new.cells self.new.space }
     {
-        for u in 0..self.cells.len() {
-            settle_done(&mut self.cells, &mut self.space, u);
-        }
+        end_marked(&mut self.cells, &mut self.space, &self.marked, is_complete);
+        drop_unmarked(&self.cells, &mut self.marked);
     }
+}
 
-    // The running checkpoint is given up. Takes no memory. One walk over the units.
-    pub(crate) fn let_go(&mut self)
-        ensures cells { self.new.cells ≡ dropped self.old.cells }
-        ensures end { end_of self.new.space ≡ end_of self.old.space }
-        ensures units { AreUnits self.new.cells self.new.space }
-    {
-        for u in 0..self.cells.len() {
-            settle_dropped(&mut self.cells, &mut self.space, u);
-        }
-    }
+// Makes room for the cells of so many more units, and for the list of all.
+fn reserve(cells: &mut Vec<Cell>, marked: &mut Vec<usize>, units: usize) -> Result<(), NoMemory>
+    requires { length cells.old.items + units < 2 ^ 64 }
+    ensures cells { cells.new.items ≡ cells.old.items }
+    ensures marked { marked.new.items ≡ marked.old.items }
+    ensures room { OnOk result (length cells.old.items + units ≤ vec_capacity cells.new) }
+    ensures list_room { OnOk result (length cells.old.items + units ≤ vec_capacity marked.new) }
+    ensures more { vec_capacity marked.old ≤ vec_capacity marked.new }
+{
+    cells.reserve(units)?;
+    let total = cells.len() + units;
+    marked.reserve(total.saturating_sub(marked.len()))?;
+    Ok(())
 }
 
 // A block of the live tree alone.

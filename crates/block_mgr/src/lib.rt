@@ -17,6 +17,7 @@ mod fill;
 mod found;
 mod holders;
 mod law;
+mod marks;
 mod open;
 mod place;
 mod put;

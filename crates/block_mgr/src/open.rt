@@ -9,6 +9,7 @@ use crate::Addr;
 use crate::admit::{admit, all_free, no_blocks};
 use crate::found::{Found, OpenError, is_of_last};
 use crate::holders::Holders;
+use crate::marks::list_marks;
 use crate::place::{is_place, is_within};
 use limits::SLOTS_END;
 use std::alloc::Global;
@@ -68,7 +69,14 @@ pub(crate) fn admit_all(alloc: Global, found: &[Found], end: u64) -> Result<Hold
             return Err(OpenError::Clash(first_clash(found, i), i));
         }
     }
-    Ok(Holders { cells, space })
+    match list_marks(alloc, &cells) {
+        Ok(marked) => Ok(Holders {
+            cells,
+            space,
+            marked,
+        }),
+        Err(_) => Err(OpenError::NoMemory),
+    }
 }
 
 // The first address that does not agree with the one of this index. There is one before it.

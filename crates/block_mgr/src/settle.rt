@@ -1,7 +1,7 @@
 // One cell changed, and its units given back where nobody has the block any more.
 ghost use Rattle.std.specs.Prelude.{◌≡◌, ◌<◌, ◌≤◌, length, slice_set};
 ghost use Rattle.extent_list.specs.Space.{end_of};
-ghost use Rattle.block_mgr.specs.Cells.{AreUnits, cell_at, kept, is_used, done_cell, dropped_cell};
+ghost use Rattle.block_mgr.specs.Cells.{AreUnits, cell_at, kept, is_used, ended_cell};
 
 use crate::cell::Cell;
 use crate::put::no_block;
@@ -33,41 +33,33 @@ pub(crate) fn settle(cells: &mut Vec<Cell>, space: &mut Extents, u: usize, next:
     space.give(SLOTS_END + UNIT * u as u64, UNIT * next.units as u64);
 }
 
-// What a complete checkpoint makes of one cell.
-pub(crate) fn settle_done(cells: &mut Vec<Cell>, space: &mut Extents, u: usize)
-    requires units { AreUnits cells.old.items space.old }
-    requires within { u < length cells.old.items }
-    ensures cells { cells.new.items ≡ slice_set cells.old.items u (done_cell (cell_at cells.old.items u)) }
-    ensures units { AreUnits cells.new.items space.new }
-    ensures end { end_of space.new ≡ end_of space.old }
+// A cell once the running checkpoint has ended, complete or not.
+fn after_end(cell: Cell, is_complete: bool) -> Cell
+    ensures ended { kept result ≡ ended_cell is_complete cell }
+    ensures units { result.units ≡ cell.units }
 {
-    let cell = cells[u];
-    if cell.units == 0 {
-        return;
+    if is_complete {
+        return Cell {
+            is_running: false,
+            is_last: cell.is_running,
+            ..cell
+        };
     }
-    let next = Cell {
+    Cell {
         is_running: false,
-        is_last: cell.is_running,
         ..cell
-    };
-    settle(cells, space, u, next);
+    }
 }
 
-// What a checkpoint that is given up makes of one cell.
-pub(crate) fn settle_dropped(cells: &mut Vec<Cell>, space: &mut Extents, u: usize)
+// What the end of the running checkpoint makes of the block at a unit.
+pub(crate) fn settle_ended(cells: &mut Vec<Cell>, space: &mut Extents, u: usize, is_complete: bool)
     requires units { AreUnits cells.old.items space.old }
+    requires some { 1 ≤ (cell_at cells.old.items u).units }
     requires within { u < length cells.old.items }
-    ensures cells { cells.new.items ≡ slice_set cells.old.items u (dropped_cell (cell_at cells.old.items u)) }
+    ensures cells { cells.new.items ≡ slice_set cells.old.items u (ended_cell is_complete (cell_at cells.old.items u)) }
     ensures units { AreUnits cells.new.items space.new }
     ensures end { end_of space.new ≡ end_of space.old }
 {
-    let cell = cells[u];
-    if cell.units == 0 {
-        return;
-    }
-    let next = Cell {
-        is_running: false,
-        ..cell
-    };
+    let next = after_end(cells[u], is_complete);
     settle(cells, space, u, next);
 }

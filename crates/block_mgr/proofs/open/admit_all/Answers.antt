@@ -53,10 +53,10 @@ loop-i-preserved c =
       end = c.admit.ensures.end ∙ now.end;
     }
 
-pub returns-clause-cells : goal.returns-clause-cells
-returns-clause-cells c u =
+pub returns-in-Ok-list_marks-clause-cells : goal.returns-in-Ok-list_marks-clause-cells
+returns-in-Ok-list_marks-clause-cells c u =
     let all : take c.loop-i.i c.args.found.now ≡ c.args.found.now = take_all c.loop-i.i c.args.found.now c.loop-i-test.false in
     c.loop-i.invariant.cells u ∙ ap (λ (l : List Found). found_cell l u) all
 
-pub returns-clause-agree : goal.returns-clause-agree
-returns-clause-agree c i j lt less = c.loop-i.invariant.agree i j lt (omega (arith, less, c.loop-i-test.false))
+pub returns-in-Ok-list_marks-clause-agree : goal.returns-in-Ok-list_marks-clause-agree
+returns-in-Ok-list_marks-clause-agree c i j lt less = c.loop-i.invariant.agree i j lt (omega (arith, less, c.loop-i-test.false))
