@@ -1,0 +1,7 @@
+mod Keeps
+mod Sitting
+mod Seating
+mod Opening
+mod Packing
+mod Growing
+mod Ending
