@@ -4,3 +4,4 @@ pub mod Splitting
 pub mod Sorting
 pub mod Turning
 pub mod Deciding
+pub mod InOrder

@@ -4,8 +4,8 @@ use Rattle.std.specs.Prelude.{bytes_eq}
 use Rattle.std.specs.List.{AllByRecursion}
 use Rattle.std.proofs.lemmas.Bool.{cases_Bool, both_ways}
 use Rattle.kv_model.specs.History.{Table, named}
-use Rattle.catalog.specs.Known.{NamesAscend, is_below, put_by_name}
-use Rattle.catalog.specs.Order.{SplitsAt}
+use Rattle.catalog.specs.Known.{is_below, put_by_name}
+use Rattle.catalog.specs.Order.{Ascend, SplitsAt}
 use Rattle.catalog.proofs.NameOrder.{below_trans, names_part, below_differs, above_differs}
 use Rattle.catalog.proofs.Distinct.{named_none, head_differs, later_none}
 
@@ -19,7 +19,7 @@ all_at P (u ∷ later) (suc i) t all lt is = all_at P later i t all.1 (omega (ar
 
 -- ---- the search
 
-pub below_upto : (tables : List Table) (i : ℕ) (t : Table) (name : List ℕ) → NamesAscend tables → i < length tables → t ≡ get_or tables i t → is_below t.name name ≡ true → AllByRecursion (λ (u : Table). is_below u.name name ≡ true) (take (i + 1) tables)
+pub below_upto : (tables : List Table) (i : ℕ) (t : Table) (name : List ℕ) → Ascend tables → i < length tables → t ≡ get_or tables i t → is_below t.name name ≡ true → AllByRecursion (λ (u : Table). is_below u.name name ≡ true) (take (i + 1) tables)
 below_upto [] i t name ascend lt is below = absurd (omega (arith, lt))
 below_upto (u ∷ later) zero t name ascend lt is below = (subst (λ (x : Table). is_below x.name name ≡ true) is below, tt)
 below_upto (u ∷ later) (suc i) t name ascend lt is below =
@@ -36,7 +36,7 @@ all_not_below : (x name : List ℕ) (tables : List Table) → is_below x name �
 all_not_below x name [] isnt all = tt
 all_not_below x name (t ∷ later) isnt all = (not_below_later x t.name name isnt all.0, all_not_below x name later isnt all.1)
 
-pub above_from : (tables : List Table) (i : ℕ) (t : Table) (name : List ℕ) → NamesAscend tables → i < length tables → t ≡ get_or tables i t → is_below t.name name ≡ false → AllByRecursion (λ (u : Table). is_below u.name name ≡ false) (drop i tables)
+pub above_from : (tables : List Table) (i : ℕ) (t : Table) (name : List ℕ) → Ascend tables → i < length tables → t ≡ get_or tables i t → is_below t.name name ≡ false → AllByRecursion (λ (u : Table). is_below u.name name ≡ false) (drop i tables)
 above_from [] i t name ascend lt is above = absurd (omega (arith, lt))
 above_from (u ∷ later) zero t name ascend lt is above =
     let here : is_below u.name name ≡ false = subst (λ (x : Table). is_below x.name name ≡ false) is above in
@@ -54,7 +54,7 @@ all_below x y [] below all = tt
 all_below x y (t ∷ later) below all = (below_trans x y t.name below all.0, all_below x y later below all.1)
 
 -- a name that does not stand at its place stands nowhere
-pub named_nowhere : (tables : List Table) (name : List ℕ) (i : ℕ) → NamesAscend tables → SplitsAt tables name i → ((d : Table) → i < length tables → bytes_eq (get_or tables i d).name name ≡ false) → named name tables ≡ None
+pub named_nowhere : (tables : List Table) (name : List ℕ) (i : ℕ) → Ascend tables → SplitsAt tables name i → ((d : Table) → i < length tables → bytes_eq (get_or tables i d).name name ≡ false) → named name tables ≡ None
 named_nowhere [] name i ascend splits other = refl
 named_nowhere (t ∷ later) name zero ascend splits other =
     let differs : bytes_eq t.name name ≡ false = other t (omega arith) in
@@ -79,7 +79,7 @@ all_put P (u ∷ later) t new all = elim (cases_Bool (is_below u.name t.name)) [
   | inr isnt ↦ rw isnt (new, all)
 ]
 
-pub ascend_put : (tables : List Table) (t : Table) → NamesAscend tables → named t.name tables ≡ None → NamesAscend (put_by_name tables t)
+pub ascend_put : (tables : List Table) (t : Table) → Ascend tables → named t.name tables ≡ None → Ascend (put_by_name tables t)
 ascend_put [] t ascend none = (tt, tt)
 ascend_put (u ∷ later) t ascend none = elim (cases_Bool (is_below u.name t.name)) [
   | inl is ↦ rw is (all_put (λ (x : Table). is_below u.name x.name ≡ true) later t is ascend.0, ascend_put later t ascend.1 (later_none t.name u later none))

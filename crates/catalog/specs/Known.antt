@@ -1,5 +1,5 @@
 -- The tables of an engine: which there are, where each stands, and their order by name.
-use Rattle.std.specs.Prelude.{◌≡◌, ℕ, ◌+◌, ◌^◌, ◌<◌, ◌≤◌, Bool, true, List, [], ◌∷◌, ◌++◌, length, Option, Some, None, option_map, bytes_eq, fold, if◌then◌else◌}
+use Rattle.std.specs.Prelude.{◌≡◌, ℕ, ◌+◌, ◌^◌, ◌<◌, ◌≤◌, Bool, true, IsTrue, List, [], ◌∷◌, ◌++◌, length, Option, Some, None, option_map, bytes_eq, fold, if◌then◌else◌}
 use Rattle.std.specs.List.{AllByRecursion}
 use Rattle.std.specs.Ordering.{nat_cmp, is_lt}
 use Rattle.std.specs.Cmp.Lexicographic.{slice_cmp}
@@ -53,7 +53,8 @@ put_by_name (other ∷ later) t = if is_below other.name t.name then other ∷ p
 abbrev pub by_name : List Table → List Table
 by_name tables = fold put_by_name [] tables
 
--- each name is below those of the later tables
+-- each name is below the next one
 abbrev pub NamesAscend : List Table → Type 0
 NamesAscend [] = Unit {0}
-NamesAscend (t ∷ later) = AllByRecursion (λ (other : Table). is_below t.name other.name ≡ true) later × NamesAscend later
+NamesAscend (t ∷ []) = Unit {0}
+NamesAscend (t ∷ u ∷ later) = IsTrue (is_below t.name u.name) × NamesAscend (u ∷ later)

@@ -1,6 +1,6 @@
-// What a catalog says of a machine.
+// What the words of a catalog say, and what they say of a machine.
 
-ghost use Rattle.catalog.specs.Laws.{CreatesAreJudged, CreatesSuit, NamesTurn, PlacesAreNamed};
+ghost use Rattle.catalog.specs.Laws.{CreatesAreJudged, CreatesSuit, NamesTurn, OrdersAreOne, OrdersAscend, OrdersKeep, PlacesAreNamed};
 
 /// Among tables of which no two have one name, the order does not matter to a name.
 pub fn names_turn()
@@ -20,4 +20,11 @@ pub fn creates_are_judged()
 /// The table that a create would make is one that the machine may make.
 pub fn creates_suit()
     ensures { CreatesSuit }
+{}
+
+/// The order of names ascends, has the same tables, and is the only one that does.
+pub fn orders_are_by_name()
+    ensures ascend { OrdersAscend }
+    ensures keep { OrdersKeep }
+    ensures one { OrdersAreOne }
 {}

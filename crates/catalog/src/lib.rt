@@ -19,6 +19,8 @@ mod tests;
 
 pub use crate::catalog::Catalog;
 pub use created::Created;
-pub use laws::{creates_are_judged, creates_suit, names_turn, places_are_named};
+pub use laws::{
+    creates_are_judged, creates_suit, names_turn, orders_are_by_name, places_are_named,
+};
 pub use names::is_name;
 pub use table::Table;

@@ -1,8 +1,8 @@
 // Places of tables in the order of their names.
 ghost use Rattle.std.specs.Prelude.{◌≡◌, ◌<◌, ◌≤◌, ◌^◌, ◌++◌, ◌∷◌, [], length, map, bytes_eq, take, drop, vec_len, vec_capacity};
 ghost use Rattle.std.specs.List.{AllByRecursion};
-ghost use Rattle.catalog.specs.Known.{AreDistinct, NamesAscend, is_below};
-ghost use Rattle.catalog.specs.Order.{Finds, IsOrder, SplitsAt, table_at};
+ghost use Rattle.catalog.specs.Known.{AreDistinct, is_below};
+ghost use Rattle.catalog.specs.Order.{Ascend, Finds, IsOrder, SplitsAt, table_at};
 
 use crate::table::Table;
 use byte_order::order;
@@ -32,7 +32,7 @@ pub(crate) fn look_up(tables: &[Table], places: &[u32], name: &[u8]) -> Search
 // How many names, from the first on, are below this one, by halving.
 fn first_not_below(tables: &[Table], places: &[u32], name: &[u8]) -> usize
     requires within { AllByRecursion (λ place. place < length tables.now) places.now }
-    requires ascend { NamesAscend (map (table_at tables.now) places.now) }
+    requires ascend { Ascend (map (table_at tables.now) places.now) }
     ensures { SplitsAt (map (table_at tables.now) places.now) name.now result }
 {
     let mut low = 0;
