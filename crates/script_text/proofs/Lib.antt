@@ -1,0 +1,9 @@
+mod DecimalLemmas
+mod NumberLemmas
+mod SpokenActors
+mod SpokenLines
+mod SpokenSession
+mod SpokenSystem
+mod SpokenWords
+mod WordLemmas
+mod ZeroLemmas

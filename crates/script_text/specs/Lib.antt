@@ -1,0 +1,10 @@
+pub mod Actors
+pub mod Grammar
+pub mod Items
+pub mod Lines
+pub mod Numbers
+pub mod Replies
+pub mod SessionCalls
+pub mod Stored
+pub mod SystemCalls
+pub mod Words
