@@ -19,6 +19,8 @@ mod replies;
 mod session_calls;
 mod stored;
 mod system_calls;
+#[cfg(test)]
+mod tests;
 mod words;
 
 pub use laws::{a_line_asks_for_one_thing, an_item_is_printed_as_written};
