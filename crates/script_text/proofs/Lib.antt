@@ -1,4 +1,5 @@
 mod DecimalLemmas
+mod JoinedWords
 mod NumberLemmas
 mod SpokenActors
 mod SpokenLines

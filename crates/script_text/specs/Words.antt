@@ -1,5 +1,5 @@
 -- The words of a line: what stands between single spaces.
-use Rattle.std.specs.Prelude.{ℕ, Bool, true, false, ◌&&◌, ◌==◌, List, [], ◌∷◌, Option, Some, None, option_map, if◌then◌else◌}
+use Rattle.std.specs.Prelude.{ℕ, Bool, true, false, ◌&&◌, not, ◌==◌, List, [], ◌++◌, ◌≡◌, ◌∷◌, Option, Some, None, option_map, if◌then◌else◌}
 
 -- the byte stands in front of the first word
 abbrev pub onto : ℕ → List (List ℕ) → List (List ℕ)
@@ -53,3 +53,24 @@ after_of (n ∷ name) (b ∷ word) = if b == n then after_of name word else None
 abbrev pub no_words : List (List ℕ) → Bool
 no_words [] = true
 no_words (word ∷ words) = false
+
+-- no byte is a space
+abbrev pub is_unbroken : List ℕ → Bool
+is_unbroken [] = true
+is_unbroken (b ∷ rest) = not (b == 32) && is_unbroken rest
+
+abbrev pub are_unbroken : List (List ℕ) → Bool
+are_unbroken [] = true
+are_unbroken (word ∷ words) = is_unbroken word && are_unbroken words
+
+-- the words with a space between each and the next
+abbrev pub joined : List (List ℕ) → List ℕ
+joined [] = []
+joined (word ∷ []) = word
+joined (word ∷ (next ∷ words)) = word ++ 32 ∷ joined (next ∷ words)
+
+-- there is a word, no word has a space in it, and the text is the words with a space between each and the next
+pub record AreWordsOf (words : List (List ℕ)) (text : List ℕ) : Type 0 where
+  pub some : no_words words ≡ false
+  pub unbroken : are_unbroken words ≡ true
+  pub whole : text ≡ joined words

@@ -1,10 +1,10 @@
 // What lines that people write ask for, and what is printed of replies.
-use crate::{Call, Line, Reply, as_stored, line_of_answer, parse_line};
+use crate::{Line, Reply, as_stored, line_of_answer, parse_line};
 use item::{Format, Formats, Item, escape};
 use std::alloc::Global;
 use std::process::Abort;
 use std::test::Fail;
-use wt_calls::{Demand, SessionCall, SystemCall, Way};
+use wt_calls::{Call, Demand, SessionCall, SystemCall, Way};
 use wt_code::{Answer, Busy, Invalid, Refusal};
 
 fn shown(alloc: Global, item: &Item) -> Result<String, Fail> {
