@@ -1,6 +1,6 @@
 -- The table of the blocks in use, a cell for each unit, and what the calls make of it. Units are counted from offset 8,192.
-use Rattle.std.specs.Prelude.{◌≡◌, ◌⊎◌, ℕ, ◌+◌, ◌-◌, ◌^◌, ◌<◌, ◌≤◌, Bool, true, false, ◌||◌, List, length, map, slice_index_or, slice_set, if◌then◌else◌, nat_lt}
-use Rattle.extent_list.specs.Space.{Space, end_of}
+use Rattle.std.specs.Prelude.{◌≡◌, ◌⊎◌, ℕ, ◌+◌, ◌-◌, ◌*◌, ◌^◌, ◌<◌, ◌≤◌, Bool, true, false, ◌||◌, List, length, map, slice_index_or, slice_set, if◌then◌else◌, nat_lt}
+use Rattle.extent_list.specs.Space.{Space, end_of, Taken}
 use Rattle.block_mgr.specs.declared.cell.Cell.{Cell}
 
 -- no block begins here
@@ -26,6 +26,17 @@ IsLive cells u = (cell_at cells u).is_live ≡ true
 -- a block of the live tree alone, of so many units
 abbrev pub fresh : ℕ → Cell
 fresh n = record { units = n; is_live = true; is_running = false; is_last = false; names = 0 }
+
+-- nobody but the live tree has the block
+pub record IsLiveAlone (c : Cell) : Type 0 where
+  pub idle : c.is_running ≡ false
+  pub past : c.is_last ≡ false
+  pub unnamed : c.names ≡ 0
+
+-- one named checkpoint has the block, and nobody else
+pub record IsNamedAlone (c : Cell) : Type 0 where
+  pub others : is_used (record c { names = 0 }) ≡ false
+  pub one : c.names ≡ 1
 
 -- the running checkpoint captures the block at a unit
 abbrev pub captured : List Cell → ℕ → List Cell
@@ -75,6 +86,10 @@ pub record Put (old new : List Cell) (total u : ℕ) (next : Cell) : Type 0 wher
 pub record Holdings : Type 0 where
   pub cells : List Cell
   pub space : Space
+
+-- a block of the live tree alone was placed at a unit
+abbrev pub IsPlaced : Holdings → Holdings → ℕ → ℕ → ℕ → Type 0
+IsPlaced old new u n capacity = Taken old.space new.space (4096 * n) capacity (8192 + 4096 * u) × Put old.cells new.cells (length new.space.units) u (fresh n)
 
 -- the unit lies in the block that begins at another, or at itself
 abbrev pub Covers : List Cell → ℕ → ℕ → Type 0

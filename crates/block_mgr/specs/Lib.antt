@@ -4,4 +4,5 @@ pub mod Found
 pub mod Marks
 pub mod Open
 pub mod Places
+pub mod Reads
 pub mod Writes

@@ -1,5 +1,5 @@
 -- The units of the blocks that a checkpoint has, the running or the last completed one, as a list.
-use Rattle.std.specs.Prelude.{◌≡◌, ℕ, ◌<◌, ◌≤◌, Bool, false, ◌||◌, nat_eq, List, length}
+use Rattle.std.specs.Prelude.{◌≡◌, ℕ, ◌<◌, ◌≤◌, Bool, false, ◌||◌, nat_eq, List, length, slice_index_or}
 use Rattle.std.specs.List.{list_any, IsDistinct}
 use Rattle.block_mgr.specs.declared.cell.Cell.{Cell}
 use Rattle.block_mgr.specs.Cells.{cell_at}
@@ -7,6 +7,10 @@ use Rattle.block_mgr.specs.Cells.{cell_at}
 -- the running checkpoint or the last completed one has the block
 abbrev pub is_marked : Cell → Bool
 is_marked c = c.is_running || c.is_last
+
+-- the unit of an index of the list
+abbrev pub unit_in : List ℕ → ℕ → ℕ
+unit_in marked i = slice_index_or marked i 0
 
 -- the list has each such unit once, and no other; there is room for all units
 pub record Listed (cells : List Cell) (marked : List ℕ) (most : ℕ) : Type 0 where

@@ -1,11 +1,14 @@
 -- The blocks of a device that is opened.
-use Rattle.std.specs.Prelude.{◌≡◌, ◌⊎◌, ℕ, ◌+◌, ◌*◌, ◌/◌, ◌<◌, ◌≤◌, ◌||◌, ◌==◌, max, false, List, length, slice_index_or, if◌then◌else◌}
+use Rattle.std.specs.Prelude.{◌≡◌, ◌⊎◌, ℕ, ◌+◌, ◌*◌, ◌/◌, ◌<◌, ◌≤◌, ◌||◌, ◌==◌, max, true, false, List, length, slice_index_or, if◌then◌else◌}
 use Rattle.std.specs.List.{fold}
 use Rattle.device_layout.specs.declared.addr.Addr.{Addr}
 use Rattle.block_mgr.specs.declared.cell.Cell.{Cell}
 use Rattle.block_mgr.specs.declared.found.Found.{Found}
 use Rattle.block_mgr.specs.declared.found.Holder.TheVariants.{Tree}
-use Rattle.block_mgr.specs.Cells.{nothing}
+use Rattle.block_mgr.specs.declared.found.OpenError.{OpenError}
+use Rattle.block_mgr.specs.declared.found.OpenError.TheVariants.{Clash}
+use Rattle.block_mgr.specs.Blocks.{unit_of}
+use Rattle.block_mgr.specs.Cells.{cell_at, nothing}
 use Rattle.block_mgr.specs.Found.{lasts, lives, name_count}
 use Rattle.block_mgr.specs.Places.{IsPlace}
 
@@ -15,6 +18,22 @@ no_found = record { addr = record { offset = 0; size = 0; sum = 0 }; holder = Tr
 -- the address of an index
 abbrev pub found_at : List Found → ℕ → Found
 found_at found i = slice_index_or found i no_found
+
+-- the cell where an address begins
+abbrev pub cell_of : List Cell → Found → Cell
+cell_of cells f = cell_at cells (unit_of f.addr.offset)
+
+-- the block of a cell has the size of an address
+abbrev pub HasSize : Cell → Found → Type 0
+HasSize c f = c.units ≡ f.addr.size / 4096
+
+-- an address is that of the block, and at most one of the two is the last completed checkpoint's
+abbrev pub MayShare : Cell → Found → Type 0
+MayShare c f = HasSize c f × ((lasts f.holder ≡ false) ⊎ (c.is_last ≡ false))
+
+-- both are the last completed checkpoint's
+abbrev pub AreBothLast : Cell → Found → Type 0
+AreBothLast c f = (lasts f.holder ≡ true) × (c.is_last ≡ true)
 
 -- the cell of a block, once an address of it was found
 abbrev pub joined : Cell → Found → Cell
@@ -53,6 +72,14 @@ Fits f len = IsPlace f.addr × (f.addr.offset + f.addr.size ≤ len)
 -- the first k addresses agree, any two of them
 abbrev pub AgreeUpTo : List Found → ℕ → Type 0
 AgreeUpTo found k = (i j : ℕ) → i < j → j < k → Agree (found_at found i) (found_at found j)
+
+-- two addresses that cannot both be in use, the lesser index first
+abbrev pub Clashes : List Found → ℕ → ℕ → Type 0
+Clashes found i j = (i < j) × (j < length found) × (Agree (found_at found i) (found_at found j) → ⊥)
+
+-- the first address that clashes with one before it
+abbrev pub IsFirstClash : List Found → OpenError → Type 0
+IsFirstClash found error = (i : ℕ) × (j : ℕ) × (error ≡ Clash i j) × (i < j) × (j < length found) × AgreeUpTo found j × (Agree (found_at found i) (found_at found j) → ⊥)
 
 -- addresses that can all be in use
 pub record AreStored (found : List Found) (len : ℕ) : Type 0 where

@@ -6,6 +6,7 @@ use Rattle.block_sum.specs.Sum.{sum_of}
 use Rattle.disk_model.specs.declared.disk.Disk.{Ghosts}
 use Rattle.disk_model.specs.Disk.{Torn}
 use Rattle.disk_model.specs.Crash.{LeavesOnly}
+use Rattle.le_codec.specs.Images.{block_of}
 use Rattle.device_layout.specs.declared.addr.Addr.{Addr}
 use Rattle.extent_list.specs.Space.{IsSpot}
 use Rattle.block_mgr.specs.Cells.{Put, cell_at, nothing, fresh}
@@ -28,6 +29,14 @@ Stored is_synced at n seen images c = images c ⊎ FromBase is_synced at n seen 
 -- at any moment of the write of a block of n bytes: an image from before, or one with any part of a write at the place that the books give to the block, and there alone
 abbrev pub Wrote : Books → ℕ → ℕ → List ℕ → (List ℕ → Type 0) → List ℕ → Type 0
 Wrote books n capacity seen images c = images c ⊎ ((at : ℕ) × IsSpot books.space n capacity at × FromBase books.is_synced at n seen images c)
+
+-- the bytes of the block of an image
+abbrev pub block_len : List ℕ → ℕ
+block_len image = length (block_of image)
+
+-- what a call leaves that wrote a block of n bytes, or tried to
+abbrev pub LeavesWrite : {D : Type 0} → Ghosts D → Books → ℕ → D → D → Type 0
+LeavesWrite g books n old new = LeavesOnly g old new (Wrote books n (g.capacity old) (g.seen old) (g.may_leave old))
 
 -- which call of a store failed: the write at its offset; or the sync before it, where the disk was not synced yet and nothing was written
 abbrev pub StoreFault : {D : Type 0} → Ghosts D → Bool → ℕ → D → D → Fault → Type 0

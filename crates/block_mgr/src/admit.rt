@@ -5,7 +5,7 @@ ghost use Rattle.block_mgr.specs.Cells.{AreUnits, Covers, cell_at, nothing};
 ghost use Rattle.block_mgr.specs.Blocks.{unit_of};
 ghost use Rattle.block_mgr.specs.Found.{lasts, lives, name_count};
 ghost use Rattle.block_mgr.specs.Places.{IsPlace};
-ghost use Rattle.block_mgr.specs.Open.{joined};
+ghost use Rattle.block_mgr.specs.Open.{joined, cell_of, HasSize, MayShare, AreBothLast};
 
 use crate::cell::Cell;
 use crate::found::{Found, Holder, is_of_last};
@@ -84,8 +84,8 @@ fn join(cell: Cell, found: Found) -> Cell
 
 // Whether an address is that of a block found before, which a named checkpoint shares.
 fn is_shared(cell: Cell, found: Found) -> bool
-    ensures yes { IsTrue result → (cell.units ≡ found.addr.size / 4096) × ((lasts found.holder ≡ false) ⊎ (cell.is_last ≡ false)) }
-    ensures no { result ≡ false → (cell.units ≡ found.addr.size / 4096) → (lasts found.holder ≡ true) × (cell.is_last ≡ true) }
+    ensures yes { IsTrue result → MayShare cell found }
+    ensures no { result ≡ false → HasSize cell found → AreBothLast cell found }
 {
     let units = found.addr.size as u64 / UNIT;
     if cell.units as u64 != units {
@@ -99,13 +99,13 @@ pub(crate) fn admit(cells: &mut Vec<Cell>, space: &mut Extents, found: Found) ->
     requires units { AreUnits cells.old.items space.old }
     requires place { IsPlace found.addr }
     requires within { found.addr.offset + found.addr.size ≤ end_of space.old }
-    requires few { (cell_at cells.old.items (unit_of found.addr.offset)).names + 1 < 2 ^ 32 }
-    requires idle { (cell_at cells.old.items (unit_of found.addr.offset)).is_running ≡ false }
-    ensures cells { IsTrue result → cells.new.items ≡ slice_set cells.old.items (unit_of found.addr.offset) (joined (cell_at cells.old.items (unit_of found.addr.offset)) found) }
+    requires few { (cell_of cells.old.items found).names + 1 < 2 ^ 32 }
+    requires idle { (cell_of cells.old.items found).is_running ≡ false }
+    ensures cells { IsTrue result → cells.new.items ≡ slice_set cells.old.items (unit_of found.addr.offset) (joined (cell_of cells.old.items found) found) }
     ensures agrees { IsTrue result → Fit space.old found.addr.offset found.addr.size
-        ⊎ ((cell_at cells.old.items (unit_of found.addr.offset)).units ≡ found.addr.size / 4096) × ((lasts found.holder ≡ false) ⊎ ((cell_at cells.old.items (unit_of found.addr.offset)).is_last ≡ false)) }
+        ⊎ MayShare (cell_of cells.old.items found) found }
     ensures meets { result ≡ false → (b : ℕ) × (found.addr.offset ≤ b) × (b < found.addr.offset + found.addr.size) × (IsFree space.old b → ⊥) }
-    ensures clash { result ≡ false → (cell_at cells.old.items (unit_of found.addr.offset)).units ≡ found.addr.size / 4096 → (lasts found.holder ≡ true) × ((cell_at cells.old.items (unit_of found.addr.offset)).is_last ≡ true) }
+    ensures clash { result ≡ false → HasSize (cell_of cells.old.items found) found → AreBothLast (cell_of cells.old.items found) found }
     ensures units { AreUnits cells.new.items space.new }
     ensures end { end_of space.new ≡ end_of space.old }
 {

@@ -5,15 +5,14 @@ ghost use Rattle.failure.specs.Counts.{Rose};
 ghost use Rattle.wt_code.specs.declared.store_error.StoreError.TheVariants.{NoMemory as WantOfMemory, NoSpace, Read, Down};
 ghost use Rattle.disk_model.specs.Disk.{put};
 ghost use Rattle.disk_model.specs.Crash.{SameDisk, LeavesOnly, Each, Looked};
-ghost use Rattle.disk_model.specs.Ranges.{range};
 ghost use Rattle.extent_list.specs.Space.{space_of, end_of, IsSpot, Taken, HasNoRoom};
 ghost use Rattle.le_codec.specs.Images.{block_of};
 ghost use Rattle.block_mgr.specs.Cells.{AreUnits, cell_at, captured, freed, named, unnamed, done, dropped};
 ghost use Rattle.block_mgr.specs.Blocks.{Books, HasLive, HasName, MayName, unit_of};
 ghost use Rattle.block_mgr.specs.declared.found.OpenError.TheVariants.{NoPlace, Clash};
-ghost use Rattle.block_mgr.specs.Open.{AreStored, Fits, Agree, AgreeUpTo, found_at, found_cell, last_end};
-ghost use Rattle.block_mgr.specs.Places.{IsThere, Spoils};
-ghost use Rattle.block_mgr.specs.Writes.{FromBase, Wrote, IsAddress, Added};
+ghost use Rattle.block_mgr.specs.Open.{AreStored, Fits, Clashes, AgreeUpTo, found_at, found_cell, last_end};
+ghost use Rattle.block_mgr.specs.Reads.{IsBlock, IsSpoilt, IsRefused};
+ghost use Rattle.block_mgr.specs.Writes.{FromBase, LeavesWrite, IsAddress, Added, block_len};
 
 use crate::fill::fill;
 use crate::found::{Found, OpenError};
@@ -85,7 +84,7 @@ impl Blocks {
         ensures held { IfOk result (λ s. s.is_held ≡ false) }
         ensures stored { OnOk result (AreStored found.now len) }
         ensures no_place { (i : ℕ) → IfErr result (λ e. e ≡ NoPlace i → (i < length found.now) × (Fits (found_at found.now i) len → ⊥)) }
-        ensures clash { (i j : ℕ) → IfErr result (λ e. e ≡ Clash i j → (i < j) × (j < length found.now) × (Agree (found_at found.now i) (found_at found.now j) → ⊥)) }
+        ensures clash { (i j : ℕ) → IfErr result (λ e. e ≡ Clash i j → Clashes found.now i j) }
         ensures first { (i j : ℕ) → IfErr result (λ e. e ≡ Clash i j → AgreeUpTo found.now j) }
     {
         let end = match end_within(found, len) {
@@ -131,7 +130,7 @@ impl Blocks {
         requires ready { IsTrue (D.honest disk.old) → end_of self.old.space ≤ length (D.seen disk.old) }
         ensures written { IsTrue (D.honest disk.old) → IfOk result (λ a. D.seen disk.new ≡ put (D.seen disk.old) a.offset (block_of image.now)) }
         ensures images { IfOk result (λ a. Each (D.may_leave disk.new) (FromBase self.old.is_synced a.offset a.size (D.seen disk.old) (D.may_leave disk.old))) }
-        ensures leaves { LeavesOnly D.Disk disk.old disk.new (Wrote self.old (length (block_of image.now)) (D.capacity disk.old) (D.seen disk.old) (D.may_leave disk.old)) }
+        ensures leaves { LeavesWrite D.Disk self.old (block_len image.now) disk.old disk.new }
         ensures address { IfOk result (IsAddress (block_of image.now)) }
         ensures taken { IfOk result (λ a. Taken self.old.space self.new.space a.size (D.capacity disk.old) a.offset) }
         ensures added { IfOk result (Added self.old self.new) }
@@ -144,9 +143,9 @@ impl Blocks {
         ensures held { self.new.is_held ≡ self.old.is_held }
         ensures same { OnErr result (self.new ≡ self.old) }
         ensures no_memory { IfErr result (λ e. e ≡ WantOfMemory → disk.new ≡ disk.old) }
-        ensures no_space { IfErr result (λ e. e ≡ NoSpace → (disk.new ≡ disk.old) × HasNoRoom self.old.space (length (block_of image.now)) (D.capacity disk.old)) }
-        ensures full { HasNoRoom self.old.space (length (block_of image.now)) (D.capacity disk.old) → IfErr result (λ e. (e ≡ WantOfMemory) ⊎ (e ≡ NoSpace)) }
-        ensures write_fault { (at : ℕ) → IfErr result (λ e. e ≡ Down (Write at) → IsSpot self.old.space (length (block_of image.now)) (D.capacity disk.old) at) }
+        ensures no_space { IfErr result (λ e. e ≡ NoSpace → (disk.new ≡ disk.old) × HasNoRoom self.old.space (block_len image.now) (D.capacity disk.old)) }
+        ensures full { HasNoRoom self.old.space (block_len image.now) (D.capacity disk.old) → IfErr result (λ e. (e ≡ WantOfMemory) ⊎ (e ≡ NoSpace)) }
+        ensures write_fault { (at : ℕ) → IfErr result (λ e. e ≡ Down (Write at) → IsSpot self.old.space (block_len image.now) (D.capacity disk.old) at) }
         ensures sync_fault { IfErr result (λ e. e ≡ Down Sync → (self.old.is_synced ≡ false) × LeavesOnly D.Disk disk.old disk.new (D.may_leave disk.old)) }
         ensures no_read { IfErr result (λ e. e ≡ Read → ⊥) }
         ensures rose { IfErr result (λ e. (e ≡ WantOfMemory) ⊎ ((e ≡ NoSpace) ⊎ Rose (D.faults disk.old) (D.faults disk.new))) }
@@ -176,7 +175,7 @@ impl Blocks {
         ensures images { IfOk result (λ a. Each (D.may_leave disk.new) (FromBase self.old.is_synced a.offset a.size (D.seen disk.old) (D.may_leave disk.old))) }
 
         // At any moment of the call, also of one that failed.
-        ensures leaves { LeavesOnly D.Disk disk.old disk.new (Wrote self.old (length block.now) (D.capacity disk.old) (D.seen disk.old) (D.may_leave disk.old)) }
+        ensures leaves { LeavesWrite D.Disk self.old (length block.now) disk.old disk.new }
         ensures address { IfOk result (IsAddress block.now) }
         ensures taken { IfOk result (λ a. Taken self.old.space self.new.space a.size (D.capacity disk.old) a.offset) }
         ensures added { IfOk result (Added self.old self.new) }
@@ -221,9 +220,9 @@ impl Blocks {
 
     /// The bytes of the block at an address, as `read_block` gives them.
     pub fn read<D: Disk>(&self, alloc: Global, disk: &mut D, addr: Addr) -> Result<Vec<u8>, Refusal>
-        ensures bytes { IsTrue (D.honest disk.old) → IfOk result (λ v. IsThere (D.seen disk.old) addr × (v.items ≡ range (D.seen disk.old) addr.offset addr.size)) }
-        ensures corrupt { IsTrue (D.honest disk.old) → (offset want found : ℕ) → IfErr result (λ r. r ≡ Refusal.Corrupt offset want found → (offset ≡ addr.offset) × (want ≡ addr.sum) × Spoils (D.seen disk.old) addr found) }
-        ensures err { IfErr result (λ r. (r ≡ Refusal.NoMemory) ⊎ ((r ≡ Refusal.DiskFault) × Rose (D.faults disk.old) (D.faults disk.new)) ⊎ ((found : ℕ) × (r ≡ Refusal.Corrupt addr.offset addr.sum found))) }
+        ensures bytes { IsTrue (D.honest disk.old) → IfOk result (λ v. IsBlock (D.seen disk.old) addr v.items) }
+        ensures corrupt { IsTrue (D.honest disk.old) → (offset want found : ℕ) → IfErr result (IsSpoilt (D.seen disk.old) addr offset want found) }
+        ensures err { IfErr result (IsRefused addr (D.faults disk.old) (D.faults disk.new)) }
         ensures looked { Looked D.Disk disk.old disk.new }
         ensures home { D.home disk.new ≡ D.home disk.old }
     {

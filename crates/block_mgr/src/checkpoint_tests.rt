@@ -154,62 +154,103 @@ fn a_write_that_is_refused_takes_nothing(rt: HostRuntime) {
     }
 }
 
+// What a run leaves: the disk, and the block of the last completed checkpoint, all of one byte.
+#[derive(Drop)]
+struct Left {
+    disk: MemDisk,
+    last: Addr,
+    byte: u8,
+}
+
 // A device with two slots of bytes 17 and one block of bytes 178 at 8,192, of the last checkpoint.
-// The live tree lets go of the block; a checkpoint is given up, and the next one writes its block.
-fn run(rt: &impl Abort, alloc: Global, failing: u64) -> MemDisk {
+fn device(rt: &impl Abort, alloc: Global, failing: u64) -> Left {
     let mut content = Vec::new(alloc);
     content.resize(8192, 17).expect(rt, "there is memory");
     content.resize(12288, 178).expect(rt, "there is memory");
     let calls = Vec::from_slice(alloc, &[failing]).expect(rt, "there is memory");
     let made = MemDisk::new(alloc, content, 1_048_576, calls);
-    let mut disk = made.expect(rt, "there is memory");
-    let addr = Addr {
-        offset: 8192,
-        size: 4096,
-        sum: 0,
-    };
+    Left {
+        disk: made.expect(rt, "there is memory"),
+        last: Addr {
+            offset: 8192,
+            size: 4096,
+            sum: 0,
+        },
+        byte: 178,
+    }
+}
+
+fn opened(alloc: Global, addr: Addr, len: u64) -> Option<Blocks> {
     let holder = Holder::Tree;
-    let opened = Blocks::open(alloc, &[Found { addr, holder }], 12288);
-    let mut blocks = match opened {
-        Ok(blocks) => blocks,
-        Err(_) => return disk,
-    };
+    Blocks::open(alloc, &[Found { addr, holder }], len).ok()
+}
+
+// The live tree lets go of its block, and a checkpoint that wrote another one is given up. The next
+// one writes and captures a block, and is complete; the live tree lets go of that, and a further
+// checkpoint that wrote over the units of the first block is given up.
+fn run(rt: &impl Abort, alloc: Global, failing: u64) -> Left {
+    let mut left = device(rt, alloc, failing);
+    let opened = opened(alloc, left.last, 12288);
+    let mut blocks = opened.expect(rt, "the block can stand there");
     begins(rt, &mut blocks);
-    frees(rt, &mut blocks, addr);
-    let Ok(first) = writes(rt, alloc, &mut blocks, &mut disk, 1) else {
-        return disk;
+    frees(rt, &mut blocks, left.last);
+    let Ok(first) = writes(rt, alloc, &mut blocks, &mut left.disk, 1) else {
+        return left;
     };
     captures(rt, &mut blocks, first);
     frees(rt, &mut blocks, first);
     ends(rt, &mut blocks, false);
     begins(rt, &mut blocks);
-    let Ok(second) = writes(rt, alloc, &mut blocks, &mut disk, 2) else {
-        return disk;
+    let Ok(second) = writes(rt, alloc, &mut blocks, &mut left.disk, 2) else {
+        return left;
     };
     captures(rt, &mut blocks, second);
     assert!(rt; first.offset == 12288 && second.offset == 16384);
-    disk
+    if left.disk.sync().is_err() {
+        return left;
+    }
+    ends(rt, &mut blocks, true);
+    left.last = second;
+    left.byte = 1;
+    frees(rt, &mut blocks, second);
+    begins(rt, &mut blocks);
+    let Ok(third) = writes(rt, alloc, &mut blocks, &mut left.disk, 1) else {
+        return left;
+    };
+    captures(rt, &mut blocks, third);
+    assert!(rt; third.offset == 8192);
+    ends(rt, &mut blocks, false);
+    left
 }
 
+// Whether a device has a block all of this byte, behind two slots of bytes 17.
+fn is_whole(bytes: &[u8], addr: Addr, byte: u8) -> bool {
+    let start = addr.offset as usize;
+    let size = addr.size as usize;
+    bytes.iter().take(8192).all(|slot| *slot == 17)
+        && bytes.iter().skip(start).take(size).count() == size
+        && bytes
+            .iter()
+            .skip(start)
+            .take(size)
+            .all(|here| *here == byte)
+}
+
+// Calls 0 to 4 are the first sync, two writes, the sync before the end and the write behind it; two
+// writes that were not synced take two octal digits of a pick.
 #[test]
-fn a_crash_around_any_failing_call_leaves_the_last_checkpoint(rt: HostRuntime) {
-    for failing in 0..4 {
-        for pick in 0..16 {
-            let disk = run(&rt, rt.alloc(), failing);
-            let left = disk.crash(pick).expect(&rt, "there is memory");
-            assert!(rt; left.bytes().len() >= 12288, "at {failing}, {pick}");
+fn an_opening_after_a_crash_finds_the_last_checkpoint_whole(rt: HostRuntime) {
+    for failing in 0..6 {
+        for pick in [0, 1, 2, 3, 4, 5, 6, 7, 8, 9, 18, 27, 36, 45, 54, 63] {
+            let left = run(&rt, rt.alloc(), failing);
+            let disk = left.disk.crash(pick).expect(&rt, "there is memory");
+            let bytes = disk.bytes();
             assert!(rt;
-                left.bytes().iter().take(8192).all(|byte| *byte == 17),
+                is_whole(bytes, left.last, left.byte),
                 "at {failing}, {pick}"
             );
-            assert!(rt;
-                left.bytes()
-                    .iter()
-                    .skip(8192)
-                    .take(4096)
-                    .all(|byte| *byte == 178),
-                "at {failing}, {pick}"
-            );
+            let found = opened(rt.alloc(), left.last, bytes.len() as u64);
+            assert!(rt; found.is_some(), "at {failing}, {pick}");
         }
     }
 }

@@ -4,6 +4,7 @@ ghost use Rattle.extent_list.specs.Space.{end_of, space_of, Taken, HasNoRoom};
 ghost use Rattle.block_mgr.specs.Cells.{
   Holdings,
   AreUnits,
+  IsPlaced,
   IsLive,
   cell_at,
   fresh,
@@ -97,7 +98,7 @@ impl Holders {
         requires fresh { cell_at self.old.cells unit ≡ fresh units }
         requires end { (end ≡ end_of self.old.space) ⊎ ((end ≡ 8192 + 4096 * unit) × (8192 + 4096 * unit + 4096 * units ≡ end_of self.old.space)) }
         ensures { (before : Holdings) (capacity : ℕ) → AreUnits before.cells before.space → end ≡ end_of before.space
-            → Taken before.space self.old.space (4096 * units) capacity (8192 + 4096 * unit) → Put before.cells self.old.cells (length self.old.space.units) unit (fresh units) → self.new ≡ before }
+            → IsPlaced before self.old unit units capacity → self.new ≡ before }
     {
         self.space
             .put_back(SLOTS_END + UNIT * unit as u64, UNIT * units as u64, end);

@@ -3,7 +3,7 @@ ghost use Rattle.std.specs.Prelude.{◌≡◌, ◌<◌, ◌≤◌, List, ℕ, fa
 ghost use Rattle.disk_model.specs.Disk.{Torn};
 ghost use Rattle.disk_model.specs.Crash.{Keeps};
 ghost use Rattle.extent_list.specs.Space.{Space, IsSpot};
-ghost use Rattle.block_mgr.specs.Cells.{AreUnits, cell_at, nothing, is_used, captured, freed, done, dropped, named, unnamed};
+ghost use Rattle.block_mgr.specs.Cells.{AreUnits, cell_at, nothing, IsLiveAlone, IsNamedAlone, captured, freed, done, dropped, named, unnamed};
 ghost use Rattle.block_mgr.specs.Blocks.{Books, Has, HasLive, HasRunning, HasLast, HasName, unit_of};
 ghost use Rattle.block_mgr.specs.Writes.{Added};
 
@@ -55,7 +55,7 @@ pub fn a_block_stays_live()
 /// gone at once, also while one runs that did not capture it.
 pub fn a_freed_block_is_gone()
     ensures not_live { (cells : List Cell) (at n : ℕ) → HasLive (freed cells (unit_of at)) at n → ⊥ }
-    ensures gone { (cells : List Cell) (u : ℕ) → u < length cells → (cell_at cells u).is_running ≡ false → (cell_at cells u).is_last ≡ false → (cell_at cells u).names ≡ 0 → cell_at (freed cells u) u ≡ nothing }
+    ensures gone { (cells : List Cell) (u : ℕ) → u < length cells → IsLiveAlone (cell_at cells u) → cell_at (freed cells u) u ≡ nothing }
 {}
 
 /// A block of a named checkpoint is in use, and stays its block over each call until it is unnamed,
@@ -71,11 +71,12 @@ pub fn a_named_block_stays()
     ensures over_name { (cells : List Cell) (u at n : ℕ) → HasName cells at n → HasName (named cells u) at n }
     ensures over_others { (cells : List Cell) (u at n : ℕ) → (unit_of at ≡ u → ⊥) → HasName cells at n → HasName (unnamed cells u) at n }
     ensures shared { (cells : List Cell) (u at n : ℕ) → 2 ≤ (cell_at cells u).names → HasName cells at n → HasName (unnamed cells u) at n }
-    ensures gone { (cells : List Cell) (u : ℕ) → u < length cells → is_used (record (cell_at cells u) { names = 0 }) ≡ false → (cell_at cells u).names ≡ 1 → cell_at (unnamed cells u) u ≡ nothing }
+    ensures gone { (cells : List Cell) (u : ℕ) → u < length cells → IsNamedAlone (cell_at cells u) → cell_at (unnamed cells u) u ≡ nothing }
 {}
 
 /// A write at the place that the books give keeps the slots and the blocks in use, also one that a
 /// crash cut short.
 pub fn a_write_keeps_the_blocks_in_use()
-    ensures { (cells : List Cell) (space : Space) (n capacity at : ℕ) (old new : List ℕ) → AreUnits cells space → 1 ≤ n → IsSpot space n capacity at → Torn at n old new → Keeps (Has cells) old new }
+    ensures { (cells : List Cell) (space : Space) (n capacity at : ℕ) (old new : List ℕ) → AreUnits cells space
+        → 1 ≤ n → IsSpot space n capacity at → Torn at n old new → Keeps (Has cells) old new }
 {}

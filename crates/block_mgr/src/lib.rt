@@ -36,4 +36,4 @@ pub use law::{
     a_freed_block_is_gone, a_named_block_stays, a_write_keeps_the_blocks_in_use,
 };
 pub use place::is_place;
-pub use read::read_block;
+pub use read::{read_block, read_into};

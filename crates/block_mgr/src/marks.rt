@@ -14,7 +14,6 @@ ghost use Rattle.std.specs.Prelude.{
   length,
   map,
   nat_eq,
-  slice_index_or,
   slice_set,
   vec_capacity,
   IfOk,
@@ -22,7 +21,7 @@ ghost use Rattle.std.specs.Prelude.{
 ghost use Rattle.std.specs.List.{list_any, IsDistinct};
 ghost use Rattle.extent_list.specs.Space.{end_of};
 ghost use Rattle.block_mgr.specs.Cells.{AreUnits, cell_at, captured, ended_cell};
-ghost use Rattle.block_mgr.specs.Marks.{Listed, ListedTo, is_marked};
+ghost use Rattle.block_mgr.specs.Marks.{Listed, ListedTo, is_marked, unit_in};
 
 use crate::cell::Cell;
 use crate::settle::settle_ended;
@@ -138,8 +137,9 @@ pub(crate) fn drop_unmarked(cells: &[Cell], marked: &mut Vec<usize>)
 fn keep_mark(cells: &[Cell], marked: &mut Vec<usize>, i: usize, kept: usize) -> usize
     requires within { i < length marked.old.items }
     requires order { kept ≤ i }
-    ensures has { is_marked (cell_at cells.now (slice_index_or marked.old.items i 0)) ≡ true → (result ≡ kept + 1) × (marked.new.items ≡ slice_set marked.old.items kept (slice_index_or marked.old.items i 0)) }
-    ensures none { is_marked (cell_at cells.now (slice_index_or marked.old.items i 0)) ≡ false → (result ≡ kept) × (marked.new.items ≡ marked.old.items) }
+    ensures has { is_marked (cell_at cells.now (unit_in marked.old.items i)) ≡ true → result ≡ kept + 1 }
+    ensures moved { is_marked (cell_at cells.now (unit_in marked.old.items i)) ≡ true → marked.new.items ≡ slice_set marked.old.items kept (unit_in marked.old.items i) }
+    ensures none { is_marked (cell_at cells.now (unit_in marked.old.items i)) ≡ false → (result ≡ kept) × (marked.new.items ≡ marked.old.items) }
     ensures capacity { vec_capacity marked.new ≡ vec_capacity marked.old }
 {
     let unit = marked[i];

@@ -1,9 +1,9 @@
 // The blocks of a device that is opened.
 ghost use Rattle.std.specs.Prelude.{◌≡◌, ◌⊎◌, ◌↔◌, ◌+◌, ◌<◌, ◌≤◌, ◌^◌, ℕ, false, length, IfOk, IfErr, OnOk, IsTrue, max};
 ghost use Rattle.extent_list.specs.Space.{end_of, IsWhole};
-ghost use Rattle.block_mgr.specs.declared.found.OpenError.TheVariants.{NoMemory as WantOfMemory, NoPlace, Clash};
+ghost use Rattle.block_mgr.specs.declared.found.OpenError.TheVariants.{NoMemory as WantOfMemory, NoPlace};
 ghost use Rattle.block_mgr.specs.Cells.{AreUnits, cell_at};
-ghost use Rattle.block_mgr.specs.Open.{Fits, Agree, AgreeUpTo, found_at, found_cell, last_end};
+ghost use Rattle.block_mgr.specs.Open.{Fits, Agree, AgreeUpTo, IsFirstClash, found_at, found_cell, last_end};
 
 use crate::Addr;
 use crate::admit::{admit, all_free, no_blocks};
@@ -54,7 +54,7 @@ pub(crate) fn admit_all(alloc: Global, found: &[Found], end: u64) -> Result<Hold
     ensures end { IfOk result (λ h. end_of h.space ≡ end) }
     ensures units { IfOk result (λ h. AreUnits h.cells h.space) }
     ensures agree { OnOk result (AgreeUpTo found.now (length found.now)) }
-    ensures err { IfErr result (λ e. (e ≡ WantOfMemory) ⊎ ((i : ℕ) × (j : ℕ) × (e ≡ Clash i j) × (i < j) × (j < length found.now) × AgreeUpTo found.now j × (Agree (found_at found.now i) (found_at found.now j) → ⊥))) }
+    ensures err { IfErr result (λ e. (e ≡ WantOfMemory) ⊎ IsFirstClash found.now e) }
 {
     let mut cells = match no_blocks(alloc, end) {
         Ok(cells) => cells,

@@ -10,5 +10,5 @@ use Rattle.block_mgr.proofs.law.a_freed_block_is_gone.Goals as goal
 pub returns : goal.returns
 returns c = record {
   not_live = λ cells at n (u, place, size, live). freed_not_live cells (unit_of at) u (sym (unit_is at u place)) live;
-  gone = λ cells u within running last names. get_or-set_same cells u (kept (record (cell_at cells u) { is_live = false })) nothing within ∙ unused_nothing (cell_at cells u) running last names;
+  gone = λ cells u within alone. get_or-set_same cells u (kept (record (cell_at cells u) { is_live = false })) nothing within ∙ unused_nothing (cell_at cells u) alone.idle alone.past alone.unnamed;
 }

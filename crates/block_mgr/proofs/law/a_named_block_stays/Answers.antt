@@ -28,5 +28,5 @@ returns c = record {
       let there = get_or-set_other cells u v (kept (record (cell_at cells u) { names = (cell_at cells u).names - 1 })) nothing apart in
       (v, place, subst (λ (c : Cell). n ≡ 4096 * c.units) (sym there) size, subst (λ (c : Cell). 1 ≤ c.names) (sym there) some);
   shared = λ cells u at n two has. has_set (λ (c : Cell). 1 ≤ c.names) cells at n u (kept (record (cell_at cells u) { names = (cell_at cells u).names - 1 })) (λ is. sized_kept (λ (c : Cell). 1 ≤ c.names) n (record (cell_at cells u) { names = (cell_at cells u).names - 1 }) (used_named (record (cell_at cells u) { names = (cell_at cells u).names - 1 }) (omega (arith, two))) (is.0, omega (arith, two))) has;
-  gone = λ cells u within unused one. get_or-set_same cells u (kept (record (cell_at cells u) { names = (cell_at cells u).names - 1 })) nothing within ∙ (ap (λ (k : ℕ). kept (record (cell_at cells u) { names = k - 1 })) one ∙ ap (λ (b : Bool). cond b (record (cell_at cells u) { names = 0 }) nothing) unused);
+  gone = λ cells u within alone. get_or-set_same cells u (kept (record (cell_at cells u) { names = (cell_at cells u).names - 1 })) nothing within ∙ (ap (λ (k : ℕ). kept (record (cell_at cells u) { names = k - 1 })) alone.one ∙ ap (λ (b : Bool). cond b (record (cell_at cells u) { names = 0 }) nothing) alone.others);
 }

@@ -11,7 +11,7 @@ loop-i-init c = record {
 
 pub loop-i-preserved : goal.loop-i-preserved
 loop-i-preserved c = record {
-  walked = walked_more c.args.cells.now c.args.marked.now.items c.loop-i.marked.items c.keep_mark-kept.new.marked.items c.loop-i.i c.loop-i.kept c.keep_mark-kept.result c.requires.distinct (omega (arith, c.loop-i-test.true, c.len-i-end.ensures)) c.loop-i.invariant.walked c.keep_mark-kept.ensures.has c.keep_mark-kept.ensures.none;
+  walked = walked_more c.args.cells.now c.args.marked.now.items c.loop-i.marked.items c.keep_mark-kept.new.marked.items c.loop-i.i c.loop-i.kept c.keep_mark-kept.result c.requires.distinct (omega (arith, c.loop-i-test.true, c.len-i-end.ensures)) c.loop-i.invariant.walked (λ is. (c.keep_mark-kept.ensures.has is, c.keep_mark-kept.ensures.moved is)) c.keep_mark-kept.ensures.none;
   room = c.keep_mark-kept.ensures.capacity ∙ c.loop-i.invariant.room;
 }
 

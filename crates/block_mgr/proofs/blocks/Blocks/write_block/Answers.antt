@@ -22,7 +22,7 @@ returns-in-Err-store-clause-units g c =
     let units : ℕ = length c.args.block.now / 4096 in
     let taken : Taken c.self.inside.holders.space c.place.new.self.space (4096 * units) c.capacity-capacity.result (8192 + 4096 * c.in-Ok-Some.unit) = subst (λ (o : Option ℕ). IfSome o (λ v. Taken c.self.inside.holders.space c.place.new.self.space (4096 * units) c.capacity-capacity.result (8192 + 4096 * v))) c.in-Ok-Some.field-0-is c.in-Ok-Some.ensures.taken in
     let put : Put c.self.inside.holders.cells c.place.new.self.cells (length c.place.new.self.space.units) c.in-Ok-Some.unit (fresh units) = subst (λ (o : Option ℕ). IfSome o (λ v. Put c.self.inside.holders.cells c.place.new.self.cells (length c.place.new.self.space.units) v (fresh units))) c.in-Ok-Some.field-0-is c.in-Ok-Some.ensures.placed in
-    let undone : c.withdraw.new.self ≡ c.self.inside.holders = c.withdraw.ensures c.self.inside.holders c.capacity-capacity.result c.end-end.ensures.units c.end-end.ensures.end taken put in
+    let undone : c.withdraw.new.self ≡ c.self.inside.holders = c.withdraw.ensures c.self.inside.holders c.capacity-capacity.result c.end-end.ensures.units c.end-end.ensures.end (taken, put) in
     subst (λ (h : Holdings). AreUnits h.cells h.space) (sym undone) c.end-end.ensures.units
 
 pub returns-in-Err-store-clause-same : goal.returns-in-Err-store-clause-same
@@ -30,7 +30,7 @@ returns-in-Err-store-clause-same g c =
     let units : ℕ = length c.args.block.now / 4096 in
     let taken : Taken c.self.inside.holders.space c.place.new.self.space (4096 * units) c.capacity-capacity.result (8192 + 4096 * c.in-Ok-Some.unit) = subst (λ (o : Option ℕ). IfSome o (λ v. Taken c.self.inside.holders.space c.place.new.self.space (4096 * units) c.capacity-capacity.result (8192 + 4096 * v))) c.in-Ok-Some.field-0-is c.in-Ok-Some.ensures.taken in
     let put : Put c.self.inside.holders.cells c.place.new.self.cells (length c.place.new.self.space.units) c.in-Ok-Some.unit (fresh units) = subst (λ (o : Option ℕ). IfSome o (λ v. Put c.self.inside.holders.cells c.place.new.self.cells (length c.place.new.self.space.units) v (fresh units))) c.in-Ok-Some.field-0-is c.in-Ok-Some.ensures.placed in
-    let undone : c.withdraw.new.self ≡ c.self.inside.holders = c.withdraw.ensures c.self.inside.holders c.capacity-capacity.result c.end-end.ensures.units c.end-end.ensures.end taken put in
+    let undone : c.withdraw.new.self ≡ c.self.inside.holders = c.withdraw.ensures c.self.inside.holders c.capacity-capacity.result c.end-end.ensures.units c.end-end.ensures.end (taken, put) in
     ap (λ (h : Holdings). let seen : Books = record { cells = h.cells; space = h.space; is_synced = c.self.inside.is_synced; is_held = c.self.inside.is_held } in seen) undone ∙ c.self.view_is
 
 pub returns-in-Err-store-clause-full : goal.returns-in-Err-store-clause-full

@@ -31,7 +31,7 @@ invariant_of-self c =
     (held, listed_put cells c.self.inside.marked.items _ c.self.invariant.1 c.take_away.new.cells.items (length new.units) c.args.unit _ nothing gone (sym alone) (omega (arith, fewer, c.self.invariant.1.room)))
 
 pub returns : goal.returns
-returns c before capacity units end taken put =
+returns c before capacity units end (taken, put) =
     let new = c.put_back.new.self in
     let total : (c.args.end - 8192) / 4096 ≡ length new.units = omega (arith, c.put_back.ensures.ends) in
     let gone : Put c.self.inside.cells.items c.take_away.new.cells.items (length new.units) c.args.unit nothing = subst (λ (t : ℕ). Put c.self.inside.cells.items c.take_away.new.cells.items t c.args.unit nothing) total c.take_away.ensures in
