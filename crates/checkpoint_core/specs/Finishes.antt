@@ -1,16 +1,18 @@
 -- What the finish of a checkpoint leaves.
-use Rattle.std.specs.Prelude.{◌≡◌, ◌⊎◌, ℕ, ◌+◌, ◌*◌, ◌/◌, List, Option, Result, Ok, Err}
+use Rattle.std.specs.Prelude.{◌≡◌, ◌⊎◌, ℕ, ◌+◌, ◌*◌, ◌/◌, List, Option, Result, Ok, Err, IsTrue, length}
 use Rattle.disk_model.specs.Crash.{Each, LeavesOnly}
 use Rattle.disk_model.specs.declared.disk.Disk.{Ghosts}
 use Rattle.extent_list.specs.Space.{Space, Taken, HasNoRoom}
 use Rattle.wt_code.specs.declared.store_error.StoreError.{StoreError}
 use Rattle.wt_code.specs.declared.store_error.StoreError.TheVariants.{NoMemory, NoSpace, Read, Down}
 use Rattle.device_layout.specs.declared.addr.Addr.{Addr}
+use Rattle.device_layout.specs.declared.slot.Slot.{Slot}
+use Rattle.turtle.specs.Slots.{IsNext}
 use Rattle.block_mgr.specs.Cells.{captured, freed, done}
 use Rattle.block_mgr.specs.Blocks.{Books, unit_of}
 use Rattle.block_mgr.specs.Writes.{Added}
 use Rattle.stored.specs.Stored.{Stored, IsOn}
-use Rattle.checkpoint_core.specs.Stands.{HasStill, placed_at}
+use Rattle.checkpoint_core.specs.Stands.{HasStill, chosen_of, placed_at, Stands, IsReady, IsWritten}
 
 -- an image from before, or one that has the old checkpoint
 abbrev pub IsOld : (List ℕ → Type 0) → Option Stored → List ℕ → Type 0
@@ -19,6 +21,17 @@ IsOld images old c = images c ⊎ HasStill old c
 -- or one that has the new checkpoint
 abbrev pub IsEither : (List ℕ → Type 0) → Option Stored → Stored → List ℕ → Type 0
 IsEither images old new c = IsOld images old c ⊎ IsOn c new
+
+-- On an honest disk this holds of the checkpoint that stands and of the new one, of which all but the record is there and whose number is the next.
+abbrev pub WhereReady : {D : Type 0} (g : Ghosts D) → Books → List ℕ → ℕ → D → (Option Stored → Stored → Type 0) → Type 0
+WhereReady g books image sequence before P =
+    IsTrue (g.honest before) → (old : Option Stored) (new : Stored) → Stands (g.seen before) (g.may_leave before) books old → IsReady (g.seen before) books image new
+    → new.kept.sequence ≡ sequence → ((slot : Slot) → slot.sequence ≡ sequence → IsNext (chosen_of old) slot) → P old new
+
+-- The same where the record is there too, and this slot names it.
+abbrev pub WhereWritten : {D : Type 0} (g : Ghosts D) → Slot → D → (Option Stored → Stored → Type 0) → Type 0
+WhereWritten g slot before P =
+    IsTrue (g.honest before) → (old : Option Stored) (new : Stored) → IsWritten (g.seen before) (g.may_leave before) old new → new.slot ≡ slot → IsNext (chosen_of old) slot → P old new
 
 -- the whole units of an image, in bytes
 abbrev pub units_of : ℕ → ℕ
@@ -42,6 +55,11 @@ abbrev pub Finishes : {D : Type 0} (g : Ghosts D) → Space → ℕ → ℕ → 
 Finishes g space n capacity old new before after (Ok a) =
     LeavesOnly g before after (IsEither (g.may_leave before) old (placed_at new a)) × Each (g.may_leave after) (λ c. IsOn c (placed_at new a)) × HadRoom space n capacity
 Finishes g space n capacity old new before after (Err e) = Fails g space n capacity old new before after e
+
+-- what a finish leaves of the checkpoint of this number, whose record has this image
+abbrev pub FinishesFor : {D : Type 0} (g : Ghosts D) → Books → List ℕ → ℕ → D → D → Result Addr StoreError → Type 0
+FinishesFor g books image sequence before after result =
+    WhereReady g books image sequence before (λ old new. Finishes g books.space (length image) (g.capacity before) old new before after result)
 
 -- an image that has the old checkpoint, or the new one
 abbrev pub HasOne : Option Stored → Stored → List ℕ → Type 0

@@ -1,16 +1,12 @@
 // The finish of a checkpoint.
-ghost use Rattle.std.specs.Prelude.{◌≡◌, ◌⊎◌, ◌^◌, ◌≤◌, ◌<◌, ℕ, List, Option, length, true, false, IfErr, IfOk, OnErr, OnOk, IsTrue};
+ghost use Rattle.std.specs.Prelude.{◌≡◌, ◌⊎◌, ◌^◌, ◌≤◌, ◌<◌, length, true, false, IfErr, IfOk, OnErr, OnOk, IsTrue};
 ghost use Rattle.failure.specs.Counts.{Rose};
 ghost use Rattle.wt_code.specs.StoreErrors.{IsOfDisk};
 ghost use Rattle.disk_model.specs.Crash.{SameDisk};
 ghost use Rattle.extent_list.specs.Space.{end_of};
-ghost use Rattle.turtle.specs.Slots.{IsNext};
-ghost use Rattle.device_layout.specs.declared.slot.Slot.{Slot as ASlot};
 ghost use Rattle.block_mgr.specs.Blocks.{HasLive, unit_of};
 ghost use Rattle.block_mgr.specs.Cells.{captured, freed};
-ghost use Rattle.stored.specs.Stored.{Stored};
-ghost use Rattle.checkpoint_core.specs.Stands.{Stands, IsReady, IsWritten, chosen_of};
-ghost use Rattle.checkpoint_core.specs.Finishes.{Finishes, Installs, IsLastNow};
+ghost use Rattle.checkpoint_core.specs.Finishes.{FinishesFor, WhereWritten, Installs, IsLastNow};
 
 use block_mgr::{Addr, Blocks};
 use disk_model::Disk;
@@ -27,6 +23,9 @@ use wt_code::StoreError;
 /// the capacity. After any error the checkpoint still runs: the caller goes on with it or gives it
 /// up, which frees the record's block where it was written. After `Down` the device has the old
 /// checkpoint or, where the slot's gate was being opened, the new one.
+///
+/// It is for an honest disk on which the old checkpoint stands, and all of the new one but its
+/// record (`WhereReady`).
 pub fn finish<D: Disk>(
     alloc: Global,
     disk: &mut D,
@@ -39,9 +38,7 @@ pub fn finish<D: Disk>(
     requires sequence { sequence < 2 ^ 62 }
     requires held { blocks.old.is_held ≡ true }
     requires ready { IsTrue (D.honest disk.old) → (8192 ≤ length (D.seen disk.old)) × (end_of blocks.old.space ≤ length (D.seen disk.old)) }
-    ensures finishes { IsTrue (D.honest disk.old) → (old : Option Stored) (new : Stored) → Stands (D.seen disk.old) (D.may_leave disk.old) blocks.old old → IsReady (D.seen disk.old) blocks.old image.now new
-        → new.kept.sequence ≡ sequence → ((slot : ASlot) → slot.sequence ≡ sequence → IsNext (chosen_of old) slot)
-        → Finishes D.Disk blocks.old.space (length image.now) (D.capacity disk.old) old new disk.old disk.new result }
+    ensures finishes { FinishesFor D.Disk blocks.old image.now sequence disk.old disk.new result }
     ensures last { IfOk result (IsLastNow blocks.old blocks.new) }
     ensures ended { OnOk result (blocks.new.is_held ≡ false) }
     ensures runs { OnErr result (blocks.new.is_held ≡ true) }
@@ -77,8 +74,7 @@ fn hand_over(blocks: &mut Blocks, addr: Addr)
 fn sync_and_install<D: Disk>(disk: &mut D, slot: Slot) -> Result<(), StoreError>
     requires sequence { slot.sequence < 2 ^ 62 }
     requires long { IsTrue (D.honest disk.old) → 8192 ≤ length (D.seen disk.old) }
-    ensures leaves { IsTrue (D.honest disk.old) → (old : Option Stored) (new : Stored) → IsWritten (D.seen disk.old) (D.may_leave disk.old) old new → new.slot ≡ slot → IsNext (chosen_of old) slot
-        → Installs D.Disk old new disk.old disk.new result }
+    ensures leaves { WhereWritten D.Disk slot disk.old (λ old new. Installs D.Disk old new disk.old disk.new result) }
     ensures kind { IfErr result IsOfDisk }
     ensures rose { OnErr result (Rose (D.faults disk.old) (D.faults disk.new)) }
     ensures disk { SameDisk D.Disk disk.old disk.new }

@@ -2,6 +2,7 @@ ghost use Rattle.std.specs.Prelude.{◌≡◌, List, ℕ, length, IfNone};
 ghost use Rattle.std.specs.Int.{w8, w16, w32, w64};
 ghost use Rattle.le_codec.specs.Fields.{Gives, number_at, slice_at};
 
+use crate::number::{number_4, number_8};
 use std::marker::Model;
 
 /// Reads from the front of a byte string, without copying. It is seen as the bytes that are left.
@@ -89,7 +90,7 @@ impl<'a> Reader<'a> {
         }
         let (front, rest) = bytes.split_at(4);
         self.rest = rest;
-        Some(u32::from_le_bytes([front[0], front[1], front[2], front[3]]))
+        Some(number_4(front))
     }
 
     /// The next number of 8 bytes, the lowest byte first. None where fewer are left.
@@ -104,8 +105,6 @@ impl<'a> Reader<'a> {
         }
         let (front, rest) = bytes.split_at(8);
         self.rest = rest;
-        Some(u64::from_le_bytes([
-            front[0], front[1], front[2], front[3], front[4], front[5], front[6], front[7],
-        ]))
+        Some(number_8(front))
     }
 }

@@ -1,7 +1,7 @@
 -- The fields of a record, at their places.
-use Rattle.std.specs.Prelude.{◌≡◌, ℕ, ◌+◌, ◌-◌, ◌%◌, ◌<◌, ◌≤◌, ◌^◌, List, [], ◌++◌, length, take, drop, replicate, refl}
+use Rattle.std.specs.Prelude.{◌≡◌, ℕ, ◌+◌, ◌-◌, ◌%◌, ◌<◌, ◌≤◌, ◌^◌, List, [], ◌∷◌, ◌++◌, length, take, drop, replicate, refl}
 use Rattle.std.proofs.Common.{sym, ◌∙◌, ap, arith, append_assoc, length-append}
-use Rattle.std.specs.Int.{w8, w32, w64, to_le_bytes, from_le_bytes}
+use Rattle.std.specs.Int.{w8, w16, w32, w64, to_le_bytes, from_le_bytes}
 use Rattle.std.proofs.lemmas.Nat.{from_le_bytes-to_le_bytes_8, from_le_bytes-to_le_bytes_4}
 use Rattle.std.proofs.Math.Seq.{take-append_seam}
 use Rattle.std.proofs.lemmas.List.{append-nil, take_all, length-drop, length-replicate}
@@ -15,7 +15,7 @@ use Rattle.stored.specs.Records.{letter, record_body}
 use Rattle.one_table.specs.declared.record.Numbers.{Numbers}
 use Rattle.device_layout.specs.declared.link.Link.{Link}
 use Rattle.stored.specs.Links.{link_text}
-use Rattle.one_table.specs.OneTable.{one_record, one_image, header_text, numbers_text, link_bytes, entry_text}
+use Rattle.one_table.specs.OneTable.{one_record, one_image, numbers_text, link_bytes, entry_text}
 
 -- a number of eight bytes that stands in a text
 pub number_is : (bytes text : List ℕ) (i n r : ℕ) → bytes ≡ text → r ≡ from_le_bytes w64 (take 8 (drop i bytes)) → take 8 (drop i text) ≡ to_le_bytes w64 n → n < 2 ^ 64 → r ≡ n
@@ -70,7 +70,11 @@ pub body_is : (n : Numbers) (t : Table) (l : Link) → record_body (one_record n
 unfolding le
 body_is n t l = refl
 
-pub header_is : (used : ℕ) → header 5 first_format 1 used 0 ≡ header_text used
+-- a header for one table and so many bytes, spelled out
+abbrev header_text : ℕ → List ℕ
+header_text used = (5 ∷ 1 ∷ []) ++ to_le_bytes w16 1 ++ to_le_bytes w32 used ++ to_le_bytes w64 0
+
+header_is : (used : ℕ) → header 5 first_format 1 used 0 ≡ header_text used
 unfolding le
 header_is used = refl
 
@@ -141,13 +145,13 @@ joined : (head first second : List ℕ) → (head ++ first) ++ second ≡ head +
 joined head first second = append_assoc head first second ∙ ap (λ (l : List ℕ). head ++ (first ++ l)) (sym (append-nil second))
 
 -- the image that is built of a header and two parts
-pub built_is : (n : Numbers) (t : Table) (l : Link) (used : ℕ) (head body table whole : List ℕ) → head ≡ header_text used → body ≡ numbers_text n → table ≡ entry_text t.number t.formats t.name l
+pub built_is : (n : Numbers) (t : Table) (l : Link) (used : ℕ) (head body table whole : List ℕ) → head ≡ header 5 first_format 1 used 0 → body ≡ numbers_text n → table ≡ entry_text t.number t.formats t.name l
     → used ≡ 16 + length body + length table → whole ≡ (head ++ body) ++ table → whole ≡ one_image n t l
 built_is n t l used head body table whole head_is body_are table_are used_is whole_is =
     let rest : List ℕ = record_body (one_record n t l) in
     let parts : body ++ (table ++ []) ≡ rest = ap (λ (l : List ℕ). l ++ (table ++ [])) body_are ∙ ap (λ (l : List ℕ). numbers_text n ++ (l ++ [])) table_are ∙ sym (body_is n t l) in
     let sizes : used ≡ 16 + length rest = omega (arith, used_is, ap length (sym parts), length-append body (table ++ []), ap length (append-nil table)) in
-    whole_is ∙ joined head body table ∙ ap (λ (l : List ℕ). head ++ l) parts ∙ ap (λ (l : List ℕ). l ++ rest) (head_is ∙ sym (header_is used) ∙ ap (λ m. header 5 first_format 1 m 0) sizes)
+    whole_is ∙ joined head body table ∙ ap (λ (l : List ℕ). head ++ l) parts ∙ ap (λ (l : List ℕ). l ++ rest) (head_is ∙ ap (λ m. header 5 first_format 1 m 0) sizes)
 
 -- the block that is filled up from an image
 pub filled_is : (n : Numbers) (t : Table) (l : Link) (image block : List ℕ) (k : ℕ) → length t.name ≤ 128 → image ≡ one_image n t l → k ≡ length image → block ≡ take 4096 image ++ replicate (4096 - k) 0 → block ≡ block_of (one_image n t l)

@@ -1,5 +1,5 @@
 -- What a checkpoint of one table leaves.
-use Rattle.std.specs.Prelude.{◌≡◌, ◌⊎◌, ℕ, List, [], ◌∷◌, Option, Some, None, Result, Ok, Err}
+use Rattle.std.specs.Prelude.{◌≡◌, ◌⊎◌, ℕ, ◌+◌, List, [], ◌∷◌, length, Option, Some, None, Result, Ok, Err, IsTrue}
 use Rattle.disk_model.specs.Crash.{Each, LeavesOnly}
 use Rattle.disk_model.specs.declared.disk.Disk.{Ghosts}
 use Rattle.wt_code.specs.declared.refusals.Refusal.{Refusal}
@@ -11,7 +11,21 @@ use Rattle.le_codec.specs.Images.{block_size}
 use Rattle.kv_model.specs.Content.{Content, nothing}
 use Rattle.row_page.specs.Rows.{Row}
 use Rattle.stored.specs.Stored.{Stored, Reads, content_of}
+use Rattle.failure.specs.Counts.{Rose}
+use Rattle.device_layout.specs.declared.link.Link.{Link}
+use Rattle.device_layout.specs.declared.slot.Slot.{Slot}
+use Rattle.turtle.specs.Slots.{IsNext}
+use Rattle.block_mgr.specs.Blocks.{Books}
+use Rattle.kv_model.specs.History.{Table}
+use Rattle.leaf_rows.specs.Contents.{leaf_content}
+use Rattle.checkpoint_core.specs.Stands.{Stands, AreInUse, chosen_of}
+use Rattle.checkpoint_core.specs.Finishes.{Finishes}
 use Rattle.checkpoint_core.specs.Room.{IsFull}
+use Rattle.one_table.specs.declared.place.Place.{Place}
+use Rattle.one_table.specs.declared.record.Numbers.{Numbers}
+use Rattle.one_table.specs.OneTable.{one_unplaced}
+use Rattle.one_table.specs.Leaves.{LeafIs, blocks_at}
+use Rattle.one_table.specs.Openings.{Serves}
 use Rattle.leaf_rows.specs.Rows.{image_length}
 
 -- the sizes of the blocks that are written: the leaf's, where there are rows, and the record's
@@ -52,6 +66,19 @@ IsFullFor bytes capacity rows = IsFull bytes capacity (block_sizes rows)
 abbrev pub content_was : Option Stored → Content
 content_was None = nothing
 content_was (Some s) = content_of s
+
+-- What a checkpoint of the table with these rows leaves, on an honest disk that the place serves, where its number is the next.
+abbrev pub InstallsTable : {D : Type 0} (g : Ghosts D) → Place → Numbers → Table → List Row → D → D → Result (Unit {0}) Refusal → Type 0
+InstallsTable g place numbers table rows before after result =
+    IsTrue (g.honest before) → (old : Option Stored) → Serves (g.seen before) place old → ((slot : Slot) → slot.sequence ≡ numbers.sequence → IsNext (chosen_of old) slot)
+    → Installs g (Rose (g.faults before) (g.faults after)) (IsFullFor (g.seen before) (g.capacity before) rows) (content_was old) (leaf_content numbers.marks table rows) before after result
+
+-- What the finish of such a checkpoint leaves, whose leaf is where the link leads.
+abbrev pub FinishesTable : {D : Type 0} (g : Ghosts D) → Books → Numbers → Table → Link → D → D → Result Addr StoreError → Type 0
+FinishesTable g books numbers table link before after result =
+    IsTrue (g.honest before) → (old : Option Stored) (rows : List Row) → Stands (g.seen before) (g.may_leave before) books old → LeafIs (g.seen before) link rows → AreInUse books.cells (blocks_at link rows)
+    → ((slot : Slot) → slot.sequence ≡ numbers.sequence → IsNext (chosen_of old) slot)
+    → Finishes g books.space (159 + length table.name) (g.capacity before) old (one_unplaced numbers table link rows) before after result
 
 -- the answer once the record was written, or was not
 abbrev pub told_of : Result Addr StoreError → Result (Unit {0}) Refusal

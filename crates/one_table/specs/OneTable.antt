@@ -59,10 +59,6 @@ one_unplaced n t link rows = one_stored (record { sequence = n.sequence; offset 
 
 -- ---- the parts of the image, one behind the other
 
--- a header for one table and so many bytes
-abbrev pub header_text : ℕ → List ℕ
-header_text used = (5 ∷ 1 ∷ []) ++ to_le_bytes w16 1 ++ to_le_bytes w32 used ++ to_le_bytes w64 0
-
 -- up to the history, which has no records
 abbrev pub numbers_text : Numbers → List ℕ
 numbers_text n =
@@ -109,6 +105,14 @@ pub record HoldsRecord (block : List ℕ) (r : OneRecord) : Type 0 where
   pub form : IsInForm r.numbers (lent r.entry)
   pub link : LinkFits r.entry.link
   pub is : block ≡ block_of (one_image r.numbers (lent r.entry) r.entry.link)
+
+-- the fields are those of any record that the block is
+abbrev pub HasFields : List ℕ → OneRecord → Type 0
+HasFields block r = (n : Numbers) (t : Table) (l : Link) → IsInForm n t → LinkFits l → block ≡ block_of (one_image n t l) → (r.numbers ≡ n) × (lent r.entry ≡ t) × (r.entry.link ≡ l)
+
+-- the fields are those of any table that the bytes begin with
+abbrev pub HasTable : List ℕ → TableEntry → Type 0
+HasTable bytes e = (t : Table) (l : Link) (rest : List ℕ) → IsTable t → LinkFits l → bytes ≡ entry_text t.number t.formats t.name l ++ rest → (lent e ≡ t) × (e.link ≡ l)
 
 -- the block is that of no record with one table of one leaf
 abbrev pub HoldsNone : List ℕ → Type 0

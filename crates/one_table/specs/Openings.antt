@@ -1,16 +1,19 @@
 -- What an opening finds, and why it finds nothing.
 use Rattle.std.specs.Prelude.{◌≡◌, ◌≢◌, ◌⊎◌, ℕ, ◌≤◌, ◌<◌, ◌-◌, ◌^◌, ◌==◌, false, List, [], ◌∷◌, length, Option, Some, None, if◌then◌else◌}
+use Rattle.failure.specs.Counts.{Rose}
+use Rattle.disk_model.specs.declared.disk.Disk.{Ghosts}
 use Rattle.extent_list.specs.Space.{end_of, space_of}
 use Rattle.block_mgr.specs.declared.found.Found.{Found}
 use Rattle.block_mgr.specs.Cells.{AreUnits, cell_at}
 use Rattle.block_mgr.specs.Blocks.{Books}
-use Rattle.block_mgr.specs.Open.{found_cell, last_end}
+use Rattle.block_mgr.specs.Open.{AreStored, found_cell, last_end}
 use Rattle.device_layout.specs.declared.link.Link.{Link}
 use Rattle.device_layout.specs.declared.slot.Slot.{Slot}
 use Rattle.le_codec.specs.Images.{block_of}
 use Rattle.kv_model.specs.History.{Table}
 use Rattle.wt_code.specs.declared.refusals.Refusal.{Refusal}
 use Rattle.wt_code.specs.declared.refusals.Refusal.TheVariants.{Corrupt, DiskFault, NoMemory, Limit as Refusal_Limit}
+use Rattle.wt_code.specs.declared.refusals.Limit.{Limit}
 use Rattle.wt_code.specs.declared.refusals.Limit.TheVariants.{Tables, Checkpoints}
 use Rattle.kv_model.specs.Content.{Content}
 use Rattle.row_page.specs.Rows.{Row}
@@ -24,6 +27,7 @@ use Rattle.one_table.specs.declared.opening.Kept.{Kept}
 use Rattle.one_table.specs.declared.opening.Opened.{Opened}
 use Rattle.one_table.specs.declared.record.Numbers.{Numbers}
 use Rattle.one_table.specs.declared.record.OneRecord.{OneRecord}
+use Rattle.one_table.specs.Leaves.{PageIs}
 use Rattle.one_table.specs.Damage.{FoundNoLeaf, IsDamage}
 use Rattle.one_table.specs.OneTable.{table_of, lent, one_image, one_stored, HoldsOne, HoldsRecord, HoldsNone, IsInForm}
 
@@ -83,7 +87,25 @@ OpenRefused fault known bytes r =
     ⊎ (((r ≡ Refusal_Limit Checkpoints) × (known → (content : Content) → Reads bytes content → content.run ≡ last_number))
     ⊎ ((at : ℕ) × (want : ℕ) × (found : ℕ) × (r ≡ Corrupt at want found) × (known → IsDamage bytes at want found)))))
 
+-- the same of a disk, before and after
+abbrev pub RefusesOpen : {D : Type 0} → Ghosts D → (known : Type 0) → D → D → Refusal → Type 0
+RefusesOpen g known old new r = OpenRefused (Rose (g.faults old) (g.faults new)) known (g.seen old) r
+
 -- ---- the steps of an opening
+
+-- why a block is not that of the leaf of a link
+abbrev pub RefusesPage : List ℕ → Link → Refusal → Type 0
+RefusesPage block link r = (r ≡ NoMemory) ⊎ ((r ≡ Corrupt link.addr.offset link.addr.sum link.addr.sum) × ((rows : List Row) → PageIs block link rows → ⊥))
+
+-- why the books of these blocks are not made: they cannot all be in use on a device of this length
+abbrev pub RefusesBooks : Slot → List Found → ℕ → Refusal → Type 0
+RefusesBooks slot found len r = (r ≡ NoMemory) ⊎ ((r ≡ Corrupt slot.offset slot.sum slot.sum) × (AreStored found len → ⊥))
+
+-- why the numbers of a record are refused: they are not the slot's, or no run may follow
+abbrev pub RefusesNumbers : Slot → Numbers → Limit → Type 0
+RefusesNumbers slot n l =
+    ((l ≡ Tables) × (n.sequence ≢ slot.sequence))
+    ⊎ ((l ≡ Checkpoints) × (n.sequence ≡ slot.sequence) × (last_number ≤ n.marks.run))
 
 -- the books are those of the blocks that were found
 pub record HasBooks (found : List Found) (books : Books) : Type 0 where

@@ -1,11 +1,10 @@
 // The leaf of a table.
-ghost use Rattle.std.specs.Prelude.{◌≡◌, ◌⊎◌, ◌↔◌, ℕ, List, IfOk, IfErr, IsTrue};
+ghost use Rattle.std.specs.Prelude.{◌≡◌, ◌⊎◌, ◌↔◌, ℕ, IfOk, IfErr, IsTrue};
 ghost use Rattle.failure.specs.Counts.{Rose};
 ghost use Rattle.disk_model.specs.Crash.{Looked};
-ghost use Rattle.row_page.specs.Rows.{Row, IsPage};
-ghost use Rattle.stored.specs.Links.{nowhere, SaysOf};
-ghost use Rattle.one_table.specs.Leaves.{LeafIs, PageIs, NoLeaf};
-ghost use Rattle.one_table.specs.Openings.{LeafRefused};
+ghost use Rattle.stored.specs.Links.{nowhere};
+ghost use Rattle.one_table.specs.Leaves.{LeafIs, PageIs};
+ghost use Rattle.one_table.specs.Openings.{LeafRefused, RefusesPage};
 
 use block_mgr::read_block;
 use device_layout::{Addr, Link};
@@ -38,7 +37,7 @@ pub(crate) fn load<D: Disk>(alloc: Global, disk: &mut D, link: Link) -> Result<R
 // The rows of a leaf's block, of which the link says the greatest.
 fn rows_of(alloc: Global, link: Link, block: &[u8]) -> Result<Rows, Refusal>
     ensures ok { IfOk result (λ rows. PageIs block.now link rows) }
-    ensures err { IfErr result (λ r. (r ≡ Refusal.NoMemory) ⊎ ((r ≡ Refusal.Corrupt link.addr.offset link.addr.sum link.addr.sum) × ((rows : List Row) → PageIs block.now link rows → ⊥))) }
+    ensures err { IfErr result (RefusesPage block.now link) }
 {
     let Some(page) = Page::decode(block) else {
         return Err(spoilt(link.addr));

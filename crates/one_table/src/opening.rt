@@ -1,10 +1,10 @@
 // How a device is opened.
-ghost use Rattle.std.specs.Prelude.{◌≡◌, ◌≢◌, ◌⊎◌, ◌≤◌, ◌<◌, ◌^◌, ℕ, List, false, length, IfOk, IfErr, IfSome, IfNone, OnOk, IsTrue};
+ghost use Rattle.std.specs.Prelude.{◌≡◌, ◌≢◌, ◌⊎◌, ◌≤◌, ◌<◌, ◌^◌, ℕ, false, length, IfOk, IfErr, IfSome, IfNone, OnOk, IsTrue};
 ghost use Rattle.failure.specs.Counts.{Rose};
 ghost use Rattle.disk_model.specs.Crash.{Looked};
 ghost use Rattle.block_mgr.specs.Open.{AreStored};
 ghost use Rattle.one_table.specs.Damage.{IsChosen, found_of};
-ghost use Rattle.one_table.specs.Openings.{IsOpened, InForm, OpenRefused, IsNothing, HasBooks, IsRecordOf, RecordRefused, IsAssembled, last_number};
+ghost use Rattle.one_table.specs.Openings.{IsOpened, InForm, RefusesOpen, RefusesBooks, RefusesNumbers, IsNothing, HasBooks, IsRecordOf, RecordRefused, IsAssembled, last_number};
 
 use crate::leaf::load;
 use crate::place::Place;
@@ -38,16 +38,18 @@ pub struct Opened {
     pub kept: Option<Kept>,
 }
 
-/// Finds the last completed checkpoint, and changes nothing. `75 limit tables` comes exactly where
-/// the device holds another one than of one table of one leaf, `75 limit checkpoints` exactly where
-/// no run may follow the one that made it. `Corrupt` tells damage that the device has: the offset of
-/// a slot, with no sums, or of the record's block or the leaf's, with the sum that it should have
-/// and the sum that it has, or the same sum twice where that is not at fault. `O(bytes)` of the
-/// record and the leaf.
+/// Finds the last completed checkpoint, and changes nothing. `O(bytes)` of the record and the leaf.
+///
+/// `75 limit tables` comes only where the device does not hold one of one table of one leaf: it
+/// holds another one, or its record is out of form. `75 limit checkpoints` comes only where no run
+/// may follow the one that made it. `Corrupt` tells damage that the device has (`IsDamage`): the
+/// offset of a slot, with no sums, or of the record's block or the leaf's, with the sum that it
+/// should have and the sum that it has, or the same sum twice where that is not at fault. Where the
+/// two blocks overlap it is the record's.
 pub fn open<D: Disk>(alloc: Global, disk: &mut D) -> Result<Opened, Refusal>
     ensures ok { IsTrue (D.honest disk.old) → IfOk result (IsOpened (D.seen disk.old)) }
     ensures form { IfOk result (λ o. InForm o.kept) }
-    ensures err { IfErr result (OpenRefused (Rose (D.faults disk.old) (D.faults disk.new)) (IsTrue (D.honest disk.old)) (D.seen disk.old)) }
+    ensures err { IfErr result (RefusesOpen D.Disk (IsTrue (D.honest disk.old)) disk.old disk.new) }
     ensures looked { Looked D.Disk disk.old disk.new }
     ensures home { D.home disk.new ≡ D.home disk.old }
 {
@@ -72,7 +74,7 @@ fn blank(alloc: Global) -> Opened
 fn open_at<D: Disk>(alloc: Global, disk: &mut D, slot: Slot) -> Result<Opened, Refusal>
     ensures ok { IsTrue (D.honest disk.old) → IsChosen (D.seen disk.old) slot → IfOk result (IsOpened (D.seen disk.old)) }
     ensures form { IfOk result (λ o. InForm o.kept) }
-    ensures err { IfErr result (OpenRefused (Rose (D.faults disk.old) (D.faults disk.new)) (IsTrue (D.honest disk.old) × IsChosen (D.seen disk.old) slot) (D.seen disk.old)) }
+    ensures err { IfErr result (RefusesOpen D.Disk (IsTrue (D.honest disk.old) × IsChosen (D.seen disk.old) slot) disk.old disk.new) }
     ensures looked { Looked D.Disk disk.old disk.new }
     ensures home { D.home disk.new ≡ D.home disk.old }
 {
@@ -129,7 +131,7 @@ fn record_of<'a>(alloc: Global, slot: Slot, block: &'a [u8]) -> Result<OneRecord
 // Why the numbers of a record do not suit its slot, or no run may follow.
 fn why_not(slot: Slot, numbers: Numbers) -> Option<Limit>
     ensures none { IfNone result ((numbers.sequence ≡ slot.sequence) × (numbers.marks.run < last_number)) }
-    ensures some { IfSome result (λ l. ((l ≡ Limit.Tables) × (numbers.sequence ≢ slot.sequence)) ⊎ ((l ≡ Limit.Checkpoints) × (numbers.sequence ≡ slot.sequence) × (last_number ≤ numbers.marks.run))) }
+    ensures some { IfSome result (RefusesNumbers slot numbers) }
 {
     if numbers.sequence != slot.sequence {
         Some(Limit::Tables)
@@ -146,7 +148,7 @@ fn books(alloc: Global, slot: Slot, link: Link, len: u64) -> Result<Blocks, Refu
     ensures books { IfOk result (HasBooks (found_of slot link)) }
     ensures fresh { IfOk result (λ s. s.is_synced ≡ false) }
     ensures stored { OnOk result (AreStored (found_of slot link) len) }
-    ensures err { IfErr result (λ r. (r ≡ Refusal.NoMemory) ⊎ ((r ≡ Refusal.Corrupt slot.offset slot.sum slot.sum) × (AreStored (found_of slot link) len → ⊥))) }
+    ensures err { IfErr result (RefusesBooks slot (found_of slot link) len) }
 {
     let record = Found {
         addr: slot.addr(),
@@ -169,7 +171,7 @@ fn books_of(alloc: Global, found: &[Found], slot: Slot, len: u64) -> Result<Bloc
     ensures books { IfOk result (HasBooks found.now) }
     ensures fresh { IfOk result (λ s. s.is_synced ≡ false) }
     ensures stored { OnOk result (AreStored found.now len) }
-    ensures err { IfErr result (λ r. (r ≡ Refusal.NoMemory) ⊎ ((r ≡ Refusal.Corrupt slot.offset slot.sum slot.sum) × (AreStored found.now len → ⊥))) }
+    ensures err { IfErr result (RefusesBooks slot found.now len) }
 {
     match Blocks::open(alloc, found, len) {
         Ok(blocks) => Ok(blocks),

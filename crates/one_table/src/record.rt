@@ -1,18 +1,18 @@
 // The record of a checkpoint of one table of one leaf.
 ghost use Rattle.std.specs.Prelude.{◌≡◌, ◌↔◌, ◌+◌, ◌≤◌, ◌<◌, ◌++◌, ℕ, List, length, take, drop, slice_index_or, IfOk, OnOk, IfSome, IfNone, IsTrue};
 ghost use Rattle.std.specs.List.{list_all};
-ghost use Rattle.std.specs.Int.{w32, w64, from_le_bytes};
 ghost use Rattle.item.specs.declared.formats.Format.{Format};
 ghost use Rattle.le_codec.specs.Images.{block_of};
 ghost use Rattle.kv_model.specs.History.{Table};
 ghost use Rattle.kv_model.specs.Decisions.{is_name, is_name_byte};
 ghost use Rattle.stored.specs.Links.{LinkFits};
 ghost use Rattle.stored.specs.Records.{letter as letter_of};
-ghost use Rattle.one_table.specs.OneTable.{header_text, numbers_text, entry_text, link_bytes, lent, one_image, HoldsRecord, HoldsNone, AreNumbers, IsTable, IsInForm};
+ghost use Rattle.one_table.specs.OneTable.{numbers_text, entry_text, link_bytes, lent, one_image, HasFields, HasTable, HoldsRecord, HoldsNone, AreNumbers, IsTable, IsInForm};
 
 use device_layout::{Addr, Link};
 use failure::NoMemory;
 use item::{Format, Formats, Item};
+use le_codec::{FIRST_FORMAT, header_bytes, number_4, number_8};
 use leaf_rows::Marks;
 use stamp::Name;
 use std::alloc::Global;
@@ -23,8 +23,6 @@ const UNIT: usize = 4096; // bytes
 pub(crate) const SEQUENCE_MAX: u64 = (1 << 62) - 1;
 
 const KIND: u8 = 5;
-
-const FORMAT: u8 = 1;
 
 const HEADER_LEN: usize = 16; // bytes
 
@@ -144,18 +142,6 @@ fn entry_bytes(alloc: Global, entry: &TableEntry<'_>) -> Result<Vec<u8>, NoMemor
     Ok(bytes)
 }
 
-fn header_bytes(alloc: Global, used: u32) -> Result<Vec<u8>, NoMemory>
-    ensures items { IfOk result (λ v. v.items ≡ header_text used) }
-    ensures len { IfOk result (λ v. length v.items ≡ 16) }
-{
-    let mut bytes = Vec::new(alloc);
-    bytes.extend_from_slice(&[KIND, FORMAT])?;
-    bytes.extend_from_slice(&1u16.to_le_bytes())?;
-    bytes.extend_from_slice(&used.to_le_bytes())?;
-    bytes.extend_from_slice(&0u64.to_le_bytes())?;
-    Ok(bytes)
-}
-
 // The image of a record.
 pub(crate) fn encode(
     alloc: Global,
@@ -170,7 +156,8 @@ pub(crate) fn encode(
     let body = numbers_bytes(alloc, numbers)?;
     let table = entry_bytes(alloc, entry)?;
     let used = HEADER_LEN + body.len() + table.len();
-    let mut image = header_bytes(alloc, used as u32)?;
+    let header = header_bytes(KIND, FIRST_FORMAT, 1, used as u32, 0);
+    let mut image = Vec::from_slice(alloc, &header)?;
     image.extend_from_slice(&body)?;
     image.extend_from_slice(&table)?;
     Ok(image)
@@ -216,7 +203,7 @@ pub(crate) fn decode<'a>(alloc: Global, block: &'a [u8]) -> Result<Option<OneRec
 // What stands at the places where a record with one table has its fields.
 fn at_its_places<'a>(block: &'a [u8]) -> Option<OneRecord<'a>>
     requires { length block.now ≡ 4096 }
-    ensures some { IfSome result (λ r. (n : Numbers) → (t : Table) → (l : Link) → IsInForm n t → LinkFits l → block.now ≡ block_of (one_image n t l) → (r.numbers ≡ n) × (lent r.entry ≡ t) × (r.entry.link ≡ l)) }
+    ensures some { IfSome result (HasFields block.now) }
     ensures none { IfNone result (HoldsNone block.now) }
     ensures link { IfSome result (λ r. LinkFits r.entry.link) }
 {
@@ -232,15 +219,15 @@ fn numbers_at(bytes: &[u8]) -> Numbers
     ensures { (n : Numbers) → AreNumbers n → bytes.now ≡ numbers_text n → result ≡ n }
 {
     Numbers {
-        sequence: number_at(&bytes[..8]),
+        sequence: number_8(&bytes[..8]),
         marks: Marks {
-            run: number_at(&bytes[8..16]),
-            oldest: number_at(&bytes[16..24]),
-            stable: number_at(&bytes[24..32]),
-            min: number_at(&bytes[32..40]),
-            max: number_at(&bytes[40..48]),
+            run: number_8(&bytes[8..16]),
+            oldest: number_8(&bytes[16..24]),
+            stable: number_8(&bytes[24..32]),
+            min: number_8(&bytes[32..40]),
+            max: number_8(&bytes[40..48]),
         },
-        next_table: short_at(&bytes[50..54]),
+        next_table: number_4(&bytes[50..54]),
     }
 }
 
@@ -251,21 +238,21 @@ fn link_at(bytes: &[u8]) -> Link
 {
     Link {
         addr: Addr {
-            offset: number_at(&bytes[..8]),
-            size: short_at(&bytes[8..12]),
-            sum: short_at(&bytes[12..16]),
+            offset: number_8(&bytes[..8]),
+            size: number_4(&bytes[8..12]),
+            sum: number_4(&bytes[12..16]),
         },
         greatest: Name {
-            run: number_at(&bytes[16..24]),
-            id: number_at(&bytes[24..32]),
+            run: number_8(&bytes[16..24]),
+            id: number_8(&bytes[24..32]),
         },
-        durable: number_at(&bytes[32..40]),
+        durable: number_8(&bytes[32..40]),
     }
 }
 
 fn entry_at<'a>(bytes: &'a [u8]) -> Option<TableEntry<'a>>
     requires { 176 ≤ length bytes.now }
-    ensures some { IfSome result (λ e. (t : Table) (l : Link) (rest : List ℕ) → IsTable t → LinkFits l → bytes.now ≡ entry_text t.number t.formats t.name l ++ rest → (lent e ≡ t) × (e.link ≡ l)) }
+    ensures some { IfSome result (HasTable bytes.now) }
     ensures link { IfSome result (λ e. LinkFits e.link) }
     ensures none { IfNone result ((t : Table) (l : Link) (rest : List ℕ) → IsTable t → bytes.now ≡ entry_text t.number t.formats t.name l ++ rest → ⊥) }
 {
@@ -277,7 +264,7 @@ fn entry_at<'a>(bytes: &'a [u8]) -> Option<TableEntry<'a>>
         return None;
     };
     Some(TableEntry {
-        number: short_at(&bytes[..4]),
+        number: number_4(&bytes[..4]),
         formats: Formats { key, value },
         name: name_at(bytes, len),
         link: link_at(&bytes[8..ENTRY_LEN]),
@@ -289,26 +276,6 @@ fn name_at(bytes: &[u8], len: usize) -> &[u8]
     ensures { result.now ≡ take len (drop 48 bytes.now) }
 {
     &bytes[ENTRY_LEN..ENTRY_LEN + len]
-}
-
-// A number of eight bytes, the lowest first.
-fn number_at(bytes: &[u8]) -> u64
-    requires { length bytes.now ≡ 8 }
-    ensures { result ≡ from_le_bytes w64 bytes.now }
-{
-    let mut number = [0; 8];
-    number.copy_from_slice(bytes);
-    u64::from_le_bytes(number)
-}
-
-// A number of four bytes, the lowest first.
-fn short_at(bytes: &[u8]) -> u32
-    requires { length bytes.now ≡ 4 }
-    ensures { result ≡ from_le_bytes w32 bytes.now }
-{
-    let mut number = [0; 4];
-    number.copy_from_slice(bytes);
-    u32::from_le_bytes(number)
 }
 
 fn is_in_form(record: &OneRecord<'_>) -> bool

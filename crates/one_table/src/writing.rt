@@ -1,24 +1,17 @@
 // How a checkpoint of one table is written.
-ghost use Rattle.std.specs.Prelude.{◌≡◌, ◌+◌, ◌≤◌, ℕ, List, Option, length, true, IfErr, IsTrue};
+ghost use Rattle.std.specs.Prelude.{◌≡◌, ◌+◌, ◌≤◌, ℕ, Option, length, true, IfErr, IsTrue};
 ghost use Rattle.failure.specs.Counts.{Rose};
 ghost use Rattle.disk_model.specs.Crash.{SameDisk};
 ghost use Rattle.wt_code.specs.StoreErrors.{refusal_of, IsOfDisk};
 ghost use Rattle.extent_list.specs.Space.{end_of};
 ghost use Rattle.block_mgr.specs.Cells.{captured};
 ghost use Rattle.block_mgr.specs.Blocks.{HasLive, unit_of};
-ghost use Rattle.turtle.specs.Slots.{IsNext};
-ghost use Rattle.device_layout.specs.declared.slot.Slot.{Slot as ASlot};
-ghost use Rattle.row_page.specs.Rows.{Row};
 ghost use Rattle.stored.specs.Links.{nowhere as nowhere_link};
 ghost use Rattle.stored.specs.Stored.{Stored};
 ghost use Rattle.leaf_rows.specs.Rows.{image_length};
-ghost use Rattle.leaf_rows.specs.Contents.{leaf_content};
-ghost use Rattle.checkpoint_core.specs.Stands.{Stands, AreInUse, chosen_of};
-ghost use Rattle.checkpoint_core.specs.Finishes.{Finishes};
-ghost use Rattle.one_table.specs.OneTable.{table_of, one_unplaced, IsInForm};
-ghost use Rattle.one_table.specs.Leaves.{LeafIs, blocks_at};
+ghost use Rattle.one_table.specs.OneTable.{table_of, IsInForm};
 ghost use Rattle.one_table.specs.Openings.{Serves};
-ghost use Rattle.one_table.specs.Closings.{Installs, IsFullFor, IsOfClose, content_was, told_of};
+ghost use Rattle.one_table.specs.Closings.{InstallsTable, FinishesTable, IsOfClose, told_of};
 
 use crate::place::Place;
 use crate::record::{Entry, Numbers, TableEntry, encode};
@@ -34,6 +27,9 @@ use wt_code::{Refusal, StoreError};
 /// Writes a checkpoint of the table with these rows, and installs it: the leaf, where there are
 /// rows, then the record, each in free units or else at the end. `NoSpace` comes exactly where one
 /// of the two finds no free extent and the end would move past the capacity.
+///
+/// It is for one checkpoint after an opening: the old leaf stays in use in the place's books, and is
+/// free for the next opening.
 pub fn close<D: Disk>(
     alloc: Global,
     disk: &mut D,
@@ -45,8 +41,7 @@ pub fn close<D: Disk>(
     requires form { IsInForm numbers (table_of entry.now) }
     requires small { image_length rows.now ≤ 32768 }
     requires ready { IsTrue (D.honest disk.old) → (old : Option Stored) × Serves (D.seen disk.old) place.old old }
-    ensures installs { IsTrue (D.honest disk.old) → (old : Option Stored) → Serves (D.seen disk.old) place.old old → ((slot : ASlot) → slot.sequence ≡ numbers.sequence → IsNext (chosen_of old) slot)
-        → Installs D.Disk (Rose (D.faults disk.old) (D.faults disk.new)) (IsFullFor (D.seen disk.old) (D.capacity disk.old) rows.now) (content_was old) (leaf_content numbers.marks (table_of entry.now) rows.now) disk.old disk.new result }
+    ensures installs { InstallsTable D.Disk place.old numbers (table_of entry.now) rows.now disk.old disk.new result }
     ensures refusals { IfErr result IsOfClose }
     ensures fault { IfErr result (λ r. r ≡ Refusal.DiskFault → Rose (D.faults disk.old) (D.faults disk.new)) }
     ensures disk { SameDisk D.Disk disk.old disk.new }
@@ -132,9 +127,7 @@ fn write_record<D: Disk>(
 ) -> Result<Addr, StoreError>
     requires form { IsInForm numbers (table_of entry.now) }
     requires ready { IsTrue (D.honest disk.old) → (8192 ≤ length (D.seen disk.old)) × (end_of blocks.old.space ≤ length (D.seen disk.old)) }
-    ensures finishes { IsTrue (D.honest disk.old) → (old : Option Stored) (rows : List Row) → Stands (D.seen disk.old) (D.may_leave disk.old) blocks.old old → LeafIs (D.seen disk.old) link rows → AreInUse blocks.old.cells (blocks_at link rows)
-        → ((slot : ASlot) → slot.sequence ≡ numbers.sequence → IsNext (chosen_of old) slot)
-        → Finishes D.Disk blocks.old.space (159 + length entry.now.name) (D.capacity disk.old) old (one_unplaced numbers (table_of entry.now) link rows) disk.old disk.new result }
+    ensures finishes { FinishesTable D.Disk blocks.old numbers (table_of entry.now) link disk.old disk.new result }
     ensures fault { IfErr result (λ e. IsOfDisk e → Rose (D.faults disk.old) (D.faults disk.new)) }
     ensures disk { SameDisk D.Disk disk.old disk.new }
 {

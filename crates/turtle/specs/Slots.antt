@@ -9,6 +9,8 @@ use Rattle.disk_model.specs.Ranges.{range}
 use Rattle.disk_model.specs.Crash.{Each, LeavesOnly}
 use Rattle.disk_model.specs.Steps.{OneWrite}
 use Rattle.device_layout.specs.declared.slot.Slot.{Slot}
+use Rattle.wt_code.specs.declared.refusals.Refusal.{Refusal}
+use Rattle.wt_code.specs.declared.refusals.Refusal.TheVariants.{Corrupt, DiskFault}
 
 -- what stands behind the gate: seven letters, version 1, and the fields
 abbrev pub slot_image : Slot → List ℕ
@@ -64,6 +66,14 @@ IsSecondCorrupt bytes = (first : Option Slot) × StandsAt bytes 0 first × (IsOu
 -- the first place at which a device's slots are at fault
 abbrev pub IsCorruptAt : List ℕ → ℕ → Type 0
 IsCorruptAt bytes at = ((at ≡ 0) × (length bytes < 8192)) ⊎ (((at ≡ 0) × (8192 ≤ length bytes) × IsOutOfForm bytes 0) ⊎ ((at ≡ 4096) × (8192 ≤ length bytes) × IsSecondCorrupt bytes))
+
+-- why a device's slots are refused
+abbrev pub RefusesSlots : List ℕ → Refusal → Type 0
+RefusesSlots bytes r = (r ≡ DiskFault) ⊎ ((at : ℕ) × IsCorruptAt bytes at × (r ≡ Corrupt at 0 0))
+
+-- why the slot at a place is refused: a fault of the disk, or it is known to be out of form
+abbrev pub RefusesSlot : (fault known : Type 0) → List ℕ → ℕ → Refusal → Type 0
+RefusesSlot fault known bytes at r = ((r ≡ DiskFault) × fault) ⊎ ((r ≡ Corrupt at 0 0) × (known → IsOutOfForm bytes at))
 
 abbrev pub IsBelow : Option Slot → Slot → Type 0
 IsBelow None slot = Unit {0}

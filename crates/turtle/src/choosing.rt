@@ -1,8 +1,8 @@
 // The chosen slot.
-ghost use Rattle.std.specs.Prelude.{◌≡◌, ◌⊎◌, ◌≤◌, ◌<◌, List, ℕ, Option, length, IfOk, IfErr, IsTrue};
+ghost use Rattle.std.specs.Prelude.{◌≡◌, ◌⊎◌, ◌≤◌, ◌<◌, ℕ, Option, length, IfOk, IfErr, IsTrue};
 ghost use Rattle.failure.specs.Counts.{Rose};
 ghost use Rattle.disk_model.specs.Crash.{Looked};
-ghost use Rattle.turtle.specs.Slots.{Chooses, StandsAt, IsOutOfForm, IsCorruptAt, IsNewer, HaveOneSequence};
+ghost use Rattle.turtle.specs.Slots.{Chooses, StandsAt, RefusesSlot, RefusesSlots, IsNewer, HaveOneSequence};
 
 use crate::slot::slot_of;
 use device_layout::Slot;
@@ -18,7 +18,7 @@ use wt_code::Refusal;
 /// Reads at most 72 bytes.
 pub fn choose<D: Disk>(disk: &mut D) -> Result<Option<Slot>, Refusal>
     ensures chosen { IsTrue (D.honest disk.old) → IfOk result (λ slot. (8192 ≤ length (D.seen disk.old)) × Chooses (D.seen disk.old) slot) }
-    ensures corrupt { IsTrue (D.honest disk.old) → IfErr result (λ r. (r ≡ Refusal.DiskFault) ⊎ ((at : ℕ) × IsCorruptAt (D.seen disk.old) at × (r ≡ Refusal.Corrupt at 0 0))) }
+    ensures corrupt { IsTrue (D.honest disk.old) → IfErr result (RefusesSlots (D.seen disk.old)) }
     ensures fault { IfErr result (λ r. ((r ≡ Refusal.DiskFault) × Rose (D.faults disk.old) (D.faults disk.new)) ⊎ ((at : ℕ) × (r ≡ Refusal.Corrupt at 0 0))) }
     ensures looked { Looked D.Disk disk.old disk.new }
     ensures home { D.home disk.new ≡ D.home disk.old }
@@ -49,7 +49,7 @@ fn slot_at<D: Disk>(disk: &mut D, at: u64) -> Result<Option<Slot>, Refusal>
     requires place { at ≤ 4096 }
     requires long { IsTrue (D.honest disk.old) → 8192 ≤ length (D.seen disk.old) }
     ensures slot { IsTrue (D.honest disk.old) → IfOk result (λ slot. StandsAt (D.seen disk.old) at slot) }
-    ensures err { IfErr result (λ r. ((r ≡ Refusal.DiskFault) × Rose (D.faults disk.old) (D.faults disk.new)) ⊎ ((r ≡ Refusal.Corrupt at 0 0) × (IsTrue (D.honest disk.old) → IsOutOfForm (D.seen disk.old) at))) }
+    ensures err { IfErr result (RefusesSlot (Rose (D.faults disk.old) (D.faults disk.new)) (IsTrue (D.honest disk.old)) (D.seen disk.old) at) }
     ensures looked { Looked D.Disk disk.old disk.new }
     ensures home { D.home disk.new ≡ D.home disk.old }
 {

@@ -5,12 +5,14 @@ ghost use Rattle.disk_model.specs.Disk.{put, Only};
 ghost use Rattle.disk_model.specs.Crash.{SameDisk, LeavesOnly, Each, Looked};
 ghost use Rattle.disk_model.specs.Steps.{OneWrite};
 ghost use Rattle.wt_code.specs.StoreErrors.{IsOfDisk, OnRead, IfDown};
-ghost use Rattle.turtle.specs.Slots.{IsOpen, IsTarget, WhereReady, LeftEither, Installed, StandsInPlace, MaybeWrite, FailsAt, Stopped, sequence_at};
+ghost use Rattle.turtle.specs.Slots.{IsOpen, WhereReady, LeftEither, Installed, StandsInPlace, MaybeWrite, FailsAt, Stopped, sequence_at};
+ghost use Rattle.turtle.specs.Targets.{IsFree, IsShutNow};
 
 use crate::place::{OPEN, SHUT};
-use crate::slot::{body_of, number_8};
+use crate::slot::body_of;
 use device_layout::Slot;
 use disk_model::Disk;
+use le_codec::number_8;
 use limits::{SLOT_A, SLOT_B};
 use wt_code::StoreError;
 
@@ -64,7 +66,7 @@ fn free_place<D: Disk>(disk: &mut D) -> Result<Target, StoreError>
     ensures looked { Looked D.Disk disk.old disk.new }
     ensures home { D.home disk.new ≡ D.home disk.old }
     ensures place { IfOk result (λ t. (t.at ≡ 0) ⊎ (t.at ≡ 4096)) }
-    ensures ok { IsTrue (D.honest disk.old) → (chosen : Option Slot) → IfOk result (λ t. (IsTrue t.is_open ↔ IsOpen (D.seen disk.old) t.at) × IsTarget (D.seen disk.old) chosen t.at) }
+    ensures ok { IsTrue (D.honest disk.old) → (chosen : Option Slot) → IfOk result (IsFree (D.seen disk.old) chosen) }
     ensures err { IfErr result (λ e. e ≡ StoreError.Read) }
     ensures cause { HasCause (D.faults disk.old) (D.faults disk.new) result }
 {
@@ -121,7 +123,7 @@ fn head_at<D: Disk>(disk: &mut D, at: u64) -> Result<Head, StoreError>
 // Shuts a gate that stands open.
 fn shut<D: Disk>(disk: &mut D, target: Target) -> Result<(), StoreError>
     requires { IsTrue (D.honest disk.old) → target.at ≤ length (D.seen disk.old) }
-    ensures written { IsTrue (D.honest disk.old) → OnOk result ((target.is_open ≡ false) × (D.seen disk.new ≡ D.seen disk.old) ⊎ (IsTrue target.is_open × (D.seen disk.new ≡ put (D.seen disk.old) target.at (0 ∷ [])) × Only (D.seen disk.new) (D.may_leave disk.new))) }
+    ensures written { IsTrue (D.honest disk.old) → OnOk result (IsShutNow (D.seen disk.old) target (D.seen disk.new) (D.may_leave disk.new)) }
     ensures leaves { LeavesOnly D.Disk disk.old disk.new (MaybeWrite target.is_open target.at 1 (D.may_leave disk.old)) }
     ensures same_images { target.is_open ≡ false → (c : List ℕ) → D.may_leave disk.new c → D.may_leave disk.old c }
     ensures err { IfErr result (λ e. (fault : _) × (e ≡ StoreError.Down fault) × FailsAt target.at fault) }

@@ -1,10 +1,10 @@
 // The bytes of a slot.
 ghost use Rattle.std.specs.Prelude.{◌≡◌, ◌↔◌, ◌<◌, ◌^◌, IsTrue, IfOk, IfErr, length};
-ghost use Rattle.std.specs.Int.{from_le_bytes, w32, w64};
 ghost use Rattle.turtle.specs.Slots.{slot_image, fields_of, IsSequence, StandsAt, IsOutOfForm};
 
 use crate::place::OPEN;
 use device_layout::Slot;
+use le_codec::{number_4, number_8};
 use limits::NUMBER_MAX;
 
 /// An open slot whose bytes are not those of a slot.
@@ -61,23 +61,4 @@ fn fields(body: &[u8]) -> Slot
         size: number_4(&body[27..31]),
         sum: number_4(&body[31..35]),
     }
-}
-
-/// The number in 8 bytes, the lowest first.
-pub(crate) fn number_8(field: &[u8]) -> u64
-    requires { length field.now ≡ 8 }
-    ensures { result ≡ from_le_bytes w64 field.now }
-{
-    let mut bytes = [0; 8];
-    bytes.copy_from_slice(field);
-    u64::from_le_bytes(bytes)
-}
-
-fn number_4(field: &[u8]) -> u32
-    requires { length field.now ≡ 4 }
-    ensures { result ≡ from_le_bytes w32 field.now }
-{
-    let mut bytes = [0; 4];
-    bytes.copy_from_slice(field);
-    u32::from_le_bytes(bytes)
 }

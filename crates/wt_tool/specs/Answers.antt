@@ -1,5 +1,5 @@
 -- What a put and a get of words answer, by what was kept of the table.
-use Rattle.std.specs.Prelude.{◌≡◌, ◌⊎◌, ℕ, ◌+◌, ◌^◌, nat_lt, nat_le, List, [], ◌∷◌, length, Option, Some, None, Result, Ok, Err, bytes_eq, if◌then◌else◌}
+use Rattle.std.specs.Prelude.{◌≡◌, ◌⊎◌, ℕ, ◌+◌, ◌^◌, nat_lt, nat_le, List, [], ◌∷◌, length, Option, Some, None, Result, Ok, Err, bytes_eq, if◌then◌else◌, Bool}
 use Rattle.item.specs.declared.formats.Formats.{Formats}
 use Rattle.kv_model.specs.Decisions.{Demand, unmet}
 use Rattle.row_page.specs.Rows.{Row}
@@ -12,6 +12,7 @@ use Rattle.wt_code.specs.declared.refusals.Refusal.{Refusal}
 use Rattle.wt_code.specs.declared.refusals.Refusal.TheVariants.{NoMemory, NotFound, NoTable, Invalid as Refusal_Invalid, Limit as Refusal_Limit}
 use Rattle.wt_code.specs.declared.refusals.Invalid.TheVariants.{KeyLong, ValueLong, NoStampAfterStamp}
 use Rattle.wt_code.specs.declared.refusals.Limit.TheVariants.{Ids}
+use Rattle.wt_tool.specs.Writes.{demand_of}
 use Rattle.wt_tool.specs.Words.{plain_formats, stored_as, printed_as}
 
 -- the formats of the table, where it has the name
@@ -59,6 +60,22 @@ Puts oldest run entry name demand (pair ∷ pairs) id rows result after =
     ((r : Refusal) × (result ≡ Err r) × ((r ≡ NoMemory) ⊎ (put_refusal oldest id entry name demand pair rows ≡ Some r)))
     ⊎ ((put_refusal oldest id entry name demand pair rows ≡ None) × Puts oldest run entry name demand pairs (id + 1) (rows_put run id entry name pair rows) result after)
 
+-- ---- the same of what was kept
+
+-- why the put of a pair, by the transaction of this id, is refused
+abbrev pub refusal_in : Kept → ℕ → List ℕ → Bool → List ℕ × List ℕ → Option Refusal
+refusal_in kept id name overwrite pair = put_refusal kept.numbers.marks.oldest id kept.entry name (demand_of overwrite) pair kept.rows
+
+-- the rows after it
+abbrev pub rows_in : Kept → ℕ → List ℕ → List ℕ × List ℕ → List Row
+rows_in kept id name pair = rows_put (kept.numbers.marks.run + 1) id kept.entry name pair kept.rows
+
+-- what the puts of pairs answer, from the first id on
+abbrev pub PutsIn : Kept → List ℕ → Bool → List (List ℕ × List ℕ) → Result ℕ Refusal → List Row → Type 0
+PutsIn kept name overwrite pairs result after = Puts kept.numbers.marks.oldest (kept.numbers.marks.run + 1) kept.entry name (demand_of overwrite) pairs 1 kept.rows result after
+
+-- ---- what a get answers, and a put where there is no table
+
 -- the refusal of the first put where there is no table
 abbrev pub put_nowhere : List (List ℕ × List ℕ) → Option Refusal
 put_nowhere [] = None
@@ -80,3 +97,7 @@ get_answer (Some k) name word =
 abbrev pub printed_by : Option Kept → List ℕ → List ℕ
 printed_by None value = value
 printed_by (Some k) value = printed_as k.entry.formats.value value
+
+-- the text is what is printed of the value at a key
+abbrev pub IsTextAt : Option Kept → List ℕ → List ℕ → List ℕ → Type 0
+IsTextAt kept name key text = (value : List ℕ) × (get_answer kept name key ≡ Ok value) × (text ≡ printed_by kept value)

@@ -1,18 +1,20 @@
 -- What the private functions of the commands leave.
-use Rattle.std.specs.Prelude.{◌≡◌, ℕ, ◌+◌, List, [], ◌∷◌, ◌++◌, Option, Some, None, Result, Ok, Err}
+use Rattle.std.specs.Prelude.{◌≡◌, ℕ, ◌+◌, List, [], ◌∷◌, ◌++◌, Option, Some, None, Result, Ok, Err, ◌⊎◌}
+use Rattle.failure.specs.Counts.{Rose}
 use Rattle.disk_model.specs.Crash.{LeavesOnly}
 use Rattle.disk_model.specs.declared.disk.Disk.{Ghosts}
 use Rattle.wt_code.specs.declared.refusals.Refusal.{Refusal}
-use Rattle.wt_code.specs.declared.refusals.Refusal.TheVariants.{Corrupt}
+use Rattle.wt_code.specs.declared.refusals.Refusal.TheVariants.{Corrupt, DiskFault, NoMemory}
 use Rattle.kv_model.specs.Machine.{Machine}
 use Rattle.kv_model.specs.Content.{Content, base, nothing, start}
 use Rattle.one_table.specs.declared.opening.Kept.{Kept}
 use Rattle.one_table.specs.OneTable.{table_of}
 use Rattle.one_session.specs.Shows.{Shows}
+use Rattle.wt_io.specs.declared.streams.Sink.{Ghosts as SinkGhosts}
 use Rattle.wt_line.specs.Line.{Asked, create, write, read}
-use Rattle.wt_tool.specs.Points.{Point, Ran, Installed, End, Through, Stopped, point_of}
+use Rattle.wt_tool.specs.Points.{Device, Point, Ran, Installed, End, Through, Stopped, point_of}
 use Rattle.wt_tool.specs.Reads.{ReadsKeys}
-use Rattle.wt_tool.specs.Top.{OpensToLast, OpensToOne, Stays, Errors, Printed, Tells, lines, last_line, status_by}
+use Rattle.wt_tool.specs.Top.{OpensToLast, OpensToOne, Stays, Errors, errors_of, Printed, Tells, lines, last_line, status_by}
 
 -- what was kept at the opening of this content: its numbers are the content's, and its rows show the machine
 pub record MeetsTable (content : Content) (k : Kept) : Type 0 where
@@ -34,6 +36,10 @@ uri_of (read uri keys) = uri
 abbrev pub NoDamage : Refusal → Type 0
 NoDamage (Corrupt at want found) = ⊥
 NoDamage _ = Unit {0}
+
+-- why a disk is not attached
+abbrev pub IsOfAttach : Refusal → Type 0
+IsOfAttach r = (r ≡ DiskFault) ⊎ (r ≡ NoMemory)
 
 -- the refusals that a result tells, and how it ends its run
 abbrev pub met_of : Result (Unit {0}) Refusal → List Refusal
@@ -67,3 +73,9 @@ pub record Reading (output_failed : Type 0) (name : List ℕ) (keys : List (List
   pub none : ran.made ≡ []
   pub there : ran.next.device ≡ p.device
   pub same : ran.next.machine.completed ≡ p.machine.completed
+
+-- what `read` of these keys gives and tells, of what was kept
+abbrev pub ReadsFrom : {K E : Type 0} (k : SinkGhosts K) (e : SinkGhosts E) → Option Kept → List ℕ → List (List ℕ) → K → K → E → E → ℕ → Type 0
+ReadsFrom k e kept name keys out out_now err err_now status =
+    (content : Content) → Meets content kept → (device : Device)
+    → Reading (Rose (k.fault_count out) (k.fault_count out_now)) name keys (record { machine = start content; device = device }) (k.written out) (k.written out_now) (errors_of e err err_now) status

@@ -2,13 +2,10 @@
 ghost use Rattle.std.specs.Prelude.{◌≡◌, ◌≤◌, ◌<◌, ◌^◌, IfErr, IsTrue};
 ghost use Rattle.failure.specs.Counts.{Rose};
 ghost use Rattle.disk_model.specs.Crash.{SameDisk};
-ghost use Rattle.kv_model.specs.Content.{Content};
-ghost use Rattle.stored.specs.Stored.{Reads};
 ghost use Rattle.one_table.specs.OneTable.{table_of, IsInForm};
-ghost use Rattle.one_table.specs.Closings.{IsFullFor};
 ghost use Rattle.wt_tool.specs.Points.{last_number};
 ghost use Rattle.wt_tool.specs.Parts.{NoDamage};
-ghost use Rattle.wt_tool.specs.Closes.{next_numbers, HasCheckpoint, Closes};
+ghost use Rattle.wt_tool.specs.Closes.{next_numbers, HasCheckpoint, ClosesKept};
 
 use disk_model::Disk;
 use leaf_rows::Marks;
@@ -31,8 +28,7 @@ pub(crate) fn close_next<D: Disk>(
     requires run { kept.now.numbers.marks.run < last_number }
     requires id { next ≤ 2 ^ 62 }
     requires there { IsTrue (D.honest disk.old) → HasCheckpoint (D.seen disk.old) place.old kept.now.numbers (table_of kept.now.entry) }
-    ensures closes { IsTrue (D.honest disk.old) → (content : Content) → Reads (D.seen disk.old) content
-        → Closes D.Disk (Rose (D.faults disk.old) (D.faults disk.new)) (IsFullFor (D.seen disk.old) (D.capacity disk.old) kept.now.rows) kept.now.numbers (table_of kept.now.entry) kept.now.rows next content disk.old disk.new result }
+    ensures closes { ClosesKept D.Disk kept.now next disk.old disk.new result }
     ensures sound { IfErr result NoDamage }
     ensures fault { IfErr result (λ r. r ≡ Refusal.DiskFault → Rose (D.faults disk.old) (D.faults disk.new)) }
     ensures disk { SameDisk D.Disk disk.old disk.new }

@@ -11,10 +11,12 @@ mod create;
 mod names;
 mod opening;
 mod read;
+mod status;
 mod telling;
 #[cfg(test)]
 mod tests;
 mod top;
 mod write;
 
+pub use status::Status;
 pub use top::{Ended, wt_main, wt_plain};

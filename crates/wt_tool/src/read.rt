@@ -2,16 +2,15 @@
 ghost use Rattle.std.specs.Prelude.{◌≡◌, ◌⊎◌, ◌↔◌, ◌≤◌, ◌<◌, ◌++◌, ◌∷◌, [], ℕ, List, Option, Some, None, Ok, Err, length, map, option_map, IsTrue, IfOk, IfErr, OnOk, OnErr};
 ghost use Rattle.failure.specs.Counts.{Rose, HasCause};
 ghost use Rattle.wt_io.specs.Streams.{Took, TookFront};
-ghost use Rattle.kv_model.specs.Content.{Content, start};
 ghost use Rattle.kv_model.specs.Decisions.{is_name};
 ghost use Rattle.one_session.specs.Shows.{value_in};
 ghost use Rattle.wt_tool.specs.Words.{printed_as};
-ghost use Rattle.wt_tool.specs.Answers.{get_answer, printed_by};
-ghost use Rattle.wt_tool.specs.Points.{Device};
-ghost use Rattle.wt_tool.specs.Parts.{Meets, Reading, NoDamage};
+ghost use Rattle.wt_tool.specs.Answers.{get_answer, IsTextAt};
+ghost use Rattle.wt_tool.specs.Parts.{ReadsFrom, NoDamage};
 ghost use Rattle.wt_tool.specs.Top.{Telling, errors_of};
 
 use crate::names::{KEY_MAX, printed_as, stored_as, stored_len};
+use crate::status::Status;
 use crate::telling::report;
 use crate::write::{formats_by, value_in};
 use one_table::Kept;
@@ -28,25 +27,23 @@ pub(crate) fn read<K: Sink, E: Sink>(
     keys: &[&str],
 ) -> u8
     requires name { IsTrue (is_name name.now) }
-    ensures run { (content : Content) → Meets content (option_map (λ k. k.now) kept.entry) → (device : Device) →
-        Reading (Rose (K.fault_count out.old) (K.fault_count out.new)) name.now (map (λ s. s.now) keys.now) (record { machine = start content; device = device })
-        (K.written out.old) (K.written out.new) (errors_of E.Sink err.old err.new) result }
+    ensures run { ReadsFrom K.Sink E.Sink (option_map (λ k. k.now) kept.entry) name.now (map (λ s. s.now) keys.now) out.old out.new err.old err.new result }
     ensures told { Telling NoDamage (errors_of E.Sink err.old err.new) result }
     ensures status { (result ≡ 0) ⊎ ((result ≡ 1) ⊎ ((result ≡ 6) ⊎ (result ≡ 12))) }
     ensures output_fault { result ≡ 6 → Rose (K.fault_count out.old) (K.fault_count out.new) }
 {
-    let mut status = 0;
+    let mut status = Status::Done as u8;
     for key in keys {
         match get(alloc, kept, name, key) {
             Ok(text) => {
                 if print(out, text).is_err() {
                     let _ = write_all(err, b"output fault\n");
-                    return 6;
+                    return Status::OutputFault as u8;
                 }
             }
             Err(refusal) => {
                 let told = report(alloc, err, &refusal);
-                if told == 12 || !is_absence(&refusal) {
+                if told == Status::NoMemory as u8 || !is_absence(&refusal) {
                     return told;
                 }
                 status = told;
@@ -72,7 +69,7 @@ fn get<'a>(
     name: &[u8],
     key: &str,
 ) -> Result<&'a [u8], Refusal>
-    ensures ok { IfOk result (λ text. (value : List ℕ) × (get_answer (option_map (λ k. k.now) kept.entry) name.now key.now ≡ Ok value) × (text.now ≡ printed_by (option_map (λ k. k.now) kept.entry) value)) }
+    ensures ok { IfOk result (λ text. IsTextAt (option_map (λ k. k.now) kept.entry) name.now key.now text.now) }
     ensures err { IfErr result (λ r. (r ≡ Refusal.NoMemory) ⊎ (get_answer (option_map (λ k. k.now) kept.entry) name.now key.now ≡ Err r)) }
     ensures sound { IfErr result NoDamage }
 {
@@ -95,7 +92,7 @@ fn nowhere(len: u64) -> Refusal
 }
 
 fn get_in<'a>(alloc: Global, kept: &'a Kept, name: &[u8], key: &str) -> Result<&'a [u8], Refusal>
-    ensures ok { IfOk result (λ text. (value : List ℕ) × (get_answer (Some kept.now) name.now key.now ≡ Ok value) × (text.now ≡ printed_by (Some kept.now) value)) }
+    ensures ok { IfOk result (λ text. IsTextAt (Some kept.now) name.now key.now text.now) }
     ensures err { IfErr result (λ r. (r ≡ Refusal.NoMemory) ⊎ (get_answer (Some kept.now) name.now key.now ≡ Err r)) }
     ensures sound { IfErr result NoDamage }
 {

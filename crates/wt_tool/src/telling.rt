@@ -2,6 +2,7 @@
 ghost use Rattle.std.specs.Prelude.{◌≡◌, ◌⊎◌, ◌≤◌, [], ◌∷◌};
 ghost use Rattle.wt_tool.specs.Top.{Tells, errors_of, status_of, lines};
 
+use crate::status::{Status, status_for};
 use std::alloc::Global;
 use wt_code::{Refusal, text_of};
 use wt_io::{Sink, write_all};
@@ -13,21 +14,11 @@ pub(crate) fn report<E: Sink>(alloc: Global, err: &mut E, refusal: &Refusal) -> 
     ensures status { (result ≡ status_of refusal.now) ⊎ (result ≡ 12) }
 {
     let Ok(mut line) = text_of(alloc, refusal) else {
-        return 12;
+        return Status::NoMemory as u8;
     };
     if line.push_str("\n").is_err() {
-        return 12;
+        return Status::NoMemory as u8;
     }
     let _ = write_all(err, line.as_bytes());
     status_for(refusal)
-}
-
-fn status_for(refusal: &Refusal) -> u8
-    ensures { result ≡ status_of refusal.now }
-{
-    match refusal {
-        Refusal::DiskFault => 4,
-        Refusal::NoMemory => 12,
-        _ => 1,
-    }
 }

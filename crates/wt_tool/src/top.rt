@@ -12,6 +12,7 @@ use crate::create::create;
 use crate::names::name_of;
 use crate::opening::reach;
 use crate::read::read;
+use crate::status::Status;
 use crate::telling::report;
 use crate::write::write;
 use disk_model::Home;
@@ -25,8 +26,7 @@ use wt_line::{Command, LineFault, home_of, parse};
 /// How a run ended: its status, and the disk.
 #[derive(Drop)]
 pub struct Ended<D> {
-    /// 0 done; 1 the words were no command, or a call was refused; 4 a call of the disk failed; 5 a
-    /// read of the input failed; 6 a write of the output failed; 12 want of memory.
+    /// The number of a `Status`.
     pub status: u8,
     /// The disk, as the run left it.
     pub disk: D,
@@ -47,9 +47,15 @@ pub fn wt_plain<S: Source, K: Sink, E: Sink, D: Home>(
     match parse(alloc, words) {
         Err(LineFault::Usage) => {
             let _ = write_all(err, b"usage: wt [-h home] command ..\n");
-            Ended { status: 1, disk }
+            Ended {
+                status: Status::Refused as u8,
+                disk,
+            }
         }
-        Err(LineFault::NoMemory) => Ended { status: 12, disk },
+        Err(LineFault::NoMemory) => Ended {
+            status: Status::NoMemory as u8,
+            disk,
+        },
         Ok(command) => {
             let status = run(alloc, &command, home_of(words), input, out, err, &mut disk);
             Ended { status, disk }
@@ -112,7 +118,7 @@ fn told<E: Sink>(alloc: Global, err: &mut E, answer: &Result<(), Refusal>) -> u8
     ensures status { (result ≡ first_status (met_of answer.now)) ⊎ (result ≡ 12) }
 {
     match answer {
-        Ok(()) => 0,
+        Ok(()) => Status::Done as u8,
         Err(refusal) => report(alloc, err, refusal),
     }
 }

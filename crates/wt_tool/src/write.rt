@@ -1,10 +1,9 @@
 // `write`: each pair is put in a transaction of its own, and then a checkpoint taken.
-ghost use Rattle.std.specs.Prelude.{◌≡◌, ◌⊎◌, ◌≤◌, ◌<◌, ◌↔◌, ◌+◌, ◌^◌, nat_lt, ℕ, List, Option, Some, None, length, map, option_map, IsTrue, IfOk, IfErr, IfSome, OnOk, OnErr, Ok, Err};
+ghost use Rattle.std.specs.Prelude.{◌≡◌, ◌⊎◌, ◌≤◌, ◌<◌, ◌↔◌, ◌+◌, ◌^◌, ℕ, List, Option, Some, None, length, option_map, IsTrue, IfOk, IfErr, IfSome, OnOk, Ok, Err};
 ghost use Rattle.failure.specs.Counts.{Rose};
 ghost use Rattle.disk_model.specs.Crash.{SameDisk};
 ghost use Rattle.kv_model.specs.Content.{Content};
 ghost use Rattle.kv_model.specs.Decisions.{is_name};
-ghost use Rattle.leaf_rows.specs.Rows.{version_at};
 ghost use Rattle.one_session.specs.Shows.{value_in};
 ghost use Rattle.one_session.specs.ShowsLaws.{durable_in};
 ghost use Rattle.one_table.specs.OneTable.{table_of, IsInForm};
@@ -12,7 +11,7 @@ ghost use Rattle.one_table.specs.Openings.{IsOpened};
 ghost use Rattle.wt_line.specs.Line.{pair_texts};
 ghost use Rattle.wt_tool.specs.Points.{last_number};
 ghost use Rattle.wt_tool.specs.Writes.{WritesPairs, demand_of};
-ghost use Rattle.wt_tool.specs.Answers.{Puts, put_nowhere, put_refusal, put_over, rows_put, too_long, formats_by};
+ghost use Rattle.wt_tool.specs.Answers.{PutsIn, put_nowhere, refusal_in, put_over, rows_in, too_long, formats_by};
 ghost use Rattle.wt_tool.specs.Parts.{Leaves, NoDamage};
 ghost use Rattle.wt_tool.specs.Top.{EachReads};
 
@@ -99,7 +98,7 @@ fn put_all(
     pairs: &[(&str, &str)],
 ) -> Result<u64, Refusal>
     requires run { kept.old.numbers.marks.run < last_number }
-    ensures puts { Puts kept.old.numbers.marks.oldest (kept.old.numbers.marks.run + 1) kept.old.entry name.now (demand_of overwrite) (pair_texts pairs.now) 1 kept.old.rows result kept.new.rows }
+    ensures puts { PutsIn kept.old name.now overwrite (pair_texts pairs.now) result kept.new.rows }
     ensures next { IfOk result (λ n. (1 ≤ n) × (n ≤ 2 ^ 62)) }
     ensures sound { IfErr result NoDamage }
     ensures numbers { kept.new.numbers ≡ kept.old.numbers }
@@ -128,8 +127,8 @@ fn put_one(
 ) -> Result<(), Refusal>
     requires run { kept.old.numbers.marks.run < last_number }
     requires some { 1 ≤ id }
-    ensures ok { OnOk result ((put_refusal kept.old.numbers.marks.oldest id kept.old.entry name.now (demand_of overwrite) (key.now, value.now) kept.old.rows ≡ None) × (kept.new.rows ≡ rows_put (kept.old.numbers.marks.run + 1) id kept.old.entry name.now (key.now, value.now) kept.old.rows)) }
-    ensures err { IfErr result (λ r. ((r ≡ Refusal.NoMemory) ⊎ (put_refusal kept.old.numbers.marks.oldest id kept.old.entry name.now (demand_of overwrite) (key.now, value.now) kept.old.rows ≡ Some r)) × (kept.new.rows ≡ kept.old.rows)) }
+    ensures ok { OnOk result ((refusal_in kept.old id name.now overwrite (key.now, value.now) ≡ None) × (kept.new.rows ≡ rows_in kept.old id name.now (key.now, value.now))) }
+    ensures err { IfErr result (λ r. ((r ≡ Refusal.NoMemory) ⊎ (refusal_in kept.old id name.now overwrite (key.now, value.now) ≡ Some r)) × (kept.new.rows ≡ kept.old.rows)) }
     ensures id { OnOk result (id < 2 ^ 62) }
     ensures sound { IfErr result NoDamage }
     ensures numbers { kept.new.numbers ≡ kept.old.numbers }

@@ -15,7 +15,7 @@ use Rattle.one_table.specs.declared.opening.Kept.{Kept}
 use Rattle.wt_tool.specs.Top.{Errors, IsTold, Tells, lines, last_line, status_of, first_status, errors_of}
 use Rattle.wt_tool.proofs.Gets.{begun_at, behind, reading, reading_stopped, got_value, got_refused, more_value, failed_value, more_absent, rose_before, front_more, told_more, tells_more, ok_or_err, of_ok, of_err, each_behind, lines_behind}
 use Rattle.wt_tool.proofs.read.read.Goals as goal
-use Rattle.wt_tool.proofs.read.read.Goals.{in-Ok+else-is_err, in-Err+else-told-eq12+else-not-is_absence, then-told-eq12-via-then-told-eq12, then-told-eq12-via-else-told-eq12+then-not-is_absence}
+use Rattle.wt_tool.proofs.read.read.Goals.{in-Ok+else-is_err, in-Err+else-told+else-not-is_absence, then-told-via-then-told, then-told-via-else-told+then-not-is_absence}
 
 took_none : (o : Option (List ℕ)) → Took o o []
 took_none None = refl
@@ -115,10 +115,10 @@ loop-key-preserved g c = elim c.match-get.branch [
             (sym (at_key c.args.keys.now c.loop-key.key-index nowhere c.loop-key-test.true))
             (more_value (Rose (g.K.Sink.fault_count c.args.out.now) n) c.args.name.now (get_or c.args.keys.now c.loop-key.key-index nowhere).now (map (λ (s : Bor (List ℕ)). s.now) (drop (c.loop-key.key-index + 1) c.args.keys.now)) device content e.0 w.in-Ok.text.now more got.0 (e.2 ∙ got.1) gets)));
       }
-  | in-Err+else-told-eq12+else-not-is_absence w ↦
+  | in-Err+else-told+else-not-is_absence w ↦
       let i = c.loop-key.invariant in
       let absent : w.in-Err.refusal ≡ NotFound = w.is_absence.ensures.0 w.if-not-is_absence.false in
-      let plain = told_plain (record { before = g.E.Sink.written c.loop-key.err; now = g.E.Sink.written w.report-told.new.err; faults = g.E.Sink.fault_count c.loop-key.err; faults_now = g.E.Sink.fault_count w.report-told.new.err }) (lines (w.in-Err.refusal ∷ [])) (status_of w.in-Err.refusal) w.report-told.result w.report-told.ensures.told w.if-told-eq12.false in
+      let plain = told_plain (record { before = g.E.Sink.written c.loop-key.err; now = g.E.Sink.written w.report-told.new.err; faults = g.E.Sink.fault_count c.loop-key.err; faults_now = g.E.Sink.fault_count w.report-told.new.err }) (lines (w.in-Err.refusal ∷ [])) (status_of w.in-Err.refusal) w.report-told.result w.report-told.ensures.told w.if-told.false in
       let one : w.report-told.result ≡ 1 = plain.1 ∙ ap status_of absent in
       let higher : g.E.Sink.fault_count c.loop-key.err ≤ g.E.Sink.fault_count w.report-told.new.err = w.report-told.ensures.later in
       let line : Took (g.E.Sink.written c.loop-key.err) (g.E.Sink.written w.report-told.new.err) (lines (NotFound ∷ [])) ⊎ Rose (g.E.Sink.fault_count c.loop-key.err) (g.E.Sink.fault_count w.report-told.new.err) =
@@ -190,13 +190,13 @@ returns-clause-run g c = λ content meets device.
 
 -- ---- a refusal that ends the run
 
-pub returns-then-told-eq12-clause-run : goal.returns-then-told-eq12-clause-run
-returns-then-told-eq12-clause-run g c = λ content meets device.
+pub returns-then-told-clause-run : goal.returns-then-told-clause-run
+returns-then-told-clause-run g c = λ content meets device.
     let i = c.loop-key.invariant in
     let higher : g.E.Sink.fault_count c.loop-key.err ≤ g.E.Sink.fault_count c.report-told.new.err = c.report-told.ensures.later in
-    let twelve : c.in-Err.refusal ≡ NotFound → c.report-told.result ≡ 12 = elim c.then-told-eq12.branch [
-      | then-told-eq12-via-then-told-eq12 v ↦ λ e. v.if-told-eq12.true
-      | then-told-eq12-via-else-told-eq12+then-not-is_absence v ↦ λ e. (let yes : v.is_absence.result ≡ true = v.is_absence.ensures.1 e in let no : v.is_absence.result ≡ false = v.if-not-is_absence.true in absurd cc)
+    let twelve : c.in-Err.refusal ≡ NotFound → c.report-told.result ≡ 12 = elim c.then-told.branch [
+      | then-told-via-then-told v ↦ λ e. v.if-told.true
+      | then-told-via-else-told+then-not-is_absence v ↦ λ e. (let yes : v.is_absence.result ≡ true = v.is_absence.ensures.1 e in let no : v.is_absence.result ≡ false = v.if-not-is_absence.true in absurd cc)
     ] in
     reading_stopped (Rose (g.K.Sink.fault_count c.args.out.now) (g.K.Sink.fault_count c.loop-key.out)) c.args.name.now (get_or c.args.keys.now c.loop-key.key-index nowhere).now (map (λ (s : Bor (List ℕ)). s.now) (drop (c.loop-key.key-index + 1) c.args.keys.now)) (map (λ (s : Bor (List ℕ)). s.now) c.args.keys.now) device content
     c.in-Err.refusal i.printed i.met (g.K.Sink.written c.args.out.now) (g.K.Sink.written c.loop-key.out) (g.E.Sink.written c.args.err.now) (g.E.Sink.written c.loop-key.err) (g.E.Sink.written c.report-told.new.err) (g.E.Sink.fault_count c.args.err.now) (g.E.Sink.fault_count c.loop-key.err) (g.E.Sink.fault_count c.report-told.new.err) c.report-told.result
@@ -226,8 +226,8 @@ returns-clause-told g c =
     let i = c.loop-key.invariant in
     record { refusals = i.met; each = i.each; replies = []; end = Through; told = subst (λ (l : List Refusal). Tells (errors_of g.E.Sink c.args.err.now c.loop-key.err) (lines i.met ++ []) (first_status l) c.loop-key.status) (sym (append-nil i.met)) (inl (subst (λ (l : List ℕ). IsTold (errors_of g.E.Sink c.args.err.now c.loop-key.err) l) (sym (append-nil (lines i.met))) i.err, i.status)) }
 
-pub returns-then-told-eq12-clause-told : goal.returns-then-told-eq12-clause-told
-returns-then-told-eq12-clause-told g c =
+pub returns-then-told-clause-told : goal.returns-then-told-clause-told
+returns-then-told-clause-told g c =
     let i = c.loop-key.invariant in
     let r : Refusal = c.in-Err.refusal in
     let higher : g.E.Sink.fault_count c.loop-key.err ≤ g.E.Sink.fault_count c.report-told.new.err = c.report-told.ensures.later in
