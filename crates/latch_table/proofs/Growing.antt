@@ -53,10 +53,10 @@ module _ {L H F N : Type 0} (start : ℕ → N) (t : Latched L H F N) where
   S = Seat L H F N
 
   pub grows_more : (seats : List S) (first changed new : S) → get_elem? seats 0 ≡ some first → Grows start t seats
-      → changed.parts.items ≡ first.parts.items → changed.raw.table_id ≡ first.raw.table_id → changed.raw.id ≡ 0 → changed.raw.me ≡ (maker first.raw.me.0, first.raw.me.1)
+      → changed.number ≡ first.number → new.number ≡ length seats → changed.parts.items ≡ first.parts.items → changed.raw.table_id ≡ first.raw.table_id → changed.raw.id ≡ 0 → changed.raw.me ≡ (maker first.raw.me.0, first.raw.me.1)
       → new.raw.table_id ≡ first.raw.table_id → new.raw.me ≡ (next_seat start first.raw.me.0, []) → new.parts.items ≡ replicate (pieces_in t) Gone
       → Grows start t (set seats 0 changed ++ new ∷ [])
-  grows_more seats first changed new at g ps e1 e2 e3 n1 n2 n3 =
+  grows_more seats first changed new at g num many ps e1 e2 e3 n1 n2 n3 =
       let old = g.fresh 0 first at in
       let sits = old.0 in
       let own = g.first first at in
@@ -70,12 +70,14 @@ module _ {L H F N : Type 0} (start : ℕ → N) (t : Latched L H F N) where
         me _ (λ v. v.seat) ∙ old.1,
         me _ (λ v. v.held) ∙ old.2,
         me _ (λ v. v.note) ∙ old.3,
+        num ∙ (old.4 ∙ sym (me _ (λ v. v.seat))),
       ) in
       let last : IsFresh start t (length seats) new = (
         sits_fresh t.table.shared.table_id new.raw new.parts.items (n1 ∙ sits.table) (mine _ (λ v. v.spent)) (mine _ (λ v. v.held)) (ap (λ (m : Me (Part H F) (View H F N)). m.1) n2) (ap length n3 ∙ length-replicate (pieces_in t) Gone) sits.wide,
         mine _ (λ v. v.seat) ∙ own.1,
         mine _ (λ v. v.held),
         mine _ (λ v. v.note) ∙ ap start own.1,
+        many ∙ sym (mine _ (λ v. v.seat) ∙ own.1),
       ) in
       record {
         fresh = λ j s e. ⊎_elim
@@ -94,15 +96,16 @@ module _ {L H F N : Type 0} (start : ℕ → N) (t : Latched L H F N) where
             );
       }
 
-  pub grows_one : (s : S) → s.raw.table_id ≡ t.table.shared.table_id → s.raw.id ≡ 0 → s.raw.me ≡ (newcomer (start 0) (shape_of t) 0 1, []) → s.parts.items ≡ replicate (pieces_in t) Gone
+  pub grows_one : (s : S) → s.number ≡ 0 → s.raw.table_id ≡ t.table.shared.table_id → s.raw.id ≡ 0 → s.raw.me ≡ (newcomer (start 0) (shape_of t) 0 1, []) → s.parts.items ≡ replicate (pieces_in t) Gone
       → pieces_in t ≤ t.table.shared.table_id.words → Grows start t (s ∷ [])
-  grows_one s e1 e2 e3 n3 wide =
+  grows_one s num e1 e2 e3 n3 wide =
       let me = λ (A : Type 0) (f : View H F N → A). ap (λ (m : Me (Part H F) (View H F N)). f m.0) e3 in
       let one : IsFresh start t 0 s = (
         sits_fresh t.table.shared.table_id s.raw s.parts.items e1 (me _ (λ v. v.spent)) (me _ (λ v. v.held)) (ap (λ (m : Me (Part H F) (View H F N)). m.1) e3) (ap length n3 ∙ length-replicate (pieces_in t) Gone) wide,
         me _ (λ v. v.seat),
         me _ (λ v. v.held),
         me _ (λ v. v.note),
+        num ∙ sym (me _ (λ v. v.seat)),
       ) in
       record {
         fresh = λ j u e. only j u one e;

@@ -8,7 +8,7 @@ use Rattle.pool_law.specs.declared.part.Part.TheVariants.{Gone}
 use Rattle.pool_law.specs.declared.shape.Shape.{Shape}
 use Rattle.latch_table.specs.declared.latched.Latched.{Latched}
 use Rattle.latch_table.specs.declared.seat.Seat.{Seat}
-use Rattle.latch_table.specs.Tables.{IsSeatOf, note_of, number_of_seat, shape_of, taken}
+use Rattle.latch_table.specs.Tables.{IsNumbered, IsSeatOf, note_of, number_of_seat, shape_of, taken}
 
 abbrev pub shape : ℕ → ℕ → Shape
 shape frames seats = record { frames = frames; seats = seats }
@@ -20,7 +20,7 @@ IsGone pieces row = row.items ≡ replicate pieces Gone
 module _ {L H F N : Type 0} (start : ℕ → N) (t : Latched L H F N) where
   -- the seat of this number, as it begins
   abbrev pub IsFresh : ℕ → Seat L H F N → Type 0
-  IsFresh j s = IsSeatOf t s × (number_of_seat s ≡ j) × (taken s ≡ []) × (note_of s ≡ start j)
+  IsFresh j s = IsSeatOf t s × (number_of_seat s ≡ j) × (taken s ≡ []) × (note_of s ≡ start j) × IsNumbered s
 
   -- the seats of a new table, by number
   pub record AreSeats (seats : List (Seat L H F N)) : Type 0 where

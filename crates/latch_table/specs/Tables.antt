@@ -31,6 +31,14 @@ module _ {L H F N : Type 0} where
   abbrev pub number_of_seat : Seat L H F N → ℕ
   number_of_seat s = s.raw.me.0.seat
 
+  -- the seat carries its number
+  abbrev pub IsNumbered : Seat L H F N → Type 0
+  IsNumbered s = s.number ≡ number_of_seat s
+
+  -- the same seat, and the same number with it
+  abbrev pub SameSeat : Seat L H F N → Seat L H F N → Type 0
+  SameSeat s t = (number_of_seat t ≡ number_of_seat s) × (t.number ≡ s.number)
+
   -- its note with the numbers of the pieces that it holds, and its note alone
   abbrev pub knows : Seat L H F N → Noted N
   knows s = known s.raw.me.0
@@ -51,7 +59,7 @@ module _ {L H F N : Type 0} where
 
   -- what is the same after a step that moves no piece
   abbrev pub SamePieces : Seat L H F N → Seat L H F N → Type 0
-  SamePieces s t = (taken t ≡ taken s) × (pieces_with t ≡ pieces_with s) × (number_of_seat t ≡ number_of_seat s)
+  SamePieces s t = (taken t ≡ taken s) × (pieces_with t ≡ pieces_with s) × SameSeat s t
 
   -- the seat holds the piece k, and was told so; or another seat held it, and nothing changed
   abbrev pub Latches : (Noted N → ℕ → Part H F → N → Type 0) → ℕ → Seat L H F N → Seat L H F N → Latching → Type 0

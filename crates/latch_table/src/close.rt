@@ -39,11 +39,16 @@ fn gather<L: Law>(
         unreachable!()
     };
     let Seat {
+        number: _,
         raw: mut keeper,
         parts: _,
     } = last;
     while let Some(seat) = seats.pop() {
-        let Seat { raw, parts: _ } = seat;
+        let Seat {
+            number: _,
+            raw,
+            parts: _,
+        } = seat;
         table.absorb(&mut keeper, raw);
     }
     table.finish(keeper)

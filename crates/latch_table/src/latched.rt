@@ -6,14 +6,14 @@ ghost use Rattle.pool_law.specs.declared.part.Part.TheVariants.{Gone};
 ghost use Rattle.pool_law.specs.Whole.{Holds};
 ghost use Rattle.latch_table.specs.declared.latching.Latching.TheVariants.{Held};
 ghost use Rattle.latch_table.specs.Seats.{piece_number};
-ghost use Rattle.latch_table.specs.Tables.{IsSeatOf, Latches, MayPut, Puts, SamePieces, knows, note_of, number_of_seat, pieces_in, pieces_with, words_in};
+ghost use Rattle.latch_table.specs.Tables.{IsSeatOf, Latches, MayPut, Puts, SamePieces, SameSeat, knows, note_of, pieces_in, pieces_with, words_in};
 
 use crate::latching::Latching;
 use crate::rule::Ruled;
 use crate::seat::Seat;
 use crate::view::View;
 use atomic_table::Table;
-use pool_law::{Law, Part, Piece, Shape};
+use pool_law::{Law, Part, Piece, Shape, Turn};
 use std::alloc::Global;
 use std::sync::Wait;
 use std::{mem, thread};
@@ -48,7 +48,7 @@ impl<L: Law> Latched<L> {
         requires apart { ¬ Holds (piece_number piece) (knows seat.old).held }
         requires may { L.may_latch (knows seat.old) (piece_number piece) }
         ensures seat { IsSeatOf self.now seat.new }
-        ensures number { number_of_seat seat.new ≡ number_of_seat seat.old }
+        ensures number { SameSeat seat.old seat.new }
         ensures latches { Latches L.told (piece_number piece) seat.old seat.new result }
     {
         let at = number_of(piece);
@@ -66,7 +66,7 @@ impl<L: Law> Latched<L> {
         requires seat { IsSeatOf self.now seat.old }
         requires puts { MayPut L.puts (piece_number piece) seat.old }
         ensures seat { IsSeatOf self.now seat.new }
-        ensures number { number_of_seat seat.new ≡ number_of_seat seat.old }
+        ensures number { SameSeat seat.old seat.new }
         ensures put { Puts L.puts (piece_number piece) seat.old seat.new }
         ensures rest { pieces_with seat.new ≡ slice_set (pieces_with seat.old) (piece_number piece) Gone }
     {
@@ -77,47 +77,53 @@ impl<L: Law> Latched<L> {
     }
 
     /// Reads a further word. Takes no memory and does not wait. O(1): one load.
-    pub fn word_load(&self, seat: &mut Seat<L>, word: u32) -> u64
+    pub fn word_load<M: Turn<L>>(&self, seat: &mut Seat<L>, word: u32) -> u64
         requires seat { IsSeatOf self.now seat.old }
         requires word { word < words_in self.now }
-        requires turns { (r : ℕ) → r < 2 ^ 64 → L.finds (knows seat.old) word r → (n : L.Note) × L.turns (knows seat.old) word r r n }
+        requires turns { (r : ℕ) → r < 2 ^ 64 → L.finds (knows seat.old) word r → (n : L.Note) × M.turns (knows seat.old) word r r n }
         ensures seat { IsSeatOf self.now seat.new }
         ensures pieces { SamePieces seat.old seat.new }
         ensures finds { L.finds (knows seat.old) word result }
-        ensures turns { L.turns (knows seat.old) word result result (note_of seat.new) }
+        ensures turns { M.turns (knows seat.old) word result result (note_of seat.new) }
     {
         let at = seat.parts.len() + word as usize;
-        self.load_at(&mut seat.raw, at, word)
+        self.load_at::<M>(&mut seat.raw, at, word)
     }
 
     /// Writes a further word, and answers what it was. Takes no memory and does not wait. O(1):
     /// one swap.
-    pub fn word_store(&self, seat: &mut Seat<L>, word: u32, value: u64) -> u64
+    pub fn word_store<M: Turn<L>>(&self, seat: &mut Seat<L>, word: u32, value: u64) -> u64
         requires seat { IsSeatOf self.now seat.old }
         requires word { word < words_in self.now }
-        requires turns { (r : ℕ) → r < 2 ^ 64 → L.finds (knows seat.old) word r → (n : L.Note) × L.turns (knows seat.old) word r value n }
+        requires turns { (r : ℕ) → r < 2 ^ 64 → L.finds (knows seat.old) word r → (n : L.Note) × M.turns (knows seat.old) word r value n }
         ensures seat { IsSeatOf self.now seat.new }
         ensures pieces { SamePieces seat.old seat.new }
         ensures finds { L.finds (knows seat.old) word result }
-        ensures turns { L.turns (knows seat.old) word result value (note_of seat.new) }
+        ensures turns { M.turns (knows seat.old) word result value (note_of seat.new) }
     {
         let at = seat.parts.len() + word as usize;
-        self.store_at(&mut seat.raw, at, word, value)
+        self.store_at::<M>(&mut seat.raw, at, word, value)
     }
 
     /// Writes a further word where it is `old`, or answers what it is. Takes no memory and does
     /// not wait. O(1): one compare-exchange.
-    pub fn word_swap(&self, seat: &mut Seat<L>, word: u32, old: u64, new: u64) -> Result<(), u64>
+    pub fn word_swap<M: Turn<L>>(
+        &self,
+        seat: &mut Seat<L>,
+        word: u32,
+        old: u64,
+        new: u64,
+    ) -> Result<(), u64>
         requires seat { IsSeatOf self.now seat.old }
         requires word { word < words_in self.now }
-        requires turns { (r : ℕ) → r < 2 ^ 64 → L.finds (knows seat.old) word r → (n : L.Note) × L.turns (knows seat.old) word r (either (r == old) new r) n }
+        requires turns { (r : ℕ) → r < 2 ^ 64 → L.finds (knows seat.old) word r → (n : L.Note) × M.turns (knows seat.old) word r (either (r == old) new r) n }
         ensures seat { IsSeatOf self.now seat.new }
         ensures pieces { SamePieces seat.old seat.new }
         ensures swapped { MatchResult result (λ _. L.finds (knows seat.old) word old) (λ r. (r ≢ old) × L.finds (knows seat.old) word r) }
-        ensures turns { MatchResult result (λ _. L.turns (knows seat.old) word old new (note_of seat.new)) (λ r. L.turns (knows seat.old) word r r (note_of seat.new)) }
+        ensures turns { MatchResult result (λ _. M.turns (knows seat.old) word old new (note_of seat.new)) (λ r. M.turns (knows seat.old) word r r (note_of seat.new)) }
     {
         let at = seat.parts.len() + word as usize;
-        let found = self.swap_at(&mut seat.raw, at, word, old, new);
+        let found = self.swap_at::<M>(&mut seat.raw, at, word, old, new);
         if found == old { Ok(()) } else { Err(found) }
     }
 
@@ -128,7 +134,7 @@ impl<L: Law> Latched<L> {
         requires apart { ¬ Holds (piece_number piece) (knows seat.old).held }
         requires may { L.may_latch (knows seat.old) (piece_number piece) }
         ensures seat { IsSeatOf self.now seat.new }
-        ensures number { number_of_seat seat.new ≡ number_of_seat seat.old }
+        ensures number { SameSeat seat.old seat.new }
         ensures latches { Latches L.told (piece_number piece) seat.old seat.new Held }
     {
         for _ in rt.forever() {

@@ -20,5 +20,5 @@ mod view;
 pub use failure::NoMemory;
 pub use latched::Latched;
 pub use latching::Latching;
-pub use pool_law::{Law, Part, Piece, Shape};
+pub use pool_law::{AnyTurn, Law, Part, Piece, Shape, Turn};
 pub use seat::Seat;

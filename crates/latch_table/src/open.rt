@@ -142,6 +142,7 @@ fn add_seat<L: Law>(
 )
     requires grows { Grows (L.start (shape_of table.now)) table.now seats.old.items }
     requires some { (0 < vec_len seats.old) × (vec_len seats.old < (shape_of table.now).seats) }
+    requires few { (shape_of table.now).seats < 2 ^ 32 }
     requires room { vec_len seats.old < vec_capacity seats.old }
     requires row { IsGone (pieces_in table.now) parts }
     requires words { 0 < table.now.table.shared.table_id.words }
@@ -149,9 +150,10 @@ fn add_seat<L: Law>(
     ensures one_more { vec_len seats.new ≡ vec_len seats.old + 1 }
     ensures room { vec_capacity seats.new ≡ vec_capacity seats.old }
 {
+    let number = seats.len() as u32;
     let first = &mut seats[0];
     let raw = table.make_seat(&mut first.raw);
-    seats.push_reserved(Seat { raw, parts });
+    seats.push_reserved(Seat { number, raw, parts });
 }
 
 // The seats of a new table, the first and those that it makes, one a row.
@@ -162,6 +164,7 @@ fn seat_all<L: Law>(
     mut seats: Vec<Seat<L>>,
 ) -> Vec<Seat<L>>
     requires first { (first.table_id ≡ table.now.table.shared.table_id) × (first.id ≡ 0) × (first.me ≡ (newcomer (L.start (shape_of table.now) 0) (shape_of table.now) 0 1, [])) }
+    requires few { (shape_of table.now).seats < 2 ^ 32 }
     requires wide { (pieces_in table.now ≤ table.now.table.shared.table_id.words) × (0 < table.now.table.shared.table_id.words) }
     requires rows { All (IsGone (pieces_in table.now)) rows.items × (length rows.items ≡ (shape_of table.now).seats) }
     requires room { (seats.items ≡ []) × (0 < length rows.items) × (length rows.items ≤ vec_capacity seats) }
@@ -171,6 +174,7 @@ fn seat_all<L: Law>(
         unreachable!()
     };
     seats.push_reserved(Seat {
+        number: 0,
         raw: first,
         parts: row,
     });

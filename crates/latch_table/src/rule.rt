@@ -6,7 +6,7 @@ ghost use Rattle.latch_table.specs.Rule.{Stands, gathering, gave, gone_seat, mak
 
 use crate::view::View;
 use atomic_table::{Join, Play, Split, TableRule};
-use pool_law::{Law, Part, Shape};
+use pool_law::{Law, Part, Shape, Turn};
 use std::marker::PhantomData;
 
 pub(crate) struct Ruled<L> {
@@ -39,30 +39,33 @@ impl<L: Law> Play<Part<L::Hub, L::Frame>, View<L::Hub, L::Frame, L::Note>> for G
 }
 
 // A further word is read.
-pub(crate) struct Read<L> {
-    law: PhantomData<L>,
+pub(crate) struct Read<L, M> {
+    law: PhantomData<(L, M)>,
 }
 
-impl<L: Law> Play<Part<L::Hub, L::Frame>, View<L::Hub, L::Frame, L::Note>> for Read<L> {
-    ghost then = { moved L.finds L.turns (λ st r. r) };
+impl<L: Law, M: Turn<L>> Play<Part<L::Hub, L::Frame>, View<L::Hub, L::Frame, L::Note>>
+    for Read<L, M> {
+    ghost then = { moved L.finds M.turns (λ st r. r) };
 }
 
 // A further word is written.
-pub(crate) struct Write<L> {
-    law: PhantomData<L>,
+pub(crate) struct Write<L, M> {
+    law: PhantomData<(L, M)>,
 }
 
-impl<L: Law> Play<Part<L::Hub, L::Frame>, View<L::Hub, L::Frame, L::Note>> for Write<L> {
-    ghost then = { moved L.finds L.turns (λ st r. st.first) };
+impl<L: Law, M: Turn<L>> Play<Part<L::Hub, L::Frame>, View<L::Hub, L::Frame, L::Note>>
+    for Write<L, M> {
+    ghost then = { moved L.finds M.turns (λ st r. st.first) };
 }
 
 // A further word is written where it is as expected.
-pub(crate) struct Swap<L> {
-    law: PhantomData<L>,
+pub(crate) struct Swap<L, M> {
+    law: PhantomData<(L, M)>,
 }
 
-impl<L: Law> Play<Part<L::Hub, L::Frame>, View<L::Hub, L::Frame, L::Note>> for Swap<L> {
-    ghost then = { moved L.finds L.turns (λ st r. either (r == st.first) st.second r) };
+impl<L: Law, M: Turn<L>> Play<Part<L::Hub, L::Frame>, View<L::Hub, L::Frame, L::Note>>
+    for Swap<L, M> {
+    ghost then = { moved L.finds M.turns (λ st r. either (r == st.first) st.second r) };
 }
 
 // The first seat makes the others.

@@ -7,6 +7,7 @@ ghost use Rattle.std.specs.Borrow.{sem, Lends};
 ghost use Rattle.pool_law.specs.contracts.part.Part.{the_row};
 ghost use Rattle.pool_law.specs.declared.part.Part.TheVariants.{Hub, Frame};
 ghost use Rattle.latch_table.specs.Lending.{HasFrame, HasHub, IsFrameWith, IsHubWith, with_part};
+ghost use Rattle.latch_table.specs.Tables.{IsNumbered, number_of_seat};
 ghost use Rattle.latch_table.specs.contracts.seat.Seat.{the_row as seat_row};
 
 use crate::view::View;
@@ -16,6 +17,8 @@ use pool_law::{Law, Part};
 /// What one thread knows, and the pieces that it holds. It may move between threads.
 #[derive(Drop)]
 pub struct Seat<L: Law> {
+    // Which seat of its table it is.
+    pub(crate) number: u32,
     pub(crate) raw: Raw<Part<L::Hub, L::Frame>, View<L::Hub, L::Frame, L::Note>>,
     // By number, `Gone` where the seat has not held the piece.
     pub(crate) parts: Vec<Part<L::Hub, L::Frame>>,
@@ -44,6 +47,14 @@ fn frame_of<H, F>(part: &mut Part<H, F>) -> &mut F
 }
 
 impl<L: Law> Seat<L> {
+    /// Which seat of its table it is, from 0. O(1).
+    pub fn number(&self) -> u32
+        requires numbered { IsNumbered self.now }
+        ensures { result ≡ number_of_seat self.now }
+    {
+        self.number
+    }
+
     fn part_mut(&mut self, at: usize) -> &mut Part<L::Hub, L::Frame>
         requires { at < vec_len self.old.parts }
         ensures* writes_back { sem 𝓛 (Lends (seat_row L.row L.Hub.row L.Frame.row L.Note.row) (the_row L.Hub.row L.Frame.row) self.entry result (with_part self.old at)) }

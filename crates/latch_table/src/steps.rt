@@ -13,7 +13,7 @@ use crate::latched::Latched;
 use crate::rule::{Gatherer, Give, Maker, Read, Swap, Take, Write};
 use crate::view::View;
 use atomic_table::{Closed, Refused, Seat as Raw, Table};
-use pool_law::{Law, Part, Shape};
+use pool_law::{Law, Part, Shape, Turn};
 use std::alloc::Global;
 
 pub(crate) type Raws<H, F, N> = Raw<Part<H, F>, View<H, F, N>>;
@@ -103,7 +103,7 @@ impl<L: Law> Latched<L> {
     }
 
     // A further word is read.
-    pub(crate) fn load_at(
+    pub(crate) fn load_at<M: Turn<L>>(
         &self,
         seat: &mut Raws<L::Hub, L::Frame, L::Note>,
         at: usize,
@@ -111,15 +111,15 @@ impl<L: Law> Latched<L> {
     ) -> u64
         requires table { (seat.old.table_id ≡ self.now.table.shared.table_id) × (at ≡ self.now.table.shared.table_id.slots + word) × (at < self.now.table.shared.table_id.words) }
         requires seat { seat.old.me.0.spent ≡ false }
-        requires turns { (r : ℕ) → r < 2 ^ 64 → L.finds (known seat.old.me.0) word r → (n : L.Note) × L.turns (known seat.old.me.0) word r r n }
+        requires turns { (r : ℕ) → r < 2 ^ 64 → L.finds (known seat.old.me.0) word r → (n : L.Note) × M.turns (known seat.old.me.0) word r r n }
         ensures same { (seat.new.table_id ≡ seat.old.table_id) × (seat.new.id ≡ seat.old.id) }
-        ensures moved { moved L.finds L.turns (λ st r. r) (step self.now.table.shared.table_id.slots at 0 0 none) seat.old.me result seat.new.me }
+        ensures moved { moved L.finds M.turns (λ st r. r) (step self.now.table.shared.table_id.slots at 0 0 none) seat.old.me result seat.new.me }
     {
-        self.table.shared.load::<Read<L>>(seat, at)
+        self.table.shared.load::<Read<L, M>>(seat, at)
     }
 
     // A further word is written.
-    pub(crate) fn store_at(
+    pub(crate) fn store_at<M: Turn<L>>(
         &self,
         seat: &mut Raws<L::Hub, L::Frame, L::Note>,
         at: usize,
@@ -128,15 +128,15 @@ impl<L: Law> Latched<L> {
     ) -> u64
         requires table { (seat.old.table_id ≡ self.now.table.shared.table_id) × (at ≡ self.now.table.shared.table_id.slots + word) × (at < self.now.table.shared.table_id.words) }
         requires seat { seat.old.me.0.spent ≡ false }
-        requires turns { (r : ℕ) → r < 2 ^ 64 → L.finds (known seat.old.me.0) word r → (n : L.Note) × L.turns (known seat.old.me.0) word r value n }
+        requires turns { (r : ℕ) → r < 2 ^ 64 → L.finds (known seat.old.me.0) word r → (n : L.Note) × M.turns (known seat.old.me.0) word r value n }
         ensures same { (seat.new.table_id ≡ seat.old.table_id) × (seat.new.id ≡ seat.old.id) }
-        ensures moved { moved L.finds L.turns (λ st r. st.first) (step self.now.table.shared.table_id.slots at value 0 none) seat.old.me result seat.new.me }
+        ensures moved { moved L.finds M.turns (λ st r. st.first) (step self.now.table.shared.table_id.slots at value 0 none) seat.old.me result seat.new.me }
     {
-        self.table.shared.swap::<Write<L>>(seat, at, value)
+        self.table.shared.swap::<Write<L, M>>(seat, at, value)
     }
 
     // A further word is written where it is as expected.
-    pub(crate) fn swap_at(
+    pub(crate) fn swap_at<M: Turn<L>>(
         &self,
         seat: &mut Raws<L::Hub, L::Frame, L::Note>,
         at: usize,
@@ -146,12 +146,12 @@ impl<L: Law> Latched<L> {
     ) -> u64
         requires table { (seat.old.table_id ≡ self.now.table.shared.table_id) × (at ≡ self.now.table.shared.table_id.slots + word) × (at < self.now.table.shared.table_id.words) }
         requires seat { seat.old.me.0.spent ≡ false }
-        requires turns { (r : ℕ) → r < 2 ^ 64 → L.finds (known seat.old.me.0) word r → (n : L.Note) × L.turns (known seat.old.me.0) word r (either (r == old) new r) n }
+        requires turns { (r : ℕ) → r < 2 ^ 64 → L.finds (known seat.old.me.0) word r → (n : L.Note) × M.turns (known seat.old.me.0) word r (either (r == old) new r) n }
         ensures same { (seat.new.table_id ≡ seat.old.table_id) × (seat.new.id ≡ seat.old.id) }
-        ensures moved { moved L.finds L.turns (λ st r. either (r == st.first) st.second r) (step self.now.table.shared.table_id.slots at old new none) seat.old.me result seat.new.me }
+        ensures moved { moved L.finds M.turns (λ st r. either (r == st.first) st.second r) (step self.now.table.shared.table_id.slots at old new none) seat.old.me result seat.new.me }
     {
         self.table
             .shared
-            .compare_exchange::<Swap<L>>(seat, at, old, new)
+            .compare_exchange::<Swap<L, M>>(seat, at, old, new)
     }
 }

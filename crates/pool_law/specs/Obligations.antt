@@ -29,3 +29,7 @@ module _ {H F N : Type 0} (joint : Whole H F N → Type 0) where
   TurnKeeps turns = (x : Whole H F N) (id : ℕ) (v : Noted N) (i m : ℕ) (n : N)
       → joint x → get_elem? x.seats id ≡ some v → turns v i (slice_index x.words i) m n
       → joint (stepped x id v.held i m n)
+
+-- each of the few steps is one of all
+abbrev pub Allowed : {N : Type 0} → (Noted N → ℕ → ℕ → ℕ → N → Type 0) → (Noted N → ℕ → ℕ → ℕ → N → Type 0) → Type 0
+Allowed {N} all few = (v : Noted N) (i m n : ℕ) (k : N) → few v i m n k → all v i m n k

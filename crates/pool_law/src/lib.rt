@@ -10,8 +10,10 @@ mod law;
 mod part;
 mod piece;
 mod shape;
+mod turn;
 
 pub use law::Law;
 pub use part::Part;
 pub use piece::Piece;
 pub use shape::Shape;
+pub use turn::{AnyTurn, Turn};

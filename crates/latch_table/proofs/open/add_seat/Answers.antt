@@ -33,4 +33,4 @@ returns-clause-grows g c =
     let at = at_index c.args.seats.now.items 0 c.index_mut-first.result.now (let a = s.0 in omega arith) c.index_mut-first.ensures.value in
     let e = c.make_seat-raw.ensures in
     rw c.push_reserved.ensures.items
-    (grows_more (g.L.Law.start (shape_of c.args.table.now)) c.args.table.now c.args.seats.now.items c.index_mut-first.result.now _ _ at c.requires.grows refl e.first.0 e.first.1 e.first.2 e.made.0 e.made.1 c.requires.row)
+    (grows_more (g.L.Law.start (shape_of c.args.table.now)) c.args.table.now c.args.seats.now.items c.index_mut-first.result.now _ _ at c.requires.grows refl (let n = c.len-number.ensures in omega arith) refl e.first.0 e.first.1 e.first.2 e.made.0 e.made.1 c.requires.row)

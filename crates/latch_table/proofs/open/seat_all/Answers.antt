@@ -1,4 +1,4 @@
-use Rattle.std.proofs.Common.{◌≡◌, ◌∷◌, [], Some, length, ap, ◌∙◌, arith}
+use Rattle.std.proofs.Common.{refl, ◌≡◌, ◌∷◌, [], Some, length, ap, ◌∙◌, arith}
 use Rattle.std.proofs.lemmas.List.{length-append}
 use Rattle.std.proofs.lemmas.List.Elements.{All-pop}
 use Rattle.latch_table.specs.Opening.{IsGone}
@@ -18,7 +18,7 @@ loop-row-init g c =
     let all = c.requires.rows.1 in
     let cap = c.push_reserved.ensures.capacity in
     let room = c.requires.room.2 in (
-      rw (c.push_reserved.ensures.items, c.requires.room.0) (grows_one (g.L.Law.start (shape_of c.args.table.now)) c.args.table.now _ f.0 f.1 f.2 a.1 c.requires.wide.0),
+      rw (c.push_reserved.ensures.items, c.requires.room.0) (grows_one (g.L.Law.start (shape_of c.args.table.now)) c.args.table.now _ refl f.0 f.1 f.2 a.1 c.requires.wide.0),
       a.0,
       omega arith,
       omega arith,

@@ -1,4 +1,4 @@
-use Rattle.std.proofs.Common.{◌≡◌, ℕ, ◌∷◌, sym, ap, ◌∙◌, arith}
+use Rattle.std.proofs.Common.{◌≡◌, ℕ, ◌∷◌, refl, sym, ap, ◌∙◌, arith}
 use lib.ListN.{get_elem?}
 use Rattle.atomic_table.specs.Table.{rest}
 use Rattle.latch_table.specs.Rule.{known}
@@ -80,4 +80,4 @@ returns-clause-number g c =
     let x = c.exchange.ensures in
     let h = p.4 ∙ ap (λ (z : ℕ). (z, p.0) ∷ p.2) (sym e) in
     let m = gave_me c.args.seat.now.raw.me c.exchange.new.seat.me c.give.new.seat.me c.number_of-at.result p.0 c.replace-part.result p.2 (λ v x y n. Unit {0}) s.away h x.3 (λ x' y' h' o' i j. let t = c.give.ensures.gave x' y' h' o' i j in (t.0, t.1, tt)) in
-    ap (λ q. q.0.seat) m.1
+    (ap (λ q. q.0.seat) m.1, refl)
