@@ -5,3 +5,6 @@ pub mod Sorting
 pub mod Turning
 pub mod Deciding
 pub mod InOrder
+pub mod ByNumber
+pub mod Following
+pub mod Recorded

@@ -16,7 +16,7 @@ use Rattle.catalog.specs.Laws.{NamesTurn, PlacesAreNamed, CreatesAreJudged, Crea
 use Rattle.catalog.proofs.NameOrder.{same_name}
 use Rattle.catalog.proofs.Distinct.{place_named}
 
-turn_one : (t : Table) (later : List Table) → reverse (t ∷ later) ≡ reverse later ++ t ∷ []
+pub turn_one : (t : Table) (later : List Table) → reverse (t ∷ later) ≡ reverse later ++ t ∷ []
 turn_one t later = reverse-append (t ∷ []) later
 
 push_differs : (name : List ℕ) (known : List Table) (t : Table) → bytes_eq t.name name ≡ false → named name (known ++ t ∷ []) ≡ named name known
@@ -79,7 +79,7 @@ all_turned : (P : Table → Type 0) (known : List Table) → AllByRecursion P kn
 all_turned P [] all = tt
 all_turned P (t ∷ later) all = subst (AllByRecursion P) (sym (turn_one t later)) (all_append P (reverse later) (t ∷ []) (all_turned P later all.1) (all.0, tt))
 
-all_member : (P : Table → Type 0) (known : List Table) (t : Table) → AllByRecursion P known → Member t known → P t
+pub all_member : (P : Table → Type 0) (known : List Table) (t : Table) → AllByRecursion P known → Member t known → P t
 all_member P [] t all member = absurd member
 all_member P (u ∷ later) t all (inl is) = subst P (sym is) all.0
 all_member P (u ∷ later) t all (inr member) = all_member P later t all.1 member

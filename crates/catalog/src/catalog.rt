@@ -1,15 +1,19 @@
 //! The tables of an engine.
 
-ghost use Rattle.std.specs.Prelude.{◌≡◌, ◌<◌, ◌≤◌, ◌-◌, ◌^◌, [], length, true, IfOk, IfErr, OnOk, OnErr, option_map, slice_get};
+ghost use Rattle.std.specs.Prelude.{◌≡◌, ◌<◌, ◌≤◌, ◌-◌, ◌^◌, ◌++◌, max, [], length, reverse, true, IfOk, IfErr, OnOk, OnErr, option_map, slice_get};
 ghost use Rattle.catalog.specs.Known.{AreTables, by_name, place_of, with_new};
+ghost use Rattle.kv_model.specs.Content.{descending, table_lt};
 ghost use Rattle.kv_model.specs.Decisions.{is_name, same_formats};
+ghost use Rattle.catalog.specs.Opens.{AreRecorded};
+ghost use Rattle.catalog.specs.Push.{MayFollow, MayAllFollow};
 ghost use Rattle.catalog.specs.Order.{Finds, table_at};
 ghost use Rattle.catalog.specs.declared.places.Search.TheVariants as Search;
 ghost use Rattle.catalog.specs.Creates.{IsCreated, IsRefused, asked};
 
 use crate::created::Created;
 use crate::names::is_name;
-use crate::places::{Search, look_up, put};
+use crate::opening::descending;
+use crate::places::{Search, first_not_below, look_up, put};
 use crate::table::Table;
 use failure::NoMemory;
 use item::{Formats, Item};
@@ -53,6 +57,21 @@ impl Catalog {
             places: Vec::new(alloc),
             next: 1,
         }
+    }
+
+    /// The tables of a device, as its record has them, with the number of the next one, where 0 is
+    /// taken as 1. They get their places by number, as in the history of the machine that an opening
+    /// makes. The error is want of memory. `O(n^2)` in the tables at most.
+    pub fn open(alloc: Global, tables: Vec<Table>, next: u32) -> Result<Catalog, NoMemory>
+        requires { AreRecorded tables.items next }
+        ensures tables { IfOk result (λ c. reverse c.tables ≡ descending table_lt tables.items) }
+        ensures names { IfOk result (λ c. by_name c.tables ≡ tables.items) }
+        ensures next { IfOk result (λ c. c.next ≡ max next 1) }
+    {
+        let sorted = descending(alloc, tables)?;
+        let mut catalog = Catalog::new(alloc);
+        catalog.push_all(sorted, next.max(1))?;
+        Ok(catalog)
     }
 
     /// How many tables there are.
@@ -151,6 +170,36 @@ impl Catalog {
         };
         self.append(i, table)?;
         Ok(Created::New(place as u32))
+    }
+
+    // Puts tables behind the others, the last one first, and takes the number of the next one.
+    fn push_all(&mut self, mut rest: Vec<Table>, next: u32) -> Result<(), NoMemory>
+        requires { MayAllFollow self.old rest.items next }
+        ensures tables { OnOk result (reverse self.new.tables ≡ rest.items ++ reverse self.old.tables) }
+        ensures next { OnOk result (self.new.next ≡ next) }
+    {
+        while let Some(table) = rest.pop() {
+            self.push(table)?;
+        }
+        self.raise_next(next);
+        Ok(())
+    }
+
+    // Puts a table behind the others.
+    fn push(&mut self, table: Table) -> Result<(), NoMemory>
+        requires { MayFollow self.old table }
+        ensures { OnOk result (self.new ≡ with_new self.old table) }
+    {
+        let i = first_not_below(&self.tables, &self.places, table.name.as_bytes());
+        self.append(i, table)
+    }
+
+    // Takes another number for the next table.
+    fn raise_next(&mut self, next: u32)
+        requires { self.old.next ≤ next }
+        ensures { self.new ≡ record { tables = self.old.tables; next = next } }
+    {
+        self.next = next;
     }
 
     // Puts a table whose name no other has behind the others.

@@ -29,8 +29,8 @@ pub(crate) fn look_up(tables: &[Table], places: &[u32], name: &[u8]) -> Search
     Search::Absent(i)
 }
 
-// How many names, from the first on, are below this one, by halving.
-fn first_not_below(tables: &[Table], places: &[u32], name: &[u8]) -> usize
+/// How many names, from the first on, are below this one, by halving.
+pub(crate) fn first_not_below(tables: &[Table], places: &[u32], name: &[u8]) -> usize
     requires within { AllByRecursion (λ place. place < length tables.now) places.now }
     requires ascend { Ascend (map (table_at tables.now) places.now) }
     ensures { SplitsAt (map (table_at tables.now) places.now) name.now result }

@@ -1,6 +1,11 @@
 // Which tables are made, where they stand, and in which order by name.
-use crate::{Catalog, Created, is_name};
-use item::{Format, Formats};
+ghost use Rattle.std.specs.Prelude.{◌≡◌, ◌∷◌, []};
+ghost use Rattle.item.specs.declared.Format.TheVariants.{S};
+ghost use Rattle.catalog.specs.Opens.{AreRecorded};
+
+use crate::{Catalog, Created, Table, is_name};
+use item::{Format, Formats, Item};
+use std::alloc::Global;
 use std::process::Abort;
 use wt_code::{Invalid, Limit, Refusal};
 
@@ -85,4 +90,41 @@ fn there_are_1024_tables_at_most(rt: HostRuntime) {
     }
     let last = catalog.table_at(1023).expect(&rt, "a table");
     assert!(rt; last.name.as_bytes() == b"9990".as_slice() && last.number == 1000);
+}
+
+fn table(rt: &impl Abort, alloc: Global, number: u32, name: &[u8; 1]) -> Table
+    ensures { result ≡ record { number = number; name = name.now; formats = record { key = S; value = S } } }
+{
+    Table {
+        number,
+        name: Item::new(Vec::from_slice(alloc, name.as_slice()).expect(rt, "there is memory")),
+        formats: TEXTS,
+    }
+}
+
+// By name.
+fn recorded(rt: &impl Abort, alloc: Global) -> Vec<Table>
+    ensures { AreRecorded result.items 9 }
+{
+    let mut tables = Vec::with_capacity(alloc, 3).expect(rt, "there is memory");
+    tables.push_reserved(table(rt, alloc, 3, b"a"));
+    tables.push_reserved(table(rt, alloc, 1, b"b"));
+    tables.push_reserved(table(rt, alloc, 7, b"c"));
+    tables
+}
+
+#[test]
+fn recorded_tables_get_places_by_number(rt: HostRuntime) {
+    let alloc = rt.alloc();
+    let mut catalog = Catalog::open(alloc, recorded(&rt, alloc), 9).expect(&rt, "there is memory");
+    for (i, name, place, number) in [(0, b"a".as_slice(), 1, 3), (1, b"b", 0, 1), (2, b"c", 2, 7)] {
+        assert!(rt; catalog.find(name) == Some(place));
+        assert!(rt; catalog.table(place).expect(&rt, "a table").number == number);
+        let found = catalog.table_at(i).expect(&rt, "a table");
+        assert!(rt; found.name.as_bytes() == name && found.number == number);
+    }
+    assert!(rt; catalog.len() == 3 && catalog.next_number() == 9);
+    assert!(rt; catalog.create(alloc, b"aa", BYTES) == Ok(Created::New(3)));
+    assert!(rt; catalog.table(3).expect(&rt, "a table").number == 9);
+    assert!(rt; catalog.table_at(1).expect(&rt, "a table").name.as_bytes() == b"aa".as_slice());
 }
