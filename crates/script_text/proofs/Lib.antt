@@ -6,5 +6,6 @@ mod SpokenLines
 mod SpokenSession
 mod SpokenSystem
 mod SpokenWords
+mod StampLemmas
 mod WordLemmas
 mod ZeroLemmas

@@ -17,6 +17,7 @@ use Rattle.script_text.specs.declared.items.Keyed.{Keyed}
 use Rattle.script_text.specs.declared.numbers.Stamps.{Stamps}
 use Rattle.script_text.specs.declared.session_calls.SessionVerb.{SessionVerb}
 use Rattle.script_text.specs.declared.session_calls.SessionVerb.TheVariants as verb
+use Rattle.script_text.proofs.StampLemmas.{stamp-is, stamp-back}
 use Rattle.script_text.proofs.SpokenWords.{chosen, is-text, named, named-back, stamps-are, stamps-back, cursor-is, cursor-back}
 
 -- ---- verbs
@@ -79,7 +80,7 @@ prepare-is [] call e = absurd (none-some call e)
 prepare-is (word ∷ []) call e = go (stamp_of word) refl e where
   go : (o : Option ℕ) → stamp_of word ≡ o → option_map (λ stamp. Prepare stamp) o ≡ Some call → SpellsSession call (codes "prepare" ∷ word ∷ [])
   go None is e = absurd (none-some call e)
-  go (Some stamp) is e = subst (λ c. SpellsSession c (codes "prepare" ∷ word ∷ [])) (same_Some (Prepare stamp) call e) (word, is, refl)
+  go (Some stamp) is e = subst (λ c. SpellsSession c (codes "prepare" ∷ word ∷ [])) (same_Some (Prepare stamp) call e) (word, stamp-is stamp word is, refl)
 prepare-is (word ∷ (other ∷ words)) call e = absurd (none-some call e)
 
 commit-is : (words : List (List ℕ)) (call : SessionCall) → commit_of words ≡ Some call → SpellsSession call (codes "commit" ∷ words)
@@ -223,7 +224,7 @@ session-call-back (Seek cursor table key) words is =
 session-call-back (Step cursor table Up) words is = ap session_said is.2 ∙ ap (option_map (λ n. Step n table Up)) (cursor-back is.0 cursor is.1)
 session-call-back (Step cursor table Down) words is = ap session_said is.2 ∙ ap (option_map (λ n. Step n table Down)) (cursor-back is.0 cursor is.1)
 session-call-back (Reset cursor) words is = ap session_said is.2 ∙ ap (option_map (λ n. Reset n)) (cursor-back is.0 cursor is.1)
-session-call-back (Prepare stamp) words is = ap session_said is.2 ∙ ap (option_map (λ x. Prepare x)) is.1
+session-call-back (Prepare stamp) words is = ap session_said is.2 ∙ ap (option_map (λ x. Prepare x)) (stamp-back stamp is.0 is.1)
 session-call-back (Commit commit durable) words is =
     ap session_said is.4
     ∙ ap (option_map (λ (x : Stamps). Commit x.first x.second)) (stamps-back (codes "commit=") (codes "durable=") (λ digits. refl) commit durable (is.0 ++ is.1) (is.0, is.1, is.2, is.3, refl))

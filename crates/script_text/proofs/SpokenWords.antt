@@ -14,6 +14,7 @@ use Rattle.script_text.specs.Numbers.{stamp_of, given_of, stamps_of, first_given
 use Rattle.script_text.specs.Items.{format_of, cursor_of}
 use Rattle.script_text.specs.Grammar.{IsNamed, Names, IsCursor, IsFormat}
 use Rattle.script_text.specs.declared.numbers.Stamps.{Stamps}
+use Rattle.script_text.proofs.StampLemmas.{stamp-is, stamp-back}
 use Rattle.script_text.proofs.WordLemmas.{after-is, after-append}
 
 pub is-text : (word text : List ℕ) → bytes_eq word text ≡ true → word ≡ text
@@ -29,10 +30,10 @@ pub named : (name word : List ℕ) (stamp : ℕ) → given_of name word ≡ Some
 named name word stamp e = go (after_of name word) refl e where
   go : (o : Option (List ℕ)) → after_of name word ≡ o → option_and_then stamp_of o ≡ Some stamp → IsNamed name stamp word
   go None is e = absurd (none-some stamp e)
-  go (Some digits) is e = (digits, e, after-is name word digits is)
+  go (Some digits) is e = (digits, stamp-is stamp digits e, after-is name word digits is)
 
 pub named-back : (name word : List ℕ) (stamp : ℕ) → IsNamed name stamp word → given_of name word ≡ Some stamp
-named-back name word stamp is = ap (given_of name) is.2 ∙ (ap (option_and_then stamp_of) (after-append name is.0) ∙ is.1)
+named-back name word stamp is = ap (given_of name) is.2 ∙ (ap (option_and_then stamp_of) (after-append name is.0) ∙ stamp-back stamp is.0 is.1)
 
 abbrev pub AreStamps : List ℕ → List ℕ → Option ℕ → Option ℕ → List (List ℕ) → Type 0
 AreStamps a b x y words = (first second : List (List ℕ)) × Names a x first × Names b y second × (words ≡ first ++ second)

@@ -1,6 +1,7 @@
 -- The grammar of a script's line: which words ask for what. Words are parted by single spaces.
-use Rattle.std.specs.Prelude.{◌≡◌, ℕ, zero, suc, ◌+◌, ◌<◌, ◌≤◌, true, List, [], ◌∷◌, ◌++◌, length, Option, Some, None, codes}
+use Rattle.std.specs.Prelude.{◌≡◌, ℕ, zero, suc, ◌+◌, ◌<◌, ◌≤◌, Bool, true, ◌&&◌, ◌||◌, nat_le, List, [], ◌∷◌, ◌++◌, length, Option, Some, None, codes}
 use Rattle.std.specs.Fmt.{decimal}
+use Rattle.std.specs.Str.Parse.{digits_value}
 use Rattle.item.specs.declared.formats.Format.{Format}
 use Rattle.item.specs.declared.formats.Format.TheVariants.{S, U}
 use Rattle.wt_calls.specs.declared.demand.Demand.TheVariants.{Anything, Vacant, Occupied}
@@ -12,7 +13,6 @@ use Rattle.wt_calls.specs.declared.system_call.SystemCall.TheVariants.{Create, S
 use Rattle.wt_calls.specs.declared.call.Call.{Call}
 use Rattle.wt_calls.specs.declared.call.Call.TheVariants.{Session as OfSession, System as OfSystem}
 use Rattle.script_text.specs.Words.{words_of, all_words}
-use Rattle.script_text.specs.Numbers.{stamp_of}
 use Rattle.script_text.specs.Items.{item_of}
 use Rattle.script_text.specs.declared.parse.TheConstants.{LINE_MAX}
 use Rattle.script_text.specs.declared.line.Actor.{Actor}
@@ -28,9 +28,20 @@ use Rattle.script_text.specs.declared.line.Line.TheVariants.{Whole, Start, Step 
 abbrev pub IsItem : List ℕ → List ℕ → Type 0
 IsItem item word = item_of word ≡ Some item
 
--- 1 to 16 lower-case hexadecimal digits
-abbrev pub IsStamp : ℕ → List ℕ → Type 0
-IsStamp stamp digits = stamp_of digits ≡ Some stamp
+-- a digit, or a letter from a to f
+abbrev pub is_hex : ℕ → Bool
+is_hex b = (nat_le 48 b && nat_le b 57) || (nat_le 97 b && nat_le b 102)
+
+abbrev pub are_hex : List ℕ → Bool
+are_hex [] = true
+are_hex (b ∷ digits) = is_hex b && are_hex digits
+
+-- 1 to 16 lower-case hexadecimal digits that write the stamp
+pub record IsStamp (stamp : ℕ) (digits : List ℕ) : Type 0 where
+  pub some : 0 < length digits
+  pub short : length digits ≤ 16
+  pub lower : are_hex digits ≡ true
+  pub value : digits_value 16 digits ≡ stamp
 
 -- a name, and a stamp behind it
 abbrev pub IsNamed : List ℕ → ℕ → List ℕ → Type 0
