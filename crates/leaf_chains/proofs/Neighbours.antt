@@ -1,5 +1,5 @@
 -- The nearest key above or below a bound, by the order of the slots.
-use Rattle.std.proofs.Common.{◌≡◌, ℕ, zero, suc, ◌+◌, ◌<◌, ◌≤◌, true, false, List, [], ◌∷◌, length, get_or, Option, Some, None, refl, sym, ap, subst, ◌∙◌, inl, inr, arith}
+use Rattle.std.proofs.Common.{◌≡◌, ℕ, zero, suc, ◌+◌, ◌-◌, ◌<◌, ◌≤◌, true, false, List, [], ◌∷◌, length, length-drop, get_or, drop, Option, Some, None, refl, sym, ap, subst, ◌∙◌, inl, inr, arith}
 use Rattle.std.specs.List.{HoldsAt}
 use Rattle.std.specs.Ordering.{nat_cmp, is_lt, ordering_index, ordering_reverse}
 use Rattle.std.specs.Cmp.Lexicographic.{slice_cmp}
@@ -7,6 +7,7 @@ use Rattle.std.specs.declared.cmp.Ordering.{Ordering}
 use Rattle.std.specs.declared.cmp.Ordering.TheVariants.{Less, Equal, Greater}
 use Rattle.std.proofs.lemmas.Bool.{cases_lt, both_ways}
 use Rattle.std.proofs.lemmas.Cmp.{nat_list_cmp_total, tied_itself}
+use Rattle.std.proofs.lemmas.List.{get_or-drop}
 use Rattle.std.proofs.lemmas.List.Elements.{at_from_Contains}
 use Rattle.kv_model.specs.Rows.{Way, Up, Down, is_past, comes_after}
 use Rattle.ordered_groups.specs.Groups.{entries}
@@ -14,7 +15,7 @@ use Rattle.ordered_groups.specs.Places.{Rises, PartsAt, IsPlace, rank}
 use Rattle.ordered_groups.specs.declared.Place.{Place}
 use Rattle.leaf_chains.specs.declared.slot.KeyChain.{KeyChain}
 use Rattle.leaf_chains.specs.Slots.{key_at}
-use Rattle.leaf_chains.specs.Nearest.{IsNearest, NonePast}
+use Rattle.leaf_chains.specs.Nearest.{IsNearest, IsWayUp, NonePast}
 use Rattle.leaf_chains.specs.Order.{IsIndex, key_order, not_above, not_below}
 use Rattle.leaf_chains.proofs.Index.{rises, place_within}
 
@@ -175,3 +176,33 @@ least_found slots gs p e ix here first is = near_up None slots (entries gs) (ran
 
 pub greatest_found : (slots : List KeyChain) (gs : List (List ℕ)) (p : Place) (e : ℕ) → IsIndex slots (entries gs) → IsPlace gs p → rank gs p + 1 ≡ length (entries gs) → HoldsAt (λ y. e ≡ y) (entries gs) (rank gs p) → IsNearest Down None slots e
 greatest_found slots gs p e ix here last is = near_down None slots (entries gs) (rank gs p) e ix (place_within gs p here) is refl (λ k lt within. absurd (omega (arith, lt, within, last)))
+
+-- ---- a walk from a gap on
+
+pub way_up : (from : Option (List ℕ)) (slots : List KeyChain) (order : List ℕ) (r : ℕ) → IsIndex slots order → ((k : ℕ) → k < r → k < length order → is_past Up from (key_at slots (get_or order k 0)) ≡ false) → ((k d : ℕ) → r ≤ k → k < length order → is_past Up from (key_at slots (get_or order k d)) ≡ true) → IsWayUp from slots (drop r order)
+way_up from slots order r ix never always =
+    let left = length-drop r order in
+    record {
+      within = λ k d lt. rw (get_or-drop r order k d) (ix.within (r + k) d (omega (arith, lt, left)));
+      past = λ k d lt. rw (get_or-drop r order k d) (always (r + k) d (omega arith) (omega (arith, lt, left)));
+      ascends = λ a b d lt within. rw (get_or-drop r order a d, get_or-drop r order b d) (ap is_lt (ix.ascends (r + a) (r + b) d (omega (arith, lt)) (omega (arith, within, left))));
+      whole = λ i lt yes.
+          let a = at_from_Contains order i (ix.whole i lt) in
+          elim (cases_lt a.0 r) [
+            | inl b ↦ absurd (both_ways (is_past Up from (key_at slots (get_or order a.0 0))) (never a.0 b a.1) (ap (λ (k : ℕ). is_past Up from (key_at slots k)) (a.2 0) ∙ yes))
+            | inr g ↦
+                let there : r + (a.0 - r) ≡ a.0 = omega (arith, g) in
+                (a.0 - r, omega (arith, g, a.1, left), get_or-drop r order (a.0 - r) i ∙ (ap (λ (k : ℕ). get_or order k i) there ∙ a.2 i))
+          ];
+    }
+
+pub way_above : (slots : List KeyChain) (gs : List (List ℕ)) (key : List ℕ) (gap : Place) → IsIndex slots (entries gs) → PartsAt (λ i. not_above (key_order slots key i)) (entries gs) (rank gs gap) → IsWayUp (Some key) slots (drop (rank gs gap) (entries gs))
+way_above slots gs key gap ix splits =
+    let order = entries gs in
+    let parts = splits (rises_above slots order key ix) in
+    way_up (Some key) slots order (rank gs gap) ix
+    (λ k lt within. not_past_up key (key_at slots (get_or order k 0)) (parts.0 k 0 (omega arith) lt))
+    (λ k d from within. past_up key (key_at slots (get_or order k d)) (parts.1 k d from within))
+
+pub way_of_all : (slots : List KeyChain) (gs : List (List ℕ)) (gap : Place) → IsIndex slots (entries gs) → rank gs gap ≡ 0 → IsWayUp None slots (drop (rank gs gap) (entries gs))
+way_of_all slots gs gap ix start = way_up None slots (entries gs) (rank gs gap) ix (λ k lt within. absurd (omega (arith, lt, start))) (λ k d from within. refl)

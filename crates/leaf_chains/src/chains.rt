@@ -5,18 +5,18 @@ ghost use Rattle.std.specs.List.{insert};
 ghost use Rattle.kv_model.specs.Rows.{Up, Down};
 ghost use Rattle.snapshot.specs.Sight.{IsSight, sight_of};
 ghost use Rattle.update_chain.specs.Looks.{reply_in};
-ghost use Rattle.update_chain.specs.Updates.{front_changed, installed, marked, read_of, stamped, undone};
+ghost use Rattle.update_chain.specs.Updates.{front_changed, installed, marked, read_of, rolled_back, stamped, trimmed, undone};
 ghost use Rattle.update_chain.specs.Writing.{judgement_of};
 ghost use Rattle.ordered_groups.specs.Groups.{entries};
 ghost use Rattle.ordered_groups.specs.Places.{IsGap, rank};
-ghost use Rattle.leaf_chains.specs.Nearest.{NextAbove, NextBelow, NonePast};
+ghost use Rattle.leaf_chains.specs.Nearest.{IsWayUp, NextAbove, NextBelow, NonePast};
 ghost use Rattle.leaf_chains.specs.Slots.{chain_at, slot_changed, slot_of, with_update};
 
-use crate::places::{place_from_last, slot_above, slot_below, slot_with};
+use crate::places::{place_from_last, slot_above, slot_below, slot_with, walk_above};
 use crate::slot::KeyChain;
 use failure::NoMemory;
 use item::Item;
-use ordered_groups::{OrderedGroups, Place};
+use ordered_groups::{OrderedGroups, Place, Walk};
 use stamp::{Name, View};
 use std::alloc::Global;
 use std::marker::Model;
@@ -174,6 +174,22 @@ impl LeafChains {
         undo_in(&mut self.slots, slot, name);
     }
 
+    /// Drops what is out of reach in a slot, as `Chain::trim`. Nothing where there is no such slot.
+    /// Takes no memory. `O(k)` with k updates in the slot.
+    pub fn trim(&mut self, slot: u32, pin: u64, floor: Name)
+        ensures { self.new ≡ slot_changed slot (trimmed pin floor) self.old }
+    {
+        trim_in(&mut self.slots, slot, pin, floor);
+    }
+
+    /// Rolls a slot back to stable, as `Chain::roll_back_to_stable`. The key keeps its slot. Nothing
+    /// where there is no such slot. Takes no memory. `O(k)` with k updates in the slot.
+    pub fn roll_back_to_stable(&mut self, slot: u32, stable: u64)
+        ensures { self.new ≡ slot_changed slot (rolled_back stable) self.old }
+    {
+        roll_back_in(&mut self.slots, slot, stable);
+    }
+
     /// The slot of the least key above the bound, or of the least of all; none exactly where no key
     /// is above. `O(log n)` comparisons.
     pub fn next_above(&self, bound: Option<&[u8]>) -> Option<u32>
@@ -188,6 +204,14 @@ impl LeafChains {
         ensures { let from = option_map (λ k. k.now) bound.entry in MatchOption result (NonePast Down from self.now) (λ i. NextBelow from self.now i) }
     {
         slot_below(self.slots.as_slice(), &self.order, bound)
+    }
+
+    /// The slots whose keys are above the bound, or all, in the order of their keys. `O(log n)`
+    /// comparisons, and then `O(1)` a step.
+    pub fn walk_above(&self, bound: Option<&[u8]>) -> Walk<'_, u32>
+        ensures { IsWayUp (option_map (λ k. k.now) bound.entry) self.now result }
+    {
+        walk_above(self.slots.as_slice(), &self.order, bound)
     }
 
     // The chain of a key that has a slot.
@@ -267,5 +291,23 @@ fn undo_in(slots: &mut Vec<KeyChain>, slot: u32, name: Name)
     let at = slot as usize;
     if at < slots.len() {
         slots[at].chain.undo(name);
+    }
+}
+
+fn trim_in(slots: &mut Vec<KeyChain>, slot: u32, pin: u64, floor: Name)
+    ensures { slots.new.items ≡ slot_changed slot (trimmed pin floor) slots.old.items }
+{
+    let at = slot as usize;
+    if at < slots.len() {
+        slots[at].chain.trim(pin, floor);
+    }
+}
+
+fn roll_back_in(slots: &mut Vec<KeyChain>, slot: u32, stable: u64)
+    ensures { slots.new.items ≡ slot_changed slot (rolled_back stable) slots.old.items }
+{
+    let at = slot as usize;
+    if at < slots.len() {
+        slots[at].chain.roll_back_to_stable(stable);
     }
 }

@@ -4,12 +4,12 @@ ghost use Rattle.std.specs.Prelude.{◌≡◌, MatchOption, MatchResult, option_
 ghost use Rattle.kv_model.specs.Rows.{Up, Down};
 ghost use Rattle.ordered_groups.specs.Groups.{entries};
 ghost use Rattle.ordered_groups.specs.Places.{rank, Finds, IsGap, IsPlace, PartsAt};
-ghost use Rattle.leaf_chains.specs.Nearest.{NextAbove, NextBelow, NonePast};
+ghost use Rattle.leaf_chains.specs.Nearest.{IsWayUp, NextAbove, NextBelow, NonePast};
 ghost use Rattle.leaf_chains.specs.Order.{IsIndex, key_order, not_above, not_below};
 ghost use Rattle.leaf_chains.specs.Slots.{key_at, slot_of};
 
 use crate::slot::KeyChain;
-use ordered_groups::{OrderedGroups, Place};
+use ordered_groups::{OrderedGroups, Place, Walk};
 use std::cmp::Ordering;
 
 // The key in a slot, the empty one where there is no such slot.
@@ -120,6 +120,32 @@ pub(crate) fn slot_above(
             let gap = gap_above(slots, order, key);
             Some(order.get(order.behind_gap(gap)?))
         }
+    }
+}
+
+// Where the first entry lies, or would.
+fn start_of(order: &OrderedGroups<u32>) -> Place
+    ensures gap { IsGap order.now result }
+    ensures start { rank order.now result ≡ 0 }
+{
+    match order.first() {
+        Some(place) => place,
+        None => order.end(),
+    }
+}
+
+// The slots in the order of their keys, from the least key above the bound on, or all.
+pub(crate) fn walk_above<'a>(
+    slots: &[KeyChain],
+    order: &'a OrderedGroups<u32>,
+    bound: Option<&[u8]>,
+) -> Walk<'a, u32>
+    requires { IsIndex slots.now (entries order.now) }
+    ensures { IsWayUp (option_map (λ k. k.now) bound.entry) slots.now result }
+{
+    match bound {
+        None => order.walk(start_of(order)),
+        Some(key) => order.walk(gap_above(slots, order, key)),
     }
 }
 

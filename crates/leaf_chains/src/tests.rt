@@ -178,6 +178,18 @@ fn rows(alloc: Global, chains: &LeafChains, is_up: bool) -> Result<Vec<u8>, NoMe
     Ok(text)
 }
 
+// The slots of a walk.
+fn walked(alloc: Global, chains: &LeafChains, bound: Option<&[u8]>) -> Result<Vec<u8>, NoMemory> {
+    let mut text = Vec::new(alloc);
+    let mut walk = chains.walk_above(bound);
+    for _ in 0..8u32 {
+        if let Some(slot) = walk.next_entry() {
+            text.extend_from_slice(&[digit(slot as usize)])?;
+        }
+    }
+    Ok(text)
+}
+
 fn or_nine(slot: Option<u32>) -> u32 {
     slot.unwrap_or(9)
 }
@@ -240,8 +252,17 @@ fn keys_stand_in_order_and_keep_their_slots(rt: HostRuntime) -> Result<(), NoMem
     assert!(rt; down.as_slice() == b"21z02v10.31e".as_slice());
     assert!(rt; wrong_next(&chains, &NEXT).is_none());
     assert!(rt; wrong_slot(&chains, &FOUND).is_none());
+    assert!(rt; walked(alloc, &chains, None)?.as_slice() == b"3102".as_slice());
+    assert!(rt; walked(alloc, &chains, Some(b"a"))?.as_slice() == b"102".as_slice());
+    assert!(rt; walked(alloc, &chains, Some(b"ma"))?.is_empty());
     assert!(rt; chains.key(2).is_some());
     assert!(rt; chains.chain(4).is_none());
+    chains.trim(0, 9, Name { run: 1, id: 2 });
+    let trimmed = rows(alloc, &chains, true)?;
+    assert!(rt; trimmed.as_slice() == b"31e10.02v21z".as_slice());
+    chains.roll_back_to_stable(0, 4);
+    let stable = rows(alloc, &chains, true)?;
+    assert!(rt; stable.as_slice() == b"31e10.01v21z".as_slice());
     Ok(())
 }
 
