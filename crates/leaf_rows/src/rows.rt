@@ -3,15 +3,16 @@ ghost use Rattle.std.specs.Prelude.{◌≡◌, ◌≤◌, ◌<◌, ◌||◌, ◌
 ghost use Rattle.kv_model.specs.Content.{sees_name};
 ghost use Rattle.row_page.specs.Rows.{Row, RowFits, IsImage, Ascends, cell, key_most, is_below};
 ghost use Rattle.row_page.specs.Greatest.{name_lt, later, greatest_in, most_in};
+ghost use Rattle.row_page.specs.Views.{row_seen};
 ghost use Rattle.leaf_rows.specs.Rows.{AreFit, SplitsAt, version_at, put_row, image_length};
 ghost use Rattle.leaf_rows.specs.Contents.{is_kept_window, kept_rows};
 
 use crate::Marks;
 use failure::NoMemory;
 use item::Item;
-use row_page::{CellChange, Page, encode};
+use row_page::{Cell, CellChange, Leaf, encode};
 use stamp::{Name, Version, Window};
-use std::alloc::Global;
+use std::alloc::{AllocError, Global};
 use std::marker::Model;
 
 const IMAGE_MAX: u64 = 32_768; // bytes
@@ -46,11 +47,11 @@ impl Rows {
 
     /// The rows of a leaf, each key and value copied once. The error is want of memory.
     /// `O(bytes)`.
-    pub fn of_page(alloc: Global, page: &Page<'_>) -> Result<Self, NoMemory>
-        requires { AreFit page.now }
-        ensures { IfOk result (λ s. s ≡ page.now) }
+    pub fn of_leaf(alloc: Global, leaf: &Leaf) -> Result<Self, NoMemory>
+        requires { AreFit leaf.now }
+        ensures { IfOk result (λ s. s ≡ leaf.now) }
     {
-        let rows = page.rows(alloc)?;
+        let rows = copied(alloc, leaf)?;
         Ok(Rows { rows })
     }
 
@@ -147,6 +148,55 @@ impl Rows {
         }
         durable
     }
+}
+
+// An item of these bytes.
+fn item_of(alloc: Global, bytes: &[u8]) -> Result<Item, NoMemory>
+    ensures { IfOk result (λ item. item ≡ bytes.now) }
+{
+    Ok(Item::new(Vec::from_slice(alloc, bytes)?))
+}
+
+// A row of its own, with the cell's key and version.
+fn owned(alloc: Global, cell: &Cell<'_>) -> Result<(Item, Version<CellChange<Item>>), NoMemory>
+    ensures { IfOk result (λ row. row ≡ row_seen cell.now) }
+{
+    let key = item_of(alloc, cell.key)?;
+    let change = match cell.change {
+        CellChange::Put(value) => CellChange::Put(item_of(alloc, value)?),
+        CellChange::Remove => CellChange::Remove,
+    };
+    Ok((
+        key,
+        Version {
+            window: cell.window,
+            change,
+        },
+    ))
+}
+
+fn push(
+    rows: &mut Vec<(Item, Version<CellChange<Item>>)>,
+    row: (Item, Version<CellChange<Item>>),
+) -> Result<(), NoMemory>
+    ensures { OnOk result (rows.new.items ≡ rows.old.items ++ row ∷ []) }
+{
+    match rows.push(row) {
+        Ok(()) => Ok(()),
+        Err(failed) => Err(AllocError::from(failed).into()),
+    }
+}
+
+fn copied(alloc: Global, leaf: &Leaf) -> Result<Vec<(Item, Version<CellChange<Item>>)>, NoMemory>
+    ensures { IfOk result (λ v. v.items ≡ leaf.now) }
+{
+    let mut rows = Vec::new(alloc);
+    rows.reserve(leaf.len())?;
+    for i in 0..leaf.len() {
+        let row = owned(alloc, &leaf.cell(i))?;
+        push(&mut rows, row)?;
+    }
+    Ok(rows)
 }
 
 fn cell_len(row: &(Item, Version<CellChange<Item>>)) -> u64

@@ -3,7 +3,7 @@ ghost use Rattle.std.specs.Prelude.{◌≡◌};
 
 use crate::Rows;
 use item::Item;
-use row_page::{CellChange, Page};
+use row_page::{CellChange, Leaf};
 use stamp::{Name, Version, Window};
 use std::alloc::Global;
 use std::process::Abort;
@@ -64,6 +64,7 @@ fn the_image_of_one_row_is_these_bytes(rt: HostRuntime) {
     assert!(&rt; block.starts_with(b"\x01\x01\x01\0\x3b\0\0\0\0\0\0\0\0\0\0\0".as_slice()));
     assert!(&rt; block[16..].starts_with(cell.as_slice()));
     block.resize(4096, 0).expect(&rt, "there is memory");
-    let page = Page::decode(&block).expect(&rt, "a leaf");
-    assert_eq!(rt; page.len(), 1);
+    let leaf = Leaf::of_block(alloc, block).expect(&rt, "there is memory");
+    let leaf = leaf.expect(&rt, "a leaf");
+    assert_eq!(rt; leaf.len(), 1);
 }

@@ -10,7 +10,7 @@ use block_mgr::read_block;
 use device_layout::{Addr, Link};
 use disk_model::Disk;
 use leaf_rows::Rows;
-use row_page::Page;
+use row_page::Leaf;
 use std::alloc::Global;
 use wt_code::Refusal;
 
@@ -30,23 +30,25 @@ pub(crate) fn load<D: Disk>(alloc: Global, disk: &mut D, link: Link) -> Result<R
     }
     match read_block(alloc, disk, link.addr) {
         Err(refusal) => Err(refusal),
-        Ok(block) => rows_of(alloc, link, &block),
+        Ok(block) => rows_of(alloc, link, block),
     }
 }
 
 // The rows of a leaf's block, of which the link says the greatest.
-fn rows_of(alloc: Global, link: Link, block: &[u8]) -> Result<Rows, Refusal>
-    ensures ok { IfOk result (λ rows. PageIs block.now link rows) }
-    ensures err { IfErr result (RefusesPage block.now link) }
+fn rows_of(alloc: Global, link: Link, block: Vec<u8>) -> Result<Rows, Refusal>
+    ensures ok { IfOk result (λ rows. PageIs block.items link rows) }
+    ensures err { IfErr result (RefusesPage block.items link) }
 {
-    let Some(page) = Page::decode(block) else {
-        return Err(spoilt(link.addr));
+    let leaf = match Leaf::of_block(alloc, block) {
+        Ok(Some(leaf)) => leaf,
+        Ok(None) => return Err(spoilt(link.addr)),
+        Err(_) => return Err(Refusal::NoMemory),
     };
-    let Ok(rows) = Rows::of_page(alloc, &page) else {
-        return Err(Refusal::NoMemory);
-    };
-    if rows.greatest() == link.greatest && rows.durable() == link.durable {
-        Ok(rows)
+    if leaf.greatest() == link.greatest && leaf.durable() == link.durable {
+        match Rows::of_leaf(alloc, &leaf) {
+            Ok(rows) => Ok(rows),
+            Err(_) => Err(Refusal::NoMemory),
+        }
     } else {
         Err(spoilt(link.addr))
     }

@@ -67,7 +67,7 @@ and_is : (b c : Bool) → (b && c) ≡ true → (b ≡ true) × (c ≡ true)
 and_is true c e = (refl, e)
 and_is false c e = absurd cc
 
-change_takes : (code : ℕ) (value : List ℕ) (c : PageChange) → change_of code value ≡ Some c → (code_of c ≡ code) × (value_of c ≡ value)
+pub change_takes : (code : ℕ) (value : List ℕ) (c : PageChange) → change_of code value ≡ Some c → (code_of c ≡ code) × (value_of c ≡ value)
 change_takes zero value c e = absurd cc
 change_takes (suc zero) value c e = subst (λ (x : PageChange). (code_of x ≡ 1) × (value_of x ≡ value)) (some_is (Put value) c e) (refl, refl)
 change_takes (suc (suc zero)) [] c e = subst (λ (x : PageChange). (code_of x ≡ 2) × (value_of x ≡ [])) (some_is Remove c e) (refl, refl)

@@ -1,6 +1,6 @@
 -- A leaf that is read from its block is in the grammar, and what is in the grammar is read.
 use Rattle.std.proofs.Common.{◌≡◌, ℕ, ◌≤◌, Bool, true, false, cond, List, [], ◌∷◌, ◌++◌, length, Option, Some, None, refl, sym, ap, subst, ◌∙◌, arith}
-use Rattle.std.specs.Prelude.{◌&&◌, ◌==◌, nat_le, IfSome, IfNone}
+use Rattle.std.specs.Prelude.{◌&&◌, ◌==◌, nat_le}
 use Rattle.std.specs.List.{AllByRecursion}
 use Rattle.std.proofs.lemmas.Bool.{eqb-true, leb-true, le-leb}
 use Rattle.std.proofs.lemmas.Option.{cond_some}
@@ -9,7 +9,6 @@ use Rattle.le_codec.specs.Fields.{IsBytes}
 use Rattle.le_codec.specs.Images.{first_format}
 use Rattle.le_codec.specs.Combine.{Chained}
 use Rattle.le_codec.specs.Images.{framed, block_of, block_size, HoldsImage}
-use Rattle.le_codec.proofs.Opened.{text_bytes}
 use Rattle.le_codec.proofs.Laws.{bind_some}
 use Rattle.le_codec.proofs.Heads.{same_framed}
 use Rattle.row_page.specs.Rows.{Row, cells, key_most, RowFits, key_of, Ascends, AreRows, image, IsPage}
@@ -65,10 +64,6 @@ page_takes block count level text rows is s = record {
   spelled = is ∙ ap (λ (n : ℕ). block_of (framed 1 first_format n level text)) s.count_is ∙ ap (λ (n : ℕ). block_of (framed 1 first_format (length rows) n text)) s.level_is ∙ ap (λ (l : List ℕ). block_of (framed 1 first_format (length rows) 0 l)) s.text_is;
 }
 
-pub found : (block : List ℕ) (count level : ℕ) (text : List ℕ) (r : Option (List Row)) → IsBytes block → HoldsImage 1 first_format block count level text → r ≡ leaf_at count level text → IfSome r (λ rows. IsPage block rows)
-found block count level text None fits holds given = tt
-found block count level text (Some rows) fits holds given = page_takes block count level text rows holds.spelled (leaf_takes count level text rows (text_bytes 1 first_format count level text block fits holds.spelled) (sym given))
-
 -- what a leaf's image says
 says_image : (block : List ℕ) (rows : List Row) → IsPage block rows → HoldsImage 1 first_format block (length rows) 0 (cells rows)
 says_image block rows page = record { spelled = page.spelled; count_fits = omega (arith, count_upto rows, page.admitted.size); level_fits = omega arith; text_fits = omega (arith, page.admitted.size) }
@@ -84,11 +79,3 @@ no_rows block count level text h given rows page =
     let s = same_framed 1 first_format level 0 count (length rows) text (cells rows) (block_size (length (framed 1 first_format count level text))) (block_size (length (image rows))) (omega arith) (omega arith) h.level_fits k.level_fits h.count_fits k.count_fits h.text_fits k.text_fits (sym h.spelled ∙ k.spelled) in
     let same : leaf_at count level text ≡ Some rows = ap (λ (n : ℕ). leaf_at n level text) s.0 ∙ ap (λ (n : ℕ). leaf_at (length rows) n text) s.1 ∙ ap (λ (l : List ℕ). leaf_at (length rows) 0 l) s.2 ∙ leaf_again rows page.admitted in
     nothing_some (given ∙ same)
-
-pub none : (block : List ℕ) (count level : ℕ) (text : List ℕ) (r : Option (List Row)) → HoldsImage 1 first_format block count level text → r ≡ leaf_at count level text → IfNone r ((rows : List Row) → IsPage block rows → ⊥)
-none block count level text None h given = no_rows block count level text h given
-none block count level text (Some rows) h given = tt
-
-pub in_any_case : {A P : Type 0} (r : Option A) → P → IfNone r P
-in_any_case None p = p
-in_any_case (Some x) p = tt

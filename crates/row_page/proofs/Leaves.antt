@@ -10,11 +10,8 @@ use Rattle.le_codec.specs.Images.{padded, block_size}
 use Rattle.le_codec.proofs.Laws.{length_8, length_16, length_32, length_64}
 use Rattle.le_codec.proofs.Combined.{one_value}
 use Rattle.le_codec.proofs.Heads.{length-framed, same_framed}
-use Rattle.row_page.specs.Rows.{Row, Raw, raw_text, cell, cells, key_most, value_of, RowFits, key_of, Ascends, AreRows, image, IsPage}
+use Rattle.row_page.specs.Rows.{Row, cell, cells, key_most, value_of, RowFits, key_of, Ascends, AreRows, image, IsPage}
 use Rattle.row_page.proofs.Fields.{After, rows_field}
-
-pub length-raw : (x : Raw) → length (raw_text x) ≡ 39 + length x.key + length x.value
-length-raw x = simp (length-append, length_8, length_16, length_32, length_64) (omega arith)
 
 pub length-cell : (r : Row) → length (cell r) ≡ 39 + length r.0 + length (value_of r.1.change)
 length-cell r = simp (length-append, length_8, length_16, length_32, length_64) (omega arith)

@@ -1,4 +1,5 @@
 pub mod Fields
+pub mod Heads
 pub mod Leaves
 pub mod Steps
 pub mod Grammar

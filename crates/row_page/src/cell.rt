@@ -1,17 +1,18 @@
 // A cell of a leaf: a key and a version of it.
-ghost use Rattle.std.specs.Prelude.{◌≡◌, Option, Some, None, [], option_map, if◌then◌else◌};
+ghost use Rattle.std.specs.Prelude.{◌≡◌, Option, Some, None, [], option_map, if◌then◌else◌, IfSome};
 ghost use Rattle.le_codec.specs.Fields.{Gives};
-ghost use Rattle.row_page.specs.Rows.{comes_after, key_most};
-ghost use Rattle.row_page.specs.Reading.{window_at, raw_at, cell_at, row_at, is_number, window_fits, row_fits, row_under, change_of};
 ghost use Rattle.row_page.specs.Changes.{change_seen};
-ghost use Rattle.row_page.specs.Views.{row_seen, raw_seen};
+ghost use Rattle.row_page.specs.Rows.{comes_after, key_most};
+ghost use Rattle.row_page.specs.Reading.{cell_at, row_at, row_under, change_of};
+ghost use Rattle.row_page.specs.Heads.{raw_fits, behind_at, greatest_with};
+ghost use Rattle.row_page.specs.Views.{row_seen};
 
 use crate::change::CellChange;
+use crate::greatest::Greatest;
+use crate::head::{Head, head_at, window_fits};
 use byte_order::order;
 use le_codec::Reader;
-use stamp::{Name, Window};
-
-const NUMBERS_END: u64 = 1 << 62;
+use stamp::Window;
 
 const KEY_MAX: usize = 1_024; // bytes
 
@@ -28,68 +29,10 @@ pub struct Cell<'a> {
     pub change: CellChange<&'a [u8]>,
 }
 
-// The fields of a cell, before anything is asked of them.
-#[derive(Drop)]
-pub(crate) struct Parts<'a> {
-    pub key: &'a [u8],
-    pub code: u8,
-    pub window: Window,
-    pub value: &'a [u8],
-}
-
-#[tactic(auto, unfolding(crate::specs::Reading::window_at, le_codec::specs::Combine::then_at, le_codec::specs::Combine::as_at))]
-fn window_of(reader: &mut Reader<'_>) -> Option<Window>
-    ensures { Gives (λ x. x) result reader.new (window_at reader.old) }
+fn fits(head: &Head, key: &[u8], value: &[u8]) -> bool
+    ensures { result ≡ raw_fits (record { key = key.now; code = head.now.code; window = head.now.window; value = value.now }) }
 {
-    let run = reader.u64()?;
-    let id = reader.u64()?;
-    let commit = reader.u64()?;
-    let durable = reader.u64()?;
-    Some(Window {
-        name: Name { run, id },
-        commit,
-        durable,
-    })
-}
-
-#[tactic(auto, unfolding(crate::specs::Reading::raw_at, le_codec::specs::Combine::then_at, le_codec::specs::Combine::try_at))]
-fn parts_of<'a>(reader: &mut Reader<'a>) -> Option<Parts<'a>>
-    ensures { Gives raw_seen result reader.new (raw_at reader.old) }
-{
-    let key_len = reader.u16()?;
-    let code = reader.u8()?;
-    let value_len = reader.u32()?;
-    let window = window_of(reader)?;
-    let key = reader.slice(key_len as usize)?;
-    let value = reader.slice(value_len as usize)?;
-    Some(Parts {
-        key,
-        code,
-        window,
-        value,
-    })
-}
-
-fn is_number(n: u64) -> bool
-    ensures { result ≡ is_number n }
-{
-    1 <= n && n < NUMBERS_END
-}
-
-fn window_fits(w: &Window) -> bool
-    ensures { result ≡ window_fits w.now }
-{
-    is_number(w.name.run) && is_number(w.name.id) && w.commit <= w.durable
-}
-
-fn fits(cell: &Cell<'_>) -> bool
-    ensures { result ≡ row_fits key_most (row_seen cell.now) }
-{
-    let value = match cell.change {
-        CellChange::Put(value) => value.len(),
-        CellChange::Remove => 0,
-    };
-    cell.key.len() <= KEY_MAX && value <= VALUE_MAX && window_fits(&cell.window)
+    key.len() <= KEY_MAX && value.len() <= VALUE_MAX && window_fits(&head.window)
 }
 
 fn change_of<'a>(code: u8, value: &'a [u8]) -> Option<CellChange<&'a [u8]>>
@@ -102,30 +45,39 @@ fn change_of<'a>(code: u8, value: &'a [u8]) -> Option<CellChange<&'a [u8]>>
     }
 }
 
-fn row_of<'a>(parts: Parts<'a>) -> Option<Cell<'a>>
-    ensures { option_map row_seen result ≡ row_under [] key_most (raw_seen parts.entry) }
+#[tactic(auto, using(crate::proofs::Heads::under_is))]
+fn row_of<'a>(head: &Head, key: &'a [u8], value: &'a [u8]) -> Option<Cell<'a>>
+    ensures row { option_map row_seen result ≡ row_under [] key_most (record { key = key.now; code = head.now.code; window = head.now.window; value = value.now }) }
+    ensures window { IfSome result (λ c. c.window ≡ head.now.window) }
 {
-    let Parts {
+    if !fits(head, key, value) {
+        return None;
+    }
+    let change = change_of(head.code, value)?;
+    Some(Cell {
         key,
-        code,
-        window,
-        value,
-    } = parts;
-    let change = change_of(code, value)?;
-    let cell = Cell {
-        key,
-        window,
+        window: head.window,
         change,
-    };
-    if fits(&cell) { Some(cell) } else { None }
+    })
 }
 
-#[tactic(auto, unfolding(crate::specs::Reading::cell_at, le_codec::specs::Combine::try_at))]
+// The cell whose head was read. One test of the length serves its key and its value.
+fn behind<'a>(head: &Head, reader: &mut Reader<'a>) -> Option<Cell<'a>>
+    ensures read { Gives row_seen result reader.new (behind_at head.now reader.old) }
+    ensures window { IfSome result (λ c. c.window ≡ head.now.window) }
+{
+    let key_len = head.key_len as usize;
+    let text = reader.slice(key_len + head.value_len as usize)?;
+    let (key, value) = text.split_at(key_len);
+    row_of(head, key, value)
+}
+
+#[tactic(auto, using(crate::proofs::Heads::cell_in_two))]
 pub(crate) fn cell_of<'a>(reader: &mut Reader<'a>) -> Option<Cell<'a>>
     ensures { Gives row_seen result reader.new (cell_at [] key_most reader.old) }
 {
-    let parts = parts_of(reader)?;
-    row_of(parts)
+    let head = head_at(reader)?;
+    behind(&head, reader)
 }
 
 fn comes_after(before: Option<&[u8]>, key: &[u8]) -> bool
@@ -139,7 +91,8 @@ fn comes_after(before: Option<&[u8]>, key: &[u8]) -> bool
 
 // The cell, where its key comes after the one before.
 fn ordered<'a>(before: Option<&[u8]>, cell: Cell<'a>) -> Option<Cell<'a>>
-    ensures { option_map row_seen result ≡ (if comes_after (option_map (λ v. v.now) before.entry) (row_seen cell.entry).0 then Some (row_seen cell.entry) else None) }
+    ensures row { option_map row_seen result ≡ (if comes_after (option_map (λ v. v.now) before.entry) (row_seen cell.entry).0 then Some (row_seen cell.entry) else None) }
+    ensures window { IfSome result (λ c. c.window ≡ cell.entry.window) }
 {
     if comes_after(before, cell.key) {
         Some(cell)
@@ -148,10 +101,19 @@ fn ordered<'a>(before: Option<&[u8]>, cell: Cell<'a>) -> Option<Cell<'a>>
     }
 }
 
-#[tactic(auto, unfolding(crate::specs::Reading::row_at, le_codec::specs::Combine::try_at))]
-pub(crate) fn next_cell<'a>(before: Option<&[u8]>, reader: &mut Reader<'a>) -> Option<Cell<'a>>
-    ensures { Gives row_seen result reader.new (row_at [] key_most (option_map (λ v. v.now) before.entry) reader.old) }
+// The next cell, where its key comes after the one before. Its window is added as soon as it is
+// read, so that it need not be kept.
+#[tactic(auto, unfolding(crate::specs::Reading::row_at, le_codec::specs::Combine::try_at), using(crate::proofs::Heads::cell_in_two))]
+pub(crate) fn next_cell<'a>(
+    before: Option<&[u8]>,
+    reader: &mut Reader<'a>,
+    greatest: &mut Greatest,
+) -> Option<Cell<'a>>
+    ensures read { Gives row_seen result reader.new (row_at [] key_most (option_map (λ v. v.now) before.entry) reader.old) }
+    ensures greatest { IfSome result (λ c. greatest.new ≡ greatest_with greatest.old c.window) }
 {
-    let cell = cell_of(reader)?;
+    let head = head_at(reader)?;
+    greatest.add(&head.window);
+    let cell = behind(&head, reader)?;
     ordered(before, cell)
 }

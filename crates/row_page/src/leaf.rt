@@ -3,18 +3,23 @@ ghost use Rattle.std.specs.Prelude.{◌≡◌, ◌≤◌, ◌<◌, List, [], ◌
 ghost use Rattle.row_page.specs.Rows.{Row, IsPage};
 ghost use Rattle.row_page.specs.Reading.{leaf_at};
 ghost use Rattle.row_page.specs.Views.{row_seen, HasKeyAt, Splits};
-ghost use Rattle.row_page.specs.Greatest.{later, greatest_in, most_in, names_of, durables_of};
+ghost use Rattle.row_page.specs.Greatest.{greatest_in, most_in, names_of, durables_of};
 ghost use Rattle.row_page.specs.Places.{row_from, rows_from, CellBegins, AreFound, FirstNotBelow};
 
 use crate::cell::{Cell, cell_of, next_cell};
-use crate::page::{LEAF_KIND, TEXT_MAX};
+use crate::greatest::Greatest;
 use byte_order::order;
 use failure::NoMemory;
 use le_codec::{FIRST_FORMAT, Image, Reader, open_image};
 use stamp::Name;
-use std::alloc::{AllocError, Global};
+use std::alloc::Global;
 use std::cmp::Ordering;
 use std::marker::Model;
+
+// The kind of a leaf's image, as its header says.
+pub(crate) const KIND: u8 = 1;
+
+const TEXT_MAX: usize = 32_752; // bytes, without the header
 
 const HEADER: usize = 16; // bytes
 
@@ -28,8 +33,7 @@ pub struct Leaf {
     block: Vec<u8>,
     // Where each cell begins, in bytes behind the header.
     places: Vec<u16>,
-    greatest: Name,
-    durable: u64,
+    greatest: Greatest,
 }
 
 impl Model for Leaf {
@@ -37,7 +41,7 @@ impl Model for Leaf {
 
     ghost view = { λ l. rows_from (drop 16 l.block.items) l.places.items };
 
-    ghost invariant = { λ l. AreFound (drop 16 l.block.items) l.places.items l.greatest l.durable };
+    ghost invariant = { λ l. AreFound (drop 16 l.block.items) l.places.items l.greatest.name l.greatest.durable };
 }
 
 // What one pass over the cells finds.
@@ -45,18 +49,7 @@ impl Model for Leaf {
 struct Found {
     // Where each cell begins, in bytes behind the header.
     places: Vec<u16>,
-    greatest: Name,
-    durable: u64,
-}
-
-fn later(a: Name, b: Name) -> Name
-    ensures { result ≡ later a b }
-{
-    if a.run < b.run || (a.run == b.run && a.id < b.id) {
-        b
-    } else {
-        a
-    }
+    greatest: Greatest,
 }
 
 impl Leaf {
@@ -70,16 +63,11 @@ impl Leaf {
         let Some(found) = found_in(alloc, &block)? else {
             return Ok(None);
         };
-        let Found {
-            places,
-            greatest,
-            durable,
-        } = found;
+        let Found { places, greatest } = found;
         Ok(Some(Leaf {
             block,
             places,
             greatest,
-            durable,
         }))
     }
 
@@ -101,14 +89,14 @@ impl Leaf {
     pub fn greatest(&self) -> Name
         ensures { result ≡ greatest_in (names_of self.now) }
     {
-        self.greatest
+        self.greatest.name
     }
 
     /// The greatest durable stamp of a version, 0 where there are no rows. `O(1)`.
     pub fn durable(&self) -> u64
         ensures { result ≡ most_in (durables_of self.now) }
     {
-        self.durable
+        self.greatest.durable
     }
 
     /// The i-th row, lent. `O(1)`.
@@ -184,11 +172,11 @@ fn key_from(block: &[u8], place: usize) -> &[u8]
 
 // What the block's leaf has, where the block spells one.
 fn found_in(alloc: Global, block: &[u8]) -> Result<Option<Found>, NoMemory>
-    ensures found { IfOk result (λ o. IfSome o (λ f. AreFound (drop 16 block.now) f.places.items f.greatest f.durable)) }
+    ensures found { IfOk result (λ o. IfSome o (λ f. AreFound (drop 16 block.now) f.places.items f.greatest.name f.greatest.durable)) }
     ensures page { IfOk result (λ o. IfSome o (λ f. IsPage block.now (rows_from (drop 16 block.now) f.places.items))) }
     ensures none { IfOk result (λ o. IfNone o ((rows : List Row) → IsPage block.now rows → ⊥)) }
 {
-    let Some(image) = open_image(LEAF_KIND, FIRST_FORMAT, block) else {
+    let Some(image) = open_image(KIND, FIRST_FORMAT, block) else {
         return Ok(None);
     };
     let Image { count, level, text } = image;
@@ -198,43 +186,29 @@ fn found_in(alloc: Global, block: &[u8]) -> Result<Option<Found>, NoMemory>
     cells_in(alloc, count, text)
 }
 
-fn push(places: &mut Vec<u16>, place: u16) -> Result<(), NoMemory>
-    ensures { OnOk result (places.new.items ≡ places.old.items ++ place ∷ []) }
-{
-    match places.push(place) {
-        Ok(()) => Ok(()),
-        Err(failed) => Err(AllocError::from(failed).into()),
-    }
-}
-
 // So many cells, which fill the text.
 fn cells_in(alloc: Global, count: u16, text: &[u8]) -> Result<Option<Found>, NoMemory>
     requires { length text.now ≤ 32752 }
-    ensures found { IfOk result (λ o. IfSome o (λ f. AreFound text.now f.places.items f.greatest f.durable)) }
+    ensures found { IfOk result (λ o. IfSome o (λ f. AreFound text.now f.places.items f.greatest.name f.greatest.durable)) }
     ensures leaf { IfOk result (λ o. IfSome o (λ f. leaf_at count 0 text.now ≡ Some (rows_from text.now f.places.items))) }
     ensures none { IfOk result (λ o. IfNone o (leaf_at count 0 text.now ≡ None)) }
 {
     let mut reader = Reader::new(text);
-    let mut places = Vec::with_capacity(alloc, count as usize)?;
-    let mut greatest = Name { run: 0, id: 0 };
-    let mut durable = 0u64;
+    let mut places = vec![in alloc; 0u16; count as usize]?;
+    let mut greatest = Greatest {
+        name: Name { run: 0, id: 0 },
+        durable: 0,
+    };
     let mut before: Option<&[u8]> = None;
-    for _ in 0..count {
-        let place = text.len() - reader.rest().len();
-        let Some(cell) = next_cell(before, &mut reader) else {
+    for i in 0..count as usize {
+        places[i] = (text.len() - reader.rest().len()) as u16;
+        let Some(cell) = next_cell(before, &mut reader, &mut greatest) else {
             return Ok(None);
         };
-        push(&mut places, place as u16)?;
-        greatest = later(greatest, cell.window.name);
-        durable = durable.max(cell.window.durable);
         before = Some(cell.key);
     }
     if !reader.rest().is_empty() {
         return Ok(None);
     }
-    Ok(Some(Found {
-        places,
-        greatest,
-        durable,
-    }))
+    Ok(Some(Found { places, greatest }))
 }

@@ -7,7 +7,7 @@ ghost use Rattle.row_page.specs.Writing.{Written, Wrote, size_with};
 
 use crate::cell::Cell;
 use crate::change::CellChange;
-use crate::page::LEAF_KIND;
+use crate::leaf::KIND;
 use failure::NoMemory;
 use le_codec::{FIRST_FORMAT, block_size, header_bytes};
 use stamp::Window;
@@ -84,7 +84,7 @@ impl LeafWriter {
             limit: _,
         } = self;
         let used = bytes.len();
-        let header = header_bytes(LEAF_KIND, FIRST_FORMAT, count, used as u32, 0);
+        let header = header_bytes(KIND, FIRST_FORMAT, count, used as u32, 0);
         set_front(&mut bytes, &header);
         let zeros = [0u8; 4096];
         append(&mut bytes, &zeros[..block_size(used as u32) - used]);

@@ -7,18 +7,18 @@ fn the_bytes_of_a_leaf_of_one_cell_are_read_as_that_cell(rt: HostRuntime) -> Res
         1u8, 1, 1, 0, 59, 0, 0, 0, 0, 0, 0, 0, 0, 0, 0, 0, 2, 0, 1, 2, 0, 0, 0, 2, 0, 0, 0, 0, 0,
         0, 0, 1, 0, 0, 0, 0, 0, 0, 0, 0, 0, 0, 0, 0, 0, 0, 0, 0, 0, 0, 0, 0, 0, 0, 0, 97, 0, 49, 0,
     ];
-    let mut block = Vec::new(rt.alloc());
-    block.extend_from_slice(&image)?;
-    assert!(rt; Page::decode(&block).is_none());
+    let short = Vec::from_slice(rt.alloc(), &image)?;
+    assert!(rt; Leaf::of_block(rt.alloc(), short)?.is_none());
+    let mut block = Vec::from_slice(rt.alloc(), &image)?;
     block.resize(4_096, 0)?;
-    let page = Page::decode(&block).ok_or("a leaf")?;
-    assert_eq!(rt; page.find(&[97, 0]), Ok(0));
-    assert_eq!(rt; page.find(&[97]), Err(0));
-    assert_eq!(rt; page.find(&[98]), Err(1));
-    if page.is_empty() {
+    let leaf = Leaf::of_block(rt.alloc(), block)?.ok_or("a leaf")?;
+    assert_eq!(rt; leaf.find(&[97, 0]), Ok(0));
+    assert_eq!(rt; leaf.find(&[97]), Err(0));
+    assert_eq!(rt; leaf.find(&[98]), Err(1));
+    if leaf.is_empty() {
         return Err("a leaf of one cell".into());
     }
-    let cell = page.cell(0);
+    let cell = leaf.cell(0);
     assert_eq!(rt; cell.key, [97u8, 0].as_slice());
     assert_eq!(rt; cell.window.name.run, 2);
     assert_eq!(rt; cell.window.name.id, 1);

@@ -2,7 +2,7 @@ ghost use Rattle.std.specs.Prelude.{◌≡◌, ◌++◌, ◌<◌, ◌^◌, [], l
 ghost use Rattle.row_page.specs.Rows.{cell, code_of, value_of, window_text, key_most, RowFits, image, AreRows, IsImage};
 
 use crate::change::CellChange;
-use crate::page::LEAF_KIND;
+use crate::leaf::KIND;
 use failure::NoMemory;
 use item::Item;
 use le_codec::{FIRST_FORMAT, Writer, write_header};
@@ -67,7 +67,7 @@ pub fn size_of(rows: &[(Item, Version<CellChange<Item>>)]) -> u64
 }
 
 /// The image of a leaf with these rows; zeros up to the next multiple of 4,096 bytes make it the
-/// block that `Page::decode` reads. The error is want of memory. `O(bytes)`.
+/// block that `Leaf::of_block` reads. The error is want of memory. `O(bytes)`.
 pub fn encode(
     alloc: Global,
     rows: &[(Item, Version<CellChange<Item>>)],
@@ -79,7 +79,7 @@ pub fn encode(
     let used = size_of(rows);
     write_header(
         &mut out,
-        LEAF_KIND,
+        KIND,
         FIRST_FORMAT,
         rows.len() as u16,
         used as u32,

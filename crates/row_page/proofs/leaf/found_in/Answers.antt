@@ -32,15 +32,15 @@ bytes c = text_bytes 1 first_format c.in-Some.image.count 0 c.in-Some.image.text
 pub returns-clause-found : goal.returns-clause-found
 returns-clause-found c =
     let i = c.in-Some.image in
-    if_some (λ (f : Found). AreFound i.text.now f.places.items f.greatest f.durable) (λ (f : Found). AreFound i.text.now f.places.items f.greatest f.durable) (λ (f : Found). AreFound (drop 16 c.args.block.now) f.places.items f.greatest f.durable) c.cells_in.result
-    (λ f h again. (found_in_block 1 i.count 0 i.text.now c.args.block.now f.places.items f.greatest f.durable (bytes c) (holds c) h).0)
+    if_some (λ (f : Found). AreFound i.text.now f.places.items f.greatest.name f.greatest.durable) (λ (f : Found). AreFound i.text.now f.places.items f.greatest.name f.greatest.durable) (λ (f : Found). AreFound (drop 16 c.args.block.now) f.places.items f.greatest.name f.greatest.durable) c.cells_in.result
+    (λ f h again. (found_in_block 1 i.count 0 i.text.now c.args.block.now f.places.items f.greatest.name f.greatest.durable (bytes c) (holds c) h).0)
     c.cells_in.ensures.found c.cells_in.ensures.found
 
 pub returns-clause-page : goal.returns-clause-page
 returns-clause-page c =
     let i = c.in-Some.image in
-    if_some (λ (f : Found). AreFound i.text.now f.places.items f.greatest f.durable) (λ (f : Found). leaf_at i.count 0 i.text.now ≡ Some (rows_from i.text.now f.places.items)) (λ (f : Found). IsPage c.args.block.now (rows_from (drop 16 c.args.block.now) f.places.items)) c.cells_in.result
-    (λ f h leaf. page_of c.args.block.now i.count i.text.now f.places.items f.greatest f.durable (bytes c) (holds c) h leaf)
+    if_some (λ (f : Found). AreFound i.text.now f.places.items f.greatest.name f.greatest.durable) (λ (f : Found). leaf_at i.count 0 i.text.now ≡ Some (rows_from i.text.now f.places.items)) (λ (f : Found). IsPage c.args.block.now (rows_from (drop 16 c.args.block.now) f.places.items)) c.cells_in.result
+    (λ f h leaf. page_of c.args.block.now i.count i.text.now f.places.items f.greatest.name f.greatest.durable (bytes c) (holds c) h leaf)
     c.cells_in.ensures.found c.cells_in.ensures.leaf
 
 pub returns-clause-none : goal.returns-clause-none
