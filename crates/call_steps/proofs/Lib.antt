@@ -1,0 +1,4 @@
+mod Cursors
+mod Newest
+mod RowWalk
+mod WriteFinds

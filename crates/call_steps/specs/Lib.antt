@@ -1,0 +1,10 @@
+pub mod Stages
+pub mod State
+pub mod Written
+pub mod Words
+pub mod Starts
+pub mod Tables
+pub mod HubEvents
+pub mod Leaves
+pub mod Looks
+pub mod FrameEvents

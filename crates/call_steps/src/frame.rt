@@ -1,0 +1,21 @@
+// Frames and their leaves.
+
+use leaf_chains::LeafChains;
+
+/// A leaf in memory.
+#[derive(Drop)]
+pub struct Frame {
+    /// The number of its table.
+    pub table: u32,
+    /// The updates of its keys.
+    pub chains: LeafChains,
+}
+
+/// A frame: the piece that an event on it holds.
+#[derive(Drop)]
+pub struct FramePiece {
+    /// How many leaves the frame had before.
+    pub generation: u64,
+    /// The leaf; none where the frame is empty.
+    pub frame: Option<Frame>,
+}

@@ -1,0 +1,295 @@
+// Looks at a leaf.
+
+ghost use Rattle.std.specs.Prelude.{◌≡◌, None, OnOk, OnErr, option_copied, option_map};
+ghost use Rattle.snapshot.specs.Sight.{IsSight, sight_of};
+ghost use Rattle.update_chain.specs.Updates.{read_of, is_led_by};
+ghost use Rattle.update_chain.specs.Writing.{newest_of};
+ghost use Rattle.leaf_chains.specs.Slots.{chain_at};
+ghost use Rattle.wt_calls.specs.Calls.{way_in};
+ghost use Rattle.call_steps.specs.Leaves.{chain_in};
+ghost use Rattle.call_steps.specs.Looks.{own_name, conflicts, free_or_unmet, found_over, is_put, write_found, IsInstalled, ReadBy, update_by, AcceptedBy, WrittenBy, SteppedBy, LookedBy, from_of, start_in};
+
+use crate::cursor::Cursor;
+use crate::rows::{Stepped, find_row, row_copied};
+use crate::stage::{KeyCall, Stage, Target};
+use crate::state::SessionState;
+use crate::written::WrittenKey;
+use failure::NoMemory;
+use item::{Change, Item};
+use leaf_chains::LeafChains;
+use stamp::{Name, Version, View, Window};
+use std::alloc::Global;
+use std::mem::replace;
+use txn_table::Phase;
+use update_chain::{Chain, Judgement, Read, Update, judge_update};
+use wt_calls::{Demand, Way};
+use wt_code::{Answer, Refusal};
+
+impl SessionState {
+    // A look at a leaf. A read copies the value, a write moves its own; `O(log n)` comparisons with
+    // n keys, and for a row as many for each key that is passed as absent.
+    pub(crate) fn look(
+        &mut self,
+        alloc: Global,
+        chains: &mut LeafChains,
+        view: &View<'_>,
+        call: KeyCall,
+        target: Target,
+    )
+        requires { IsSight (sight_of view.now) }
+        ensures { LookedBy call view.now target chains.old self.old chains.new self.new }
+    {
+        match call {
+            KeyCall::Get | KeyCall::Seek(_) => self.read(chains, view, call, target),
+            KeyCall::Put(demand) => {
+                let value = replace(&mut self.value, Item::new(Vec::new(alloc)));
+                let change = Change::Put(value);
+                self.write(alloc, chains, view, call, target, demand, change);
+            }
+            KeyCall::Remove => {
+                let demand = Demand::Occupied;
+                self.write(alloc, chains, view, call, target, demand, Change::Remove);
+            }
+            KeyCall::Step(cursor, way) => self.step(chains, view, call, target, cursor, way),
+        }
+    }
+
+    fn read(&mut self, chains: &LeafChains, view: &View<'_>, call: KeyCall, target: Target)
+        requires { IsSight (sight_of view.now) }
+        ensures { ReadBy (read_of view.now (chain_at self.old.key chains.now)) call target self.old self.new }
+    {
+        match chains.read(self.key.as_bytes(), view) {
+            Read::Found(value) => match value.copy() {
+                Ok(value) => self.answer(call, target, Answer::Value(value)),
+                Err(_) => self.answer(call, target, Answer::Refused(Refusal::NoMemory)),
+            },
+            Read::Removed => self.answer(call, target, Answer::Refused(Refusal::NotFound)),
+            Read::Conflict(id) => {
+                self.answer(
+                    call,
+                    target,
+                    Answer::Refused(Refusal::PrepareConflict { id }),
+                );
+            }
+            Read::Older => self.go_to(Stage::History(call, target)),
+        }
+    }
+
+    fn write(
+        &mut self,
+        alloc: Global,
+        chains: &mut LeafChains,
+        view: &View<'_>,
+        call: KeyCall,
+        target: Target,
+        demand: Demand,
+        change: Change,
+    )
+        requires { IsSight (sight_of view.now) }
+        ensures { WrittenBy view.now call target demand change chains.old self.old chains.new self.new }
+    {
+        match judge_write(chains, self.key.as_bytes(), view, demand) {
+            Found::Conflict(name) => self.conflict(call, target, name),
+            Found::Unmet(refusal) => self.clear(call, target, Answer::Refused(refusal)),
+            Found::Free(is_led) => {
+                let name = own_name(view);
+                self.accept(alloc, chains, name, call, target, change, is_led);
+            }
+        }
+    }
+
+    // A write met another's update: the transaction can be rolled back, no more.
+    fn conflict(&mut self, call: KeyCall, target: Target, name: Name)
+        ensures { self.new ≡ conflicts call target name self.old }
+    {
+        self.phase = Phase::Failed;
+        let refusal = Refusal::Rollback {
+            run: name.run,
+            id: name.id,
+        };
+        self.clear(call, target, Answer::Refused(refusal));
+    }
+
+    // Installs an update of the key, and notes the key where it is the transaction's first.
+    fn accept(
+        &mut self,
+        alloc: Global,
+        chains: &mut LeafChains,
+        name: Name,
+        call: KeyCall,
+        target: Target,
+        change: Change,
+        is_led: bool,
+    )
+        requires { is_led ≡ is_led_by name (chain_at self.old.key chains.old) }
+        ensures { AcceptedBy name call target change chains.old self.old chains.new self.new }
+    {
+        match self.install(alloc, chains, name, target.frame, change, is_led) {
+            Ok(()) => self.clear(call, target, Answer::Done),
+            Err(NoMemory) => self.clear(call, target, Answer::Refused(Refusal::NoMemory)),
+        }
+    }
+
+    fn install(
+        &mut self,
+        alloc: Global,
+        chains: &mut LeafChains,
+        name: Name,
+        frame: u32,
+        change: Change,
+        is_led: bool,
+    ) -> Result<(), NoMemory>
+        ensures ok { OnOk result (IsInstalled name frame change is_led chains.old self.old chains.new self.new) }
+        ensures chains { OnErr result (chains.new ≡ chains.old) }
+        ensures state { OnErr result (self.new ≡ self.old) }
+    {
+        self.written.reserve(1)?;
+        let slot = chains.install(alloc, self.key.as_bytes(), update_by(name, change))?;
+        if !is_led {
+            self.written.push_reserved(WrittenKey { frame, slot });
+        }
+        Ok(())
+    }
+
+    fn step(
+        &mut self,
+        chains: &LeafChains,
+        view: &View<'_>,
+        call: KeyCall,
+        target: Target,
+        cursor: u32,
+        way: Way,
+    )
+        requires { IsSight (sight_of view.now) }
+        ensures { SteppedBy view.now (way_in way) (from_of self.old cursor target.table) call target chains.now self.old self.new }
+    {
+        let from = start_of(self.cursors.as_slice(), cursor, target.table);
+        match row_copied(find_row(chains, view, way, from)) {
+            Ok(Stepped::Row(key, value, kept)) => {
+                self.key = kept;
+                self.answer(call, target, Answer::Row(key, value));
+            }
+            Ok(Stepped::Conflict(id)) => {
+                self.answer(
+                    call,
+                    target,
+                    Answer::Refused(Refusal::PrepareConflict { id }),
+                );
+            }
+            Ok(Stepped::End) => self.answer(call, target, Answer::Refused(Refusal::NotFound)),
+            Err(NoMemory) => self.answer(call, target, Answer::Refused(Refusal::NoMemory)),
+        }
+    }
+}
+
+fn own_name(view: &View<'_>) -> Name
+    ensures { result ≡ own_name view.now }
+{
+    Name {
+        run: view.run,
+        id: view.own,
+    }
+}
+
+fn update_by(name: Name, change: Change) -> Update
+    ensures { result ≡ update_by name change }
+{
+    let window = Window {
+        name,
+        commit: 0,
+        durable: 0,
+    };
+    Update {
+        version: Version { window, change },
+        prepared: 0,
+    }
+}
+
+/// What a write finds at its key.
+#[derive(Clone, Copy)]
+pub(crate) enum Found {
+    /// The update of this name refuses it.
+    Conflict(Name),
+    /// What is there does not meet its demand.
+    Unmet(Refusal),
+    /// It may come; whether the newest update is the transaction's own.
+    Free(bool),
+}
+
+fn judge_write(chains: &LeafChains, key: &[u8], view: &View<'_>, demand: Demand) -> Found
+    requires { IsSight (sight_of view.now) }
+    ensures { result ≡ write_found view.now demand (chain_at key.now chains.now) }
+{
+    match newest_at(chains, key) {
+        None => free_or_unmet(demand, false, false),
+        Some(update) => judge_over(update, view, demand),
+    }
+}
+
+fn judge_over(update: &Update, view: &View<'_>, demand: Demand) -> Found
+    requires { IsSight (sight_of view.now) }
+    ensures { result ≡ found_over view.now demand update.now }
+{
+    match judge_update(view, update) {
+        Judgement::Refused(name) => Found::Conflict(name),
+        Judgement::Allowed => {
+            let is_own = update.version.window.name == own_name(view);
+            free_or_unmet(demand, is_put(&update.version.change), is_own)
+        }
+    }
+}
+
+// By the demand, and whether the key has a value.
+fn free_or_unmet(demand: Demand, is_there: bool, is_led: bool) -> Found
+    ensures { result ≡ free_or_unmet demand is_there is_led }
+{
+    match demand {
+        Demand::Vacant if is_there => Found::Unmet(Refusal::DuplicateKey),
+        Demand::Occupied if !is_there => Found::Unmet(Refusal::NotFound),
+        _ => Found::Free(is_led),
+    }
+}
+
+fn is_put(change: &Change) -> bool
+    ensures { result ≡ is_put change.now }
+{
+    matches!(change, Change::Put(_))
+}
+
+// The newest update of a key.
+fn newest_at<'a>(chains: &'a LeafChains, key: &[u8]) -> Option<&'a Update>
+    ensures { option_copied result ≡ newest_of (chain_at key.now chains.now) None }
+{
+    match chains.find(key) {
+        None => None,
+        Some(slot) => newest_in(chains, slot),
+    }
+}
+
+// The newest update in a slot.
+fn newest_in(chains: &LeafChains, slot: u32) -> Option<&Update>
+    ensures { option_copied result ≡ newest_of (chain_in chains.now slot) None }
+{
+    match chains.chain(slot) {
+        None => None,
+        Some(chain) => newest(chain),
+    }
+}
+
+fn newest(chain: &Chain) -> Option<&Update>
+    ensures { option_copied result ≡ newest_of chain.now None }
+{
+    chain.newest()
+}
+
+// Where a cursor starts on a table: behind its row, if it has one there.
+fn start_of(cursors: &[Cursor], cursor: u32, table: u32) -> Option<&[u8]>
+    ensures { option_map (λ k. k.now) result ≡ start_in cursors.now cursor table }
+{
+    let position = cursors.get(cursor as usize)?.position.as_ref()?;
+    if position.table == table {
+        Some(position.key.as_bytes())
+    } else {
+        None
+    }
+}
