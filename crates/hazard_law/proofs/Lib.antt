@@ -1,0 +1,5 @@
+pub mod Lists
+pub mod Safe
+pub mod Steps
+pub mod Beside
+pub mod Permits
