@@ -1,0 +1,4 @@
+pub mod Beside
+pub mod Others
+pub mod Events
+pub mod Moves

@@ -1,0 +1,27 @@
+-- The machine of an engine, with the calls that are under way.
+use Rattle.std.specs.Prelude.{ℕ, List, Option, slice_index_or}
+use Rattle.wt_code.specs.declared.answers.Answer.{Answer}
+use Rattle.kv_model.specs.Machine.{Machine, Event}
+use Rattle.kv_model.specs.Calls.{Call}
+
+-- what a session does; left: how many steps its call has left at most
+pub data Doing : Type 0 where
+  Resting : Doing
+  -- nothing of its call is decided
+  Asked : (call : Call) (left : ℕ) → Doing
+  -- its table was found, by this number
+  Placed : (call : Call) (table left : ℕ) → Doing
+  -- the answer is decided, and comes with this event
+  Decided : (answer : Answer (List ℕ)) (event : Event) (left : ℕ) → Doing
+  -- its commit or rollback is decided, and its transaction is ending
+  Ending : (answer : Answer (List ℕ)) (left : ℕ) → Doing
+
+pub record World : Type 0 where
+  pub machine : Machine
+  -- by session
+  pub sessions : List Doing
+  -- by actor of the system: the call that it has started, which one event makes
+  pub systems : List (Option Call)
+
+abbrev pub doing_of : World → ℕ → Doing
+doing_of w session = slice_index_or w.sessions session Resting

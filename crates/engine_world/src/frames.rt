@@ -1,0 +1,38 @@
+//! Laws of the events on the piece of a frame.
+
+ghost use Rattle.engine_world.specs.Laws.{MarksGo, OrdersGo, ReadsGo, RowsGo, StampsGo, UndosGo, WritesGo};
+
+/// A look of a get or a seek.
+pub fn reads_go()
+    ensures { ReadsGo }
+{}
+
+/// A look of a put or a remove.
+pub fn writes_go()
+    ensures { WritesGo }
+{}
+
+/// A look for the next row or the previous one.
+pub fn rows_go()
+    ensures { RowsGo }
+{}
+
+/// The marks of a prepare in one leaf.
+pub fn marks_go()
+    ensures { MarksGo }
+{}
+
+/// The look of a commit below the updates of one leaf.
+pub fn orders_go()
+    ensures { OrdersGo }
+{}
+
+/// The stamps of a commit in one leaf.
+pub fn stamps_go()
+    ensures { StampsGo }
+{}
+
+/// The undos of a rollback in one leaf.
+pub fn undos_go()
+    ensures { UndosGo }
+{}

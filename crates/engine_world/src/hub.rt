@@ -1,0 +1,38 @@
+//! Laws of the events on the hub.
+
+ghost use Rattle.engine_world.specs.Laws.{BeginsGo, DecidesGo, EndsGo, FindsGo, HistoriesGo, ReleasesGo, ResolvesGo};
+
+/// A begin.
+pub fn begins_go()
+    ensures { BeginsGo }
+{}
+
+/// The event that finds the table of a call.
+pub fn finds_go()
+    ensures { FindsGo }
+{}
+
+/// The look in the history, after a leaf that held nothing which is admitted.
+pub fn histories_go()
+    ensures { HistoriesGo }
+{}
+
+/// A prepare, after the marks.
+pub fn releases_go()
+    ensures { ReleasesGo }
+{}
+
+/// The decision of a commit.
+pub fn decides_go()
+    ensures { DecidesGo }
+{}
+
+/// The decision of a rollback.
+pub fn resolves_go()
+    ensures { ResolvesGo }
+{}
+
+/// The end of a transaction whose commit or rollback was decided.
+pub fn ends_go()
+    ensures { EndsGo }
+{}

@@ -1,0 +1,33 @@
+//! Laws of the start of a call and of events on words.
+
+ghost use Rattle.engine_world.specs.Laws.{ClearsGo, LoadGoes, PublishesGo, ResetsGo, StartsGo, UnpinsGo};
+
+/// A call begins, unless its session has one.
+pub fn starts_go()
+    ensures { StartsGo }
+{}
+
+/// A load of a state word: the frame has the leaf that was found.
+pub fn loads_go()
+    ensures { LoadGoes }
+{}
+
+/// A store that names a frame.
+pub fn publishes_go()
+    ensures { PublishesGo }
+{}
+
+/// A store that clears the word of a cursor or of the call: the last one gives the answer.
+pub fn clears_go()
+    ensures { ClearsGo }
+{}
+
+/// The store of a reset.
+pub fn resets_go()
+    ensures { ResetsGo }
+{}
+
+/// A store that clears the word of a cursor after the end of its transaction.
+pub fn unpins_go()
+    ensures { UnpinsGo }
+{}
