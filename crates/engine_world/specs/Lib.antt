@@ -5,3 +5,4 @@ pub mod Leaves
 pub mod Stages
 pub mod Stands
 pub mod Laws
+pub mod Whole

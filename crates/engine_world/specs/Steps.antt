@@ -44,16 +44,16 @@ JudgedBy decided m made = (answer : Answer (List ℕ)) × Tells decided.0 answer
 -- the call is refused, or its table is found
 abbrev pub FoundBy : Outcome → Event → Machine → Call → List ℕ → ℕ → Made → Type 0
 FoundBy (Refused r) event m call name left made = EndsWith (answers.Refused r) m made
-FoundBy Done event m call name left made = (table : Table) × (named name (tables m.history) ≡ Some table) × GoesTo (Placed call table.number) left (after m event) made
+FoundBy Done event m call name left made = (table : Table) × (named name (tables (after m event).history) ≡ Some table) × GoesTo (Placed call table.number) left (after m event) made
 FoundBy _ event m call name left made = ⊥
 
 abbrev pub Finds : Machine → ℕ → Request → Call → List ℕ → ℕ → Made → Type 0
 Finds m session request call name left made = let found = decision m session request in FoundBy found.0 found.1 m call name left made
 
--- a transaction that was committed has ended; one that is ending has updates to change, or has none and ends at once
+-- a transaction that was committed has ended; one that is ending has updates to change, or has none and ends at once, which a machine that is down does not let it
 abbrev pub EndsIn : Option Transaction → Answer (List ℕ) → Machine → ℕ → ℕ → Made → Type 0
-EndsIn None answer m session left made = Finishes answer left m made
-EndsIn (Some t) answer m session left made = GoesTo (Ending answer) left m made ⊎ ((t.writes ≡ []) × Finishes answer left (after m (EndTransaction session)) made)
+EndsIn None answer m session left made = (m.fault ≡ None) × Finishes answer left m made
+EndsIn (Some t) answer m session left made = GoesTo (Ending answer) left m made ⊎ ((m.fault ≡ None) × (t.writes ≡ []) × Finishes answer left (after m (EndTransaction session)) made)
 
 abbrev pub SettledBy : Outcome → Event → Machine → ℕ → ℕ → Made → Type 0
 SettledBy outcome Nothing m session left made = (answer : Answer (List ℕ)) × Tells outcome answer × EndsWith answer m made

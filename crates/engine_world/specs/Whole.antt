@@ -1,0 +1,57 @@
+-- A whole call: its steps with nobody between, and what they come to.
+use Rattle.std.specs.Prelude.{◌≡◌, ◌⊎◌, ℕ, false, List, [], Option, Some, None}
+use Rattle.failure.specs.declared.Fault.{Fault}
+use Rattle.wt_code.specs.declared.answers.Answer.{Answer}
+use Rattle.wt_code.specs.declared.answers.Answer.TheVariants as answers
+use Rattle.wt_code.specs.declared.refusals.Refusal.TheVariants.{Panic}
+use Rattle.item.specs.declared.Change.TheVariants.{Put as PutOf, Remove as RemoveOf}
+use Rattle.kv_model.specs.History.{Table, tables, named}
+use Rattle.kv_model.specs.Machine.{Machine, Event, EndTransaction, after}
+use Rattle.kv_model.specs.Outside.{Unfinished}
+use Rattle.kv_model.specs.Decisions.{Done, Request, FindKey, FindToWrite, FindRow, decision}
+use Rattle.kv_model.specs.Calls.{Call, Begin, GetKey, PutKey, RemoveKey, SeekKey, NextRow, Reset, Prepare, Commit, Rollback, Around, SessionAnswers}
+use Rattle.kv_model.specs.CallLaws.{any_around}
+use Rattle.call_steps.specs.declared.reply.Reply.TheVariants as reply
+use Rattle.engine_world.specs.Worlds.{Doing, Resting, Asked, Placed, Decided, Ending}
+use Rattle.engine_world.specs.Steps.{Made, GoesOn}
+
+-- of the outside a session's call rests on nothing
+abbrev pub nothing_around : Around
+nothing_around = any_around false (record { eviction = None; calls = [] }) 0
+
+-- the table was found, by the first event of a call on a leaf
+pub record IsFound (from : Machine) (session : ℕ) (name : List ℕ) (request : Request) (table : ℕ) (m : Machine) : Type 0 where
+  pub event : Event
+  pub of : Table
+  pub decided : decision from session request ≡ (Done, event)
+  pub machine : m ≡ after from event
+  pub found : named name (tables m.history) ≡ Some of
+  pub number : table ≡ of.number
+
+abbrev pub PlacedFrom : Machine → ℕ → Call → ℕ → Machine → Type 0
+PlacedFrom from session (GetKey name key) table m = IsFound from session name (FindKey name key) table m
+PlacedFrom from session (PutKey name key value demand) table m = IsFound from session name (FindToWrite name key (PutOf value)) table m
+PlacedFrom from session (RemoveKey name key) table m = IsFound from session name (FindToWrite name key RemoveOf) table m
+PlacedFrom from session (SeekKey cursor name key) table m = IsFound from session name (FindKey name key) table m
+PlacedFrom from session (NextRow cursor name way) table m = IsFound from session name (FindRow name) table m
+PlacedFrom from session _ table m = ⊥
+
+-- how far the call is that began on the first machine, when it does this on the second
+abbrev pub Reached : Machine → ℕ → Call → Doing → Machine → Type 0
+Reached from session call Resting m = ⊥
+Reached from session call (Asked asked left) m = (asked ≡ call) × (m ≡ from)
+Reached from session call (Placed asked table left) m = (asked ≡ call) × PlacedFrom from session call table m
+Reached from session call (Decided answer event left) m = (m.fault ≡ None) × SessionAnswers nothing_around from session call answer (after m event)
+Reached from session call (Ending answer left) m =
+    (m.fault ≡ None → SessionAnswers nothing_around from session call answer (after m (EndTransaction session)))
+    × ((fault : Fault) → m.fault ≡ Some fault → SessionAnswers nothing_around from session call (answers.Refused (Panic fault)) m)
+
+-- the call goes on, or has the answer of the whole call
+abbrev pub ReachesOn : Machine → ℕ → Call → Made → Type 0
+ReachesOn from session call made =
+    ((made.told ≡ reply.More) × Reached from session call made.doing made.machine)
+    ⊎ ((answer : Answer (List ℕ)) × (made.told ≡ reply.Answer answer) × SessionAnswers nothing_around from session call answer made.machine)
+
+-- a step brings a call that began with nobody between nearer to its answer
+abbrev pub StepsReach : Type 0
+StepsReach = (from m : Machine) (session : ℕ) (call : Call) (doing : Doing) (made : Made) → Reached from session call doing m → GoesOn doing m session made → ReachesOn from session call made
