@@ -1,0 +1,14 @@
+//! The engine of one thread: what the sessions share, the frames with their state words, the
+//! sessions with their hazard words, all in one hand.
+//!
+//! Promises, for every world for which the engine stands, that each step of a session may reply so
+//! in that world, and that the engine stands for a world to which the step may lead (`engine_world`
+//! says what a step may do, whatever the other sessions have under way); that whole calls with
+//! nobody between answer as `kv_model` says; and that each call ends. Leaves what a device keeps to
+//! those who open and close it.
+#![tactic(auto)]
+
+mod parts;
+mod step;
+
+pub use step::{Actor, Step};

@@ -1,0 +1,167 @@
+// What an engine is made of, and the steps of its sessions.
+
+ghost use Rattle.std.specs.Prelude.{◌≡◌, ◌<◌, ◌×◌, length, slice_get, slice_set, slice_index_or, Some};
+ghost use Rattle.snapshot.specs.Sight.{IsSight, sight_of};
+ghost use Rattle.wt_calls.specs.Calls.{session_call_in};
+ghost use Rattle.call_steps.specs.HubEvents.{IsSeated, hub_made};
+ghost use Rattle.call_steps.specs.Starts.{Starts};
+ghost use Rattle.call_steps.specs.State.{State};
+ghost use Rattle.call_steps.specs.Words.{next_of, loaded, stored};
+ghost use Rattle.engine_world.specs.Leaves.{word_at};
+ghost use Rattle.engine_world.specs.Laws.{Leads, with_hub, with_hazard, with_session};
+ghost use Rattle.engine_world.specs.Stands.{Stands};
+ghost use Rattle.engine_world.specs.Steps.{MayBegin};
+ghost use Rattle.engine_world.specs.Worlds.{World};
+ghost use Rattle.engine.specs.Events.{HasWorld, IsFrameEvent};
+
+use call_steps::{FramePiece, Hub, Next, Reply, SessionState, frame_event, hub_event};
+use stamp::View;
+use std::alloc::Global;
+use std::marker::Model;
+use wt_calls::{SessionCall, SystemCall};
+use wt_code::{Answer, Invalid, Refusal};
+
+/// What an engine is made of.
+#[derive(Drop)]
+pub struct Parts {
+    pub(crate) hub: Hub,
+    pub(crate) pieces: Vec<FramePiece>,
+    // The state words, by frame.
+    pub(crate) states: Vec<u64>,
+    // The hazard words, five for each session.
+    pub(crate) hazards: Vec<u64>,
+    pub(crate) sessions: Vec<SessionState>,
+    // By actor of the system: the call that it has started.
+    pub(crate) systems: Vec<Option<SystemCall>>,
+}
+
+impl Model for Parts {
+    ghost use Rattle.engine_world.specs.Stands.{Engine};
+
+    ghost Value = { Engine };
+
+    ghost view = { λ p. record { hub = p.hub; pieces = p.pieces.items; states = p.states.items; hazards = p.hazards.items; sessions = p.sessions.items; systems = p.systems.items } };
+}
+
+impl Parts {
+    /// A call of a session begins.
+    pub(crate) fn start(&mut self, alloc: Global, session: u32, call: SessionCall) -> Reply
+        requires { session < length self.old.sessions }
+        ensures { (w : World) → Stands self.old w → (later : World) × MayBegin w session (session_call_in call) result later × Stands self.new later }
+    {
+        self.sessions[session as usize].start(alloc, call)
+    }
+
+    /// One step of a session's call.
+    pub(crate) fn go(&mut self, alloc: Global, session: u32) -> Reply
+        requires open { session < length self.old.sessions }
+        requires world { HasWorld self.old }
+        ensures { (w : World) → Stands self.old w → Leads self.new w session result }
+    {
+        match self.sessions[session as usize].next() {
+            Next::Nothing => Reply::Answer(Answer::Refused(Refusal::Invalid(Invalid::NoCall))),
+            Next::Hub => self.go_on_hub(session),
+            Next::Frame(frame) => self.go_on_frame(alloc, session, frame),
+            Next::Load(frame) => self.load(session, frame),
+            Next::Store(word, value) => self.store(session, word, value),
+        }
+    }
+
+    fn go_on_hub(&mut self, session: u32) -> Reply
+        requires open { session < length self.old.sessions }
+        requires world { HasWorld self.old }
+        requires next { (a : State) → slice_get self.old.sessions session ≡ Some a → next_of a ≡ Next.Hub }
+        ensures { (w : World) → Stands self.old w → Leads self.new w session result }
+    {
+        hub_event(&mut self.hub, session, &mut self.sessions[session as usize])
+    }
+
+    fn go_on_frame(&mut self, alloc: Global, session: u32, frame: u32) -> Reply
+        requires open { session < length self.old.sessions }
+        requires world { HasWorld self.old }
+        requires next { (a : State) → slice_get self.old.sessions session ≡ Some a → next_of a ≡ Next.Frame frame }
+        ensures { (w : World) → Stands self.old w → Leads self.new w session result }
+    {
+        if frame as usize >= self.pieces.len() {
+            return Reply::More;
+        }
+        match self.hub.txns.view(session) {
+            None => Reply::More,
+            Some(view) => {
+                frame_step(
+                    alloc,
+                    self.pieces.as_mut_slice(),
+                    self.sessions.as_mut_slice(),
+                    &view,
+                    session,
+                    frame,
+                );
+                Reply::More
+            }
+        }
+    }
+
+    fn load(&mut self, session: u32, frame: u32) -> Reply
+        requires open { session < length self.old.sessions }
+        requires next { (a : State) → slice_get self.old.sessions session ≡ Some a → next_of a ≡ Next.Load frame }
+        ensures { (w : World) → Stands self.old w → Leads self.new w session result }
+    {
+        let seen = word_at(self.states.as_slice(), frame);
+        self.sessions[session as usize].loaded(seen);
+        Reply::More
+    }
+
+    fn store(&mut self, session: u32, word: u32, value: u64) -> Reply
+        requires open { session < length self.old.sessions }
+        requires next { (a : State) → slice_get self.old.sessions session ≡ Some a → next_of a ≡ Next.Store word value }
+        ensures { (w : World) → Stands self.old w → Leads self.new w session result }
+    {
+        set_word(
+            self.hazards.as_mut_slice(),
+            session as usize * WORDS + word as usize,
+            value,
+        );
+        self.sessions[session as usize].stored()
+    }
+}
+
+// The hazard words of a session.
+const WORDS: usize = 5;
+
+fn frame_step(
+    alloc: Global,
+    pieces: &mut [FramePiece],
+    sessions: &mut [SessionState],
+    view: &View<'_>,
+    session: u32,
+    frame: u32,
+)
+    requires session { session < length sessions.old }
+    requires frame { frame < length pieces.old }
+    requires view { IsSight (sight_of view.now) }
+    ensures { IsFrameEvent view.now session frame pieces.old sessions.old pieces.new sessions.new }
+{
+    frame_event(
+        alloc,
+        &mut pieces[frame as usize],
+        view,
+        &mut sessions[session as usize],
+    );
+}
+
+fn word_at(states: &[u64], frame: u32) -> u64
+    ensures { result ≡ word_at states.now frame }
+{
+    match states.get(frame as usize) {
+        None => 0,
+        Some(word) => *word,
+    }
+}
+
+fn set_word(words: &mut [u64], at: usize, value: u64)
+    ensures { words.new ≡ slice_set words.old at value }
+{
+    if at < words.len() {
+        words[at] = value;
+    }
+}
