@@ -6,3 +6,4 @@ pub mod Moves
 pub mod OwnStates
 pub mod CursorChanges
 pub mod WordEvents
+pub mod Placing
