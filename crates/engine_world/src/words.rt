@@ -2,6 +2,8 @@
 
 ghost use Rattle.engine_world.specs.Laws.{ClearsGo, LoadGoes, PublishesGo, ResetsGo, StartsGo, UnpinsGo};
 
+use update_chain::chains_go_on;
+
 /// A call begins, unless its session has one.
 pub fn starts_go()
     ensures { StartsGo }
@@ -20,12 +22,16 @@ pub fn publishes_go()
 /// A store that clears the word of a cursor or of the call: the last one gives the answer.
 pub fn clears_go()
     ensures { ClearsGo }
-{}
+{
+    chains_go_on();
+}
 
 /// The store of a reset.
 pub fn resets_go()
     ensures { ResetsGo }
-{}
+{
+    chains_go_on();
+}
 
 /// A store that clears the word of a cursor after the end of its transaction.
 pub fn unpins_go()
