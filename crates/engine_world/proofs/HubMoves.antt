@@ -31,8 +31,8 @@ use Rattle.call_steps.specs.declared.stage.Stage.{Stage}
 use Rattle.call_steps.specs.declared.stage.Stage.TheVariants as stage
 use Rattle.call_steps.specs.HubEvents.{Made, beside}
 use Rattle.call_steps.specs.State.{State, at_stage, refuses}
-use Rattle.engine_world.specs.Worlds.{World, Resting}
-use Rattle.engine_world.specs.Steps.{GoesOn, JudgedBy, SettledBy}
+use Rattle.engine_world.specs.Worlds.{World, Doing, Resting}
+use Rattle.engine_world.specs.Steps.{GoesOn, JudgedBy, SettledBy, Made as Left}
 use Rattle.engine_world.specs.Doings.{doing_at, doing_in}
 use Rattle.engine_world.specs.Leaves.{LeafStands}
 use Rattle.engine_world.specs.Laws.{Leads, with_session, with_hub}
@@ -123,12 +123,15 @@ doing-at session a g is = ap (λ (g : Stage). doing_at g session a) is
 pub stage-stands : (e : Engine) (w : World) (session : ℕ) (a : State) (g : Stage) → Stands e w → slice_get e.sessions session ≡ Some a → a.stage ≡ g → StageStands g w.machine e.hub.tables.tables e.pieces session a
 stage-stands e w session a g st at is = subst (λ (g : Stage). StageStands g w.machine e.hub.tables.tables e.pieces session a) is (st.sessions session a at).stage
 
+pub goes-from : (session : ℕ) (a : State) (g : Stage) (m : Machine) (left : Left) → a.stage ≡ g → GoesOn (doing_at g session a) m session left → GoesOn (doing_in session a) m session left
+goes-from session a g m left is goes = subst (λ (d : Doing). GoesOn d m session left) (sym (doing-at session a g is)) goes
+
 -- the machine stays, and the session rests
 pub refused-goes : (e : Engine) (w : World) (session : ℕ) (a : State) (g : Stage) (r : Refusal) → Stands e w → slice_get e.sessions session ≡ Some a → a.stage ≡ g → EndsOnlyDown w.machine session
     → GoesOn (doing_at g session a) w.machine session (record { told = reply.Answer (answers.Refused r); machine = w.machine; doing = Resting })
     → Goes e w session (beside e.hub (refuses r a))
 refused-goes e w session a g r st at is ends goes = alone-leads e w session a (at_stage stage.Rest a) e.hazards (reply.Answer (answers.Refused r)) st at
-    (subst (λ d. GoesOn d w.machine session (record { told = reply.Answer (answers.Refused r); machine = w.machine; doing = Resting })) (sym (doing-at session a g is)) goes)
+    (goes-from session a g w.machine (record { told = reply.Answer (answers.Refused r); machine = w.machine; doing = Resting }) is goes)
     (rest-stands w.machine e.hub e.pieces session a (st.sessions session a at) ends)
 
 -- ---- leaves
