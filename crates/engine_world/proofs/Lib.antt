@@ -5,3 +5,5 @@ pub mod Moves
 pub mod HubMoves
 pub mod Begins
 pub mod Histories
+pub mod FindChecks
+pub mod Finds
