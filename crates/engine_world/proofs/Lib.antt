@@ -3,3 +3,5 @@ pub mod Others
 pub mod Events
 pub mod Moves
 pub mod OnePiece
+pub mod Looking
+pub mod ReadLooks
