@@ -1,0 +1,5 @@
+use Rattle.engine_world.proofs.ReadLooks.{rows-go}
+use Rattle.engine_world.proofs.frames.rows_go.Goals as goal
+
+pub returns : goal.returns
+returns c = rows-go
