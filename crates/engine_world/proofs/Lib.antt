@@ -3,3 +3,7 @@ pub mod Others
 pub mod Events
 pub mod Moves
 pub mod OnePiece
+pub mod EditedChains
+pub mod EditedLeaves
+pub mod EditMoves
+pub mod Marking
