@@ -2,6 +2,8 @@
 
 ghost use Rattle.engine_world.specs.Laws.{MarksGo, OrdersGo, ReadsGo, RowsGo, StampsGo, UndosGo, WritesGo};
 
+use update_chain::marks_stand;
+
 /// A look of a get or a seek.
 pub fn reads_go()
     ensures { ReadsGo }
@@ -20,7 +22,9 @@ pub fn rows_go()
 /// The marks of a prepare in one leaf.
 pub fn marks_go()
     ensures { MarksGo }
-{}
+{
+    marks_stand();
+}
 
 /// The look of a commit below the updates of one leaf.
 pub fn orders_go()
