@@ -2,3 +2,4 @@ pub mod Beside
 pub mod Others
 pub mod Events
 pub mod Moves
+pub mod Fronts
