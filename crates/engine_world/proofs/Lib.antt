@@ -3,3 +3,5 @@ pub mod Others
 pub mod Events
 pub mod Moves
 pub mod Fronts
+pub mod OwnKeys
+pub mod Orders
