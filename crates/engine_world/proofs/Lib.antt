@@ -6,3 +6,5 @@ pub mod HubMoves
 pub mod Fronts
 pub mod OwnKeys
 pub mod Orders
+pub mod Finishing
+pub mod Ends
