@@ -2,6 +2,8 @@
 
 ghost use Rattle.engine_world.specs.Laws.{BeginsGo, DecidesGo, EndsGo, FindsGo, HistoriesGo, ReleasesGo, ResolvesGo};
 
+use update_chain::{chains_go_on, ends_stand};
+
 /// A begin.
 pub fn begins_go()
     ensures { BeginsGo }
@@ -35,4 +37,7 @@ pub fn resolves_go()
 /// The end of a transaction whose commit or rollback was decided.
 pub fn ends_go()
     ensures { EndsGo }
-{}
+{
+    chains_go_on();
+    ends_stand();
+}

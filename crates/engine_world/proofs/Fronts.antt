@@ -1,0 +1,178 @@
+-- The slot that was noted of a write, and the update on top of the chain in it.
+use Rattle.std.proofs.Common.{◌≡◌, ◌⊎◌, ◌<◌, ◌≤◌, ◌+◌, ℕ, zero, suc, refl, ap, sym, ◌∙◌, Bool, true, false, List, [], ◌∷◌, ◌++◌, length, inl, inr, subst, map, arith}
+use Rattle.std.specs.Prelude.{Option, Some, None, slice_get}
+use Rattle.std.proofs.lemmas.Bool.{cases_eq}
+use Rattle.item.specs.declared.Change.{Change}
+use Rattle.stamp.specs.declared.Name.{Name}
+use Rattle.stamp.specs.declared.Version.{Version}
+use Rattle.kv_model.specs.Allowed.{Allowed}
+use Rattle.kv_model.specs.Holds.{Member}
+use Rattle.kv_model.specs.History.{Table, Write, writes_at}
+use Rattle.kv_model.specs.Machine.{Machine, Transaction, Event, transaction_of, name_of, of_some, after}
+use Rattle.kv_model.specs.Pending.{Update as ModelUpdate, TopStands, settled}
+use Rattle.kv_model.specs.Reads.{own_write, is_own, IsEnding}
+use Rattle.kv_model.proofs.Newest.{find-member}
+use Rattle.kv_model.proofs.OwnWrites.{at-parts}
+use Rattle.update_chain.specs.declared.update.Update.{Update}
+use Rattle.update_chain.specs.EventLaws.{StandsFor, DidNotWrite, LeavesAlone, ChainsGoOn}
+use Rattle.update_chain.specs.Updates.{update_in}
+use Rattle.update_chain.proofs.Reading.{one-transaction}
+use Rattle.leaf_chains.specs.declared.slot.KeyChain.{KeyChain}
+use Rattle.leaf_chains.specs.Slots.{chain_at, slot_of}
+use Rattle.leaf_chains.proofs.Changes.{held}
+use Rattle.catalog.specs.Known.{Known, AreTables, NumbersAscend}
+use Rattle.call_steps.specs.declared.edit.Edit.{Edit}
+use Rattle.call_steps.specs.declared.frame.Frame.{Frame}
+use Rattle.call_steps.specs.declared.frame.FramePiece.{FramePiece}
+use Rattle.call_steps.specs.declared.written.WrittenKey.{WrittenKey}
+use Rattle.call_steps.specs.Leaves.{chain_in}
+use Rattle.call_steps.specs.State.{State}
+use Rattle.engine_world.specs.Worlds.{World}
+use Rattle.engine_world.specs.Leaves.{AreNoted, LeafStands, AllHave, EditedDownTo, slots_in}
+use Rattle.engine_world.specs.Stands.{Engine, Stands}
+
+-- ---- fronts
+
+-- the newest update of the chain is of this name and makes this change
+pub record FrontIs (name : Name) (change : Change) (chain : List Update) : Type 0 where
+  pub front : Update
+  pub older : List Update
+  pub chained : chain ≡ front ∷ older
+  pub named : front.version.window.name ≡ name
+  pub changed : front.version.change ≡ change
+
+-- the top of a key that a transaction wrote which is not ending
+top-is : (m : Machine) (s : ℕ) (t : Transaction) (w : Write) (table : ℕ) (key : List ℕ) (top : List ModelUpdate) (below : List (Version Change)) → transaction_of m s ≡ Some t → own_write t table key ≡ Some w
+    → (IsEnding t.phase → ⊥) → TopStands m table key top below → (u : ModelUpdate) × (top ≡ u ∷ []) × (u.version.window.name ≡ name_of m t) × (u.version.change ≡ w.change)
+top-is m s t w table key [] below there own alive topped = absurd (alive (topped.1 s t (there, ap is_own own)))
+top-is m s t w table key (u ∷ (v ∷ rest)) below there own alive topped = absurd topped
+top-is m s t w table key (u ∷ []) below there own alive q = elim (cases_eq q.session s) [
+  | inr other ↦ absurd (alive (q.alone s t (λ e. other (sym e)) (there, ap is_own own)))
+  | inl here ↦
+      let same = one-transaction m s q.session t q.transaction there q.there here in
+      let both : Some q.write ≡ Some w = sym q.own ∙ (ap (λ z. own_write z table key) same ∙ own) in
+      let written : q.write ≡ w = cc in
+      (u, refl, q.name ∙ ap (name_of m) same, q.change ∙ ap (λ (z : Write). z.change) written)
+]
+
+-- who wrote the key and is not ending has the newest update of a chain that stands
+pub front-is : (m : Machine) (s : ℕ) (t : Transaction) (w : Write) (table : ℕ) (key : List ℕ) (chain : List Update) (cell : Option (Version Change)) (records : List (Version Change))
+    → transaction_of m s ≡ Some t → own_write t table key ≡ Some w → (IsEnding t.phase → ⊥) → StandsFor m table key chain cell records → FrontIs (name_of m t) w.change chain
+front-is m s t w table key [] cell records there own alive k =
+    let top = top-is m s t w table key k.top k.below there own alive k.topped in
+    let e : [] ≡ top.0 ∷ map settled k.held = k.chained ∙ ap (λ l. l ++ map settled k.held) top.1 in absurd (cc)
+front-is m s t w table key (u ∷ older) cell records there own alive k =
+    let top = top-is m s t w table key k.top k.below there own alive k.topped in
+    let e : update_in u ∷ map update_in older ≡ top.0 ∷ map settled k.held = k.chained ∙ ap (λ l. l ++ map settled k.held) top.1 in
+    let same : update_in u ≡ top.0 = cc in record {
+      front = u;
+      older = older;
+      chained = refl;
+      named = ap (λ (x : ModelUpdate). x.version.window.name) same ∙ top.2;
+      changed = ap (λ (x : ModelUpdate). x.version.change) same ∙ top.3;
+    }
+
+-- what each update of the name has, the front has
+pub front-has : (e : Edit) (name : Name) (change : Change) (chain : List Update) → (f : FrontIs name change chain) → AllHave e name chain → AllHave e name (f.front ∷ [])
+front-has e name change chain f all u (inl same) named = all u (subst (Member u) (sym f.chained) (inl same)) named
+front-has e name change chain f all u (inr none) named = absurd none
+
+-- ---- slots
+
+-- where a member stands in a list
+pub index-of : {A : Type 0} (l : List A) (x : A) → Member x l → (i : ℕ) × (slice_get l i ≡ Some x)
+index-of [] x there = absurd there
+index-of (y ∷ l) x (inl same) = (0, ap Some (sym same))
+index-of (y ∷ l) x (inr there) = let k = index-of l x there in (suc k.0, k.1)
+
+low-at : (low : ℕ) (known : List Table) (next i : ℕ) (t : Table) → NumbersAscend low known next → slice_get known i ≡ Some t → low ≤ t.number
+low-at low [] next i t ascend at = absurd (cc)
+low-at low (x ∷ known) next zero t ascend at = let same : x ≡ t = cc in subst (λ (z : Table). low ≤ z.number) same ascend.0
+low-at low (x ∷ known) next (suc i) t ascend at = let later = low-at (x.number + 1) known next i t ascend.1 at in let first = ascend.0 in omega arith
+
+-- no two places have tables of one number
+pub one-place : (low : ℕ) (known : List Table) (next i j : ℕ) (t u : Table) → NumbersAscend low known next → slice_get known i ≡ Some t → slice_get known j ≡ Some u → t.number ≡ u.number → i ≡ j
+one-place low [] next i j t u ascend at there same = absurd (cc)
+one-place low (x ∷ known) next zero zero t u ascend at there same = refl
+one-place low (x ∷ known) next zero (suc j) t u ascend at there same =
+    let is : x ≡ t = cc in let number : x.number ≡ t.number = ap (λ (z : Table). z.number) is in
+    let later = low-at (x.number + 1) known next j u ascend.1 there in absurd (omega arith)
+one-place low (x ∷ known) next (suc i) zero t u ascend at there same =
+    let is : x ≡ u = cc in let number : x.number ≡ u.number = ap (λ (z : Table). z.number) is in
+    let later = low-at (x.number + 1) known next i t ascend.1 at in absurd (omega arith)
+one-place low (x ∷ known) next (suc i) (suc j) t u ascend at there same = ap suc (one-place (x.number + 1) known next i j t u ascend.1 at there same)
+
+-- the slot of a key holds its chain
+pub chain-in : (slots : List KeyChain) (key : List ℕ) (i : ℕ) → slot_of key slots ≡ Some i → chain_in slots i ≡ chain_at key slots
+chain-in slots key i at = ap (of_some [] (λ (s : KeyChain). s.chain)) (held key slots i at)
+
+-- the slot that was noted of a key in the leaf at a place
+pub record SlotIs (pieces : List FramePiece) (keys : List WrittenKey) (place : ℕ) (key : List ℕ) : Type 0 where
+  pub index : ℕ
+  pub slot : WrittenKey
+  pub there : slice_get keys index ≡ Some slot
+  pub frame : slot.frame ≡ place
+  pub of : slot_of key (slots_in pieces place) ≡ Some slot.slot
+  pub chain : chain_in (slots_in pieces slot.frame) slot.slot ≡ chain_at key (slots_in pieces place)
+
+pub slot-is : (known : Known) (pieces : List FramePiece) (writes : List Write) (keys : List WrittenKey) (place : ℕ) (t : Table) (w : Write) → AreTables known → AreNoted known.tables pieces writes keys
+    → slice_get known.tables place ≡ Some t → Member w writes → w.table ≡ t.number → SlotIs pieces keys place w.key
+slot-is known pieces writes keys place t w are noted at member table = let n = noted.noted w member in let i = index-of keys n.0 n.1 in
+    let here : n.0.frame ≡ place = one-place 1 known.tables known.next n.0.frame place n.2.of t are.numbers n.2.there at (n.2.number ∙ table) in record {
+      index = i.0;
+      slot = n.0;
+      there = i.1;
+      frame = here;
+      of = subst (λ p. slot_of w.key (slots_in pieces p) ≡ Some n.0.slot) here n.2.slot;
+      chain = chain-in (slots_in pieces n.0.frame) w.key n.0.slot n.2.slot ∙ ap (λ p. chain_at w.key (slots_in pieces p)) here;
+    }
+
+-- so it is of a key that the transaction wrote
+pub own-slot : (known : Known) (pieces : List FramePiece) (x : Transaction) (keys : List WrittenKey) (place : ℕ) (t : Table) (key : List ℕ) (o : Write) → AreTables known → AreNoted known.tables pieces x.writes keys
+    → slice_get known.tables place ≡ Some t → own_write x t.number key ≡ Some o → SlotIs pieces keys place key
+own-slot known pieces x keys place t key o are noted at own =
+    let found = find-member (writes_at t.number key) x.writes o own in let parts = at-parts t.number key o found.1 in
+    subst (SlotIs pieces keys place) parts.1 (slot-is known pieces x.writes keys place t o are noted at found.0 parts.0)
+
+-- what was done in all the slots was done in this one
+pub edited-at : (e : Edit) (name : Name) (pieces : List FramePiece) (keys : List WrittenKey) (place : ℕ) (key : List ℕ) → EditedDownTo e name pieces keys 0 → SlotIs pieces keys place key
+    → AllHave e name (chain_at key (slots_in pieces place))
+edited-at e name pieces keys place key done s = subst (AllHave e name) s.chain (done s.index s.slot (omega arith) s.there)
+
+-- ---- leaves
+
+-- the chains of a leaf, key by key, with the frames as they are
+pub leaf-with : (m next : Machine) (pieces : List FramePiece) (states : List ℕ) (place : ℕ) (t : Table) → LeafStands m pieces states place t
+    → ((key : List ℕ) → StandsFor m t.number key (chain_at key (slots_in pieces place)) None [] → StandsFor next t.number key (chain_at key (slots_in pieces place)) None [])
+    → LeafStands next pieces states place t
+leaf-with m next pieces states place t l on = record {
+  frame = l.frame;
+  there = l.there;
+  word = l.word;
+  keys = λ key. subst (λ slots. StandsFor next t.number key (chain_at key slots) None []) same (on key (subst (λ slots. StandsFor m t.number key (chain_at key slots) None []) (sym same) (l.keys key)));
+} where
+  same : slots_in pieces place ≡ l.frame.chains
+  same = ap (of_some [] (λ (f : Frame). f.chains)) l.there
+
+pub own-cases : (o : Option Write) → (o ≡ None) ⊎ ((w : Write) × (o ≡ Some w))
+own-cases None = inl refl
+own-cases (Some w) = inr (w, refl)
+
+pub did-not : (m : Machine) (s : ℕ) (t : Transaction) (table : ℕ) (key : List ℕ) → transaction_of m s ≡ Some t → own_write t table key ≡ None → DidNotWrite m s table key
+did-not m s t table key there none x wrote =
+    let both : Some t ≡ Some x = sym there ∙ wrote.0 in let same : t ≡ x = cc in
+    let own : is_own (own_write t table key) ≡ true = subst (λ z. is_own (own_write z table key) ≡ true) (sym same) wrote.1 in
+    let not : false ≡ true = sym (ap is_own none) ∙ own in absurd (cc)
+
+-- an event over the keys that a session's transaction wrote and over the others, with the frames as they are
+pub leaves-own : ChainsGoOn → (e : Engine) (w : World) (s : ℕ) (a : State) (x : Transaction) (event : Event) → Stands e w → slice_get e.sessions s ≡ Some a → transaction_of w.machine s ≡ Some x → Allowed w.machine event
+    → ((table : ℕ) (key : List ℕ) → DidNotWrite w.machine s table key → LeavesAlone w.machine table key event)
+    → ((place : ℕ) (t : Table) (key : List ℕ) (o : Write) → own_write x t.number key ≡ Some o → SlotIs e.pieces a.written place key → StandsFor w.machine t.number key (chain_at key (slots_in e.pieces place)) None []
+    → StandsFor (after w.machine event) t.number key (chain_at key (slots_in e.pieces place)) None [])
+    → (place : ℕ) (t : Table) → slice_get e.hub.tables.tables place ≡ Some t → LeafStands (after w.machine event) e.pieces e.states place t
+leaves-own chains-go-on e w s a x event st at there may alone on place t known = leaf-with w.machine (after w.machine event) e.pieces e.states place t (st.leaves place t known) (λ key k. elim (own-cases (own_write x t.number key)) [
+  | inl none ↦ chains-go-on w.machine event t.number key (chain_at key (slots_in e.pieces place)) None [] st.valid may (alone t.number key (did-not w.machine s x t.number key there none)) k
+  | inr own ↦ on place t key own.0 own.1 (own-slot e.hub.tables e.pieces x a.written place t key own.0 st.catalog noted known own.1) k
+]) where
+  noted : AreNoted e.hub.tables.tables e.pieces x.writes a.written
+  noted = subst (λ o. AreNoted e.hub.tables.tables e.pieces (of_some [] (λ (z : Transaction). z.writes) o) a.written) there (st.sessions s a at).noted
