@@ -6,3 +6,4 @@ pub mod Stages
 pub mod Stands
 pub mod Laws
 pub mod Whole
+pub mod Systems

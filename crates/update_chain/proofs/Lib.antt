@@ -6,7 +6,7 @@ pub mod Reading
 mod Ended
 mod Tops
 mod Carrying
-pub mod GoingOn
+mod GoingOn
 mod Writes
 mod Releasing
 mod Stamping

@@ -1,0 +1,23 @@
+//! Laws of the start of an engine, of sessions that are opened, and of the events of the system.
+
+ghost use Rattle.engine_world.specs.Systems.{CreatesGo, EnginesStart, OpensGo, SetsGo};
+
+/// An engine that begins on a regular content stands for the machine that an opening makes of it.
+pub fn engines_start()
+    ensures { EnginesStart }
+{}
+
+/// A session is opened.
+pub fn opens_go()
+    ensures { OpensGo }
+{}
+
+/// The oldest and the stable stamp are raised.
+pub fn sets_go()
+    ensures { SetsGo }
+{}
+
+/// A table is made.
+pub fn creates_go()
+    ensures { CreatesGo }
+{}
