@@ -7,3 +7,6 @@ pub mod Begins
 pub mod Histories
 pub mod FindChecks
 pub mod Finds
+pub mod Arranged
+pub mod StartPhases
+pub mod Starts
