@@ -3,4 +3,11 @@ pub mod NotedSlots
 pub mod Others
 pub mod Events
 pub mod Moves
-pub mod Reaching
+pub mod HubMoves
+pub mod Begins
+pub mod Histories
+pub mod FindChecks
+pub mod Finds
+pub mod Arranged
+pub mod StartPhases
+pub mod Starts
