@@ -5,3 +5,6 @@ pub mod Moves
 pub mod OnePiece
 pub mod Looking
 pub mod ReadLooks
+pub mod Notes
+pub mod Found
+pub mod WriteLooks
