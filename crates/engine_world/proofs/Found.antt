@@ -1,5 +1,5 @@
 -- What a write finds at its key, by the chain that stands for it.
-use Rattle.std.proofs.Common.{◌≡◌, ◌⊎◌, ℕ, refl, ap, sym, Bool, true, false, List, [], ◌∷◌, inl, inr, subst}
+use Rattle.std.proofs.Common.{◌≡◌, ◌⊎◌, ℕ, refl, ap, Bool, true, false, List, [], ◌∷◌, inl, inr, subst}
 use Rattle.std.specs.Prelude.{Option, Some, None, if◌then◌else◌}
 use Rattle.std.proofs.lemmas.Bool.{cases_Bool}
 use Rattle.item.specs.declared.Change.{Change}

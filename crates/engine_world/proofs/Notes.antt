@@ -1,12 +1,12 @@
 -- The keys that a transaction wrote, after one write more.
 use Rattle.std.proofs.Common.{◌≡◌, ◌⊎◌, ◌<◌, ℕ, refl, ap, sym, ◌∙◌, Bool, true, false, List, [], ◌∷◌, ◌++◌, length, inl, inr, subst, map}
-use Rattle.std.specs.Prelude.{Option, Some, None, filter, find, not}
+use Rattle.std.specs.Prelude.{Some, None, filter, find, not}
 use Rattle.std.proofs.lemmas.Bool.{cases_Bool, cases_eq, both_ways}
 use Rattle.item.specs.declared.Change.{Change}
 use Rattle.stamp.specs.declared.Name.{Name}
 use Rattle.stamp.specs.declared.Version.{Version}
 use Rattle.kv_model.specs.Holds.{Member}
-use Rattle.kv_model.specs.History.{Table, Write, line, released, name_eq, writes_at}
+use Rattle.kv_model.specs.History.{Table, Write, line, released, writes_at}
 use Rattle.kv_model.specs.Machine.{Machine, Transaction, Running, transaction_of, name_of, joined, unstamped}
 use Rattle.kv_model.specs.Reads.{own_write}
 use Rattle.kv_model.specs.Valid.{Valid, PhaseStands}

@@ -1,12 +1,10 @@
 -- The look of a put or a remove.
-use Rattle.std.proofs.Common.{◌≡◌, ◌≢◌, ◌⊎◌, ◌<◌, ℕ, refl, ap, sym, ◌∙◌, Bool, true, false, List, [], ◌∷◌, inl, inr, subst}
-use Rattle.std.specs.Prelude.{Option, Some, None, option_map, slice_get, slice_set, bytes_eq}
+use Rattle.std.proofs.Common.{◌≡◌, ◌≢◌, ◌⊎◌, ℕ, refl, ap, sym, ◌∙◌, Bool, true, false, List, [], ◌∷◌, inl, inr, subst}
+use Rattle.std.specs.Prelude.{Some, None, option_map, slice_get, slice_set, bytes_eq}
 use Rattle.std.proofs.lemmas.Bool.{cases_Bool, both_ways}
 use Rattle.std.proofs.lemmas.List.{get_or-set_same}
 use Rattle.std.proofs.lemmas.Slice.Eq.{bytes_eq-Decides}
-use Rattle.item.specs.declared.Change.{Change}
 use Rattle.item.specs.declared.Change.TheVariants.{Put, Remove}
-use Rattle.stamp.specs.declared.Name.{Name}
 use Rattle.stamp.specs.declared.View.{View}
 use Rattle.wt_code.specs.declared.answers.Answer.{Answer}
 use Rattle.wt_code.specs.declared.answers.Answer.TheVariants as answers
@@ -14,13 +12,11 @@ use Rattle.wt_code.specs.declared.refusals.Refusal.TheVariants as refusal
 use Rattle.kv_model.specs.Holds.{Member}
 use Rattle.kv_model.specs.History.{Table, Write, tables, has_table, writes_at}
 use Rattle.kv_model.specs.Reads.{own_write}
-use Rattle.kv_model.specs.Machine.{Machine, Transaction, Phase, Running, Failed, Prepared, Resolving, Leaving, of_some, transaction_of, name_of, changing, in_phase, written, Event, AcceptWrite, RefuseWrite, Nothing, after}
+use Rattle.kv_model.specs.Machine.{Machine, Transaction, Running, Failed, Prepared, Resolving, Leaving, of_some, transaction_of, name_of, changing, in_phase, written, Event, AcceptWrite, RefuseWrite, Nothing, after}
 use Rattle.kv_model.specs.Allowed.{Allowed}
 use Rattle.kv_model.specs.Decisions.{Outcome, Done, Refused, WriteAnswer}
-use Rattle.kv_model.specs.Valid.{Valid}
 use Rattle.kv_model.proofs.EveryEvent.{valid-after}
 use Rattle.kv_model.proofs.Seats.{seat-inside}
-use Rattle.snapshot.specs.Sight.{sight_of}
 use Rattle.txn_table.specs.declared.phase.Phase.{Phase as Kept}
 use Rattle.txn_table.specs.declared.phase.Phase.TheVariants as phase
 use Rattle.txn_table.specs.SessionData.{phase_in}
@@ -33,7 +29,6 @@ use Rattle.update_chain.specs.Writing.{WritesStand}
 use Rattle.leaf_chains.specs.declared.slot.KeyChain.{KeyChain}
 use Rattle.leaf_chains.specs.Slots.{chain_at, slot_of, with_update}
 use Rattle.leaf_chains.proofs.Installs.{installs_change, installs_keep, installs_keep_slots}
-use Rattle.wt_calls.specs.declared.demand.Demand.{Demand}
 use Rattle.wt_calls.specs.declared.demand.Demand.TheVariants as demand
 use Rattle.wt_calls.specs.Calls.{demand_in}
 use Rattle.call_steps.specs.declared.frame.Frame.{Frame}
@@ -54,12 +49,11 @@ use Rattle.engine_world.specs.Worlds.{World, Decided}
 use Rattle.engine_world.specs.Doings.{call_in, landing}
 use Rattle.engine_world.specs.Steps.{Made, GoesTo, LookAnswer, LooksOn}
 use Rattle.engine_world.specs.Laws.{Leads, WritesGo, WritesKey, IsLook, with_session, with_piece}
-use Rattle.engine_world.specs.Leaves.{AreNoted, IsSlotOf, LeafStands, slots_in}
-use Rattle.engine_world.specs.Stages.{HasLooked}
+use Rattle.engine_world.specs.Leaves.{AreNoted, IsSlotOf, slots_in}
 use Rattle.engine_world.specs.Stands.{Engine, Stands, SessionStands, writes_in}
-use Rattle.engine_world.proofs.Beside.{SlotsStay, BringsOnly}
+use Rattle.engine_world.proofs.Beside.{SlotsStay}
 use Rattle.engine_world.proofs.Events.{event-beside, all-same}
-use Rattle.engine_world.proofs.Moves.{Moves, leads}
+use Rattle.engine_world.proofs.Moves.{leads}
 use Rattle.engine_world.proofs.OnePiece.{slots_of, slots-set, slots-stay, brings-only, brings-others, leaves-on, numbers-differ, table-there}
 use Rattle.engine_world.proofs.Notes.{led-own, own-member, noted-on}
 use Rattle.engine_world.proofs.Found.{Written, Accepted, Unmet, Conflicting, WriteCases, write-cases}
