@@ -3,11 +3,9 @@ pub mod NotedSlots
 pub mod Others
 pub mod Events
 pub mod Moves
-pub mod HubMoves
-pub mod Begins
-pub mod Histories
-pub mod FindChecks
-pub mod Finds
-pub mod Arranged
-pub mod StartPhases
-pub mod Starts
+pub mod OnePiece
+pub mod Looking
+pub mod ReadLooks
+pub mod Notes
+pub mod Found
+pub mod WriteLooks

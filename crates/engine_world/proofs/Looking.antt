@@ -4,7 +4,6 @@ use Rattle.std.specs.Prelude.{Option, Some, None, option_map, slice_get, slice_s
 use Rattle.stamp.specs.declared.View.{View}
 use Rattle.wt_code.specs.declared.answers.Answer.{Answer}
 use Rattle.wt_code.specs.declared.answers.Answer.TheVariants as answers
-use Rattle.wt_code.specs.declared.refusals.Refusal.{Refusal}
 use Rattle.wt_code.specs.declared.refusals.Refusal.TheVariants as refusal
 use Rattle.kv_model.specs.History.{Table}
 use Rattle.kv_model.specs.Machine.{Machine, Transaction, Running, of_some, transaction_of, cursors_of, Event, Nothing}
@@ -196,17 +195,19 @@ module _ (e : Engine) (w : World) (session frame : ℕ) (a : State) (p : FramePi
   pub goes-placed : (made : Made) → a.stage ≡ stage.Look call target → GoesOn (Placed (call_in call a) target.table 4) w.machine session made → GoesOn (doing_in session a) w.machine session made
   goes-placed made is goes = subst (λ g. GoesOn (doing_at g session a) w.machine session made) (sym is) goes
 
+  pub pieces-same : (p' : FramePiece) (slots : List KeyChain) (x : AtLeaf e w session frame a p view call target) → slice_get e.pieces frame ≡ Some p → p' ≡ record p { frame = Some (with_chains slots x.leaf) } → slots ≡ x.leaf.chains
+      → slice_set e.pieces frame p' ≡ e.pieces
+  pieces-same p' slots x there is same = ap (slice_set e.pieces frame) piece ∙ set-same e.pieces frame p there where
+    piece : p' ≡ p
+    piece = is ∙ (ap (λ l. record p { frame = Some (with_chains l x.leaf) }) same ∙ ap (λ o. record p { frame = o }) (sym x.held))
+
   -- a look that changes no chain
   pub quiet-leads : (a' : State) (p' : FramePiece) (slots : List KeyChain) (x : AtLeaf e w session frame a p view call target) → Stands e w → slice_get e.sessions session ≡ Some a → slice_get e.pieces frame ≡ Some p
       → p' ≡ record p { frame = Some (with_chains slots x.leaf) } → slots ≡ x.leaf.chains
       → GoesOn (doing_in session a) w.machine session (made_in w.machine session a') → SessionStands w.machine e.hub e.pieces session a'
       → Leads (with_session (with_piece e frame p') session a') w session reply.More
-  quiet-leads a' p' slots x st at there is same goes mine = subst (λ l. Leads (with_session (record e { pieces = l }) session a') w session reply.More) (sym pieces) (alone-leads e w session a a' e.hazards reply.More st at goes mine) where
-    piece : p' ≡ p
-    piece = is ∙ (ap (λ l. record p { frame = Some (with_chains l x.leaf) }) same ∙ ap (λ o. record p { frame = o }) (sym x.held))
-
-    pieces : slice_set e.pieces frame p' ≡ e.pieces
-    pieces = ap (slice_set e.pieces frame) piece ∙ set-same e.pieces frame p there
+  quiet-leads a' p' slots x st at there is same goes mine = subst (λ l. Leads (with_session (record e { pieces = l }) session a') w session reply.More) (sym (pieces-same p' slots x there is same))
+      (alone-leads e w session a a' e.hazards reply.More st at goes mine)
 
 -- ---- looks that change no chain
 

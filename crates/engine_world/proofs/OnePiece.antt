@@ -1,6 +1,6 @@
 -- One piece of the frames changes, and the others stay.
-use Rattle.std.proofs.Common.{◌≡◌, ◌≢◌, ◌<◌, ◌≤◌, ◌+◌, ℕ, zero, suc, refl, ap, sym, ◌∙◌, Bool, true, List, [], ◌∷◌, ◌++◌, inl, inr, subst, arith}
-use Rattle.std.specs.Prelude.{Option, Some, None, ◌==◌, reverse, slice_get, slice_set, option_and_then}
+use Rattle.std.proofs.Common.{◌≡◌, ◌≢◌, ◌≤◌, ◌+◌, ℕ, zero, suc, refl, ap, sym, ◌∙◌, Bool, true, List, [], ◌∷◌, ◌++◌, inl, inr, subst, arith}
+use Rattle.std.specs.Prelude.{Some, None, ◌==◌, reverse, slice_get, slice_set, option_and_then}
 use Rattle.std.specs.List.{list_any}
 use Rattle.std.proofs.lemmas.Bool.{cases_eq, eq-eqb, or_left, or_right, cases_Bool}
 use Rattle.stamp.specs.declared.Name.{Name}
@@ -12,7 +12,7 @@ use Rattle.update_chain.specs.declared.update.Update.{Update}
 use Rattle.update_chain.specs.EventLaws.{StandsFor}
 use Rattle.leaf_chains.specs.declared.slot.KeyChain.{KeyChain}
 use Rattle.leaf_chains.specs.Slots.{chain_at, slot_of}
-use Rattle.catalog.specs.Known.{NumbersAscend, AreTables, Known}
+use Rattle.catalog.specs.Known.{NumbersAscend}
 use Rattle.catalog.proofs.Turning.{turn_one}
 use Rattle.call_steps.specs.declared.frame.Frame.{Frame}
 use Rattle.call_steps.specs.declared.frame.FramePiece.{FramePiece}

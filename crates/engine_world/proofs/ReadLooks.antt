@@ -1,5 +1,5 @@
 -- The looks of a get, a seek, and a step to the next row or the previous one.
-use Rattle.std.proofs.Common.{◌≡◌, ◌⊎◌, ℕ, zero, suc, refl, ap, sym, ◌∙◌, true, List, [], ◌∷◌, inl, inr, subst, map}
+use Rattle.std.proofs.Common.{◌≡◌, ◌⊎◌, ℕ, zero, suc, refl, ap, sym, ◌∙◌, List, [], ◌∷◌, inl, inr, subst, map}
 use Rattle.std.specs.Prelude.{Option, Some, None, slice_get, slice_index_or}
 use Rattle.stamp.specs.declared.View.{View}
 use Rattle.wt_code.specs.declared.answers.Answer.{Answer}

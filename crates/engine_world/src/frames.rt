@@ -2,7 +2,7 @@
 
 ghost use Rattle.engine_world.specs.Laws.{MarksGo, OrdersGo, ReadsGo, RowsGo, StampsGo, UndosGo, WritesGo};
 
-use update_chain::marks_stand;
+use update_chain::{chains_go_on, installs_stand, writes_stand};
 
 /// A look of a get or a seek.
 pub fn reads_go()
@@ -12,7 +12,11 @@ pub fn reads_go()
 /// A look of a put or a remove.
 pub fn writes_go()
     ensures { WritesGo }
-{}
+{
+    chains_go_on();
+    installs_stand();
+    writes_stand();
+}
 
 /// A look for the next row or the previous one.
 pub fn rows_go()
