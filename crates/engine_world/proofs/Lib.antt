@@ -7,3 +7,5 @@ pub mod EditedChains
 pub mod EditedLeaves
 pub mod EditMoves
 pub mod Marking
+pub mod StampingLeaves
+pub mod TakingOut
