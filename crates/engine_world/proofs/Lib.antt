@@ -9,3 +9,4 @@ pub mod EditMoves
 pub mod Marking
 pub mod StampingLeaves
 pub mod TakingOut
+pub mod LookingBelow

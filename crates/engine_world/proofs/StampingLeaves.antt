@@ -37,7 +37,7 @@ use Rattle.engine_world.proofs.EditMoves.{the-one, known-phase, alive-only, own-
 
 -- ---- what the session does then
 
-decide-doing : (stamps : CommitStamps) (n session : ℕ) (a : State) → a.phase ≡ phase.Running → doing_in session (at_stage (stamps_then stamps n (stage.Decide stamps)) a) ≡ Asked (commit_in stamps) (n + decide_left a)
+pub decide-doing : (stamps : CommitStamps) (n session : ℕ) (a : State) → a.phase ≡ phase.Running → doing_in session (at_stage (stamps_then stamps n (stage.Decide stamps)) a) ≡ Asked (commit_in stamps) (n + decide_left a)
 decide-doing stamps zero session a running = let none : decide_left a ≡ zero + decide_left a = omega arith in ap (Asked (commit_in stamps)) none
 decide-doing stamps (suc n) session a running = ap (λ p. stamping p stamps (suc n) (at_stage (stage.Stamp stamps (suc n)) a)) running
 
@@ -45,12 +45,12 @@ done-doing : (stamps : CommitStamps) (n session : ℕ) (a : State) → a.phase �
 done-doing stamps zero session a resolving = let none : done_left a ≡ zero + done_left a = omega arith in ap (Ending a.answer) none
 done-doing stamps (suc n) session a resolving = ap (λ p. stamping p stamps (suc n) (at_stage (stage.Stamp stamps (suc n)) a)) resolving
 
-running-alive : (t : Transaction) → t.phase ≡ ModelRunning → IsEnding t.phase → ⊥
+pub running-alive : (t : Transaction) → t.phase ≡ ModelRunning → IsEnding t.phase → ⊥
 running-alive t running ending = subst IsEnding running ending
 
 -- ---- what stands then
 
-decide-stage : (stamps : CommitStamps) (n : ℕ) (m : Machine) (known : List Table) (pieces : List FramePiece) (session : ℕ) (a : State) (t : Transaction) → n ≤ length a.written → transaction_of m session ≡ Some t → t.phase ≡ ModelRunning
+pub decide-stage : (stamps : CommitStamps) (n : ℕ) (m : Machine) (known : List Table) (pieces : List FramePiece) (session : ℕ) (a : State) (t : Transaction) → n ≤ length a.written → transaction_of m session ≡ Some t → t.phase ≡ ModelRunning
     → IsOrdered stamps m known pieces t a 0 → IsEdited (stamps_in ModelRunning stamps) m pieces t a n → StageStands (stamps_then stamps n (stage.Decide stamps)) m known pieces session (at_stage (stamps_then stamps n (stage.Decide stamps)) a)
 decide-stage stamps zero m known pieces session a t within there running ordered done = (
   alive-only m session t there (running-alive t running),

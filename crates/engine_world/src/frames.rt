@@ -2,7 +2,7 @@
 
 ghost use Rattle.engine_world.specs.Laws.{MarksGo, OrdersGo, ReadsGo, RowsGo, StampsGo, UndosGo, WritesGo};
 
-use update_chain::{chains_go_on, marks_stand, stamps_stand, undos_stand};
+use update_chain::{chains_go_on, marks_stand, orders_stand, stamps_stand, undos_stand};
 
 /// A look of a get or a seek.
 pub fn reads_go()
@@ -29,7 +29,9 @@ pub fn marks_go()
 /// The look of a commit below the updates of one leaf.
 pub fn orders_go()
     ensures { OrdersGo }
-{}
+{
+    orders_stand();
+}
 
 /// The stamps of a commit in one leaf.
 pub fn stamps_go()
