@@ -4,8 +4,10 @@ pub mod Others
 pub mod Events
 pub mod Moves
 pub mod OnePiece
-pub mod Looking
-pub mod ReadLooks
-pub mod Notes
-pub mod Found
-pub mod WriteLooks
+pub mod EditedChains
+pub mod EditedLeaves
+pub mod EditMoves
+pub mod Marking
+pub mod StampingLeaves
+pub mod TakingOut
+pub mod LookingBelow

@@ -2,7 +2,7 @@
 
 ghost use Rattle.engine_world.specs.Laws.{MarksGo, OrdersGo, ReadsGo, RowsGo, StampsGo, UndosGo, WritesGo};
 
-use update_chain::{chains_go_on, installs_stand, writes_stand};
+use update_chain::{chains_go_on, marks_stand, orders_stand, stamps_stand, undos_stand};
 
 /// A look of a get or a seek.
 pub fn reads_go()
@@ -33,14 +33,22 @@ pub fn marks_go()
 /// The look of a commit below the updates of one leaf.
 pub fn orders_go()
     ensures { OrdersGo }
-{}
+{
+    orders_stand();
+}
 
 /// The stamps of a commit in one leaf.
 pub fn stamps_go()
     ensures { StampsGo }
-{}
+{
+    marks_stand();
+    stamps_stand();
+}
 
 /// The undos of a rollback in one leaf.
 pub fn undos_go()
     ensures { UndosGo }
-{}
+{
+    undos_stand();
+    chains_go_on();
+}
