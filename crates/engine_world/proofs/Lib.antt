@@ -8,3 +8,5 @@ pub mod OwnKeys
 pub mod Orders
 pub mod Finishing
 pub mod Ends
+pub mod Deciding
+pub mod Prepares

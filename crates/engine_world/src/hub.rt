@@ -2,7 +2,7 @@
 
 ghost use Rattle.engine_world.specs.Laws.{BeginsGo, DecidesGo, EndsGo, FindsGo, HistoriesGo, ReleasesGo, ResolvesGo};
 
-use update_chain::{chains_go_on, ends_stand};
+use update_chain::{chains_go_on, ends_stand, prepares_stand};
 
 /// A begin.
 pub fn begins_go()
@@ -22,7 +22,10 @@ pub fn histories_go()
 /// A prepare, after the marks.
 pub fn releases_go()
     ensures { ReleasesGo }
-{}
+{
+    chains_go_on();
+    prepares_stand();
+}
 
 /// The decision of a commit.
 pub fn decides_go()
