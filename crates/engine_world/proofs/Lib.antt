@@ -10,3 +10,5 @@ pub mod Finishing
 pub mod Ends
 pub mod Deciding
 pub mod Prepares
+pub mod Resolving
+pub mod Leaving
