@@ -12,3 +12,4 @@ pub mod Deciding
 pub mod Prepares
 pub mod Resolving
 pub mod Leaving
+pub mod Rollbacks
