@@ -13,3 +13,4 @@ pub mod Prepares
 pub mod Resolving
 pub mod Leaving
 pub mod Rollbacks
+pub mod Commits
