@@ -2,7 +2,7 @@
 
 ghost use Rattle.engine_world.specs.Laws.{BeginsGo, DecidesGo, EndsGo, FindsGo, HistoriesGo, ReleasesGo, ResolvesGo};
 
-use update_chain::{chains_go_on, ends_stand};
+use update_chain::{chains_go_on, commits_stand, ends_stand, prepares_stand, resolves_stand};
 
 /// A begin.
 pub fn begins_go()
@@ -22,12 +22,19 @@ pub fn histories_go()
 /// A prepare, after the marks.
 pub fn releases_go()
     ensures { ReleasesGo }
-{}
+{
+    chains_go_on();
+    prepares_stand();
+}
 
 /// The decision of a commit.
 pub fn decides_go()
     ensures { DecidesGo }
-{}
+{
+    chains_go_on();
+    commits_stand();
+    resolves_stand();
+}
 
 /// The decision of a rollback.
 pub fn resolves_go()
