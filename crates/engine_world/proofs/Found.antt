@@ -65,27 +65,25 @@ pub record Conflicting (m : Machine) (session : ℕ) (t : Transaction) (key : Li
 abbrev pub WriteCases : Machine → ℕ → Transaction → List ℕ → List Update → Written → Type 0
 WriteCases m session t key chain w = Accepted m session t key chain w ⊎ (Unmet m session t key w ⊎ Conflicting m session t key w)
 
--- by the demand, and by what is there
-free-cases : (m : Machine) (session : ℕ) (t : Transaction) (key : List ℕ) (view : View) (call : KeyCall) (target : Target) (asked : Demand) (change : Change) (slots : List KeyChain) (before : State) (slots' : List KeyChain) (later : State)
-    (there : Option (List ℕ)) (led : Bool) (chain : List Update) → MayWrite m session t target.table key → present m t target.table key ≡ there → may_follow_front view chain ≡ true
-    → FoundBy (free_or_unmet asked (is_there there) led) (own_name view) call target change slots before slots' later
-    → WriteCases m session t key chain (record { view = view; call = call; target = target; asked = asked; change = change; slots = slots; before = before; slots_after = slots'; later = later })
-free-cases m session t key view call target demand.Anything change slots before slots' later (Some v) led chain may is follows made = inl (record { may = may; met = ap (unmet Anything) is; follows = follows; made = made })
-free-cases m session t key view call target demand.Anything change slots before slots' later None led chain may is follows made = inl (record { may = may; met = ap (unmet Anything) is; follows = follows; made = made })
-free-cases m session t key view call target demand.Vacant change slots before slots' later (Some v) led chain may is follows made = inr (inl (record { refusal = refusal.DuplicateKey; answers = (may, ap (unmet Vacant) is, refl); same = made.0; now = made.1 }))
-free-cases m session t key view call target demand.Vacant change slots before slots' later None led chain may is follows made = inl (record { may = may; met = ap (unmet Vacant) is; follows = follows; made = made })
-free-cases m session t key view call target demand.Occupied change slots before slots' later (Some v) led chain may is follows made = inl (record { may = may; met = ap (unmet Occupied) is; follows = follows; made = made })
-free-cases m session t key view call target demand.Occupied change slots before slots' later None led chain may is follows made = inr (inl (record { refusal = refusal.NotFound; answers = (may, ap (unmet Occupied) is, refl); same = made.0; now = made.1 }))
-
 module _ (m : Machine) (session : ℕ) (t : Transaction) (key : List ℕ) (w : Written) where
+  -- by the demand, and by what is there
+  free-cases : (asked : Demand) (there : Option (List ℕ)) (led : Bool) (chain : List Update) → MayWrite m session t w.target.table key → present m t w.target.table key ≡ there → may_follow_front w.view chain ≡ true
+      → FoundBy (free_or_unmet asked (is_there there) led) (own_name w.view) w.call w.target w.change w.slots w.before w.slots_after w.later → WriteCases m session t key chain (record w { asked = asked })
+  free-cases demand.Anything (Some v) led chain may is follows made = inl (record { may = may; met = ap (unmet Anything) is; follows = follows; made = made })
+  free-cases demand.Anything None led chain may is follows made = inl (record { may = may; met = ap (unmet Anything) is; follows = follows; made = made })
+  free-cases demand.Vacant (Some v) led chain may is follows made = inr (inl (record { refusal = refusal.DuplicateKey; answers = (may, ap (unmet Vacant) is, refl); same = made.0; now = made.1 }))
+  free-cases demand.Vacant None led chain may is follows made = inl (record { may = may; met = ap (unmet Vacant) is; follows = follows; made = made })
+  free-cases demand.Occupied (Some v) led chain may is follows made = inl (record { may = may; met = ap (unmet Occupied) is; follows = follows; made = made })
+  free-cases demand.Occupied None led chain may is follows made = inr (inl (record { refusal = refusal.NotFound; answers = (may, ap (unmet Occupied) is, refl); same = made.0; now = made.1 }))
+
   change-cases : (c : Change) (led : Bool) (chain : List Update) → MayWrite m session t w.target.table key → present m t w.target.table key ≡ put_of c → may_follow_front w.view chain ≡ true
       → FoundBy (free_or_unmet w.asked (is_put c) led) (own_name w.view) w.call w.target w.change w.slots w.before w.slots_after w.later → WriteCases m session t key chain w
-  change-cases (Put v) led chain may is follows made = free-cases m session t key w.view w.call w.target w.asked w.change w.slots w.before w.slots_after w.later (Some v) led chain may is follows made
-  change-cases Remove led chain may is follows made = free-cases m session t key w.view w.call w.target w.asked w.change w.slots w.before w.slots_after w.later None led chain may is follows made
+  change-cases (Put v) led chain may is follows made = free-cases w.asked (Some v) led chain may is follows made
+  change-cases Remove led chain may is follows made = free-cases w.asked None led chain may is follows made
 
   pub write-cases : WritesStand → (chain : List Update) → Valid m → transaction_of m session ≡ Some t → t.phase ≡ Running → ViewStands m t w.view → StandsFor m w.target.table key chain None []
       → FoundBy (write_found w.view w.asked chain) (own_name w.view) w.call w.target w.change w.slots w.before w.slots_after w.later → WriteCases m session t key chain w
-  write-cases writes-stand [] valid there running sees k made = free-cases m session t key w.view w.call w.target w.asked w.change w.slots w.before w.slots_after w.later None false []
+  write-cases writes-stand [] valid there running sees k made = free-cases w.asked None false []
       (writes-stand m session t w.view w.target.table key [] None [] valid there running sees k) (writes-find m session t w.view w.target.table key [] None [] valid there running sees k refl) refl made
   write-cases writes-stand (u ∷ older) valid there running sees k made = elim (cases_Bool (may_follow_by w.view u)) [
     | inl is ↦ free is
