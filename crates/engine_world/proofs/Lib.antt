@@ -6,7 +6,7 @@ pub mod OnePiece
 pub mod EditedChains
 pub mod EditedLeaves
 pub mod EditMoves
-pub mod Marking
+pub mod MarkingLeaves
 pub mod StampingLeaves
 pub mod TakingOut
 pub mod LookingBelow
