@@ -1,38 +1,31 @@
 -- The edit of one leaf, as an event of the session's call.
-use Rattle.std.proofs.Common.{◌≡◌, ◌≢◌, ◌⊎◌, ◌<◌, ◌≤◌, ◌+◌, ℕ, zero, suc, refl, ap, sym, ◌∙◌, true, List, [], ◌∷◌, length, inl, inr, subst, arith}
-use Rattle.std.specs.Prelude.{Option, Some, None, slice_get, slice_set, option_map}
+use Rattle.std.proofs.Common.{◌≡◌, ◌<◌, ◌≤◌, ℕ, refl, ap, sym, ◌∙◌, List, [], ◌∷◌, length, inl, subst, arith}
+use Rattle.std.specs.Prelude.{Some, slice_get, slice_set, option_map}
 use Rattle.wt_code.specs.declared.answers.Answer.{Answer}
 use Rattle.stamp.specs.declared.Name.{Name}
 use Rattle.stamp.specs.declared.View.{View}
 use Rattle.kv_model.specs.Calls.{Call}
-use Rattle.kv_model.specs.Decisions.{is_there}
 use Rattle.kv_model.specs.Holds.{Member}
 use Rattle.kv_model.specs.History.{Table, Write, line}
-use Rattle.kv_model.specs.Machine.{Machine, Transaction, Phase, transaction_of, name_of, of_some}
+use Rattle.kv_model.specs.Machine.{Machine, Transaction, transaction_of, name_of, of_some}
 use Rattle.kv_model.specs.Reads.{IsEnding}
 use Rattle.kv_model.specs.Refusals.{newest_durable}
-use Rattle.kv_model.specs.Valid.{Valid}
-use Rattle.kv_model.proofs.Releasing.{drawn-by-write}
-use Rattle.snapshot.specs.Sight.{Sight, sight_of}
+use Rattle.snapshot.specs.Sight.{Sight}
 use Rattle.txn_table.specs.SessionData.{phase_in}
-use Rattle.txn_table.specs.Tabled.{session_of}
 use Rattle.txn_table.specs.Stands.{TableStands}
 use Rattle.txn_table.proofs.Standing.{state-at}
 use Rattle.call_steps.specs.declared.edit.Edit.{Edit}
 use Rattle.call_steps.specs.declared.frame.FramePiece.{FramePiece}
 use Rattle.call_steps.specs.declared.hub.Hub.{Hub}
-use Rattle.call_steps.specs.declared.reply.Reply.{Reply}
 use Rattle.call_steps.specs.declared.reply.Reply.TheVariants as reply
 use Rattle.call_steps.specs.declared.stage.Stage.{Stage}
 use Rattle.call_steps.specs.declared.written.WrittenKey.{WrittenKey}
-use Rattle.call_steps.specs.HubEvents.{IsSeated}
 use Rattle.call_steps.specs.Looks.{own_name}
 use Rattle.call_steps.specs.State.{State, at_stage}
 use Rattle.call_steps.specs.Written.{frame_at, leaf_start}
 use Rattle.engine_world.specs.Worlds.{World, Doing, Asked, Ending}
-use Rattle.engine_world.specs.Doings.{doing_in, doing_at}
 use Rattle.engine_world.specs.Laws.{Leads, IsViewOf, with_session, with_piece}
-use Rattle.engine_world.specs.Leaves.{AreNoted, EditedDownTo, OrderedDownTo, IsSlotOf, number_at, slots_in}
+use Rattle.engine_world.specs.Leaves.{AreNoted, OrderedDownTo, number_at, slots_in}
 use Rattle.engine_world.specs.Stages.{StageStands, EndsOnlyDown, IsLeft, IsEdited}
 use Rattle.engine_world.specs.Stands.{Engine, Stands, SessionStands, writes_in}
 use Rattle.engine_world.specs.Steps.{GoesOn}
@@ -41,7 +34,7 @@ use Rattle.engine_world.proofs.Events.{beside-same}
 use Rattle.engine_world.proofs.Moves.{Moves}
 use Rattle.engine_world.proofs.OnePiece.{slot-stays, brings-others}
 use Rattle.engine_world.proofs.EditedChains.{Edits}
-use Rattle.engine_world.proofs.EditedLeaves.{OnLeaf, LeafEdited, leaf-edited, piece_edited, got-member, some-at, key-held}
+use Rattle.engine_world.proofs.EditedLeaves.{LeafEdited, leaf-edited, piece_edited, got-member, some-at, key-held}
 
 -- ---- the transaction
 

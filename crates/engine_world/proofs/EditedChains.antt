@@ -1,6 +1,6 @@
 -- What is done to the newest update of a chain that stands for its key.
-use Rattle.std.proofs.Common.{◌≡◌, ◌≢◌, ◌⊎◌, ℕ, refl, ap, sym, ◌∙◌, true, false, List, [], ◌∷◌, ◌++◌, length, inl, inr, subst, map}
-use Rattle.std.specs.Prelude.{Option, Some, None, filter, if◌then◌else◌}
+use Rattle.std.proofs.Common.{◌≡◌, ◌≢◌, ℕ, refl, ap, sym, ◌∙◌, true, false, List, [], ◌∷◌, ◌++◌, length, inl, inr, subst, map}
+use Rattle.std.specs.Prelude.{Option, Some, None, if◌then◌else◌}
 use Rattle.std.specs.Option.{option_to_list}
 use Rattle.std.proofs.lemmas.Bool.{cases_Bool, both_ways}
 use Rattle.item.specs.declared.Change.{Change}
@@ -11,7 +11,7 @@ use Rattle.kv_model.specs.Ordered.{Older, NameBelow}
 use Rattle.kv_model.specs.History.{Write, line, released, name_eq, writes_at}
 use Rattle.kv_model.specs.Machine.{Machine, Transaction, Running, Resolving, Leaving, transaction_of, name_of}
 use Rattle.kv_model.specs.Reads.{own_write}
-use Rattle.kv_model.specs.Pending.{Update as ModelUpdate, settled, TopStands, NoneOf}
+use Rattle.kv_model.specs.Pending.{Update as ModelUpdate, settled, TopStands}
 use Rattle.kv_model.specs.Valid.{Valid, PhaseStands}
 use Rattle.kv_model.proofs.Capturing.{member-into}
 use Rattle.kv_model.proofs.Finishing.{name_eq-refl, older-order}

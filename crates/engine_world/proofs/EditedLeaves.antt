@@ -1,6 +1,6 @@
 -- What is done to the keys of one leaf that a transaction wrote.
-use Rattle.std.proofs.Common.{◌≡◌, ◌≢◌, ◌⊎◌, ◌<◌, ◌≤◌, ℕ, zero, suc, refl, ap, sym, ◌∙◌, true, false, List, [], ◌∷◌, length, inl, inr, subst, arith}
-use Rattle.std.specs.Prelude.{Option, Some, None, slice_get, slice_set, bytes_eq, ◌==◌, if◌then◌else◌, option_map}
+use Rattle.std.proofs.Common.{◌≡◌, ◌≢◌, ◌⊎◌, ◌<◌, ◌≤◌, ℕ, zero, suc, refl, ap, sym, ◌∙◌, List, [], ◌∷◌, length, inl, inr, subst, arith}
+use Rattle.std.specs.Prelude.{Some, None, slice_get, slice_set, bytes_eq, ◌==◌, if◌then◌else◌, option_map}
 use Rattle.std.proofs.lemmas.Bool.{cases_Bool, cases_eq, both_ways, eqb-true, eq-eqb}
 use Rattle.std.proofs.lemmas.Slice.Eq.{bytes_eq-Decides}
 use Rattle.stamp.specs.declared.Name.{Name}
@@ -19,9 +19,9 @@ use Rattle.call_steps.specs.declared.written.WrittenKey.{WrittenKey}
 use Rattle.call_steps.specs.FrameEvents.{with_chains, piece_changed}
 use Rattle.call_steps.specs.Leaves.{edited, chain_in, leaf_changed}
 use Rattle.call_steps.specs.Written.{frame_at, slot_at, leaf_start}
-use Rattle.engine_world.specs.Leaves.{HasEdit, AllHave, LeafStands, IsSlotOf, AreNoted, EditedDownTo, frame_in, slots_in}
+use Rattle.engine_world.specs.Leaves.{AllHave, LeafStands, IsSlotOf, AreNoted, EditedDownTo, slots_in}
 use Rattle.engine_world.proofs.Beside.{SlotsStay, BringsOnly}
-use Rattle.engine_world.proofs.OnePiece.{slots_of, frame-there, slots-there, slots-set, slots-other, slots-stay, brings-only, leaves-on}
+use Rattle.engine_world.proofs.OnePiece.{slots_of, frame-there, slots-set, slots-other, slots-stay, brings-only, leaves-on}
 use Rattle.engine_world.proofs.EditedChains.{Edits, edited-have, edited-brings}
 
 -- ---- lists

@@ -1,14 +1,13 @@
 -- The look of a commit below the updates of one leaf.
-use Rattle.std.proofs.Common.{◌≡◌, ◌≢◌, ◌⊎◌, ◌<◌, ◌≤◌, ◌+◌, ℕ, zero, suc, max, refl, ap, sym, ◌∙◌, true, List, [], ◌∷◌, ◌++◌, length, inl, inr, subst, map, arith}
-use Rattle.std.specs.Prelude.{Option, Some, None, slice_get, ◌==◌, if◌then◌else◌}
+use Rattle.std.proofs.Common.{◌≡◌, ◌⊎◌, ◌≤◌, ◌+◌, ℕ, zero, suc, max, refl, ap, sym, ◌∙◌, List, [], ◌∷◌, ◌++◌, length, inl, inr, subst, map, arith}
+use Rattle.std.specs.Prelude.{Some, None, slice_get, ◌==◌, if◌then◌else◌}
 use Rattle.std.proofs.Math.Nat.{le-max_left, le-max_right}
 use Rattle.std.proofs.lemmas.Bool.{cases_Bool, cases_eq, eqb-true}
 use Rattle.std.proofs.lemmas.Option.{slice_get_within}
-use Rattle.stamp.specs.declared.View.{View}
 use Rattle.kv_model.specs.Holds.{Member}
 use Rattle.kv_model.specs.History.{Table, Write, line}
-use Rattle.kv_model.specs.Machine.{Machine, Transaction, Running as ModelRunning, Failed as ModelFailed, Leaving as ModelLeaving, Prepared as ModelPrepared, Resolving as ModelResolving, transaction_of, name_of, of_some}
-use Rattle.kv_model.specs.Pending.{Update as ModelUpdate, settled, KeyStands, TopStands}
+use Rattle.kv_model.specs.Machine.{Machine, Transaction, Running as ModelRunning, Failed as ModelFailed, Leaving as ModelLeaving, Prepared as ModelPrepared, Resolving as ModelResolving, transaction_of, of_some}
+use Rattle.kv_model.specs.Pending.{Update as ModelUpdate, settled, TopStands}
 use Rattle.kv_model.specs.Reads.{own_write, is_own, IsEnding}
 use Rattle.kv_model.specs.Refusals.{newest_durable}
 use Rattle.kv_model.specs.Valid.{Valid}
@@ -18,6 +17,7 @@ use Rattle.txn_table.specs.declared.phase.Phase.TheVariants as phase
 use Rattle.update_chain.specs.declared.update.Update.{Update}
 use Rattle.update_chain.specs.EventLaws.{StandsFor}
 use Rattle.update_chain.specs.FrameLaws.{OrdersStand as OrdersLaw}
+use Rattle.update_chain.proofs.Reading.{running-alive}
 use Rattle.leaf_chains.specs.declared.slot.KeyChain.{KeyChain}
 use Rattle.leaf_chains.specs.Slots.{chain_at, key_at, slot_of}
 use Rattle.call_steps.specs.declared.frame.Frame.{Frame}
@@ -36,10 +36,10 @@ use Rattle.call_steps.specs.Words.{next_at}
 use Rattle.call_steps.specs.Written.{frame_at, slot_at, leaf_start}
 use Rattle.engine_world.specs.Worlds.{World, Asked}
 use Rattle.engine_world.specs.Doings.{doing_in, doing_at, commit_in, decide_left}
-use Rattle.engine_world.specs.Laws.{Leads, IsViewOf, IsOrder, OrdersGo, with_session, with_piece}
-use Rattle.engine_world.specs.Leaves.{AreNoted, LeafStands, IsSlotOf, EditedDownTo, OrderedDownTo, durable_under, number_at, frame_in, slots_in}
+use Rattle.engine_world.specs.Laws.{Leads, IsOrder, OrdersGo, with_session, with_piece}
+use Rattle.engine_world.specs.Leaves.{AreNoted, LeafStands, IsSlotOf, OrderedDownTo, durable_under, slots_in}
 use Rattle.engine_world.specs.Stages.{StageStands, OrdersStand, DecidesStand, IsEdited, IsOrdered, IsLeft, stamps_in}
-use Rattle.engine_world.specs.Stands.{Engine, Stands, SessionStands}
+use Rattle.engine_world.specs.Stands.{Engine, Stands}
 use Rattle.engine_world.specs.Steps.{GoesOn}
 use Rattle.engine_world.proofs.Events.{slots-same}
 use Rattle.engine_world.proofs.Moves.{alone-leads, engine_with}
@@ -47,7 +47,7 @@ use Rattle.engine_world.proofs.OnePiece.{frame-there, set-same}
 use Rattle.engine_world.proofs.EditedChains.{own-of}
 use Rattle.engine_world.proofs.EditedLeaves.{got-member, some-at, chain-held, key-held, start-within, start-below}
 use Rattle.engine_world.proofs.EditMoves.{the-one, known-phase, alive-only, noted-of, session-on, asked-on}
-use Rattle.engine_world.proofs.StampingLeaves.{running-alive, decide-doing, decide-stage}
+use Rattle.engine_world.proofs.StampingLeaves.{decide-doing, decide-stage}
 
 -- ---- below the newest update
 

@@ -1,16 +1,15 @@
 -- The stamps of a commit in one leaf.
-use Rattle.std.proofs.Common.{◌≡◌, ◌<◌, ◌≤◌, ◌+◌, ℕ, zero, suc, refl, ap, sym, ◌∙◌, List, length, inl, inr, subst, arith}
-use Rattle.std.specs.Prelude.{Option, Some, None, slice_get}
+use Rattle.std.proofs.Common.{◌≡◌, ◌≤◌, ◌+◌, ℕ, zero, suc, refl, ap, sym, ◌∙◌, List, length, inr, subst, arith}
+use Rattle.std.specs.Prelude.{Some, slice_get}
 use Rattle.stamp.specs.declared.View.{View}
 use Rattle.kv_model.specs.History.{Table}
 use Rattle.kv_model.specs.Machine.{Machine, Transaction, Running as ModelRunning, Failed as ModelFailed, Leaving as ModelLeaving, Prepared as ModelPrepared, Resolving as ModelResolving, transaction_of, name_of}
-use Rattle.kv_model.specs.Reads.{IsEnding}
 use Rattle.kv_model.specs.Refusals.{stamp_of, or_stamp}
 use Rattle.txn_table.specs.SessionData.{phase_in}
 use Rattle.txn_table.specs.declared.phase.Phase.{Phase}
 use Rattle.txn_table.specs.declared.phase.Phase.TheVariants as phase
 use Rattle.update_chain.specs.EventLaws.{MarksStand as MarksLaw, StampsStand as StampsLaw}
-use Rattle.call_steps.specs.declared.edit.Edit.{Edit}
+use Rattle.update_chain.proofs.Reading.{running-alive}
 use Rattle.call_steps.specs.declared.edit.Edit.TheVariants as edit
 use Rattle.call_steps.specs.declared.frame.FramePiece.{FramePiece}
 use Rattle.call_steps.specs.declared.next.Next.TheVariants as next
@@ -31,7 +30,7 @@ use Rattle.engine_world.specs.Stages.{StageStands, StampsStand, DecidesStand, Do
 use Rattle.engine_world.specs.Stands.{Engine, Stands, SessionStands}
 use Rattle.engine_world.specs.Steps.{GoesOn}
 use Rattle.engine_world.proofs.Moves.{leads}
-use Rattle.engine_world.proofs.EditedChains.{Edits, stamps-edit, resolved-edit}
+use Rattle.engine_world.proofs.EditedChains.{stamps-edit, resolved-edit}
 use Rattle.engine_world.proofs.EditedLeaves.{LeafEdited, piece_edited, start-within, start-below}
 use Rattle.engine_world.proofs.EditMoves.{the-one, known-phase, alive-only, own-named, noted-of, ordered-on, session-on, asked-on, ending-on, at-frame, pieces_edited, edit-leaf, edit-moves}
 
@@ -44,9 +43,6 @@ decide-doing stamps (suc n) session a running = ap (λ p. stamping p stamps (suc
 done-doing : (stamps : CommitStamps) (n session : ℕ) (a : State) → a.phase ≡ phase.Resolving → doing_in session (at_stage (stamps_then stamps n stage.Done) a) ≡ Ending a.answer (n + done_left a)
 done-doing stamps zero session a resolving = let none : done_left a ≡ zero + done_left a = omega arith in ap (Ending a.answer) none
 done-doing stamps (suc n) session a resolving = ap (λ p. stamping p stamps (suc n) (at_stage (stage.Stamp stamps (suc n)) a)) resolving
-
-pub running-alive : (t : Transaction) → t.phase ≡ ModelRunning → IsEnding t.phase → ⊥
-running-alive t running ending = subst IsEnding running ending
 
 -- ---- what stands then
 

@@ -1,6 +1,6 @@
 -- The undos of a rollback in one leaf.
-use Rattle.std.proofs.Common.{◌≡◌, ◌⊎◌, ◌<◌, ◌≤◌, ◌+◌, ℕ, zero, suc, refl, ap, sym, ◌∙◌, true, List, [], ◌∷◌, length, inl, inr, subst, arith}
-use Rattle.std.specs.Prelude.{Option, Some, None, false, slice_get, slice_set, option_map, if◌then◌else◌}
+use Rattle.std.proofs.Common.{◌≡◌, ◌<◌, ◌≤◌, ◌+◌, ℕ, zero, suc, refl, ap, sym, ◌∙◌, true, List, [], ◌∷◌, length, inl, inr, subst, arith}
+use Rattle.std.specs.Prelude.{Some, None, false, slice_get, option_map, if◌then◌else◌}
 use Rattle.std.proofs.lemmas.List.{get_or-set_same}
 use Rattle.std.proofs.lemmas.Option.{slice_get_within}
 use Rattle.stamp.specs.declared.View.{View}
@@ -40,12 +40,12 @@ use Rattle.engine_world.specs.Laws.{Leads, IsViewOf, IsUndo, UndosGo, with_sessi
 use Rattle.engine_world.specs.Leaves.{AreNoted, EditedDownTo, LeafStands}
 use Rattle.engine_world.specs.Stages.{StageStands, UndoesStand, DoneStands, NoneStands, IsEdited, IsLeft}
 use Rattle.engine_world.specs.Stands.{Engine, Stands, SessionStands}
-use Rattle.engine_world.specs.Steps.{GoesOn, Made, Settles, SettledBy, EndsIn}
+use Rattle.engine_world.specs.Steps.{GoesOn, Made, SettledBy, EndsIn}
 use Rattle.engine_world.proofs.Beside.{MachineBeside}
 use Rattle.engine_world.proofs.Events.{event-beside}
-use Rattle.engine_world.proofs.Moves.{Moves, leads}
+use Rattle.engine_world.proofs.Moves.{leads}
 use Rattle.engine_world.proofs.OnePiece.{brings-others}
-use Rattle.engine_world.proofs.EditedChains.{Edits, undos-edit}
+use Rattle.engine_world.proofs.EditedChains.{undos-edit}
 use Rattle.engine_world.proofs.EditedLeaves.{LeafEdited, leaf-edited, piece_edited, start-within, start-below}
 use Rattle.engine_world.proofs.EditMoves.{known-phase, own-named, noted-of, noted-on, has-written, session-on, ending-on, at-frame, pieces_edited, edit-leaf, edit-moves}
 

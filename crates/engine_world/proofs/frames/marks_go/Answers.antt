@@ -1,4 +1,4 @@
-use Rattle.engine_world.proofs.Marking.{marks-go}
+use Rattle.engine_world.proofs.MarkingLeaves.{marks-go}
 use Rattle.engine_world.proofs.frames.marks_go.Goals as goal
 
 pub returns : goal.returns

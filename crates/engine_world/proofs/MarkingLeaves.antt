@@ -1,12 +1,12 @@
 -- The marks of a prepare in one leaf.
-use Rattle.std.proofs.Common.{◌≡◌, ◌<◌, ◌≤◌, ◌+◌, ℕ, zero, suc, refl, ap, sym, ◌∙◌, List, length, inl, inr, subst, arith}
+use Rattle.std.proofs.Common.{◌≡◌, ◌≤◌, ◌+◌, ℕ, zero, suc, refl, ap, sym, ◌∙◌, List, length, subst, arith}
 use Rattle.std.specs.Prelude.{Some, slice_get}
 use Rattle.stamp.specs.declared.View.{View}
 use Rattle.kv_model.specs.Calls.{Prepare}
 use Rattle.kv_model.specs.History.{Table}
 use Rattle.kv_model.specs.Machine.{Machine, Transaction, Running, transaction_of, name_of}
-use Rattle.kv_model.specs.Reads.{IsEnding}
 use Rattle.update_chain.specs.EventLaws.{MarksStand as MarksLaw}
+use Rattle.update_chain.proofs.Reading.{running-alive}
 use Rattle.call_steps.specs.declared.edit.Edit.TheVariants as edit
 use Rattle.call_steps.specs.declared.frame.FramePiece.{FramePiece}
 use Rattle.call_steps.specs.declared.next.Next.TheVariants as next
@@ -32,9 +32,6 @@ use Rattle.engine_world.proofs.EditMoves.{the-one, alive-only, own-named, sessio
 marks-doing : (stamp n session : ℕ) (a : State) → doing_in session (at_stage (marks stamp n) a) ≡ Asked (Prepare stamp) (n + 1)
 marks-doing stamp zero session a = refl
 marks-doing stamp (suc n) session a = refl
-
-running-alive : (t : Transaction) → t.phase ≡ Running → IsEnding t.phase → ⊥
-running-alive t running ending = subst IsEnding running ending
 
 marks-stage : (stamp n : ℕ) (m : Machine) (known : List Table) (pieces : List FramePiece) (session : ℕ) (a : State) (t : Transaction) → n ≤ length a.written → transaction_of m session ≡ Some t → t.phase ≡ Running
     → IsEdited (edit.Mark stamp) m pieces t a n → StageStands (marks stamp n) m known pieces session (at_stage (marks stamp n) a)
