@@ -1,4 +1,5 @@
 pub mod Beside
+pub mod NotedSlots
 pub mod Others
 pub mod Events
 pub mod Moves

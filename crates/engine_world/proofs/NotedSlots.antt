@@ -1,0 +1,77 @@
+-- The slots that were noted for the writes of a transaction.
+use Rattle.std.proofs.Common.{◌≡◌, ◌<◌, ℕ, zero, suc, refl, ap, ◌∙◌, true, List, [], ◌∷◌, inl, inr, subst}
+use Rattle.std.specs.Prelude.{Option, Some, None, find, slice_get}
+use Rattle.std.proofs.lemmas.Bool.{cases_Bool, both_ways}
+use Rattle.kv_model.specs.Holds.{Member}
+use Rattle.kv_model.specs.History.{Table, Write, line, writes_at}
+use Rattle.kv_model.specs.Machine.{Machine, Transaction, of_some, transaction_of}
+use Rattle.kv_model.specs.Reads.{is_own}
+use Rattle.kv_model.specs.Refusals.{newest_durable}
+use Rattle.kv_model.specs.Valid.{Valid}
+use Rattle.kv_model.proofs.OwnWrites.{at-own}
+use Rattle.kv_model.proofs.Releasing.{drawn-by-write}
+use Rattle.leaf_chains.specs.declared.slot.KeyChain.{KeyChain}
+use Rattle.leaf_chains.specs.Slots.{chain_at, key_at, key_of, slot_of}
+use Rattle.leaf_chains.proofs.Changes.{held}
+use Rattle.call_steps.specs.declared.frame.FramePiece.{FramePiece}
+use Rattle.call_steps.specs.declared.written.WrittenKey.{WrittenKey}
+use Rattle.call_steps.specs.Leaves.{chain_in}
+use Rattle.engine_world.specs.Leaves.{AreNoted, IsSlotOf, durable_under, number_at, slots_in}
+use Rattle.engine_world.proofs.Beside.{SlotsStay}
+
+-- ---- one slot
+
+pub slot-chain : (key : List ℕ) (slots : List KeyChain) (i : ℕ) → slot_of key slots ≡ Some i → chain_in slots i ≡ chain_at key slots
+slot-chain key slots i at = ap (λ (o : Option KeyChain). of_some [] (λ (s : KeyChain). s.chain) o) (held key slots i at)
+
+pub slot-key : (key : List ℕ) (slots : List KeyChain) (i : ℕ) → slot_of key slots ≡ Some i → key_at slots i ≡ key
+slot-key key slots i at = ap key_of (held key slots i at)
+
+-- what stands at an index is a member
+pub at-index : {A : Type 0} (xs : List A) (i : ℕ) (x : A) → slice_get xs i ≡ Some x → Member x xs
+at-index [] i x at = let none : None ≡ Some x = at in absurd (cc)
+at-index (y ∷ ys) zero x at = inl (let same : Some y ≡ Some x = at in cc)
+at-index (y ∷ ys) (suc i) x at = inr (at-index ys i x at)
+
+-- ---- the writes
+
+-- of a key that was written there is an own write
+pub own-found : (w : Write) (writes : List Write) → Member w writes → is_own (find (writes_at w.table w.key) writes) ≡ true
+own-found w [] member = absurd member
+own-found w (o ∷ writes) member = elim (cases_Bool (writes_at w.table w.key o)) [
+  | inl is ↦ rw is refl
+  | inr isnt ↦ rw isnt (own-found w writes (elim member [
+    | inl same ↦ absurd (both_ways (writes_at w.table w.key o) isnt (subst (λ (x : Write). writes_at w.table w.key x ≡ true) same (at-own w)))
+    | inr later ↦ later
+  ]))
+]
+
+-- who wrote has drawn its id
+pub drawn-with : (m : Machine) (session : ℕ) (t : Transaction) (w : Write) → Valid m → transaction_of m session ≡ Some t → Member w t.writes → 0 < t.id
+drawn-with m session t w valid there member = by-writes t.writes refl member where
+  by-writes : (writes : List Write) → t.writes ≡ writes → Member w writes → 0 < t.id
+  by-writes [] is member = absurd member
+  by-writes (o ∷ writes) is member = drawn-by-write m.run m.next m.history t o writes (valid.sessions.each session t there) is
+
+-- ---- a slot that was noted
+
+pub slot-number : (known : List Table) (pieces : List FramePiece) (k : WrittenKey) (table : ℕ) (key : List ℕ) → IsSlotOf known pieces k table key → number_at known k.frame ≡ table
+slot-number known pieces k table key s = ap (of_some 0 (λ (t : Table). t.number)) s.there ∙ s.number
+
+-- the newest version that stands of the key
+pub slot-durable : (m : Machine) (known : List Table) (pieces : List FramePiece) (k : WrittenKey) (table : ℕ) (key : List ℕ) → IsSlotOf known pieces k table key
+    → durable_under m known pieces k ≡ newest_durable (line m.history table key)
+slot-durable m known pieces k table key s =
+    λ i. newest_durable (line m.history (slot-number known pieces k table key s i) (slot-key key (slots_in pieces k.frame) k.slot s.slot i))
+
+-- where a key keeps its slot
+pub slot-stays : (known : List Table) (pieces later : List FramePiece) (k : WrittenKey) (table : ℕ) (key : List ℕ) → SlotsStay pieces later
+    → IsSlotOf known pieces k table key → IsSlotOf known later k table key
+slot-stays known pieces later k table key stay s = record { of = s.of; there = s.there; number = s.number; slot = stay k.frame key k.slot s.slot }
+
+pub noted-stay : (known : List Table) (pieces later : List FramePiece) (writes : List Write) (keys : List WrittenKey) → SlotsStay pieces later
+    → AreNoted known pieces writes keys → AreNoted known later writes keys
+noted-stay known pieces later writes keys stay n = record {
+  noted = λ w member. let k = n.noted w member in (k.0, k.1, slot-stays known pieces later k.0 w.table w.key stay k.2);
+  wrote = λ k member. let w = n.wrote k member in (w.0, w.1, slot-stays known pieces later k w.0.table w.0.key stay w.2);
+}
