@@ -1,5 +1,5 @@
 -- The decision of a commit.
-use Rattle.std.proofs.Common.{◌≡◌, ◌<◌, ◌≤◌, ◌+◌, ℕ, refl, ap, sym, ◌∙◌, Bool, List, [], ◌∷◌, length, inl, inr, subst, arith}
+use Rattle.std.proofs.Common.{◌≡◌, ◌<◌, ◌≤◌, ◌+◌, ℕ, refl, ap, sym, ◌∙◌, Bool, List, length, inl, inr, subst, arith}
 use Rattle.std.specs.Prelude.{Option, Some, None, slice_get, Ok, Err}
 use Rattle.failure.specs.declared.Fault.{Fault}
 use Rattle.wt_code.specs.declared.answers.Answer.TheVariants as answers
@@ -10,15 +10,14 @@ use Rattle.wt_code.specs.declared.refusals.Refusal.TheVariants as told
 use Rattle.kv_model.specs.History.{Commit as CommitEntry, Resolve as ResolveEntry, tables}
 use Rattle.kv_model.specs.Machine.{Machine, Transaction, Phase as ModelPhase, Running, Failed, Prepared, Resolving, Leaving, Event, CommitAt, StartLeaving, Nothing, of_some, in_phase, appended, decided, stamped, transaction_of, name_of, after}
 use Rattle.kv_model.specs.Allowed.{Allowed}
-use Rattle.kv_model.specs.Decisions.{Outcome, Done, Refused, refused, ruled, CommitCall, decision, commit_decision}
+use Rattle.kv_model.specs.Decisions.{Outcome, Done, Refused, refused, CommitCall, decision, commit_decision}
 use Rattle.kv_model.specs.Refusals.{first_of, stamp_of, or_stamp, durable_below, commit_rules, resolve_rules}
 use Rattle.kv_model.proofs.Deciding.{may-decide}
 use Rattle.ts_rules.specs.declared.stamps.Stamps.{Stamps}
 use Rattle.ts_rules.specs.Rules.{answer_by}
 use Rattle.txn_table.specs.declared.phase.Phase.{Phase}
 use Rattle.txn_table.specs.declared.phase.Phase.TheVariants as phase
-use Rattle.txn_table.specs.SessionData.{SessionData}
-use Rattle.txn_table.specs.Tabled.{Table, in_phase as put_in_phase, released_in}
+use Rattle.txn_table.specs.Tabled.{Table, in_phase as put_in_phase, phase_of, released_in}
 use Rattle.txn_table.proofs.Standing.{calls-stand}
 use Rattle.update_chain.specs.EventLaws.{ChainsGoOn, CommitsStand, ResolvesStand}
 use Rattle.call_steps.specs.declared.reply.Reply.TheVariants as reply
@@ -34,8 +33,8 @@ use Rattle.engine_world.specs.Stages.{EndsOnlyDown, ForTransaction, DecidesStand
 use Rattle.engine_world.specs.Stands.{Engine, Stands, SessionStands}
 use Rattle.engine_world.specs.Steps.{Made, EndsIn, GoesOn, SettledBy}
 use Rattle.engine_world.specs.Worlds.{World, Ending}
-use Rattle.engine_world.proofs.HubMoves.{Goes, SetsSeat, seat_in, seat-now, seats-opened, seat-leads, stage-stands, refused-goes, refused-settled, doing-at, decided-up, decided-down, none-there, one-there, idle-none, phase-there}
-use Rattle.engine_world.proofs.Deciding.{IsIn, in-set, phased-stands, commit-is, tables-appended, phase-sets, release-sets, ruled-none, ruled-some}
+use Rattle.engine_world.proofs.HubMoves.{Goes, SetsSeat, seat_in, seat-leads, stage-stands, refused-goes, refused-settled, doing-at, decided-up, decided-down, none-there, one-there, idle-none, phase-there}
+use Rattle.engine_world.proofs.Deciding.{Settling, IsIn, in-set, phased-stands, seat-is, seated-in, commit-is, tables-appended, phase-sets, release-sets, ruled-none, ruled-some}
 use Rattle.engine_world.proofs.Finishing.{IsGone, cursors-count, without-gone, finished-stands, finished-goes}
 use Rattle.engine_world.proofs.Leaving.{running-leaves, leaves-goes, noted-of}
 use Rattle.engine_world.proofs.Orders.{prev-is}
@@ -53,15 +52,11 @@ given stamps m session = decision m session (CommitCall stamps.commit stamps.dur
 abbrev durable_stamp : CommitStamps → ℕ
 durable_stamp stamps = or_stamp (stamp_of stamps.durable) (stamp_of stamps.commit)
 
--- what the event that decides the call leads to
-abbrev Settling : World → ℕ → State → Event → Type 0
-Settling w session a event = (made : Made) → SettledBy Done event w.machine session (decide_left a) made → GoesOn (doing_in session a) w.machine session made
-
 -- ---- a transaction that runs
 
 commit-goes : ChainsGoOn → CommitsStand → (e : Engine) (w : World) (session : ℕ) (stamps : CommitStamps) (a : State) (t : Transaction) → Stands e w → slice_get e.sessions session ≡ Some a → transaction_of w.machine session ≡ Some t
     → t.phase ≡ Running → a.phase ≡ phase.Running → IsEdited (stamps_in Running stamps) w.machine e.pieces t a 0 → given stamps w.machine session ≡ (Done, CommitAt session (stamp_of stamps.commit) (stamp_of stamps.commit))
-    → Settling w session a (CommitAt session (stamp_of stamps.commit) (stamp_of stamps.commit)) → Goes e w session (decides_running (Ok tt) e.hub session a)
+    → Settling w session a Done (CommitAt session (stamp_of stamps.commit) (stamp_of stamps.commit)) → Goes e w session (decides_running (Ok tt) e.hub session a)
 commit-goes chains-go-on commits-stand e w session stamps a t st at there running in_p edited d settles =
     seat-leads e w session a (finished answers.Done a).1 now (seat_in e.hub.txns session phase.Idle) event (finished answers.Done a).0 st at may refl sets
     ((calls-stand e.hub.txns w.machine st.valid st.txns).releases session (stamp_of stamps.commit) (stamp_of stamps.commit) may (mine.seated.phase ∙ ap known_phase in_p))
@@ -75,8 +70,7 @@ commit-goes chains-go-on commits-stand e w session stamps a t st at there runnin
           (finished-goes answers.Done (decide_left a) next session a (omega arith)),
     ))
     (finished-stands next (record e.hub { txns = now }) e.pieces session a answers.Done gone (cursors-count w.machine e.hub e.pieces session a t st.valid there mine)
-    (let same = seats-opened e.hub.txns now session (seat_in e.hub.txns session phase.Idle) sets in let opened = mine.seated.opened in omega (arith, opened))
-    (ap (λ (x : SessionData). x.phase) (seat-now e.hub.txns now session (seat_in e.hub.txns session phase.Idle) sets mine.seated.opened))) where
+    seat.0 seat.1) where
       event : Event
       event = CommitAt session (stamp_of stamps.commit) (stamp_of stamps.commit)
 
@@ -92,6 +86,9 @@ commit-goes chains-go-on commits-stand e w session stamps a t st at there runnin
       sets : SetsSeat e.hub.txns now session (seat_in e.hub.txns session phase.Idle)
       sets = release-sets e.hub.txns session phase.Idle
 
+      seat : (session < length now.sessions) × (phase_of now session ≡ phase.Idle)
+      seat = seat-is e.hub.txns now session phase.Idle sets mine.seated.opened
+
       may : Allowed w.machine event
       may = subst (λ (d : Outcome × Event). Allowed w.machine d.1) d (may-decide w.machine session (CommitCall stamps.commit stamps.durable) tt)
 
@@ -105,7 +102,7 @@ commit-goes chains-go-on commits-stand e w session stamps a t st at there runnin
 
 resolve-goes : ChainsGoOn → ResolvesStand → (e : Engine) (w : World) (session stamp : ℕ) (stamps : CommitStamps) (a : State) (t : Transaction) → Stands e w → slice_get e.sessions session ≡ Some a → transaction_of w.machine session ≡ Some t
     → t.phase ≡ Prepared stamp → a.phase ≡ phase.Prepared stamp → given stamps w.machine session ≡ (Done, CommitAt session (stamp_of stamps.commit) (durable_stamp stamps))
-    → Settling w session a (CommitAt session (stamp_of stamps.commit) (durable_stamp stamps)) → Goes e w session (decides_prepared (Ok tt) e.hub session a stamps)
+    → Settling w session a Done (CommitAt session (stamp_of stamps.commit) (durable_stamp stamps)) → Goes e w session (decides_prepared (Ok tt) e.hub session a stamps)
 resolve-goes chains-go-on resolves-stand e w session stamp stamps a t st at there is in_p d settles =
     seat-leads e w session a b now (seat_in e.hub.txns session phase.Resolving) event reply.More st at may refl sets
     ((calls-stand e.hub.txns w.machine st.valid st.txns).resolves session (stamp_of stamps.commit) (durable_stamp stamps) stamp may (mine.seated.phase ∙ ap known_phase in_p))
@@ -155,10 +152,7 @@ resolve-goes chains-go-on resolves-stand e w session stamp stamps a t st at ther
       does = stamps-doing stamps (length a.written) session (stamps_then stamps (length a.written) stage.Done) a
 
       seated : IsSeated (record e.hub { txns = now }) session b
-      seated = let opened = mine.seated.opened in record {
-        opened = (let same = seats-opened e.hub.txns now session (seat_in e.hub.txns session phase.Resolving) sets in omega (arith, opened));
-        phase = ap (λ (x : SessionData). x.phase) (seat-now e.hub.txns now session (seat_in e.hub.txns session phase.Resolving) sets opened);
-      }
+      seated = seated-in e.hub now session phase.Resolving b sets (st.sessions session a at).seated.opened refl
 
 -- ---- the law
 

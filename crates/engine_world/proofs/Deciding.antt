@@ -1,6 +1,6 @@
 -- The deciding events of a prepare, a commit and a rollback, and a session whose transaction is in another phase after them.
-use Rattle.std.proofs.Common.{◌≡◌, ◌<◌, ℕ, refl, ap, sym, ◌∙◌, Bool, List, [], ◌∷◌, length, subst, map}
-use Rattle.std.specs.Prelude.{Option, Some, None, option_map, slice_index_or, slice_set}
+use Rattle.std.proofs.Common.{◌≡◌, ◌<◌, ℕ, refl, ap, sym, ◌∙◌, Bool, List, [], ◌∷◌, length, subst, map, arith}
+use Rattle.std.specs.Prelude.{Option, Some, None, option_map}
 use Rattle.std.proofs.lemmas.List.{get_or-set_same}
 use Rattle.wt_code.specs.declared.refusals.Invalid.{Invalid}
 use Rattle.wt_code.specs.declared.refusals.Refusal.TheVariants as told
@@ -10,16 +10,19 @@ use Rattle.kv_model.specs.Decisions.{Outcome, Done, Refused, ruled}
 use Rattle.kv_model.specs.Refusals.{first_of}
 use Rattle.kv_model.proofs.Seats.{seat-inside}
 use Rattle.txn_table.specs.declared.phase.Phase.{Phase}
-use Rattle.txn_table.specs.SessionData.{phase_in}
-use Rattle.txn_table.specs.Tabled.{Table, in_phase as put_in_phase, released_in}
+use Rattle.txn_table.specs.SessionData.{SessionData, phase_in}
+use Rattle.txn_table.specs.Tabled.{Table, in_phase as put_in_phase, phase_of, released_in}
 use Rattle.call_steps.specs.declared.frame.FramePiece.{FramePiece}
 use Rattle.call_steps.specs.declared.hub.Hub.{Hub}
-use Rattle.call_steps.specs.HubEvents.{IsSeated}
+use Rattle.call_steps.specs.HubEvents.{IsSeated, known_phase}
 use Rattle.call_steps.specs.State.{State}
+use Rattle.engine_world.specs.Doings.{doing_in, decide_left}
 use Rattle.engine_world.specs.Leaves.{AreNoted}
 use Rattle.engine_world.specs.Stages.{StageStands}
 use Rattle.engine_world.specs.Stands.{SessionStands, writes_in}
-use Rattle.engine_world.proofs.HubMoves.{SetsSeat, seat_in}
+use Rattle.engine_world.specs.Steps.{Made, GoesOn, SettledBy}
+use Rattle.engine_world.specs.Worlds.{World}
+use Rattle.engine_world.proofs.HubMoves.{SetsSeat, seat_in, seat-now, seats-opened}
 
 -- ---- stamp rules
 
@@ -81,3 +84,21 @@ phase-sets txns session p = record { run = refl; sessions = refl }
 
 pub release-sets : (txns : Table) (session : ℕ) (p : Phase) → SetsSeat txns (released_in txns session p) session (seat_in txns session p)
 release-sets txns session p = record { run = refl; sessions = refl }
+
+-- the seat is there, in this phase
+pub seat-is : (txns now : Table) (session : ℕ) (p : Phase) → SetsSeat txns now session (seat_in txns session p) → session < length txns.sessions → (session < length now.sessions) × (phase_of now session ≡ p)
+seat-is txns now session p sets opened = (
+  (let same = seats-opened txns now session (seat_in txns session p) sets in omega (arith, opened)),
+  ap (λ (x : SessionData). x.phase) (seat-now txns now session (seat_in txns session p) sets opened),
+)
+
+-- the session has a place in the table, in the phase that it is in
+pub seated-in : (hub : Hub) (now : Table) (session : ℕ) (p : Phase) (b : State) → SetsSeat hub.txns now session (seat_in hub.txns session p) → session < length hub.txns.sessions → known_phase b.phase ≡ p
+    → IsSeated (record hub { txns = now }) session b
+seated-in hub now session p b sets opened is = let seat = seat-is hub.txns now session p sets opened in record { opened = seat.0; phase = seat.1 ∙ sym is }
+
+-- ---- the world's steps
+
+-- what the event that decides a commit or a rollback leads to
+abbrev pub Settling : World → ℕ → State → Outcome → Event → Type 0
+Settling w session a outcome event = (made : Made) → SettledBy outcome event w.machine session (decide_left a) made → GoesOn (doing_in session a) w.machine session made

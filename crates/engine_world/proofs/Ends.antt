@@ -1,5 +1,5 @@
 -- The end of a transaction whose commit or rollback was decided.
-use Rattle.std.proofs.Common.{◌≡◌, ◌<◌, ◌+◌, ℕ, refl, ap, sym, ◌∙◌, true, List, length, inl, inr, subst, arith}
+use Rattle.std.proofs.Common.{◌≡◌, ◌<◌, ℕ, refl, ap, sym, ◌∙◌, List, length, inr, subst, arith}
 use Rattle.std.specs.Prelude.{Option, Some, None, option_map, slice_get}
 use Rattle.failure.specs.declared.Fault.{Fault}
 use Rattle.wt_code.specs.declared.answers.Answer.TheVariants as answers
@@ -11,7 +11,7 @@ use Rattle.kv_model.specs.Decisions.{is_there}
 use Rattle.kv_model.specs.Reads.{IsEnding}
 use Rattle.txn_table.specs.declared.phase.Phase.{Phase}
 use Rattle.txn_table.specs.declared.phase.Phase.TheVariants as phase
-use Rattle.txn_table.specs.SessionData.{SessionData, phase_in}
+use Rattle.txn_table.specs.SessionData.{phase_in}
 use Rattle.txn_table.specs.Tabled.{ended, phase_of}
 use Rattle.txn_table.proofs.Standing.{calls-stand}
 use Rattle.update_chain.specs.EventLaws.{ChainsGoOn, EndsStand}
@@ -28,7 +28,8 @@ use Rattle.engine_world.specs.Stages.{EndsOnlyDown, DoneStands}
 use Rattle.engine_world.specs.Stands.{Engine, Stands, SessionStands}
 use Rattle.engine_world.specs.Steps.{GoesOn, EndsUnless}
 use Rattle.engine_world.specs.Worlds.{World, Resting}
-use Rattle.engine_world.proofs.HubMoves.{Goes, SetsSeat, seat_in, ended-sets, seat-now, seats-opened, seat-leads, stage-stands, refused-goes, doing-at}
+use Rattle.engine_world.proofs.HubMoves.{Goes, seat_in, ended-sets, seat-leads, stage-stands, refused-goes, doing-at}
+use Rattle.engine_world.proofs.Deciding.{seat-is}
 use Rattle.engine_world.proofs.Finishing.{cursors-count, without-gone, finished-stands, finished-goes}
 use Rattle.engine_world.proofs.OwnKeys.{ended-leaves}
 
@@ -60,12 +61,7 @@ done-by phase.Leaving q h session a is ending = refl
 
 pub seat-idle : (m : Machine) (hub : Hub) (pieces : List FramePiece) (session : ℕ) (a : State) → SessionStands m hub pieces session a
     → (session < length (ended hub.txns session).sessions) × (phase_of (ended hub.txns session) session ≡ phase.Idle)
-seat-idle m hub pieces session a mine = (
-  (let same = seats-opened hub.txns (ended hub.txns session) session (seat_in hub.txns session phase.Idle) sets in let inside = mine.seated.opened in omega arith),
-  ap (λ (x : SessionData). x.phase) (seat-now hub.txns (ended hub.txns session) session (seat_in hub.txns session phase.Idle) sets mine.seated.opened),
-) where
-  sets : SetsSeat hub.txns (ended hub.txns session) session (seat_in hub.txns session phase.Idle)
-  sets = ended-sets hub.txns session
+seat-idle m hub pieces session a mine = seat-is hub.txns (ended hub.txns session) session phase.Idle (ended-sets hub.txns session) mine.seated.opened
 
 -- ---- the law
 

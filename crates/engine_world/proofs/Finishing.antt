@@ -1,8 +1,8 @@
 -- The state in which a session is after the end of its transaction.
-use Rattle.std.proofs.Common.{◌≡◌, ◌⊎◌, ◌<◌, ◌+◌, ℕ, zero, suc, refl, ap, sym, ◌∙◌, Bool, true, false, List, [], ◌∷◌, length, inl, inr, subst, map, arith}
-use Rattle.std.specs.Prelude.{Option, Some, None, option_map, filter, replicate, slice_get, slice_set, slice_index_or, if◌then◌else◌}
+use Rattle.std.proofs.Common.{◌≡◌, ◌<◌, ℕ, zero, suc, refl, ap, sym, ◌∙◌, true, List, [], ◌∷◌, length, inl, inr, subst, map, arith}
+use Rattle.std.specs.Prelude.{Option, Some, None, option_map, filter, replicate}
 use Rattle.std.proofs.lemmas.Bool.{cases_Bool}
-use Rattle.std.proofs.lemmas.List.{get_or-set_same, length-map, length-set}
+use Rattle.std.proofs.lemmas.List.{get_or-set_same, length-map}
 use Rattle.limits.specs.declared.TheConstants.{CURSORS_MAX}
 use Rattle.wt_code.specs.declared.answers.Answer.{Answer}
 use Rattle.kv_model.specs.Machine.{Machine, Transaction, Position as ModelPosition, of_some, no_cursors, transaction_of, cursors_of, without_transaction}

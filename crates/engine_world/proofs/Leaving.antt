@@ -1,18 +1,17 @@
 -- A transaction that is not prepared begins its rollback, and ends at once where it wrote nothing.
-use Rattle.std.proofs.Common.{◌≡◌, ◌⊎◌, ◌<◌, ◌≤◌, ◌+◌, ℕ, zero, suc, refl, ap, sym, ◌∙◌, List, [], ◌∷◌, length, inl, inr, subst, arith}
-use Rattle.std.specs.Prelude.{Option, Some, None, find, slice_get}
+use Rattle.std.proofs.Common.{◌≡◌, ◌+◌, ℕ, zero, suc, refl, ap, sym, ◌∙◌, List, [], ◌∷◌, length, inl, inr, subst, arith}
+use Rattle.std.specs.Prelude.{Some, find, slice_get}
 use Rattle.wt_code.specs.declared.answers.Answer.{Answer}
 use Rattle.kv_model.specs.Allowed.{Allowed}
 use Rattle.kv_model.specs.History.{Table as KnownTable, Write, tables, writes_at}
 use Rattle.kv_model.specs.Machine.{Machine, Transaction, Running, Failed, Leaving, StartLeaving, EndTransaction, of_some, in_phase, transaction_of, name_of, with_transaction, after}
 use Rattle.kv_model.specs.Decisions.{Outcome}
-use Rattle.kv_model.specs.Reads.{own_write}
 use Rattle.kv_model.specs.Told.{Tells}
 use Rattle.kv_model.specs.Valid.{Valid}
 use Rattle.kv_model.proofs.EveryEvent.{valid-after}
 use Rattle.txn_table.specs.declared.phase.Phase.TheVariants as phase
 use Rattle.txn_table.specs.Stands.{TableStands}
-use Rattle.txn_table.specs.Tabled.{ended, phase_of}
+use Rattle.txn_table.specs.Tabled.{ended}
 use Rattle.txn_table.proofs.Standing.{calls-stand}
 use Rattle.call_steps.specs.declared.edit.Edit.TheVariants as edit
 use Rattle.call_steps.specs.declared.frame.FramePiece.{FramePiece}
@@ -21,16 +20,16 @@ use Rattle.call_steps.specs.declared.written.WrittenKey.{WrittenKey}
 use Rattle.call_steps.specs.HubEvents.{beside, known_phase, leaves_with, with_txns}
 use Rattle.call_steps.specs.Stages.{undoes}
 use Rattle.call_steps.specs.State.{State, finished, leaves}
-use Rattle.engine_world.specs.Doings.{doing_at, doing_in, decide_left, done_left, unpins_left}
+use Rattle.engine_world.specs.Doings.{doing_at, doing_in, decide_left, done_left}
 use Rattle.engine_world.specs.Leaves.{AreNoted}
 use Rattle.engine_world.specs.Stages.{StageStands}
 use Rattle.engine_world.specs.Stands.{Engine, Stands, SessionStands}
-use Rattle.engine_world.specs.Steps.{Made, EndsIn, GoesOn, SettledBy}
+use Rattle.engine_world.specs.Steps.{EndsIn}
 use Rattle.engine_world.specs.Worlds.{World, Ending}
 use Rattle.engine_world.proofs.Events.{event-beside, beside-then, all-same}
 use Rattle.engine_world.proofs.Moves.{leads}
 use Rattle.engine_world.proofs.HubMoves.{Goes, seat_in, ended-sets, seat-beside, leaves-go-on}
-use Rattle.engine_world.proofs.Deciding.{IsIn, in-set, phased-stands, leave-is}
+use Rattle.engine_world.proofs.Deciding.{Settling, IsIn, in-set, phased-stands, leave-is}
 use Rattle.engine_world.proofs.Ends.{seat-idle}
 use Rattle.engine_world.proofs.Finishing.{cursors-count, without-gone, finished-stands, finished-goes}
 use Rattle.engine_world.proofs.Fronts.{did-not}
@@ -73,15 +72,11 @@ wrote-none : (e : Engine) (w : World) (session : ℕ) (a : State) (t : Transacti
 wrote-none e w session a t st at there none = no-writes e.hub.tables.tables e.pieces t.writes
     (subst (λ keys. AreNoted e.hub.tables.tables e.pieces t.writes keys) (no-keys a.written none) (noted-of e w session a t st at there))
 
--- ---- the world's steps
-
--- what the event that decides the call leads to
-abbrev pub Settling : World → ℕ → State → Outcome → Type 0
-Settling w session a outcome = (made : Made) → SettledBy outcome (StartLeaving session) w.machine session (decide_left a) made → GoesOn (doing_in session a) w.machine session made
+-- ---- the two ways
 
 -- it wrote nothing, and ends at once
 at-once : (e : Engine) (w : World) (session : ℕ) (a : State) (t : Transaction) (outcome : Outcome) (answer : Answer (List ℕ)) → Stands e w → slice_get e.sessions session ≡ Some a → MayLeave w.machine session a t → t.writes ≡ []
-    → Tells outcome answer → Settling w session a outcome → Goes e w session (with_txns e.hub (ended e.hub.txns session) (finished answer a))
+    → Tells outcome answer → Settling w session a outcome (StartLeaving session) → Goes e w session (with_txns e.hub (ended e.hub.txns session) (finished answer a))
 at-once e w session a t outcome answer st at v empty tells settles = leads e w session a (finished answer a).1 (record e.hub { txns = ended e.hub.txns session }) e.pieces e.hazards next (finished answer a).0 st at
     (settles (record { told = (finished answer a).0; machine = next; doing = doing_in session (finished answer a).1 }) (
       answer,
@@ -121,7 +116,7 @@ at-once e w session a t outcome answer st at v empty tells settles = leads e w s
 
 -- it has updates to take out
 with-undos : (e : Engine) (w : World) (session n : ℕ) (a : State) (t : Transaction) (outcome : Outcome) (answer : Answer (List ℕ)) → Stands e w → slice_get e.sessions session ≡ Some a → MayLeave w.machine session a t
-    → length a.written ≡ suc n → Tells outcome answer → Settling w session a outcome → Goes e w session (beside e.hub (reply.More, leaves answer a))
+    → length a.written ≡ suc n → Tells outcome answer → Settling w session a outcome (StartLeaving session) → Goes e w session (beside e.hub (reply.More, leaves answer a))
 with-undos e w session n a t outcome answer st at v some tells settles = leads e w session a (leaves answer a) e.hub e.pieces e.hazards next reply.More st at
     (settles (record { told = reply.More; machine = next; doing = doing_in session (leaves answer a) }) (
       answer,
@@ -157,7 +152,7 @@ with-undos e w session n a t outcome answer st at v some tells settles = leads e
 
 -- either of them
 pub leaves-goes : (e : Engine) (w : World) (session : ℕ) (a : State) (t : Transaction) (outcome : Outcome) (answer : Answer (List ℕ)) → Stands e w → slice_get e.sessions session ≡ Some a → MayLeave w.machine session a t
-    → Tells outcome answer → Settling w session a outcome → Goes e w session (leaves_with (length a.written) answer e.hub session a)
+    → Tells outcome answer → Settling w session a outcome (StartLeaving session) → Goes e w session (leaves_with (length a.written) answer e.hub session a)
 leaves-goes e w session a t outcome answer st at v tells settles = by-count (length a.written) refl where
   by-count : (n : ℕ) → length a.written ≡ n → Goes e w session (leaves_with n answer e.hub session a)
   by-count zero none = at-once e w session a t outcome answer st at v (wrote-none e w session a t st at v.there none) tells settles

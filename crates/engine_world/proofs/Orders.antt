@@ -1,6 +1,5 @@
 -- The greatest durable stamp that was found below the writes is the one that the stamp rules ask for.
-use Rattle.std.proofs.Common.{◌≡◌, ◌⊎◌, ◌≤◌, ℕ, refl, ap, sym, ◌∙◌, max, List, [], ◌∷◌, inl, inr, subst, arith}
-use Rattle.std.specs.Prelude.{Option, Some, None, slice_get}
+use Rattle.std.proofs.Common.{◌≡◌, ◌⊎◌, ◌≤◌, ℕ, refl, ap, ◌∙◌, List, [], ◌∷◌, inl, inr, arith}
 use Rattle.kv_model.specs.Holds.{Member}
 use Rattle.kv_model.specs.History.{Table, Write, line}
 use Rattle.kv_model.specs.Machine.{Machine, of_some}

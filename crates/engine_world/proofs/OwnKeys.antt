@@ -1,15 +1,13 @@
 -- The chains of the leaves over the events that release, decide and end a transaction.
-use Rattle.std.proofs.Common.{◌≡◌, ◌⊎◌, ℕ, refl, ap, sym, ◌∙◌, true, List, [], ◌∷◌, inl, inr, subst}
-use Rattle.std.specs.Prelude.{Option, Some, None, slice_get}
+use Rattle.std.proofs.Common.{◌≡◌, ℕ, refl, ap, sym, ◌∙◌, List, [], ◌∷◌, inl, inr, subst}
+use Rattle.std.specs.Prelude.{Some, None, slice_get}
 use Rattle.stamp.specs.declared.Name.{Name}
 use Rattle.kv_model.specs.Allowed.{Allowed}
-use Rattle.kv_model.specs.Holds.{Member}
 use Rattle.kv_model.specs.History.{Table, Write}
-use Rattle.kv_model.specs.Machine.{Machine, Transaction, Phase, Running, Failed, Prepared, Resolving, Leaving, Event, PrepareAt, CommitAt, EndTransaction, transaction_of, name_of, after}
+use Rattle.kv_model.specs.Machine.{Machine, Transaction, Phase, Running, Failed, Prepared, Resolving, Leaving, PrepareAt, CommitAt, EndTransaction, transaction_of, name_of, after}
 use Rattle.kv_model.specs.Reads.{own_write, is_own, IsEnding}
-use Rattle.kv_model.specs.Valid.{Valid}
 use Rattle.update_chain.specs.declared.update.Update.{Update}
-use Rattle.update_chain.specs.EventLaws.{StandsFor, LeavesAlone, NoneLeft, outcome, ChainsGoOn, PreparesStand, CommitsStand, ResolvesStand, EndsStand}
+use Rattle.update_chain.specs.EventLaws.{StandsFor, NoneLeft, outcome, ChainsGoOn, PreparesStand, CommitsStand, ResolvesStand, EndsStand}
 use Rattle.update_chain.specs.Updates.{unmarked_update}
 use Rattle.leaf_chains.specs.Slots.{chain_at}
 use Rattle.call_steps.specs.declared.edit.Edit.{Edit}
@@ -20,17 +18,11 @@ use Rattle.engine_world.specs.Worlds.{World}
 use Rattle.engine_world.specs.Leaves.{LeafStands, AllHave, HasEdit, slots_in}
 use Rattle.engine_world.specs.Stages.{IsEdited, DoneStands}
 use Rattle.engine_world.specs.Stands.{Engine, Stands}
-use Rattle.engine_world.proofs.Fronts.{SlotIs, front-is, front-has, edited-at, leaf-with, leaves-own}
+use Rattle.engine_world.proofs.Fronts.{SlotIs, front-is, front-has, edited-at, leaves-own}
 
 -- the leaf of each table stands
 abbrev pub LeavesStand : Machine → List Table → List FramePiece → List ℕ → Type 0
 LeavesStand m known pieces states = (place : ℕ) (t : Table) → slice_get known place ≡ Some t → LeafStands m pieces states place t
-
--- an event that leaves each key alone
-pub leaves-alone : ChainsGoOn → (m : Machine) (event : Event) (known : List Table) (pieces : List FramePiece) (states : List ℕ) → Valid m → Allowed m event → ((table : ℕ) (key : List ℕ) → LeavesAlone m table key event)
-    → LeavesStand m known pieces states → LeavesStand (after m event) known pieces states
-leaves-alone chains-go-on m event known pieces states valid may alone stand place t at = leaf-with m (after m event) pieces states place t (stand place t at)
-    (λ key k. chains-go-on m event t.number key (chain_at key (slots_in pieces place)) None [] valid may (alone t.number key) k)
 
 living : (x : Transaction) (p : Phase) → x.phase ≡ p → (IsEnding p → ⊥) → IsEnding x.phase → ⊥
 living x p is alive ending = alive (subst IsEnding is ending)

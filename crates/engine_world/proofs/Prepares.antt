@@ -1,5 +1,5 @@
 -- A prepare, after the marks.
-use Rattle.std.proofs.Common.{◌≡◌, ◌<◌, ℕ, refl, ap, sym, ◌∙◌, List, length, inl, inr, subst, arith}
+use Rattle.std.proofs.Common.{◌≡◌, ℕ, refl, ap, sym, ◌∙◌, inr, subst}
 use Rattle.std.specs.Prelude.{Option, Some, None, slice_get, Ok, Err}
 use Rattle.failure.specs.declared.Fault.{Fault}
 use Rattle.wt_code.specs.declared.answers.Answer.TheVariants as answers
@@ -17,7 +17,7 @@ use Rattle.ts_rules.specs.declared.stamps.Stamps.{Stamps}
 use Rattle.ts_rules.specs.Rules.{answer_by}
 use Rattle.txn_table.specs.declared.phase.Phase.{Phase}
 use Rattle.txn_table.specs.declared.phase.Phase.TheVariants as phase
-use Rattle.txn_table.specs.SessionData.{SessionData, phase_in}
+use Rattle.txn_table.specs.SessionData.{phase_in}
 use Rattle.txn_table.specs.Tabled.{Table, released_in}
 use Rattle.txn_table.proofs.Standing.{calls-stand}
 use Rattle.update_chain.specs.EventLaws.{ChainsGoOn, PreparesStand}
@@ -28,14 +28,13 @@ use Rattle.call_steps.specs.declared.stage.Stage.TheVariants as stage
 use Rattle.call_steps.specs.HubEvents.{IsSeated, beside, prepares, prepares_by, refuses_as, hub_made_at}
 use Rattle.call_steps.specs.State.{State, at_stage, refuses}
 use Rattle.call_steps.specs.Words.{unless_running}
-use Rattle.engine_world.specs.Doings.{doing_in}
 use Rattle.engine_world.specs.Laws.{ReleasesGo, IsRelease}
 use Rattle.engine_world.specs.Stages.{EndsOnlyDown, ForTransaction, MarksStand, IsEdited}
 use Rattle.engine_world.specs.Stands.{Engine, Stands, SessionStands}
 use Rattle.engine_world.specs.Steps.{GoesOn, JudgedBy}
 use Rattle.engine_world.specs.Worlds.{World, Resting}
-use Rattle.engine_world.proofs.HubMoves.{Goes, SetsSeat, seat_in, seat-now, seats-opened, seat-leads, stage-stands, refused-goes, refused-judged, doing-at, decided-up, decided-down, none-there, in-phase, idle-none, phase-there, phase-ends}
-use Rattle.engine_world.proofs.Deciding.{IsIn, in-set, phased-stands, prepare-is, tables-appended, release-sets, ruled-none, ruled-some}
+use Rattle.engine_world.proofs.HubMoves.{Goes, SetsSeat, seat_in, seat-leads, stage-stands, refused-goes, refused-judged, doing-at, decided-up, decided-down, none-there, in-phase, idle-none, phase-there, phase-ends}
+use Rattle.engine_world.proofs.Deciding.{IsIn, in-set, phased-stands, seated-in, prepare-is, tables-appended, release-sets, ruled-none, ruled-some}
 use Rattle.engine_world.proofs.OwnKeys.{prepared-leaves}
 
 release-stage : (g : Stage) → IsRelease g → (stamp : ℕ) × (g ≡ stage.Release stamp)
@@ -75,10 +74,7 @@ prepare-goes chains-go-on prepares-stand e w session stamp a t st at is there ru
           (in-set w.machine session t (Prepared stamp) (appended t.writes (PrepareEntry (name_of w.machine t) stamp) w.machine.history) there)
 
       seated : IsSeated (record e.hub { txns = now }) session b
-      seated = let opened = (st.sessions session a at).seated.opened in record {
-        opened = (let same = seats-opened e.hub.txns now session (seat_in e.hub.txns session (phase.Prepared stamp)) sets in omega (arith, opened));
-        phase = ap (λ (x : SessionData). x.phase) (seat-now e.hub.txns now session (seat_in e.hub.txns session (phase.Prepared stamp)) sets opened);
-      }
+      seated = seated-in e.hub now session (phase.Prepared stamp) b sets (st.sessions session a at).seated.opened refl
 
 pub releases-go : ChainsGoOn → PreparesStand → ReleasesGo
 releases-go chains-go-on prepares-stand e w session a st at at-release = subst (λ g. Goes e w session (hub_made_at g e.hub session a)) (sym is) (by-fault e.hub.fault refl) where

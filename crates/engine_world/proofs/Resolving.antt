@@ -1,6 +1,6 @@
 -- What is left to do for a prepared transaction whose commit or rollback was decided.
-use Rattle.std.proofs.Common.{◌≡◌, ◌≤◌, ◌+◌, ℕ, zero, suc, refl, ap, sym, ◌∙◌, Bool, true, List, [], ◌∷◌, ◌++◌, length, inl, inr, subst, map, arith}
-use Rattle.std.specs.Prelude.{Option, Some, None, filter, slice_get}
+use Rattle.std.proofs.Common.{◌≡◌, ◌≤◌, ◌+◌, ℕ, zero, suc, refl, ap, sym, Bool, true, List, [], ◌∷◌, ◌++◌, length, inl, inr, subst, map, arith}
+use Rattle.std.specs.Prelude.{Some, filter}
 use Rattle.std.proofs.lemmas.Bool.{cases_Bool, both_ways}
 use Rattle.std.proofs.lemmas.Option.{slice_get_within}
 use Rattle.stamp.specs.declared.Name.{Name}
@@ -13,7 +13,6 @@ use Rattle.kv_model.specs.Valid.{Valid, PhaseStands, PreparedStands}
 use Rattle.kv_model.proofs.Finishing.{line-committed}
 use Rattle.kv_model.proofs.Ordering.{line-writes}
 use Rattle.kv_model.proofs.OwnWrites.{at-own, with_stamps}
-use Rattle.update_chain.specs.EventLaws.{outcome}
 use Rattle.call_steps.specs.declared.edit.Edit.{Edit}
 use Rattle.call_steps.specs.declared.edit.Edit.TheVariants as edit
 use Rattle.call_steps.specs.declared.frame.FramePiece.{FramePiece}

@@ -1,18 +1,17 @@
 -- The decision of a rollback.
-use Rattle.std.proofs.Common.{◌≡◌, ◌<◌, ◌≤◌, ◌+◌, ℕ, refl, ap, sym, ◌∙◌, Bool, true, false, List, [], ◌∷◌, length, inl, inr, subst, arith}
+use Rattle.std.proofs.Common.{◌≡◌, ◌≤◌, ◌+◌, ℕ, refl, ap, sym, ◌∙◌, true, false, length, inl, inr, subst, arith}
 use Rattle.std.specs.Prelude.{Option, Some, None, slice_get}
 use Rattle.failure.specs.declared.Fault.{Fault}
 use Rattle.wt_code.specs.declared.answers.Answer.TheVariants as answers
 use Rattle.wt_code.specs.declared.refusals.Invalid.TheVariants as why
 use Rattle.wt_code.specs.declared.refusals.Refusal.{Refusal}
 use Rattle.wt_code.specs.declared.refusals.Refusal.TheVariants as told
-use Rattle.kv_model.specs.History.{Undo, Write, tables}
+use Rattle.kv_model.specs.History.{Undo, tables}
 use Rattle.kv_model.specs.Machine.{Machine, Transaction, Phase as ModelPhase, Running, Failed, Prepared, Resolving, Leaving, Event, StartLeaving, of_some, in_phase, appended, left, transaction_of, name_of, after}
 use Rattle.kv_model.specs.Decisions.{Outcome, Done, refused, RollbackCall, decision, is_on_page, is_there, rollback_decision, undoes_first}
 use Rattle.kv_model.specs.Reads.{IsEnding}
 use Rattle.txn_table.specs.declared.phase.Phase.{Phase}
 use Rattle.txn_table.specs.declared.phase.Phase.TheVariants as phase
-use Rattle.txn_table.specs.SessionData.{SessionData, phase_in}
 use Rattle.txn_table.specs.Tabled.{Table, in_phase as put_in_phase}
 use Rattle.txn_table.proofs.Standing.{calls-stand}
 use Rattle.call_steps.specs.declared.reply.Reply.TheVariants as reply
@@ -27,9 +26,9 @@ use Rattle.engine_world.specs.Stages.{EndsOnlyDown, ForTransaction, ResolvesStan
 use Rattle.engine_world.specs.Stands.{Engine, Stands, SessionStands}
 use Rattle.engine_world.specs.Steps.{Made, EndsIn, GoesOn, SettledBy}
 use Rattle.engine_world.specs.Worlds.{World, Ending}
-use Rattle.engine_world.proofs.HubMoves.{Goes, SetsSeat, seat_in, seat-now, seats-opened, seat-leads, stage-stands, refused-goes, refused-settled, doing-at, decided-up, decided-down, none-there, one-there, idle-none, phase-there, leaves-go-on}
-use Rattle.engine_world.proofs.Deciding.{IsIn, in-set, phased-stands, leave-is, tables-appended, phase-sets}
-use Rattle.engine_world.proofs.Leaving.{Settling, running-leaves, failed-leaves, leaves-goes}
+use Rattle.engine_world.proofs.HubMoves.{Goes, SetsSeat, seat_in, seat-leads, stage-stands, refused-goes, refused-settled, doing-at, decided-up, decided-down, none-there, one-there, idle-none, phase-there, leaves-go-on}
+use Rattle.engine_world.proofs.Deciding.{Settling, IsIn, in-set, phased-stands, seated-in, leave-is, tables-appended, phase-sets}
+use Rattle.engine_world.proofs.Leaving.{running-leaves, failed-leaves, leaves-goes}
 use Rattle.engine_world.proofs.Resolving.{resolving_at, undos-doing, undos-stage, none-stands}
 
 resolve-stage : (g : Stage) → IsResolve g → g ≡ stage.Resolve
@@ -56,7 +55,7 @@ on-hub m session stands = by-there (transaction_of m session) refl where
 
 -- the rollback of a prepared transaction
 undo-goes : (e : Engine) (w : World) (session stamp : ℕ) (a : State) (t : Transaction) → Stands e w → slice_get e.sessions session ≡ Some a → transaction_of w.machine session ≡ Some t → t.phase ≡ Prepared stamp
-    → a.phase ≡ phase.Prepared stamp → Settling w session a Done → Goes e w session (resolves_in (phase.Prepared stamp) e.hub session a)
+    → a.phase ≡ phase.Prepared stamp → Settling w session a Done (StartLeaving session) → Goes e w session (resolves_in (phase.Prepared stamp) e.hub session a)
 undo-goes e w session stamp a t st at there is in_p settles =
     seat-leads e w session a b now (seat_in e.hub.txns session phase.Resolving) (StartLeaving session) reply.More st at tt refl sets
     ((calls-stand e.hub.txns w.machine st.valid st.txns).undoes session stamp (mine.seated.phase ∙ ap known_phase in_p))
@@ -98,10 +97,7 @@ undo-goes e w session stamp a t st at there is in_p settles =
       does = undos-doing (length a.written) session (undoes (length a.written)) a
 
       seated : IsSeated (record e.hub { txns = now }) session b
-      seated = let opened = mine.seated.opened in record {
-        opened = (let same = seats-opened e.hub.txns now session (seat_in e.hub.txns session phase.Resolving) sets in omega (arith, opened));
-        phase = ap (λ (x : SessionData). x.phase) (seat-now e.hub.txns now session (seat_in e.hub.txns session phase.Resolving) sets opened);
-      }
+      seated = seated-in e.hub now session phase.Resolving b sets (st.sessions session a at).seated.opened refl
 
 pub resolves-go : ResolvesGo
 resolves-go e w session a st at at-resolve = subst (λ g. Goes e w session (hub_made_at g e.hub session a)) (sym is) (by-fault e.hub.fault refl) where
