@@ -26,6 +26,7 @@ use Rattle.call_steps.specs.declared.stage.Stage.{Stage}
 use Rattle.call_steps.specs.declared.stage.Stage.TheVariants as stage
 use Rattle.call_steps.specs.HubEvents.{beside, begins, begins_by, begins_in, begin_made, hub_made_at}
 use Rattle.call_steps.specs.State.{State, at_stage, refuses}
+use Rattle.update_chain.specs.EventLaws.{ChainsGoOn}
 use Rattle.engine_world.specs.Worlds.{World, Resting}
 use Rattle.engine_world.specs.Steps.{JudgedBy}
 use Rattle.engine_world.specs.Leaves.{AreNoted}
@@ -61,7 +62,7 @@ begun-seat t session read = record { run = refl; sessions = refl }
 begun-there : (m : Machine) (session read : ℕ) → session < length m.sessions → transaction_of (after m (BeginAt session read)) session ≡ Some (begun_at m read)
 begun-there m session read inside = get_or-set_same m.sessions session (Some (begun_at m read)) None inside
 
-module _ (e : Engine) (w : World) (session : ℕ) (a : State) (read : Option ℕ) (st : Stands e w) (at : slice_get e.sessions session ≡ Some a) (is : a.stage ≡ stage.Begin read) where
+module _ (law : ChainsGoOn) (e : Engine) (w : World) (session : ℕ) (a : State) (read : Option ℕ) (st : Stands e w) (at : slice_get e.sessions session ≡ Some a) (is : a.stage ≡ stage.Begin read) where
   mine : SessionStands w.machine e.hub e.pieces session a
   mine = st.sessions session a at
 
@@ -98,7 +99,7 @@ module _ (e : Engine) (w : World) (session : ℕ) (a : State) (read : Option ℕ
   accepted : transaction_of w.machine session ≡ None → decision w.machine session (BeginCall read) ≡ (Done, BeginAt session (stamp_of read)) → Goes e w session (begins e.hub session a read)
   accepted none decided = seat-leads e w session a (at_stage stage.Rest (record a { phase = phase.Running })) (begun e.hub.txns session (stamp_of read)) (new_seat e.hub.txns (stamp_of read)) (BeginAt session (stamp_of read)) (reply.Answer answers.Done) st at
       may refl (begun-seat e.hub.txns session (stamp_of read)) ((calls-stand e.hub.txns w.machine st.valid st.txns).begins session (stamp_of read) may) refl
-      (leaves-go-on w.machine (BeginAt session (stamp_of read)) e.hub.tables.tables e.pieces e.states st.valid may (λ table key. tt) st.leaves)
+      (leaves-go-on law w.machine (BeginAt session (stamp_of read)) e.hub.tables.tables e.pieces e.states st.valid may (λ table key. tt) st.leaves)
       (goes-from session a (stage.Begin read) w.machine (record { told = reply.Answer answers.Done; machine = after w.machine (BeginAt session (stamp_of read)); doing = Resting }) is
       (inr (subst (λ (d : Outcome × Event). JudgedBy d w.machine (record { told = reply.Answer answers.Done; machine = after w.machine (BeginAt session (stamp_of read)); doing = Resting })) (sym decided) (answers.Done, refl, refl))))
       (begun-stands none) where
@@ -130,8 +131,8 @@ module _ (e : Engine) (w : World) (session : ℕ) (a : State) (read : Option ℕ
   begin-goes : Goes e w session (begin_made e.hub session a read)
   begin-goes = by-fault e.hub.fault refl
 
-pub begins-go : BeginsGo
-begins-go e w session a st at begins = by-stage a.stage refl begins where
+pub begins-go : ChainsGoOn → BeginsGo
+begins-go law e w session a st at begins = by-stage a.stage refl begins where
   by-stage : (g : Stage) → a.stage ≡ g → IsBegin g → Goes e w session (hub_made_at g e.hub session a)
-  by-stage (stage.Begin read) is begins = begin-goes e w session a read st at is
+  by-stage (stage.Begin read) is begins = begin-goes law e w session a read st at is
   by-stage _ is begins = absurd begins

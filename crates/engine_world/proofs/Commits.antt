@@ -33,6 +33,7 @@ use Rattle.engine_world.specs.Stages.{EndsOnlyDown, ForTransaction, DecidesStand
 use Rattle.engine_world.specs.Stands.{Engine, Stands, SessionStands}
 use Rattle.engine_world.specs.Steps.{Made, EndsIn, GoesOn, SettledBy}
 use Rattle.engine_world.specs.Worlds.{World, Ending}
+use Rattle.engine_world.proofs.Events.{event-beside}
 use Rattle.engine_world.proofs.HubMoves.{Goes, SetsSeat, seat_in, seat-leads, stage-stands, refused-goes, refused-settled, doing-at, decided-up, decided-down, none-there, one-there, idle-none, phase-there}
 use Rattle.engine_world.proofs.Deciding.{Settling, IsIn, in-set, phased-stands, seat-is, seated-in, commit-is, tables-appended, phase-sets, release-sets, ruled-none, ruled-some}
 use Rattle.engine_world.proofs.Finishing.{IsGone, cursors-count, without-gone, finished-stands, finished-goes}
@@ -56,8 +57,8 @@ durable_stamp stamps = or_stamp (stamp_of stamps.durable) (stamp_of stamps.commi
 
 commit-goes : ChainsGoOn → CommitsStand → (e : Engine) (w : World) (session : ℕ) (stamps : CommitStamps) (a : State) (t : Transaction) → Stands e w → slice_get e.sessions session ≡ Some a → transaction_of w.machine session ≡ Some t
     → t.phase ≡ Running → a.phase ≡ phase.Running → IsEdited (stamps_in Running stamps) w.machine e.pieces t a 0 → given stamps w.machine session ≡ (Done, CommitAt session (stamp_of stamps.commit) (stamp_of stamps.commit))
-    → Settling w session a Done (CommitAt session (stamp_of stamps.commit) (stamp_of stamps.commit)) → Goes e w session (decides_running (Ok tt) e.hub session a)
-commit-goes chains-go-on commits-stand e w session stamps a t st at there running in_p edited d settles =
+    → w.machine.fault ≡ None → Settling w session a Done (CommitAt session (stamp_of stamps.commit) (stamp_of stamps.commit)) → Goes e w session (decides_running (Ok tt) e.hub session a)
+commit-goes chains-go-on commits-stand e w session stamps a t st at there running in_p edited d up settles =
     seat-leads e w session a (finished answers.Done a).1 now (seat_in e.hub.txns session phase.Idle) event (finished answers.Done a).0 st at may refl sets
     ((calls-stand e.hub.txns w.machine st.valid st.txns).releases session (stamp_of stamps.commit) (stamp_of stamps.commit) may (mine.seated.phase ∙ ap known_phase in_p))
     (ap (λ (m : Machine). tables m.history) after_is
@@ -67,7 +68,7 @@ commit-goes chains-go-on commits-stand e w session stamps a t st at there runnin
       answers.Done,
       refl,
       subst (λ o. EndsIn o answers.Done next session (decide_left a) (record { told = (finished answers.Done a).0; machine = next; doing = doing_in session (finished answers.Done a).1 })) (sym gone.none)
-          (finished-goes answers.Done (decide_left a) next session a (omega arith)),
+          ((event-beside session w.machine event st.valid may refl).fault ∙ up, finished-goes answers.Done (decide_left a) next session a (omega arith)),
     ))
     (finished-stands next (record e.hub { txns = now }) e.pieces session a answers.Done gone (cursors-count w.machine e.hub e.pieces session a t st.valid there mine)
     seat.0 seat.1) where
@@ -190,10 +191,10 @@ decides-go chains-go-on commits-stand resolves-stand e w session a st at at-deci
       → Goes e w session (decides_running (of_some (Ok tt) (λ reason. Err reason) o) e.hub session a)
   running-by up in_p t there running edited None passes = let d = by-state up t Running there running
       ∙ ruled-none (commit_rules w.machine.oldest w.machine.stable stamps.commit stamps.durable (durable_below w.machine t.writes)) (CommitAt session (stamp_of stamps.commit) (stamp_of stamps.commit)) (StartLeaving session) passes in
-      commit-goes chains-go-on commits-stand e w session stamps a t st at there running in_p edited d (λ made. settled Done (CommitAt session (stamp_of stamps.commit) (stamp_of stamps.commit)) made d)
+      commit-goes chains-go-on commits-stand e w session stamps a t st at there running in_p edited d (sym st.fault ∙ up) (λ made. settled Done (CommitAt session (stamp_of stamps.commit) (stamp_of stamps.commit)) made d)
   running-by up in_p t there running edited (Some reason) holds = let d = by-state up t Running there running
       ∙ ruled-some (commit_rules w.machine.oldest w.machine.stable stamps.commit stamps.durable (durable_below w.machine t.writes)) (CommitAt session (stamp_of stamps.commit) (stamp_of stamps.commit)) (StartLeaving session) reason holds in
-      leaves-goes e w session a t (Refused (told.Invalid reason)) (answers.Refused (told.Invalid reason)) st at (running-leaves w.machine session a t in_p there running) refl
+      leaves-goes chains-go-on e w session a t (Refused (told.Invalid reason)) (answers.Refused (told.Invalid reason)) st at (running-leaves w.machine session a t in_p there running) (sym st.fault ∙ up) refl
       (λ made. settled (Refused (told.Invalid reason)) (StartLeaving session) made d)
 
   prepared-by : e.hub.fault ≡ None → (stamp : ℕ) → a.phase ≡ phase.Prepared stamp → (t : Transaction) → transaction_of w.machine session ≡ Some t → t.phase ≡ Prepared stamp

@@ -222,7 +222,7 @@ found-refused d r m call name left is =
 abbrev pub placed : Machine → ℕ → Call → Left
 placed next table call = record { told = reply.More; machine = next; doing = Placed call table 6 }
 
-pub found-done : (d : Outcome × Event) (event : Event) (m : Machine) (call now : Call) (name : List ℕ) (table : KnownTable) → d ≡ (Done, event) → now ≡ call → named name (tables m.history) ≡ Some table
+pub found-done : (d : Outcome × Event) (event : Event) (m : Machine) (call now : Call) (name : List ℕ) (table : KnownTable) → d ≡ (Done, event) → now ≡ call → named name (tables (after m event).history) ≡ Some table
     → FoundBy d.0 d.1 m call name 7 (record { told = reply.More; machine = after m event; doing = Placed now table.number 6 })
 found-done d event m call now name table is same there =
     subst (λ (d : Outcome × Event). FoundBy d.0 d.1 m call name 7 (record { told = reply.More; machine = after m event; doing = Placed now table.number 6 })) (sym is)

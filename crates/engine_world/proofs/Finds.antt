@@ -10,7 +10,7 @@ use Rattle.wt_code.specs.declared.refusals.Refusal.TheVariants as told
 use Rattle.wt_code.specs.declared.refusals.Invalid.{Invalid}
 use Rattle.wt_code.specs.declared.refusals.Invalid.TheVariants as why
 use Rattle.wt_code.specs.declared.refusals.Limit.TheVariants as counted
-use Rattle.kv_model.specs.History.{Table as KnownTable}
+use Rattle.kv_model.specs.History.{Table as KnownTable, tables, named}
 use Rattle.kv_model.specs.Machine.{Transaction, Phase as ModelPhase, Running, Failed, Prepared, Resolving, Leaving, transaction_of, of_some, Event, DrawId, Nothing, after}
 use Rattle.kv_model.specs.Allowed.{Allowed}
 use Rattle.kv_model.specs.Refusals.{first_of}
@@ -30,6 +30,7 @@ use Rattle.call_steps.specs.HubEvents.{beside, with_txns, item_checks, draws, fi
 use Rattle.call_steps.specs.State.{State, at_stage, refuses}
 use Rattle.call_steps.specs.Tables.{target_at, target_of}
 use Rattle.call_steps.specs.Words.{unless_running}
+use Rattle.update_chain.specs.EventLaws.{ChainsGoOn}
 use Rattle.engine_world.specs.Worlds.{World, Resting}
 use Rattle.engine_world.specs.Doings.{call_in, doing_in}
 use Rattle.engine_world.specs.Steps.{GoesOn}
@@ -41,7 +42,7 @@ use Rattle.engine_world.proofs.Moves.{alone-leads}
 use Rattle.engine_world.proofs.HubMoves.{Goes, decided-up, decided-down, none-there, in-phase, idle-none, phase-there, stage-stands, goes-from, refused-goes, leaves-go-on, SetsSeat, seat-now, seats-opened, seat-leads}
 use Rattle.engine_world.proofs.FindChecks.{request_in, judged_in, draw_by, goes_in, named_by, named_then, checked_then, judged-as, off-page, checks-agree, NotThere, StandsAt, find-name, has-id, has-none, drawn_seat, drawn-seat, call-kept, judges, found-refused, found-done}
 
-module _ (e : Engine) (w : World) (session : ℕ) (a : State) (call : KeyCall) (st : Stands e w) (at : slice_get e.sessions session ≡ Some a) (is : a.stage ≡ stage.Find call) where
+module _ (law : ChainsGoOn) (e : Engine) (w : World) (session : ℕ) (a : State) (call : KeyCall) (st : Stands e w) (at : slice_get e.sessions session ≡ Some a) (is : a.stage ≡ stage.Find call) where
   mine : SessionStands w.machine e.hub e.pieces session a
   mine = st.sessions session a at
 
@@ -65,12 +66,12 @@ module _ (e : Engine) (w : World) (session : ℕ) (a : State) (call : KeyCall) (
   abbrev on_leaf : Target → State
   on_leaf target = at_stage (stage.Publish call target) a
 
-  found-goes : (event : Event) (s : StandsAt e.hub.tables w.machine a.name) → decision w.machine session (request_in call a) ≡ (Done, event)
+  found-goes : (event : Event) (s : StandsAt e.hub.tables w.machine a.name) → tables (after w.machine event).history ≡ tables w.machine.history → decision w.machine session (request_in call a) ≡ (Done, event)
       → GoesOn (doing_in session a) w.machine session (record { told = reply.More; machine = after w.machine event; doing = doing_in session (on_leaf (target_at s.place s.of)) })
-  found-goes event s decided = goes-from session a (stage.Find call) w.machine (record { told = reply.More; machine = after w.machine event; doing = doing_in session (on_leaf (target_at s.place s.of)) }) is
+  found-goes event s kept decided = goes-from session a (stage.Find call) w.machine (record { told = reply.More; machine = after w.machine event; doing = doing_in session (on_leaf (target_at s.place s.of)) }) is
       (inr (judges call a w.machine session 7 (record { told = reply.More; machine = after w.machine event; doing = doing_in session (on_leaf (target_at s.place s.of)) })
       (found-done (decision w.machine session (request_in call a)) event w.machine (call_in call a) (call_in call (on_leaf (target_at s.place s.of))) a.name s.of decided
-      (call-kept call (stage.Publish call (target_at s.place s.of)) a) s.table)))
+      (call-kept call (stage.Publish call (target_at s.place s.of)) a) (ap (named a.name) kept ∙ s.table))))
 
   is-leaf : (s : StandsAt e.hub.tables w.machine a.name) → IsLeafOf e.hub.tables.tables (target_at s.place s.of)
   is-leaf s = (s.of, s.slot, refl)
@@ -78,7 +79,7 @@ module _ (e : Engine) (w : World) (session : ℕ) (a : State) (call : KeyCall) (
   -- without an id more
   quiet : (t : Transaction) (s : StandsAt e.hub.tables w.machine a.name) → transaction_of w.machine session ≡ Some t → t.phase ≡ Running → (is_write call && (t.id == 0)) ≡ false
       → decision w.machine session (request_in call a) ≡ (Done, Nothing) → Goes e w session (beside e.hub (reply.More, on_leaf (target_at s.place s.of)))
-  quiet t s there running none decided = alone-leads e w session a (on_leaf (target_at s.place s.of)) e.hazards reply.More st at (found-goes Nothing s decided) (record {
+  quiet t s there running none decided = alone-leads e w session a (on_leaf (target_at s.place s.of)) e.hazards reply.More st at (found-goes Nothing s refl decided) (record {
     phase = mine.phase;
     seated = record { opened = mine.seated.opened; phase = mine.seated.phase };
     cursors = mine.cursors;
@@ -118,8 +119,8 @@ module _ (e : Engine) (w : World) (session : ℕ) (a : State) (call : KeyCall) (
       → decision w.machine session (request_in call a) ≡ (Done, DrawId session) → Goes e w session (with_txns e.hub (drawn e.hub.txns session) (reply.More, on_leaf (target_at s.place s.of)))
   drawing t s there running none decided = seat-leads e w session a (on_leaf (target_at s.place s.of)) (drawn e.hub.txns session) (drawn_seat e.hub.txns session) (DrawId session) reply.More st at
       may refl (drawn-seat e.hub.txns session) ((calls-stand e.hub.txns w.machine st.valid st.txns).draws session may) refl
-      (leaves-go-on w.machine (DrawId session) e.hub.tables.tables e.pieces e.states st.valid may (λ table key. tt) st.leaves)
-      (found-goes (DrawId session) s decided) (drawn-stands t s there running) where
+      (leaves-go-on law w.machine (DrawId session) e.hub.tables.tables e.pieces e.states st.valid may (λ table key. tt) st.leaves)
+      (found-goes (DrawId session) s refl decided) (drawn-stands t s there running) where
         may : Allowed w.machine (DrawId session)
         may = (t, there, (running, none))
 
@@ -189,8 +190,8 @@ module _ (e : Engine) (w : World) (session : ℕ) (a : State) (call : KeyCall) (
   find-goes : Goes e w session (find_made e.hub session a call)
   find-goes = by-fault e.hub.fault refl
 
-pub finds-go : FindsGo
-finds-go e w session a st at finds = by-stage a.stage refl finds where
+pub finds-go : ChainsGoOn → FindsGo
+finds-go law e w session a st at finds = by-stage a.stage refl finds where
   by-stage : (g : Stage) → a.stage ≡ g → IsFind g → Goes e w session (hub_made_at g e.hub session a)
-  by-stage (stage.Find call) is finds = find-goes e w session a call st at is
+  by-stage (stage.Find call) is finds = find-goes law e w session a call st at is
   by-stage _ is finds = absurd finds

@@ -20,8 +20,7 @@ use Rattle.txn_table.specs.declared.phase.Phase.TheVariants as phase
 use Rattle.txn_table.specs.SessionData.{SessionData, opened, is_unreleased, phase_in}
 use Rattle.txn_table.specs.Tabled.{Table, session_of, phase_of, ended}
 use Rattle.txn_table.specs.Stands.{TableStands}
-use Rattle.update_chain.specs.EventLaws.{LeavesAlone}
-use Rattle.update_chain.proofs.GoingOn.{chains-go-on}
+use Rattle.update_chain.specs.EventLaws.{ChainsGoOn, LeavesAlone}
 use Rattle.leaf_chains.specs.Slots.{chain_at}
 use Rattle.call_steps.specs.declared.frame.FramePiece.{FramePiece}
 use Rattle.call_steps.specs.declared.hub.Hub.{Hub}
@@ -136,14 +135,14 @@ refused-goes e w session a g r st at is ends goes = alone-leads e w session a (a
 
 -- ---- leaves
 
-pub leaves-go-on : (m : Machine) (event : Event) (known : List KnownTable) (pieces : List FramePiece) (states : List ℕ) → Valid m → Allowed m event → ((table : ℕ) (key : List ℕ) → LeavesAlone m table key event)
+pub leaves-go-on : ChainsGoOn → (m : Machine) (event : Event) (known : List KnownTable) (pieces : List FramePiece) (states : List ℕ) → Valid m → Allowed m event → ((table : ℕ) (key : List ℕ) → LeavesAlone m table key event)
     → ((place : ℕ) (t : KnownTable) → slice_get known place ≡ Some t → LeafStands m pieces states place t)
     → (place : ℕ) (t : KnownTable) → slice_get known place ≡ Some t → LeafStands (after m event) pieces states place t
-leaves-go-on m event known pieces states v may alone stand place t there = record {
+leaves-go-on law m event known pieces states v may alone stand place t there = record {
   frame = (stand place t there).frame;
   there = (stand place t there).there;
   word = (stand place t there).word;
-  keys = λ key. chains-go-on m event t.number key (chain_at key (stand place t there).frame.chains) None [] v may (alone t.number key) ((stand place t there).keys key);
+  keys = λ key. law m event t.number key (chain_at key (stand place t there).frame.chains) None [] v may (alone t.number key) ((stand place t there).keys key);
 }
 
 -- ---- the table of transactions

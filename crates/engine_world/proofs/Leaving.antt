@@ -1,5 +1,5 @@
 -- A transaction that is not prepared begins its rollback, and ends at once where it wrote nothing.
-use Rattle.std.proofs.Common.{◌≡◌, ◌+◌, ℕ, zero, suc, refl, ap, sym, ◌∙◌, List, [], ◌∷◌, length, inl, inr, subst, arith}
+use Rattle.std.proofs.Common.{◌≡◌, ◌+◌, ℕ, zero, suc, refl, ap, sym, ◌∙◌, List, [], ◌∷◌, length, inl, inr, subst, arith, None}
 use Rattle.std.specs.Prelude.{Some, find, slice_get}
 use Rattle.wt_code.specs.declared.answers.Answer.{Answer}
 use Rattle.kv_model.specs.Allowed.{Allowed}
@@ -20,6 +20,7 @@ use Rattle.call_steps.specs.declared.written.WrittenKey.{WrittenKey}
 use Rattle.call_steps.specs.HubEvents.{beside, known_phase, leaves_with, with_txns}
 use Rattle.call_steps.specs.Stages.{undoes}
 use Rattle.call_steps.specs.State.{State, finished, leaves}
+use Rattle.update_chain.specs.EventLaws.{ChainsGoOn}
 use Rattle.engine_world.specs.Doings.{doing_at, doing_in, decide_left, done_left}
 use Rattle.engine_world.specs.Leaves.{AreNoted}
 use Rattle.engine_world.specs.Stages.{StageStands}
@@ -75,14 +76,14 @@ wrote-none e w session a t st at there none = no-writes e.hub.tables.tables e.pi
 -- ---- the two ways
 
 -- it wrote nothing, and ends at once
-at-once : (e : Engine) (w : World) (session : ℕ) (a : State) (t : Transaction) (outcome : Outcome) (answer : Answer (List ℕ)) → Stands e w → slice_get e.sessions session ≡ Some a → MayLeave w.machine session a t → t.writes ≡ []
+at-once : ChainsGoOn → (e : Engine) (w : World) (session : ℕ) (a : State) (t : Transaction) (outcome : Outcome) (answer : Answer (List ℕ)) → Stands e w → slice_get e.sessions session ≡ Some a → MayLeave w.machine session a t → w.machine.fault ≡ None → t.writes ≡ []
     → Tells outcome answer → Settling w session a outcome (StartLeaving session) → Goes e w session (with_txns e.hub (ended e.hub.txns session) (finished answer a))
-at-once e w session a t outcome answer st at v empty tells settles = leads e w session a (finished answer a).1 (record e.hub { txns = ended e.hub.txns session }) e.pieces e.hazards next (finished answer a).0 st at
+at-once law e w session a t outcome answer st at v up empty tells settles = leads e w session a (finished answer a).1 (record e.hub { txns = ended e.hub.txns session }) e.pieces e.hazards next (finished answer a).0 st at
     (settles (record { told = (finished answer a).0; machine = next; doing = doing_in session (finished answer a).1 }) (
       answer,
       tells,
       subst (λ o. EndsIn o answer middle session (decide_left a) (record { told = (finished answer a).0; machine = next; doing = doing_in session (finished answer a).1 })) (sym now.there)
-          (inr (empty, finished-goes answer (decide_left a) next session a (omega arith))),
+          (inr (still-up, empty, finished-goes answer (decide_left a) next session a (omega arith))),
     ))
     (record {
       valid = valid-after middle (EndTransaction session) valid may;
@@ -93,8 +94,8 @@ at-once e w session a t outcome answer st at v empty tells settles = leads e w s
       stamps = refl;
       txns = (calls-stand e.hub.txns middle valid (left-lags e w session a t st at v)).ends session may;
       made = ap (λ (m : Machine). tables m.history) v.leaves;
-      leaves = leaves-go-on middle (EndTransaction session) e.hub.tables.tables e.pieces e.states valid may (λ table key. did-not middle session (in_phase Leaving t) table key now.there (ap (find (writes_at table key)) empty))
-          (leaves-go-on w.machine (StartLeaving session) e.hub.tables.tables e.pieces e.states st.valid tt (λ table key. tt) st.leaves);
+      leaves = leaves-go-on law middle (EndTransaction session) e.hub.tables.tables e.pieces e.states valid may (λ table key. did-not middle session (in_phase Leaving t) table key now.there (ap (find (writes_at table key)) empty))
+          (leaves-go-on law w.machine (StartLeaving session) e.hub.tables.tables e.pieces e.states st.valid tt (λ table key. tt) st.leaves);
       mine = finished-stands next (record e.hub { txns = ended e.hub.txns session }) e.pieces session a answer (without-gone middle session (in_phase Leaving t) valid now.there)
           (cursors-count w.machine e.hub e.pieces session a t st.valid v.there (st.sessions session a at))
           (seat-idle w.machine e.hub e.pieces session a (st.sessions session a at)).0 (seat-idle w.machine e.hub e.pieces session a (st.sessions session a at)).1;
@@ -104,6 +105,9 @@ at-once e w session a t outcome answer st at v empty tells settles = leads e w s
 
       next : Machine
       next = after middle (EndTransaction session)
+
+      still-up : middle.fault ≡ None
+      still-up = (event-beside session w.machine (StartLeaving session) st.valid tt refl).fault ∙ up
 
       now : IsIn w.machine middle session t Leaving
       now = left-in w.machine session a t v
@@ -115,9 +119,9 @@ at-once e w session a t outcome answer st at v empty tells settles = leads e w s
       may = (in_phase Leaving t, now.there, tt)
 
 -- it has updates to take out
-with-undos : (e : Engine) (w : World) (session n : ℕ) (a : State) (t : Transaction) (outcome : Outcome) (answer : Answer (List ℕ)) → Stands e w → slice_get e.sessions session ≡ Some a → MayLeave w.machine session a t
+with-undos : ChainsGoOn → (e : Engine) (w : World) (session n : ℕ) (a : State) (t : Transaction) (outcome : Outcome) (answer : Answer (List ℕ)) → Stands e w → slice_get e.sessions session ≡ Some a → MayLeave w.machine session a t
     → length a.written ≡ suc n → Tells outcome answer → Settling w session a outcome (StartLeaving session) → Goes e w session (beside e.hub (reply.More, leaves answer a))
-with-undos e w session n a t outcome answer st at v some tells settles = leads e w session a (leaves answer a) e.hub e.pieces e.hazards next reply.More st at
+with-undos law e w session n a t outcome answer st at v some tells settles = leads e w session a (leaves answer a) e.hub e.pieces e.hazards next reply.More st at
     (settles (record { told = reply.More; machine = next; doing = doing_in session (leaves answer a) }) (
       answer,
       tells,
@@ -131,7 +135,7 @@ with-undos e w session n a t outcome answer st at v some tells settles = leads e
       stamps = refl;
       txns = left-lags e w session a t st at v;
       made = ap (λ (m : Machine). tables m.history) v.leaves;
-      leaves = leaves-go-on w.machine (StartLeaving session) e.hub.tables.tables e.pieces e.states st.valid tt (λ table key. tt) st.leaves;
+      leaves = leaves-go-on law w.machine (StartLeaving session) e.hub.tables.tables e.pieces e.states st.valid tt (λ table key. tt) st.leaves;
       mine = phased-stands w.machine next e.hub e.hub.txns e.pieces session a (leaves answer a) t Leaving mine v.there now (record { opened = mine.seated.opened; phase = mine.seated.phase ∙ v.known }) refl refl refl
           (subst (λ k. StageStands (undoes k) next e.hub.tables.tables e.pieces session (leaves answer a)) (sym some) (
             ((omega arith), (omega (arith, some))),
@@ -151,9 +155,9 @@ with-undos e w session n a t outcome answer st at v some tells settles = leads e
       does = ap (λ k. doing_at (undoes k) session (leaves answer a)) some
 
 -- either of them
-pub leaves-goes : (e : Engine) (w : World) (session : ℕ) (a : State) (t : Transaction) (outcome : Outcome) (answer : Answer (List ℕ)) → Stands e w → slice_get e.sessions session ≡ Some a → MayLeave w.machine session a t
+pub leaves-goes : ChainsGoOn → (e : Engine) (w : World) (session : ℕ) (a : State) (t : Transaction) (outcome : Outcome) (answer : Answer (List ℕ)) → Stands e w → slice_get e.sessions session ≡ Some a → MayLeave w.machine session a t → w.machine.fault ≡ None
     → Tells outcome answer → Settling w session a outcome (StartLeaving session) → Goes e w session (leaves_with (length a.written) answer e.hub session a)
-leaves-goes e w session a t outcome answer st at v tells settles = by-count (length a.written) refl where
+leaves-goes law e w session a t outcome answer st at v up tells settles = by-count (length a.written) refl where
   by-count : (n : ℕ) → length a.written ≡ n → Goes e w session (leaves_with n answer e.hub session a)
-  by-count zero none = at-once e w session a t outcome answer st at v (wrote-none e w session a t st at v.there none) tells settles
-  by-count (suc n) some = with-undos e w session n a t outcome answer st at v some tells settles
+  by-count zero none = at-once law e w session a t outcome answer st at v up (wrote-none e w session a t st at v.there none) tells settles
+  by-count (suc n) some = with-undos law e w session n a t outcome answer st at v some tells settles

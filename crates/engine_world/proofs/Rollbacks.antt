@@ -20,6 +20,7 @@ use Rattle.call_steps.specs.declared.stage.Stage.TheVariants as stage
 use Rattle.call_steps.specs.HubEvents.{IsSeated, beside, hub_made_at, known_phase, resolves_in}
 use Rattle.call_steps.specs.Stages.{undoes}
 use Rattle.call_steps.specs.State.{State, refuses}
+use Rattle.update_chain.specs.EventLaws.{ChainsGoOn}
 use Rattle.engine_world.specs.Doings.{doing_in, decide_left, done_left}
 use Rattle.engine_world.specs.Laws.{ResolvesGo, IsResolve}
 use Rattle.engine_world.specs.Stages.{EndsOnlyDown, ForTransaction, ResolvesStand, NoneStands}
@@ -54,13 +55,13 @@ on-hub m session stands = by-there (transaction_of m session) refl where
   by-there (Some t) there = undoes-none t.phase t (stands t there)
 
 -- the rollback of a prepared transaction
-undo-goes : (e : Engine) (w : World) (session stamp : ℕ) (a : State) (t : Transaction) → Stands e w → slice_get e.sessions session ≡ Some a → transaction_of w.machine session ≡ Some t → t.phase ≡ Prepared stamp
+undo-goes : ChainsGoOn → (e : Engine) (w : World) (session stamp : ℕ) (a : State) (t : Transaction) → Stands e w → slice_get e.sessions session ≡ Some a → transaction_of w.machine session ≡ Some t → t.phase ≡ Prepared stamp
     → a.phase ≡ phase.Prepared stamp → Settling w session a Done (StartLeaving session) → Goes e w session (resolves_in (phase.Prepared stamp) e.hub session a)
-undo-goes e w session stamp a t st at there is in_p settles =
+undo-goes law e w session stamp a t st at there is in_p settles =
     seat-leads e w session a b now (seat_in e.hub.txns session phase.Resolving) (StartLeaving session) reply.More st at tt refl sets
     ((calls-stand e.hub.txns w.machine st.valid st.txns).undoes session stamp (mine.seated.phase ∙ ap known_phase in_p))
     (ap (λ (m : Machine). tables m.history) after_is ∙ tables-appended t.writes (Undo (name_of w.machine t)) w.machine.history refl)
-    (leaves-go-on w.machine (StartLeaving session) e.hub.tables.tables e.pieces e.states st.valid tt (λ table key. tt) st.leaves)
+    (leaves-go-on law w.machine (StartLeaving session) e.hub.tables.tables e.pieces e.states st.valid tt (λ table key. tt) st.leaves)
     (settles (record { told = reply.More; machine = next; doing = doing_in session b }) (
       answers.Done,
       refl,
@@ -99,8 +100,8 @@ undo-goes e w session stamp a t st at there is in_p settles =
       seated : IsSeated (record e.hub { txns = now }) session b
       seated = seated-in e.hub now session phase.Resolving b sets (st.sessions session a at).seated.opened refl
 
-pub resolves-go : ResolvesGo
-resolves-go e w session a st at at-resolve = subst (λ g. Goes e w session (hub_made_at g e.hub session a)) (sym is) (by-fault e.hub.fault refl) where
+pub resolves-go : ChainsGoOn → ResolvesGo
+resolves-go law e w session a st at at-resolve = subst (λ g. Goes e w session (hub_made_at g e.hub session a)) (sym is) (by-fault e.hub.fault refl) where
   is : a.stage ≡ stage.Resolve
   is = resolve-stage a.stage at-resolve
 
@@ -124,11 +125,11 @@ resolves-go e w session a st at at-resolve = subst (λ g. Goes e w session (hub_
   by-phase up phase.Idle in_p = is-refused (told.Invalid why.NoTxn)
       (decided-up w.machine session RollbackCall (sym st.fault ∙ up) ∙ none-there w.machine session (λ t. rollback_decision t.phase session) (idle-none w.machine e.hub e.pieces session a mine in_p))
   by-phase up phase.Running in_p = let x = phase-there w.machine e.hub e.pieces session a phase.Running Running mine in_p refl in
-      leaves-goes e w session a x.0 Done answers.Done st at (running-leaves w.machine session a x.0 in_p x.1 x.2) refl (λ made. settled Done (StartLeaving session) made (by-state up x.0 Running x.1 x.2))
+      leaves-goes law e w session a x.0 Done answers.Done st at (running-leaves w.machine session a x.0 in_p x.1 x.2) (sym st.fault ∙ up) refl (λ made. settled Done (StartLeaving session) made (by-state up x.0 Running x.1 x.2))
   by-phase up phase.Failed in_p = let x = phase-there w.machine e.hub e.pieces session a phase.Failed Failed mine in_p refl in
-      leaves-goes e w session a x.0 Done answers.Done st at (failed-leaves w.machine session a x.0 in_p x.1 x.2) refl (λ made. settled Done (StartLeaving session) made (by-state up x.0 Failed x.1 x.2))
+      leaves-goes law e w session a x.0 Done answers.Done st at (failed-leaves w.machine session a x.0 in_p x.1 x.2) (sym st.fault ∙ up) refl (λ made. settled Done (StartLeaving session) made (by-state up x.0 Failed x.1 x.2))
   by-phase up (phase.Prepared stamp) in_p = let x = phase-there w.machine e.hub e.pieces session a (phase.Prepared stamp) (Prepared stamp) mine in_p refl in
-      undo-goes e w session stamp a x.0 st at x.1 x.2 in_p (λ made. settled Done (StartLeaving session) made (by-state up x.0 (Prepared stamp) x.1 x.2))
+      undo-goes law e w session stamp a x.0 st at x.1 x.2 in_p (λ made. settled Done (StartLeaving session) made (by-state up x.0 (Prepared stamp) x.1 x.2))
   by-phase up phase.Resolving in_p = let x = phase-there w.machine e.hub e.pieces session a phase.Resolving Resolving mine in_p refl in
       absurd (up-living w.machine session x.0 Resolving (sym st.fault ∙ up) stands.0 x.1 x.2 tt)
   by-phase up phase.Leaving in_p = let x = phase-there w.machine e.hub e.pieces session a phase.Leaving Leaving mine in_p refl in

@@ -7,12 +7,16 @@ use update_chain::{chains_go_on, commits_stand, ends_stand, prepares_stand, reso
 /// A begin.
 pub fn begins_go()
     ensures { BeginsGo }
-{}
+{
+    chains_go_on();
+}
 
 /// The event that finds the table of a call.
 pub fn finds_go()
     ensures { FindsGo }
-{}
+{
+    chains_go_on();
+}
 
 /// The look in the history, after a leaf that held nothing which is admitted.
 pub fn histories_go()
@@ -39,7 +43,9 @@ pub fn decides_go()
 /// The decision of a rollback.
 pub fn resolves_go()
     ensures { ResolvesGo }
-{}
+{
+    chains_go_on();
+}
 
 /// The end of a transaction whose commit or rollback was decided.
 pub fn ends_go()
