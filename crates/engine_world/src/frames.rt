@@ -2,7 +2,10 @@
 
 ghost use Rattle.engine_world.specs.Laws.{MarksGo, OrdersGo, ReadsGo, RowsGo, StampsGo, UndosGo, WritesGo};
 
-use update_chain::{chains_go_on, marks_stand, orders_stand, stamps_stand, undos_stand};
+use update_chain::{
+    chains_go_on, installs_stand, marks_stand, orders_stand, stamps_stand, undos_stand,
+    writes_stand,
+};
 
 /// A look of a get or a seek.
 pub fn reads_go()
