@@ -8,6 +8,7 @@ pub mod EditMoves
 pub mod EditedChains
 pub mod EditedLeaves
 pub mod Ends
+pub mod EngineStarts
 pub mod Events
 pub mod FindChecks
 pub mod Finds
