@@ -1,3 +1,4 @@
+pub mod Appended
 pub mod Arranged
 pub mod Begins
 pub mod Beside
@@ -25,6 +26,7 @@ pub mod Moves
 pub mod NotedSlots
 pub mod Notes
 pub mod OnePiece
+pub mod Opens
 pub mod Orders
 pub mod Others
 pub mod OwnKeys
@@ -38,6 +40,7 @@ pub mod Rollbacks
 pub mod StampingLeaves
 pub mod StartPhases
 pub mod Starts
+pub mod SystemEvents
 pub mod TakingOut
 pub mod WordEvents
 pub mod WriteLooks
