@@ -37,6 +37,7 @@ pub mod Reaching
 pub mod ReadLooks
 pub mod Resolving
 pub mod Rollbacks
+pub mod Sets
 pub mod StampingLeaves
 pub mod StartPhases
 pub mod Starts

@@ -19,7 +19,9 @@ pub fn opens_go()
 /// The oldest and the stable stamp are raised.
 pub fn sets_go()
     ensures { SetsGo }
-{}
+{
+    chains_go_on();
+}
 
 /// A table is made.
 pub fn creates_go()
