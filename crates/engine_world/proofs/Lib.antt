@@ -3,6 +3,7 @@ pub mod Arranged
 pub mod Begins
 pub mod Beside
 pub mod Commits
+pub mod Creates
 pub mod CursorChanges
 pub mod Deciding
 pub mod EditMoves

@@ -26,4 +26,6 @@ pub fn sets_go()
 /// A table is made.
 pub fn creates_go()
     ensures { CreatesGo }
-{}
+{
+    chains_go_on();
+}
