@@ -1,11 +1,11 @@
 -- What an event of a session leaves to the other sessions.
-use Rattle.std.proofs.Common.{◌≡◌, ◌≢◌, ◌<◌, ℕ, true, List, length}
-use Rattle.std.specs.Prelude.{Option, Some}
+use Rattle.std.proofs.Common.{◌≡◌, ◌≢◌, ◌<◌, ◌≤◌, ℕ, true, List, length}
+use Rattle.std.specs.Prelude.{Some, slice_get}
 use Rattle.item.specs.declared.Change.{Change}
 use Rattle.stamp.specs.declared.Name.{Name}
 use Rattle.stamp.specs.declared.Version.{Version}
 use Rattle.kv_model.specs.Holds.{Member}
-use Rattle.kv_model.specs.History.{line}
+use Rattle.kv_model.specs.History.{Table, line}
 use Rattle.kv_model.specs.Machine.{Machine, Transaction, transaction_of, cursors_of, name_of, Event, BeginAt, DrawId, AcceptWrite, RefuseWrite, PrepareAt, CommitAt, StartLeaving, EndTransaction, PlaceCursor, Nothing}
 use Rattle.kv_model.specs.Pending.{NoneOf}
 use Rattle.kv_model.specs.Reads.{own_write, is_own, IsEnding}
@@ -30,13 +30,10 @@ IsEventOf session (PlaceCursor s cursor position) = s ≡ session
 IsEventOf session Nothing = Unit {0}
 IsEventOf session _ = ⊥
 
--- what the machine keeps for the others
-pub record MachineBeside (session : ℕ) (m next : Machine) : Type 0 where
+-- what the machine keeps for each session but this one, also while sessions are opened and stamps are raised
+pub record MachineApart (session : ℕ) (m next : Machine) : Type 0 where
   pub run : next.run ≡ m.run
   pub fault : next.fault ≡ m.fault
-  pub oldest : next.oldest ≡ m.oldest
-  pub stable : next.stable ≡ m.stable
-  pub count : length next.sessions ≡ length m.sessions
   pub others : (r : ℕ) → r ≢ session → transaction_of next r ≡ transaction_of m r
   pub cursors : (r : ℕ) → r ≢ session → cursors_of next r ≡ cursors_of m r
   -- the versions under the writes of a transaction that is not ending stay
@@ -45,6 +42,13 @@ pub record MachineBeside (session : ℕ) (m next : Machine) : Type 0 where
   pub grown : (table : ℕ) (key : List ℕ) (v : Version Change) → Member v (line m.history table key) → Member v (line next.history table key)
   -- none of a name that did not stand stands now, but of the session's own
   pub none : (r : ℕ) (t : Transaction) (table : ℕ) (key : List ℕ) → r ≢ session → transaction_of m r ≡ Some t → 0 < t.id → NoneOf (name_of m t) (line m.history table key) → NoneOf (name_of m t) (line next.history table key)
+
+-- what the machine keeps for the others over an event of a session
+pub record MachineBeside (session : ℕ) (m next : Machine) : Type 0 where
+  pub apart : MachineApart session m next
+  pub oldest : next.oldest ≡ m.oldest
+  pub stable : next.stable ≡ m.stable
+  pub count : length next.sessions ≡ length m.sessions
 
 -- a key keeps its slot
 abbrev pub SlotsStay : List FramePiece → List FramePiece → Type 0
@@ -66,4 +70,17 @@ pub record Beside (session : ℕ) (m next : Machine) (hub later : Hub) (pieces p
   pub seats : length later.txns.sessions ≡ length hub.txns.sessions
   pub phases : (r : ℕ) → r ≢ session → phase_of later.txns r ≡ phase_of hub.txns r
   pub slots : SlotsStay pieces pieces'
+  pub updates : OthersUpdates m session pieces pieces'
+
+-- the tables that were known are known at their places, and a key of them keeps its slot
+pub record LeavesStay (known made : List Table) (pieces later : List FramePiece) : Type 0 where
+  pub tables : (place : ℕ) (t : Table) → slice_get known place ≡ Some t → slice_get made place ≡ Some t
+  pub slots : (place : ℕ) (t : Table) (key : List ℕ) (i : ℕ) → slice_get known place ≡ Some t → slot_of key (slots_in pieces place) ≡ Some i → slot_of key (slots_in later place) ≡ Some i
+
+-- what is left to each session but this one, also while sessions are opened, stamps are raised and tables are made
+pub record Apart (session : ℕ) (m next : Machine) (hub later : Hub) (pieces pieces' : List FramePiece) : Type 0 where
+  pub machine : MachineApart session m next
+  pub leaves : LeavesStay hub.tables.tables later.tables.tables pieces pieces'
+  pub seats : length hub.txns.sessions ≤ length later.txns.sessions
+  pub phases : (r : ℕ) → r ≢ session → phase_of later.txns r ≡ phase_of hub.txns r
   pub updates : OthersUpdates m session pieces pieces'

@@ -18,7 +18,7 @@ use Rattle.kv_model.proofs.Finishing.{member-append, named-so}
 use Rattle.kv_model.proofs.Onward.{Grew, history-grew, run-after, session-stays}
 use Rattle.call_steps.specs.declared.frame.FramePiece.{FramePiece}
 use Rattle.call_steps.specs.declared.hub.Hub.{Hub}
-use Rattle.engine_world.proofs.Beside.{Beside, MachineBeside, IsEventOf, SlotsStay, OthersUpdates}
+use Rattle.engine_world.proofs.Beside.{Beside, MachineApart, MachineBeside, IsEventOf, SlotsStay, OthersUpdates}
 
 -- ---- all but the history and the transactions
 
@@ -151,16 +151,18 @@ of-others session r _ of other = tt
 
 pub event-beside : (session : ℕ) (m : Machine) (event : Event) → Valid m → Allowed m event → IsEventOf session event → MachineBeside session m (after m event)
 event-beside session m event valid may of = record {
-  run = run-after m event;
-  fault = plain.fault;
+  apart = record {
+    run = run-after m event;
+    fault = plain.fault;
+    others = λ r other. session-stays m event r may (of-others session r event of other);
+    cursors = plain.cursors;
+    held = lines.held;
+    grown = lines.grown;
+    none = lines.none;
+  };
   oldest = plain.oldest;
   stable = plain.stable;
   count = plain.count;
-  others = λ r other. session-stays m event r may (of-others session r event of other);
-  cursors = plain.cursors;
-  held = lines.held;
-  grown = lines.grown;
-  none = lines.none;
 } where
   plain : PlainBeside session m (after m event)
   plain = plain-after session m event of
@@ -170,13 +172,10 @@ event-beside session m event valid may of = record {
 
 -- ---- one after another
 
-pub beside-then : (session : ℕ) (m middle next : Machine) → MachineBeside session m middle → MachineBeside session middle next → MachineBeside session m next
-beside-then session m middle next v w = record {
+apart-then : (session : ℕ) (m middle next : Machine) → MachineApart session m middle → MachineApart session middle next → MachineApart session m next
+apart-then session m middle next v w = record {
   run = w.run ∙ v.run;
   fault = w.fault ∙ v.fault;
-  oldest = w.oldest ∙ v.oldest;
-  stable = w.stable ∙ v.stable;
-  count = w.count ∙ v.count;
   others = λ r other. w.others r other ∙ v.others r other;
   cursors = λ r other. w.cursors r other ∙ v.cursors r other;
   held = λ r t table key other there alive own. w.held r t table key other (v.others r other ∙ there) alive own ∙ v.held r t table key other there alive own;
@@ -185,19 +184,27 @@ beside-then session m middle next v w = record {
       (w.none r t table key other (v.others r other ∙ there) drawn (subst (λ run. NoneOf (record { run = run; id = t.id }) (line middle.history table key)) (sym v.run) (v.none r t table key other there drawn none)));
 }
 
-pub beside-same : (session : ℕ) (m : Machine) → MachineBeside session m m
-beside-same session m = record {
+pub beside-then : (session : ℕ) (m middle next : Machine) → MachineBeside session m middle → MachineBeside session middle next → MachineBeside session m next
+beside-then session m middle next v w = record {
+  apart = apart-then session m middle next v.apart w.apart;
+  oldest = w.oldest ∙ v.oldest;
+  stable = w.stable ∙ v.stable;
+  count = w.count ∙ v.count;
+}
+
+pub apart-same : (session : ℕ) (m : Machine) → MachineApart session m m
+apart-same session m = record {
   run = refl;
   fault = refl;
-  oldest = refl;
-  stable = refl;
-  count = refl;
   others = λ r other. refl;
   cursors = λ r other. refl;
   held = λ r t table key other there live own. refl;
   grown = λ table key v member. member;
   none = λ r t table key other there drawn none. none;
 }
+
+pub beside-same : (session : ℕ) (m : Machine) → MachineBeside session m m
+beside-same session m = record { apart = apart-same session m; oldest = refl; stable = refl; count = refl }
 
 -- ---- the frames and the hub
 

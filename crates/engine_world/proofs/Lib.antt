@@ -1,13 +1,16 @@
+pub mod Appended
 pub mod Arranged
 pub mod Begins
 pub mod Beside
 pub mod Commits
+pub mod Creates
 pub mod CursorChanges
 pub mod Deciding
 pub mod EditMoves
 pub mod EditedChains
 pub mod EditedLeaves
 pub mod Ends
+pub mod EngineStarts
 pub mod Events
 pub mod FindChecks
 pub mod Finds
@@ -24,6 +27,7 @@ pub mod Moves
 pub mod NotedSlots
 pub mod Notes
 pub mod OnePiece
+pub mod Opens
 pub mod Orders
 pub mod Others
 pub mod OwnKeys
@@ -34,9 +38,11 @@ pub mod Reaching
 pub mod ReadLooks
 pub mod Resolving
 pub mod Rollbacks
+pub mod Sets
 pub mod StampingLeaves
 pub mod StartPhases
 pub mod Starts
+pub mod SystemEvents
 pub mod TakingOut
 pub mod WordEvents
 pub mod WriteLooks

@@ -1,11 +1,11 @@
 -- One event of one session, and the engine goes on to stand.
 use Rattle.std.proofs.Common.{◌≡◌, ◌≢◌, ◌<◌, ℕ, zero, suc, refl, ap, sym, ◌∙◌, List, [], ◌∷◌, length, inl, inr, subst, arith}
-use Rattle.std.specs.Prelude.{Option, Some, None, reverse, slice_get, slice_set, slice_index_or}
+use Rattle.std.specs.Prelude.{Some, reverse, slice_get, slice_set}
 use Rattle.std.proofs.lemmas.Bool.{cases_eq}
 use Rattle.std.proofs.lemmas.List.{get_or-set_same, get_or-set_other, length-set}
-use Rattle.std.proofs.lemmas.Option.{slice_get_within, slice_get-get_or, get_or_from_slice_get, slice_get_past}
+use Rattle.std.proofs.lemmas.Option.{slice_get_within, slice_get-get_or}
 use Rattle.kv_model.specs.History.{Table, tables}
-use Rattle.kv_model.specs.Machine.{Machine, transaction_of}
+use Rattle.kv_model.specs.Machine.{Machine}
 use Rattle.kv_model.specs.Valid.{Valid}
 use Rattle.txn_table.specs.Stands.{TableStands}
 use Rattle.catalog.specs.Known.{AreTables}
@@ -13,9 +13,9 @@ use Rattle.call_steps.specs.declared.frame.FramePiece.{FramePiece}
 use Rattle.call_steps.specs.declared.hub.Hub.{Hub}
 use Rattle.call_steps.specs.declared.reply.Reply.{Reply}
 use Rattle.call_steps.specs.State.{State}
-use Rattle.engine_world.specs.Worlds.{World, Doing, Resting, doing_of}
+use Rattle.engine_world.specs.Worlds.{World, Resting, doing_of}
 use Rattle.engine_world.specs.Laws.{Leads}
-use Rattle.engine_world.specs.Steps.{GoesOn, MayGo, Made}
+use Rattle.engine_world.specs.Steps.{GoesOn}
 use Rattle.engine_world.specs.Doings.{doing_in}
 use Rattle.engine_world.specs.Leaves.{LeafStands}
 use Rattle.engine_world.specs.Stands.{Engine, Stands, SessionStands}
@@ -60,7 +60,7 @@ pub moves : (e : Engine) (w : World) (session : ℕ) (old a : State) (hub : Hub)
     → Moves e w session hub pieces a next → Stands (engine_with e session hub pieces hazards a) (world_with w session a next)
 moves e w session old a hub pieces hazards next st at v = record {
   valid = v.valid;
-  fault = v.fault ∙ (st.fault ∙ sym v.beside.machine.fault);
+  fault = v.fault ∙ (st.fault ∙ sym v.beside.machine.apart.fault);
   stamps = v.stamps ∙ (st.stamps ∙ sym (λ i. record { oldest = v.beside.machine.oldest i; stable = v.beside.machine.stable i }));
   txns = v.txns;
   catalog = subst AreTables (sym v.beside.tables) st.catalog;

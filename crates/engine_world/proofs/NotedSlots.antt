@@ -17,7 +17,7 @@ use Rattle.call_steps.specs.declared.frame.FramePiece.{FramePiece}
 use Rattle.call_steps.specs.declared.written.WrittenKey.{WrittenKey}
 use Rattle.call_steps.specs.Leaves.{chain_in}
 use Rattle.engine_world.specs.Leaves.{AreNoted, IsSlotOf, durable_under, number_at, slots_in}
-use Rattle.engine_world.proofs.Beside.{SlotsStay}
+use Rattle.engine_world.proofs.Beside.{LeavesStay}
 
 -- ---- one slot
 
@@ -64,14 +64,19 @@ pub slot-durable : (m : Machine) (known : List Table) (pieces : List FramePiece)
 slot-durable m known pieces k table key s =
     λ i. newest_durable (line m.history (slot-number known pieces k table key s i) (slot-key key (slots_in pieces k.frame) k.slot s.slot i))
 
--- where a key keeps its slot
-pub slot-stays : (known : List Table) (pieces later : List FramePiece) (k : WrittenKey) (table : ℕ) (key : List ℕ) → SlotsStay pieces later
-    → IsSlotOf known pieces k table key → IsSlotOf known later k table key
-slot-stays known pieces later k table key stay s = record { of = s.of; there = s.there; number = s.number; slot = stay k.frame key k.slot s.slot }
+-- where the leaves stay
+pub slot-stays : (known made : List Table) (pieces later : List FramePiece) (k : WrittenKey) (table : ℕ) (key : List ℕ) → LeavesStay known made pieces later
+    → IsSlotOf known pieces k table key → IsSlotOf made later k table key
+slot-stays known made pieces later k table key stay s = record {
+  of = s.of;
+  there = stay.tables k.frame s.of s.there;
+  number = s.number;
+  slot = stay.slots k.frame s.of key k.slot s.there s.slot;
+}
 
-pub noted-stay : (known : List Table) (pieces later : List FramePiece) (writes : List Write) (keys : List WrittenKey) → SlotsStay pieces later
-    → AreNoted known pieces writes keys → AreNoted known later writes keys
-noted-stay known pieces later writes keys stay n = record {
-  noted = λ w member. let k = n.noted w member in (k.0, k.1, slot-stays known pieces later k.0 w.table w.key stay k.2);
-  wrote = λ k member. let w = n.wrote k member in (w.0, w.1, slot-stays known pieces later k w.0.table w.0.key stay w.2);
+pub noted-stay : (known made : List Table) (pieces later : List FramePiece) (writes : List Write) (keys : List WrittenKey) → LeavesStay known made pieces later
+    → AreNoted known pieces writes keys → AreNoted made later writes keys
+noted-stay known made pieces later writes keys stay n = record {
+  noted = λ w member. let k = n.noted w member in (k.0, k.1, slot-stays known made pieces later k.0 w.table w.key stay k.2);
+  wrote = λ k member. let w = n.wrote k member in (w.0, w.1, slot-stays known made pieces later k w.0.table w.0.key stay w.2);
 }

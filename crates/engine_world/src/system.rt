@@ -2,6 +2,8 @@
 
 ghost use Rattle.engine_world.specs.Systems.{CreatesGo, EnginesStart, OpensGo, SetsGo};
 
+use update_chain::chains_go_on;
+
 /// An engine that begins on a regular content stands for the machine that an opening makes of it.
 pub fn engines_start()
     ensures { EnginesStart }
@@ -10,14 +12,20 @@ pub fn engines_start()
 /// A session is opened.
 pub fn opens_go()
     ensures { OpensGo }
-{}
+{
+    chains_go_on();
+}
 
 /// The oldest and the stable stamp are raised.
 pub fn sets_go()
     ensures { SetsGo }
-{}
+{
+    chains_go_on();
+}
 
 /// A table is made.
 pub fn creates_go()
     ensures { CreatesGo }
-{}
+{
+    chains_go_on();
+}

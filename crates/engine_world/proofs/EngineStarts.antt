@@ -1,0 +1,90 @@
+-- An engine that begins on a regular content stands for the machine that an opening makes of it.
+use Rattle.std.proofs.Common.{◌≡◌, ℕ, refl, ap, sym, ◌∙◌, List, [], ◌∷◌, length, inl, inr, subst, map, Bool}
+use Rattle.std.specs.Prelude.{Option, Some, None, option_map, slice_get}
+use Rattle.std.proofs.lemmas.List.{append-nil}
+use Rattle.item.specs.declared.Change.{Change}
+use Rattle.stamp.specs.declared.Version.{Version}
+use Rattle.kv_model.specs.Content.{Content, base, descending, kept, placed_lt, start, table_lt}
+use Rattle.kv_model.specs.Droppable.{covers}
+use Rattle.kv_model.specs.Holds.{Descends, Stores}
+use Rattle.kv_model.specs.History.{Table, line}
+use Rattle.kv_model.specs.Ordered.{Older}
+use Rattle.kv_model.specs.Pending.{InFrame, settled}
+use Rattle.kv_model.specs.Regular.{IsRegular}
+use Rattle.kv_model.specs.StoreLaws.{Held}
+use Rattle.kv_model.proofs.Finishing.{tables-base}
+use Rattle.kv_model.proofs.Opening.{no-seat, start-valid}
+use Rattle.kv_model.proofs.Ordering.{line-descends}
+use Rattle.txn_table.specs.Stands.{TableStands}
+use Rattle.txn_table.proofs.Starting.{new-stands}
+use Rattle.update_chain.specs.EventLaws.{StandsFor}
+use Rattle.update_chain.specs.Updates.{unmarked_update, update_in}
+use Rattle.wt_calls.specs.declared.system_call.SystemCall.{SystemCall}
+use Rattle.wt_calls.specs.Calls.{system_call_in}
+use Rattle.call_steps.specs.State.{State}
+use Rattle.engine_world.specs.Leaves.{LeafStands}
+use Rattle.engine_world.specs.Stands.{Engine}
+use Rattle.engine_world.specs.Systems.{EnginesStart, LeafStarts}
+
+-- ---- a key, all of whose versions are in its chain
+
+settles : (l : List (Version Change)) → map update_in (map unmarked_update l) ≡ map settled l
+settles [] = refl
+settles (v ∷ l) = ap (λ rest. settled v ∷ rest) (settles l)
+
+all-stored : (m : Version Change → Bool) (l : List (Version Change)) → Stores Older m l (InFrame l None) (Held [])
+all-stored m l = record {
+  kept = record {
+    within = λ v there. elim there [
+      | inl framed ↦ elim framed [ inl member ↦ member | inr cell ↦ let none : None ≡ Some v = cell in absurd (cc) ]
+      | inr record_there ↦ absurd record_there
+    ];
+    all = λ v member. inl (inl (inl member));
+  };
+  upper = λ v w framed member below. inl (inl member);
+}
+
+key-starts : (c : Content) (table : ℕ) (key : List ℕ) → IsRegular c → StandsFor (start c) table key (map unmarked_update (line (base c) table key)) None []
+key-starts c table key regular = record {
+  top = [];
+  held = line (base c) table key;
+  below = line (base c) table key;
+  chained = settles (line (base c) table key);
+  ordered = subst (λ l. Descends Older l) (sym (append-nil (line (base c) table key))) (line-descends (base c) (start-valid c regular).orderly table key);
+  topped = (refl, λ s t wrote. absurd (no-seat s t wrote.0));
+  stores = all-stored (covers (start c)) (line (base c) table key);
+  layered = λ v there. absurd there;
+}
+
+leaf-starts : (c : Content) (e : Engine) (place : ℕ) (t : Table) → IsRegular c → LeafStarts c e.pieces e.states place t → LeafStands (start c) e.pieces e.states place t
+leaf-starts c e place t regular leaf = record {
+  frame = leaf.frame;
+  there = leaf.there;
+  word = leaf.word;
+  keys = λ key. subst (λ chain. StandsFor (start c) t.number key chain None []) (sym (leaf.keys key)) (key-starts c t.number key regular);
+}
+
+-- ---- nobody is at work
+
+none-started : (calls : List (Option SystemCall)) → map (option_map system_call_in) (map (λ x. None) calls) ≡ map (λ x. None) calls
+none-started [] = refl
+none-started (call ∷ calls) = ap (λ rest. None ∷ rest) (none-started calls)
+
+no-session : (e : Engine) (session : ℕ) (a : State) → e.sessions ≡ [] → slice_get e.sessions session ≡ Some a → ⊥
+no-session e session a none there = let is : None ≡ Some a = sym (ap (λ (l : List State). slice_get l session) none) ∙ there in absurd (cc)
+
+pub engines-start : EnginesStart
+engines-start c e regular b = record {
+  valid = start-valid c regular;
+  fault = b.fault;
+  stamps = b.stamps;
+  txns = subst (λ t. TableStands t (start c)) (sym b.txns) (new-stands c 0);
+  catalog = b.catalog;
+  made = b.tables ∙ sym (tables-base (descending table_lt c.tables) (descending placed_lt (kept c)));
+  leaves = λ place t there. leaf-starts c e place t regular (b.leaves place t there);
+  count = ap length b.sessions;
+  doings = sym (ap length b.sessions);
+  doing = λ session a there. absurd (no-session e session a b.sessions there);
+  sessions = λ session a there. absurd (no-session e session a b.sessions there);
+  systems = ap (map (option_map system_call_in)) (sym b.systems) ∙ none-started e.systems;
+}
