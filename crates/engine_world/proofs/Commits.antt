@@ -68,7 +68,7 @@ commit-goes chains-go-on commits-stand e w session stamps a t st at there runnin
       answers.Done,
       refl,
       subst (λ o. EndsIn o answers.Done next session (decide_left a) (record { told = (finished answers.Done a).0; machine = next; doing = doing_in session (finished answers.Done a).1 })) (sym gone.none)
-          ((event-beside session w.machine event st.valid may refl).fault ∙ up, finished-goes answers.Done (decide_left a) next session a (omega arith)),
+          ((event-beside session w.machine event st.valid may refl).apart.fault ∙ up, finished-goes answers.Done (decide_left a) next session a (omega arith)),
     ))
     (finished-stands next (record e.hub { txns = now }) e.pieces session a answers.Done gone (cursors-count w.machine e.hub e.pieces session a t st.valid there mine)
     seat.0 seat.1) where

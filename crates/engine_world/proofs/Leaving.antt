@@ -107,7 +107,7 @@ at-once law e w session a t outcome answer st at v up empty tells settles = lead
       next = after middle (EndTransaction session)
 
       still-up : middle.fault ≡ None
-      still-up = (event-beside session w.machine (StartLeaving session) st.valid tt refl).fault ∙ up
+      still-up = (event-beside session w.machine (StartLeaving session) st.valid tt refl).apart.fault ∙ up
 
       now : IsIn w.machine middle session t Leaving
       now = left-in w.machine session a t v
