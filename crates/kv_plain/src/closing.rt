@@ -6,7 +6,7 @@ ghost use Rattle.kv_model.specs.Closing as model;
 ghost use Rattle.kv_plain.specs.Machine.{transaction_in, sessions_in, machine_in};
 ghost use Rattle.kv_plain.specs.Outcome.{outcome_in, event_in};
 ghost use Rattle.kv_plain.specs.Decisions.{storing_in};
-ghost use Rattle.kv_plain.specs.Calls.{Leads, SystemDecided, unfinished_in};
+ghost use Rattle.kv_plain.specs.Calls.{Leads, SystemDecided, unfinished_in, close_of};
 ghost use Rattle.kv_plain.specs.Closing.{ending_in, endings_in, closing_in};
 ghost use Rattle.kv_model.specs.Calls.{Close};
 
@@ -201,7 +201,7 @@ fn make_closing(alloc: Global, m: &Machine, around: &Around) -> Result<Closing, 
 }
 
 fn decide_close(alloc: Global, m: &Machine, around: &Around) -> Result<Closing, NoMemory>
-    ensures { IfOk result (λ r. closing_in r ≡ model.close_decision (machine_in m.now) (unfinished_in around.now.unfinished) around.now.number (storing_in around.now.storing)) }
+    ensures { IfOk result (λ r. closing_in r ≡ close_of around.now (machine_in m.now)) }
 {
     match m.fault {
         Some(fault) => Ok(close_refused(alloc, Refusal::Panic { fault })),
