@@ -81,16 +81,12 @@ fn told(outcome: Result<Addr, StoreError>) -> Result<(), Refusal>
 }
 
 // The refusal that tells of an error.
+#[tactic(auto, using(crate::proofs::CloseRefusals::of_close))]
 fn refused(error: StoreError) -> Refusal
     ensures is { result ≡ refusal_of error }
     ensures refusal { IsOfClose result }
 {
-    match error {
-        StoreError::NoMemory => Refusal::NoMemory,
-        StoreError::NoSpace => Refusal::NoSpace,
-        StoreError::Read => Refusal::DiskFault,
-        StoreError::Down(_) => Refusal::DiskFault,
-    }
+    Refusal::from(error)
 }
 
 // A checkpoint runs from now on; one that was begun goes on.
