@@ -22,7 +22,7 @@ use Rattle.kv_plain.specs.declared.outcome.Outcome.TheVariants as plain
 use Rattle.kv_plain.specs.declared.calls.Around.{Around}
 use Rattle.kv_plain.specs.Outcome.{outcome_in}
 use Rattle.kv_plain.specs.Decisions.{storing_in}
-use Rattle.kv_plain.specs.Calls.{IsFound, around_in, SystemDecided, Decides, IsExact}
+use Rattle.kv_plain.specs.Calls.{IsFound, around_in, SystemDecided, IsExact}
 
 -- a property of what is picked
 pick : {A : Type 0} (P : Outcome × Event → Type 0) (go : Outcome × Event) (f : A → Outcome × Event) (o : Option A) → (o ≡ None → P go) → ((a : A) → o ≡ Some a → P (f a)) → P (of_some go f o)

@@ -7,10 +7,10 @@ use Rattle.stamp.specs.declared.Name.{Name}
 use Rattle.stamp.specs.declared.Version.{Version}
 use Rattle.kv_model.specs.History.{Write, line, value}
 use Rattle.kv_model.specs.Machine.{Machine, Transaction, Phase, Running, Failed, Prepared, Resolving, Leaving, name_of}
-use Rattle.kv_model.specs.Reads.{own_write, is_own, prepared_in, may_follow, names_newest, Meets, IsEnding, OthersEnding, ReadOthers, ReadAs, ReadAnswer, MayWriteAs, MustNotWriteAs, MayWrite, MustNotWrite}
+use Rattle.kv_model.specs.Reads.{own_write, is_own, prepared_in, may_follow, names_newest, Meets, IsEnding, OthersEnding, ReadOthers, ReadAs, ReadAnswer, MayWriteAs, MustNotWriteAs}
 use Rattle.kv_model.specs.Closing.{is_ending}
 use Rattle.kv_model.proofs.Finishing.{name_eq-refl}
-use Rattle.kv_plain.specs.Choices.{first_id, is_holding, is_met, met, holder, value_unless, own_or, read_of, unseen, held_or, unless_own, refusal_of}
+use Rattle.kv_plain.specs.Choices.{first_id, is_holding, is_met, met, holder, value_unless, own_or, read_of_others, read_of, unseen, held_or, unless_own, refusal_of_others, refusal_of, MayWriteUnless}
 
 -- the first that passes is there, and passes
 record Passes (test : ℕ → Transaction → Bool) (at : ℕ) (sessions : List (Option Transaction)) (id : ℕ) : Type 0 where
@@ -138,7 +138,7 @@ reads-others m session t table key (Some id) e =
 
 pub read-answers : (m : Machine) (session : ℕ) (t : Transaction) (table : ℕ) (key : List ℕ) → ReadAnswer m session t table key (read_of m session t table key)
 read-answers m session t table key = by (own_write t table key) where
-  by : (o : Option Write) → ReadAs o m session t table key (own_or o (value_unless (met m session t table key) (value m.history t.start t.read table key)))
+  by : (o : Option Write) → ReadAs o m session t table key (own_or o (read_of_others m session t table key))
   by (Some w) = refl
   by None = reads-others m session t table key (met m session t table key) refl
 
@@ -153,7 +153,7 @@ accepts m session t table key ends (v ∷ older) e = elim (cases_Bool (may_follo
   | inr isnt ↦ rw isnt (inr (ends, ap (names_newest v.window.name) e ∙ name_eq-refl v.window.name, ap (may_follow m t) e ∙ isnt))
 ]
 
-pub write-answers : (m : Machine) (session : ℕ) (t : Transaction) (table : ℕ) (key : List ℕ) → MatchOption (refusal_of m session t table key) (MayWrite m session t table key) (λ name. MustNotWrite m session t table key name)
+pub write-answers : (m : Machine) (session : ℕ) (t : Transaction) (table : ℕ) (key : List ℕ) → MayWriteUnless m session t table key (refusal_of m session t table key)
 write-answers m session t table key = by (own_write t table key) where
   held : (h : Option ℕ) → holder m session table key ≡ h → Told None m session t table key (held_or m h (unseen m t (line m.history table key)))
   held None e = accepts m session t table key (others-end m session table key e) (line m.history table key) refl
@@ -162,6 +162,6 @@ write-answers m session t table key = by (own_write t table key) where
       let h = holds m session table key p.session p.transaction p.passes in
       inl (p.session, p.transaction, h.another, (p.there, h.wrote), (λ e. absurd (alive p.transaction.phase h.undecided e)), ap (λ i. record { run = m.run; id = i }) p.named)
 
-  by : (o : Option Write) → Told o m session t table key (unless_own o (held_or m (holder m session table key) (unseen m t (line m.history table key))))
+  by : (o : Option Write) → Told o m session t table key (unless_own o (refusal_of_others m session t table key))
   by (Some w) = tt
   by None = held (holder m session table key) refl

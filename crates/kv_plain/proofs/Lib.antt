@@ -6,3 +6,4 @@ pub mod Changing
 pub mod Calling
 pub mod Creating
 pub mod Placing
+pub mod ClosingEvents

@@ -45,6 +45,10 @@ around_in a = record {
 abbrev pub step_request : ℕ → outside.Storing → Request
 step_request left storing = if nat_lt 0 left then CaptureCall (nat_lt 1 left) storing else StepCall false
 
+-- what a Close decides
+abbrev pub close_of : Around → Machine → Outcome × List Event
+close_of a m = close_decision m (unfinished_in a.unfinished) a.number (storing_in a.storing)
+
 -- a call of the system
 abbrev pub SystemDecided : Around → Machine → model.Call → Outcome → Machine → Type 0
 SystemDecided a m (model.Create name formats) outcome next = (table : Table) × IsTableFor m name formats table × Judged m 0 (CreateCall table) outcome next
@@ -55,7 +59,7 @@ SystemDecided a m model.CkptStep outcome next = Judged m 0 (step_request a.uncap
 SystemDecided a m model.CkptFinish outcome next = Judged m 0 (FinishCall (nat_lt 0 a.uncaptured) (storing_in a.storing)) outcome next
 SystemDecided a m (model.Evict name key) outcome next = (evict_decision m name key ≡ (outcome, Nothing)) × (next ≡ m)
 SystemDecided a m model.Close outcome next =
-    (events : List Event) × (close_decision m (unfinished_in a.unfinished) a.number (storing_in a.storing) ≡ (outcome, events)) × (next ≡ after_all m events)
+    (events : List Event) × (close_of a m ≡ (outcome, events)) × (next ≡ after_all m events)
 SystemDecided a m _ outcome next = ⊥
 
 -- by who calls
@@ -71,8 +75,12 @@ IsExact a m actor call answer next =
 -- ---- parts of answers
 
 -- the outcome, and the machine that is left
+abbrev pub Turns : (Outcome → Machine → Type 0) → Turn → Type 0
+Turns Next t = Next (outcome_in t.outcome) (machine_in t.machine)
+
+-- the same, where memory was not short
 abbrev pub Leads : (Outcome → Machine → Type 0) → Result Turn NoMemory → Type 0
-Leads Next turn = IfOk turn (λ t. Next (outcome_in t.outcome) (machine_in t.machine))
+Leads Next turn = IfOk turn (λ t. Turns Next t)
 
 -- an event, with its outcome
 abbrev pub Makes : Machine → Outcome × Event → Outcome → Machine → Type 0

@@ -1,11 +1,11 @@
 -- The answers that the plain program chooses where the model leaves a choice: a conflict with a transaction that is met and has not been decided, else the value.
-use Rattle.std.specs.Prelude.{ℕ, ◌+◌, Bool, false, not, ◌&&◌, ◌==◌, nat_lt, List, [], ◌∷◌, Option, Some, None, if◌then◌else◌}
+use Rattle.std.specs.Prelude.{ℕ, ◌+◌, Bool, false, not, ◌&&◌, ◌==◌, nat_lt, List, [], ◌∷◌, Option, Some, None, MatchOption, if◌then◌else◌}
 use Rattle.item.specs.declared.Change.{Change}
 use Rattle.stamp.specs.declared.Name.{Name}
 use Rattle.stamp.specs.declared.Version.{Version}
 use Rattle.kv_model.specs.History.{Entry, Prepare, Write, name_eq, reads_at, line, value, put_of}
 use Rattle.kv_model.specs.Machine.{Machine, Transaction, name_of}
-use Rattle.kv_model.specs.Reads.{own_write, is_own, prepared_in, may_follow, Found, Value, Conflict}
+use Rattle.kv_model.specs.Reads.{own_write, is_own, prepared_in, may_follow, Found, Value, Conflict, MayWrite, MustNotWrite}
 use Rattle.kv_model.specs.Closing.{is_ending}
 
 -- the entry, under which there are this many, prepares x for a reader
@@ -41,9 +41,13 @@ abbrev pub own_or : Option Write → Found → Found
 own_or (Some w) found = Value (put_of w.change)
 own_or None found = found
 
+-- the read of a key that the transaction did not write
+abbrev pub read_of_others : Machine → ℕ → Transaction → ℕ → List ℕ → Found
+read_of_others m session t table key = value_unless (met m session t table key) (value m.history t.start t.read table key)
+
 -- the read of a key
 abbrev pub read_of : Machine → ℕ → Transaction → ℕ → List ℕ → Found
-read_of m session t table key = own_or (own_write t table key) (value_unless (met m session t table key) (value m.history t.start t.read table key))
+read_of m session t table key = own_or (own_write t table key) (read_of_others m session t table key)
 
 -- the name of a version that the transaction does not admit as the newest
 abbrev pub unseen : Machine → Transaction → List (Version Change) → Option Name
@@ -58,6 +62,14 @@ abbrev pub unless_own : Option Write → Option Name → Option Name
 unless_own (Some w) name = None
 unless_own None name = name
 
+-- the name of others for which a write of the key is refused
+abbrev pub refusal_of_others : Machine → ℕ → Transaction → ℕ → List ℕ → Option Name
+refusal_of_others m session t table key = held_or m (holder m session table key) (unseen m t (line m.history table key))
+
 -- the name for which a write of the key is refused; None: it is accepted
 abbrev pub refusal_of : Machine → ℕ → Transaction → ℕ → List ℕ → Option Name
-refusal_of m session t table key = unless_own (own_write t table key) (held_or m (holder m session table key) (unseen m t (line m.history table key)))
+refusal_of m session t table key = unless_own (own_write t table key) (refusal_of_others m session t table key)
+
+-- a write of the key may be accepted where no name is told, and must be refused for one that is
+abbrev pub MayWriteUnless : Machine → ℕ → Transaction → ℕ → List ℕ → Option Name → Type 0
+MayWriteUnless m session t table key name = MatchOption name (MayWrite m session t table key) (λ name. MustNotWrite m session t table key name)

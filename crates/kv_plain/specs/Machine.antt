@@ -1,5 +1,5 @@
 -- What the plain machine stands for.
-use Rattle.std.specs.Prelude.{List, Vec, Option, map, option_map}
+use Rattle.std.specs.Prelude.{ℕ, List, [], Vec, Option, None, map, option_map, slice_index_or, slice_set}
 use Rattle.std.specs.declared.alloc.Global.{Global}
 use Rattle.kv_model.specs.Machine.{Machine, Transaction, Phase, Running, Failed, Prepared, Resolving, Leaving, Position, Checkpoint, Completed}
 use Rattle.kv_plain.specs.declared.machine.Phase.{Phase as PlainPhase}
@@ -35,6 +35,14 @@ sessions_in sessions = map (option_map transaction_in) sessions
 
 abbrev pub cursors_in : List (Vec (Option PlainPosition) Global) → List (List (Option Position))
 cursors_in cursors = map (λ row. map (option_map position_in) row.items) cursors
+
+-- sessions, where that of this one is changed so
+abbrev pub session_changed : (Transaction → Transaction) → ℕ → List (Option Transaction) → List (Option Transaction)
+session_changed change session sessions = slice_set sessions session (option_map change (slice_index_or sessions session None))
+
+-- cursors, where this one of the session is put here
+abbrev pub cursor_placed : Option Position → ℕ → ℕ → List (List (Option Position)) → List (List (Option Position))
+cursor_placed position session cursor cursors = slice_set cursors session (slice_set (slice_index_or cursors session []) cursor position)
 
 abbrev pub machine_in : PlainMachine → Machine
 machine_in m = record {

@@ -39,5 +39,9 @@ event_in event.CheckpointDrop = model.CheckpointDrop
 event_in (event.GoDown fault) = model.GoDown fault
 event_in event.Nothing = model.Nothing
 
+-- the outcome and the event of a decision
+abbrev pub Judges : (answer.Outcome → model.Event → Type 0) → Decision → Type 0
+Judges Next d = Next (outcome_in d.outcome) (event_in d.event)
+
 abbrev pub decision_in : Decision → answer.Outcome × model.Event
 decision_in d = (outcome_in d.outcome, event_in d.event)

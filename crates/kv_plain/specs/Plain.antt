@@ -1,5 +1,5 @@
 -- What the plain data stand for.
-use Rattle.std.specs.Prelude.{ℕ, Bool, true, ◌&&◌, List, [], map, filter, find, Option, Some, None, option_map, min, if◌then◌else◌}
+use Rattle.std.specs.Prelude.{ℕ, Bool, true, not, ◌&&◌, List, [], map, filter, find, Option, Some, None, option_map, min, if◌then◌else◌}
 use Rattle.item.specs.declared.Change.{Change}
 use Rattle.stamp.specs.declared.Name.{Name}
 use Rattle.stamp.specs.declared.Version.{Version}
@@ -76,12 +76,20 @@ bound_under _ bound = bound
 abbrev pub placed_in : PlainPlaced → Placed
 placed_in p = record { table = p.table; key = p.key; version = p.version }
 
+-- those that are durable at the bound
+abbrev pub within : Option ℕ → List Placed → List Placed
+within bound placed = filter (λ p. is_within bound p.version) placed
+
 -- the versions that stand and are durable at the bound
 abbrev pub standing_by : List Entry → Option ℕ → List Placed
-standing_by history bound = filter (λ p. is_within bound p.version) (standing history)
+standing_by history bound = within bound (standing history)
 
 -- those of one entry
 abbrev pub standing_of : Entry → Option ℕ → List Placed
-standing_of (Commit name writes) bound = filter (λ p. is_within bound p.version) (map (placed_of name) writes)
-standing_of (Resolve name writes) bound = filter (λ p. is_within bound p.version) (map (placed_of name) writes)
+standing_of (Commit name writes) bound = within bound (map (placed_of name) writes)
+standing_of (Resolve name writes) bound = within bound (map (placed_of name) writes)
 standing_of _ bound = []
+
+-- the writes of other keys
+abbrev pub writes_beside : ℕ → List ℕ → List Write → List Write
+writes_beside table key writes = filter (λ o. not (writes_at table key o)) writes

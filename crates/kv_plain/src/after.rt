@@ -1,11 +1,11 @@
 // What each event leaves.
 
-ghost use Rattle.std.specs.Prelude.{◌≡◌, ◌∷◌, length, option_map, IfOk, ◌==◌, if◌then◌else◌, ◌+◌};
-ghost use Rattle.kv_model.specs.History.{Rts};
+ghost use Rattle.std.specs.Prelude.{◌≡◌, length, option_map, IfOk, ◌+◌};
 ghost use Rattle.kv_model.specs.Machine as model;
 ghost use Rattle.kv_plain.specs.Plain.{table_in, history_in};
 ghost use Rattle.kv_plain.specs.Outcome.{event_in};
 ghost use Rattle.kv_plain.specs.Machine.{position_in, machine_in};
+ghost use Rattle.kv_plain.specs.After.{rolled_back};
 
 use crate::cuts::cut;
 use crate::event::Event;
@@ -121,7 +121,7 @@ fn set_stamps(m: Machine, oldest: u64, stable: u64) -> Machine
 }
 
 fn put_on_if_stable(history: &mut Vec<Entry>, stable: u64) -> Result<(), NoMemory>
-    ensures { IfOk result (λ _. history_in history.new.items ≡ (if stable == 0 then history_in history.old.items else Rts stable ∷ history_in history.old.items)) }
+    ensures { IfOk result (λ _. history_in history.new.items ≡ rolled_back stable (history_in history.old.items)) }
 {
     if stable == 0 {
         Ok(())

@@ -8,7 +8,7 @@ ghost use Rattle.kv_plain.specs.Machine.{machine_in};
 ghost use Rattle.kv_plain.specs.Decisions.{storing_in};
 ghost use Rattle.kv_plain.specs.Outcome.{outcome_in, decision_in};
 ghost use Rattle.wt_calls.specs.Calls.{actor_in, call_in, session_call_in, system_call_in};
-ghost use Rattle.kv_plain.specs.Calls.{Leads, Makes, Ends, Settles, step_request, Decides, SystemDecided, IsExact, around_in};
+ghost use Rattle.kv_plain.specs.Calls.{Turns, Leads, Makes, Ends, Settles, step_request, Decides, SystemDecided, IsExact, around_in};
 
 use crate::after::apply;
 use crate::closing::close;
@@ -164,7 +164,7 @@ fn decide_capture_or_end(m: &Machine, around: &Around) -> Decision
 }
 
 fn evict(m: Machine, table: &Item, key: &Item) -> Turn
-    ensures { (around : Around) → SystemDecided around (machine_in m) (model.Evict table.now key.now) (outcome_in result.outcome) (machine_in result.machine) }
+    ensures { (around : Around) → Turns (SystemDecided around (machine_in m) (model.Evict table.now key.now)) result }
 {
     let Decision { outcome, event: _ } = decide_evict(&m, table, key);
     Turn {

@@ -1,6 +1,6 @@
 // Checks in the order of refusals: the first that holds refuses.
 
-ghost use Rattle.std.specs.Prelude.{◌≡◌, ℕ, ◌≤◌, ◌<◌, ◌&&◌, ◌||◌, ◌==◌, nat_lt, List, map, length, option_map, max};
+ghost use Rattle.std.specs.Prelude.{◌≡◌, ◌&&◌, ◌||◌, ◌==◌, nat_lt, map};
 ghost use Rattle.std.specs.List.{list_all};
 ghost use Rattle.kv_model.specs.Refusals.{first_of, is_zero, stamp_of, or_stamp, durable_below, begin_rules, prepare_rules, commit_rules, resolve_rules, set_rules};
 ghost use Rattle.kv_model.specs.Machine.{Nothing};

@@ -6,8 +6,8 @@ ghost use Rattle.kv_model.specs.Closing as model;
 ghost use Rattle.kv_plain.specs.Machine.{transaction_in, sessions_in, machine_in};
 ghost use Rattle.kv_plain.specs.Outcome.{outcome_in, event_in};
 ghost use Rattle.kv_plain.specs.Decisions.{storing_in};
-ghost use Rattle.kv_plain.specs.Calls.{Leads, SystemDecided, unfinished_in};
-ghost use Rattle.kv_plain.specs.Closing.{ending_in, endings_in, closing_in};
+ghost use Rattle.kv_plain.specs.Calls.{Leads, SystemDecided, unfinished_in, close_of};
+ghost use Rattle.kv_plain.specs.Closing.{events_in, closing_in};
 ghost use Rattle.kv_model.specs.Calls.{Close};
 
 use crate::after::apply;
@@ -20,48 +20,25 @@ use crate::reads::is_ending;
 use failure::NoMemory;
 use limits::NUMBER_MAX;
 use std::alloc::Global;
-use wt_code::{Busy, Fault, Limit, Refusal};
-
-/// An event of a Close. A session's number comes first.
-#[derive(Clone, Copy)]
-enum Ending {
-    StartLeaving(usize),
-    EndTransaction(usize),
-    CheckpointStart,
-    CheckpointFinish,
-    GoDown(Fault),
-}
+use wt_code::{Busy, Limit, Refusal};
 
 /// What a Close answers, and its events in order.
 #[derive(Drop)]
 struct Closing {
     outcome: Outcome,
-    events: Vec<Ending>,
-}
-
-fn event_of(ending: Ending) -> Event
-    ensures { event_in result ≡ ending_in ending }
-{
-    match ending {
-        Ending::StartLeaving(session) => Event::StartLeaving(session),
-        Ending::EndTransaction(session) => Event::EndTransaction(session),
-        Ending::CheckpointStart => Event::CheckpointStart,
-        Ending::CheckpointFinish => Event::CheckpointFinish,
-        Ending::GoDown(fault) => Event::GoDown(fault),
-    }
+    events: Vec<Event>,
 }
 
 /// What the events leave, one after the other.
-fn apply_all(alloc: Global, m: Machine, events: &[Ending]) -> Result<Machine, NoMemory>
-    ensures { IfOk result (λ r. machine_in r ≡ model.after_all (machine_in m) (endings_in events.now)) }
+#[tactic(auto, using(crate::proofs::ClosingEvents::after_one_more))]
+fn apply_all(alloc: Global, m: Machine, events: Vec<Event>) -> Result<Machine, NoMemory>
+    ensures { IfOk result (λ r. machine_in r ≡ model.after_all (machine_in m) (events_in events.items)) }
 {
-    match events.split_first() {
-        None => Ok(m),
-        Some((ending, later)) => {
-            let next = apply(alloc, m, event_of(*ending))?;
-            apply_all(alloc, next, later)
-        }
+    let mut machine = m;
+    for event in events {
+        machine = apply(alloc, machine, event)?;
     }
+    Ok(machine)
 }
 
 fn has_call(calls: &[bool], session: u32) -> bool
@@ -118,10 +95,10 @@ fn close_busy(m: &Machine, unfinished: &Unfinished) -> Result<Option<Busy>, NoMe
     }
 }
 
-fn push_ending(out: &mut Vec<Ending>, ending: Ending) -> Result<(), NoMemory>
-    ensures { IfOk result (λ _. endings_in out.new.items ≡ endings_in out.old.items ++ ending_in ending ∷ []) }
+fn push_event(out: &mut Vec<Event>, event: Event) -> Result<(), NoMemory>
+    ensures { IfOk result (λ _. events_in out.new.items ≡ events_in out.old.items ++ event_in event ∷ []) }
 {
-    match out.push(ending) {
+    match out.push(event) {
         Ok(()) => Ok(()),
         Err(_) => Err(NoMemory),
     }
@@ -129,39 +106,35 @@ fn push_ending(out: &mut Vec<Ending>, ending: Ending) -> Result<(), NoMemory>
 
 /// Adds the rollback of each session's transaction, the lowest first.
 fn push_rollbacks(
-    out: &mut Vec<Ending>,
+    out: &mut Vec<Event>,
     sessions: &[Option<Transaction>],
     at: u32,
 ) -> Result<(), NoMemory>
-    ensures { IfOk result (λ _. endings_in out.new.items ≡ endings_in out.old.items ++ model.rolling_back at (sessions_in sessions.now)) }
+    ensures { IfOk result (λ _. events_in out.new.items ≡ events_in out.old.items ++ model.rolling_back at (sessions_in sessions.now)) }
 {
     match sessions.split_first() {
         None => Ok(()),
         Some((None, later)) => push_rollbacks(out, later, session_after(at)?),
         Some((Some(_), later)) => {
-            push_ending(out, Ending::StartLeaving(at as usize))?;
-            push_ending(out, Ending::EndTransaction(at as usize))?;
+            push_event(out, Event::StartLeaving(at as usize))?;
+            push_event(out, Event::EndTransaction(at as usize))?;
             push_rollbacks(out, later, session_after(at)?)
         }
     }
 }
 
 /// The checkpoint of a Close: adds its events, and gives its answer.
-fn push_checkpoint(
-    out: &mut Vec<Ending>,
-    number: u64,
-    storing: Storing,
-) -> Result<Outcome, NoMemory>
+fn push_checkpoint(out: &mut Vec<Event>, number: u64, storing: Storing) -> Result<Outcome, NoMemory>
     ensures outcome { IfOk result (λ r. outcome_in r ≡ (model.last_checkpoint number (storing_in storing)).0) }
-    ensures events { IfOk result (λ _. endings_in out.new.items ≡ endings_in out.old.items ++ (model.last_checkpoint number (storing_in storing)).1) }
+    ensures events { IfOk result (λ _. events_in out.new.items ≡ events_in out.old.items ++ (model.last_checkpoint number (storing_in storing)).1) }
 {
     if NUMBER_MAX <= number {
         return Ok(Outcome::Refused(Refusal::Limit(Limit::Checkpoints)));
     }
     match storing {
         Storing::Stored => {
-            push_ending(out, Ending::CheckpointStart)?;
-            push_ending(out, Ending::CheckpointFinish)?;
+            push_event(out, Event::CheckpointStart)?;
+            push_event(out, Event::CheckpointFinish)?;
             Ok(Outcome::Done)
         }
         Storing::NoPlace => Ok(Outcome::Refused(Refusal::NoSpace)),
@@ -176,7 +149,7 @@ fn push_checkpoint(
             found,
         })),
         Storing::WriteFailed(fault) => {
-            push_ending(out, Ending::GoDown(fault))?;
+            push_event(out, Event::GoDown(fault))?;
             Ok(Outcome::Refused(Refusal::DiskFault))
         }
     }
@@ -201,7 +174,7 @@ fn make_closing(alloc: Global, m: &Machine, around: &Around) -> Result<Closing, 
 }
 
 fn decide_close(alloc: Global, m: &Machine, around: &Around) -> Result<Closing, NoMemory>
-    ensures { IfOk result (λ r. closing_in r ≡ model.close_decision (machine_in m.now) (unfinished_in around.now.unfinished) around.now.number (storing_in around.now.storing)) }
+    ensures { IfOk result (λ r. closing_in r ≡ close_of around.now (machine_in m.now)) }
 {
     match m.fault {
         Some(fault) => Ok(close_refused(alloc, Refusal::Panic { fault })),
@@ -217,6 +190,6 @@ pub(crate) fn close(alloc: Global, m: Machine, around: &Around) -> Result<Turn, 
     ensures { Leads (SystemDecided around.now (machine_in m) Close) result }
 {
     let Closing { outcome, events } = decide_close(alloc, &m, around)?;
-    let machine = apply_all(alloc, m, &events)?;
+    let machine = apply_all(alloc, m, events)?;
     Ok(Turn { outcome, machine })
 }

@@ -3,8 +3,8 @@
 ghost use Rattle.std.specs.Prelude.{IfOk};
 ghost use Rattle.kv_model.specs.Calls as model;
 ghost use Rattle.kv_plain.specs.Machine.{machine_in};
-ghost use Rattle.kv_plain.specs.Outcome.{outcome_in, event_in};
 ghost use Rattle.wt_calls.specs.Calls.{way_in};
+ghost use Rattle.kv_plain.specs.Outcome.{Judges};
 ghost use Rattle.kv_plain.specs.Calls.{Leads, Steps, Seeks, IsFound};
 
 use crate::after::apply;
@@ -27,7 +27,7 @@ fn judge_step(
     way: Way,
 ) -> Result<Decision, NoMemory>
     requires { IsFound (machine_in m.now) session table.now }
-    ensures { IfOk result (λ r. Steps session cursor table.now (way_in way) (machine_in m.now) (outcome_in r.outcome) (event_in r.event)) }
+    ensures { IfOk result (λ r. Judges (Steps session cursor table.now (way_in way) (machine_in m.now)) r) }
 {
     let t = seated(m, session);
     let number = known_table(m, table).number;
@@ -68,7 +68,7 @@ fn judge_seek(
     key: &Item,
 ) -> Result<Decision, NoMemory>
     requires { IsFound (machine_in m.now) session table.now }
-    ensures { IfOk result (λ r. Seeks session cursor table.now key.now (machine_in m.now) (outcome_in r.outcome) (event_in r.event)) }
+    ensures { IfOk result (λ r. Judges (Seeks session cursor table.now key.now (machine_in m.now)) r) }
 {
     let t = seated(m, session);
     let number = known_table(m, table).number;

@@ -1,6 +1,6 @@
 // What each call answers where the machine determines it, with the event that it makes.
 
-ghost use Rattle.std.specs.Prelude.{◌≡◌, ℕ, ◌+◌, ◌^◌, ◌<◌, ◌≤◌, not, nat_lt, nat_le, true, [], ◌∷◌, map, length, option_map, IfOk, if◌then◌else◌};
+ghost use Rattle.std.specs.Prelude.{◌≡◌, ◌+◌, ◌≤◌, not, nat_lt, nat_le, true, [], ◌∷◌, length, option_map, IfOk, if◌then◌else◌};
 ghost use Rattle.kv_model.specs.History.{Table as ModelTable, created, tables, named};
 ghost use Rattle.kv_model.specs.Machine as model;
 ghost use Rattle.kv_model.specs.Decisions as answer;
@@ -11,7 +11,7 @@ ghost use Rattle.kv_plain.specs.Plain.{table_in, entry_in, history_in};
 ghost use Rattle.kv_plain.specs.Machine.{phase_in, transaction_in, sessions_in, machine_in};
 ghost use Rattle.kv_plain.specs.Outcome.{outcome_in, event_in, decision_in};
 ghost use Rattle.kv_plain.specs.Checks.{check_in};
-ghost use Rattle.kv_plain.specs.Decisions.{storing_in, run_or, created_with};
+ghost use Rattle.kv_plain.specs.Decisions.{storing_in, run_or, created_with, create_of, roll_back_beside, start_beside};
 
 use crate::checks::{
     Check, begin_rules, checked, commit_rules, durable_below, invalid, is_name, or_stamp,
@@ -494,7 +494,7 @@ fn formats_named(m: &Machine, name: &Item) -> Option<Formats>
 }
 
 fn judge_created(m: &Machine, table: Table) -> Decision
-    ensures { decision_in result ≡ answer.create_decision (tables (machine_in m.now).history) (table_in table) (named (table_in table).name (tables (machine_in m.now).history)) }
+    ensures { decision_in result ≡ create_of (machine_in m.now) (table_in table) }
 {
     let old = formats_named(m, &table.name);
     decide_created(table_count(&m.history), table, old)
@@ -612,7 +612,7 @@ fn running_check(m: &Machine) -> Check
 }
 
 fn decide_idle(m: &Machine, active: Option<u32>) -> Decision
-    ensures { decision_in result ≡ answer.unless_found active Busy.Active (answer.checked ((answer.is_there (machine_in m.now).checkpoint, Refusal.Busy Busy.Checkpoint) ∷ (nat_le NUMBER_MAX (machine_in m.now).rollbacks, Refusal.Limit Limit.Rollbacks) ∷ []) (answer.Done, model.RollbackToStable)) }
+    ensures { decision_in result ≡ roll_back_beside (machine_in m.now) active }
 {
     match active {
         Some(session) => refused(Refusal::Busy(Busy::Active(session))),
@@ -635,7 +635,7 @@ pub(crate) fn decide_rts(m: &Machine) -> Result<Decision, NoMemory>
 }
 
 fn decide_started(resolving: Option<u32>, number: u64) -> Decision
-    ensures { decision_in result ≡ answer.unless_found resolving Busy.Resolving (answer.checked ((nat_le NUMBER_MAX number, Refusal.Limit Limit.Checkpoints) ∷ []) (answer.Done, model.CheckpointStart)) }
+    ensures { decision_in result ≡ start_beside number resolving }
 {
     match resolving {
         Some(session) => refused(Refusal::Busy(Busy::Resolving(session))),

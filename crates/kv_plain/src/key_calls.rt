@@ -4,13 +4,12 @@ ghost use Rattle.std.specs.Prelude.{◌≡◌, true, option_map, Some, IfOk};
 ghost use Rattle.kv_model.specs.History.{tables, named};
 ghost use Rattle.kv_model.specs.Machine.{transaction_of};
 ghost use Rattle.kv_model.specs.Reads.{present as found_present};
-ghost use Rattle.kv_model.specs.Decisions as answer;
 ghost use Rattle.kv_model.specs.Decisions.{is_there, unmet as unmet_by, WriteAnswer};
 ghost use Rattle.kv_model.specs.Calls as model;
 ghost use Rattle.wt_calls.specs.Calls.{demand_in};
 ghost use Rattle.kv_plain.specs.Plain.{table_in};
 ghost use Rattle.kv_plain.specs.Machine.{transaction_in, machine_in};
-ghost use Rattle.kv_plain.specs.Outcome.{outcome_in, event_in};
+ghost use Rattle.kv_plain.specs.Outcome.{outcome_in, Judges};
 ghost use Rattle.kv_plain.specs.Calls.{Leads, LooksUp, Changes, WritesKey, IsFound};
 
 use crate::after::apply;
@@ -113,7 +112,7 @@ fn judge_change(
     change: Change,
     demand: Demand,
 ) -> Decision
-    ensures { WriteAnswer (machine_in m.now) session (transaction_in t.now) table key change (demand_in demand) (outcome_in result.outcome) (event_in result.event) }
+    ensures { Judges (WriteAnswer (machine_in m.now) session (transaction_in t.now) table key change (demand_in demand)) result }
 {
     match write_refusal(m, session, t, table, &key) {
         Some(name) => Decision {
@@ -146,7 +145,7 @@ fn judge_found(
     demand: Demand,
 ) -> Decision
     requires { IsFound (machine_in m.now) session table.now }
-    ensures { Changes session table.now key change (demand_in demand) (machine_in m.now) (outcome_in result.outcome) (event_in result.event) }
+    ensures { Judges (Changes session table.now key change (demand_in demand) (machine_in m.now)) result }
 {
     let t = seated(m, session);
     let number = known_table(m, table).number;

@@ -1,8 +1,8 @@
 // Look-ups in a history, newest entry first.
 
-ghost use Rattle.std.specs.Prelude.{◌≡◌, ◌&&◌, ℕ, List, map, find, option_map, Option, Some, None};
+ghost use Rattle.std.specs.Prelude.{◌≡◌, map, find, option_map};
 ghost use Rattle.stamp.specs.declared.Name.{Name};
-ghost use Rattle.kv_model.specs.History.{reads_at, releases, released, name_eq, writes_at, is_by};
+ghost use Rattle.kv_model.specs.History.{reads_at, releases, released, name_eq, writes_at};
 ghost use Rattle.kv_plain.specs.Plain.{entry_in, history_in, write_in, version_in, is_seen, is_within, lower, newest_in, newest_of, newest_write, bound_under, write_passes};
 ghost use Rattle.kv_model.specs.History.{version_of, put_of, value, line, admits};
 ghost use Rattle.kv_model.specs.AgreementLaws.{head_of};

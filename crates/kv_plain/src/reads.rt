@@ -1,12 +1,12 @@
 // What a read of a key answers, and whether a write of it is accepted.
 
-ghost use Rattle.std.specs.Prelude.{◌≡◌, ℕ, ◌+◌, ◌^◌, ◌<◌, map, length, find, option_map, Option, Some, None, MatchOption, IfOk};
-ghost use Rattle.kv_model.specs.History.{line, writes_at, admits, value as value_at};
-ghost use Rattle.kv_model.specs.Reads.{own_write, is_own, prepared_in, ReadAnswer, MayWrite, MustNotWrite};
+ghost use Rattle.std.specs.Prelude.{◌≡◌, ◌+◌, ◌^◌, ◌<◌, map, length, find, option_map, IfOk};
+ghost use Rattle.kv_model.specs.History.{line, writes_at, admits};
+ghost use Rattle.kv_model.specs.Reads.{own_write, is_own, prepared_in, ReadAnswer};
 ghost use Rattle.kv_model.specs.Closing.{is_ending};
 ghost use Rattle.kv_plain.specs.Plain.{entry_in, history_in, write_in, version_in};
 ghost use Rattle.kv_plain.specs.Machine.{phase_in, transaction_in, sessions_in, machine_in};
-ghost use Rattle.kv_plain.specs.Choices.{first_id, prepares, is_holding, is_met, met, holder, value_unless, read_of, unseen, held_or, refusal_of};
+ghost use Rattle.kv_plain.specs.Choices.{first_id, prepares, is_holding, is_met, read_of_others, read_of, unseen, refusal_of_others, refusal_of, MayWriteUnless};
 ghost use Rattle.kv_plain.specs.Answers.{read_in};
 ghost use Rattle.kv_plain.specs.Outcome.{outcome_in};
 ghost use Rattle.kv_plain.specs.Calls.{read_answer};
@@ -168,7 +168,7 @@ fn read_others<'a>(
     table: u32,
     key: &Item,
 ) -> Reading<'a>
-    ensures { read_in result ≡ value_unless (met (machine_in m.now) session (transaction_in t.now) table key.now) (value_at (machine_in m.now).history t.now.start t.now.read table key.now) }
+    ensures { read_in result ≡ read_of_others (machine_in m.now) session (transaction_in t.now) table key.now }
 {
     match find_met(m, session, t, table, key, &m.sessions, 0) {
         Some(id) => Reading::Conflict(id),
@@ -246,7 +246,7 @@ fn refused_by_others(
     table: u32,
     key: &Item,
 ) -> Option<Name>
-    ensures { result ≡ held_or (machine_in m.now) (holder (machine_in m.now) session table key.now) (unseen (machine_in m.now) (transaction_in t.now) (line (machine_in m.now).history table key.now)) }
+    ensures { result ≡ refusal_of_others (machine_in m.now) session (transaction_in t.now) table key.now }
 {
     match find_holder(session, table, key, &m.sessions, 0) {
         Some(id) => Some(Name { run: m.run, id }),
@@ -279,7 +279,7 @@ pub(crate) fn write_refusal(
     key: &Item,
 ) -> Option<Name>
     ensures chosen { result ≡ refusal_of (machine_in m.now) session (transaction_in t.now) table key.now }
-    ensures answers { MatchOption result (MayWrite (machine_in m.now) session (transaction_in t.now) table key.now) (λ name. MustNotWrite (machine_in m.now) session (transaction_in t.now) table key.now name) }
+    ensures answers { MayWriteUnless (machine_in m.now) session (transaction_in t.now) table key.now result }
 {
     chosen_refusal(m, session, t, table, key)
 }

@@ -2,7 +2,7 @@
 
 ghost use Rattle.std.specs.Prelude.{◌≡◌, [], ◌∷◌, ◌++◌, map, option_map, slice_index_or, slice_set, IfOk};
 ghost use Rattle.kv_model.specs.Machine as model;
-ghost use Rattle.kv_plain.specs.Machine.{phase_in, transaction_in, position_in, sessions_in, cursors_in};
+ghost use Rattle.kv_plain.specs.Machine.{phase_in, transaction_in, position_in, sessions_in, cursors_in, session_changed, cursor_placed};
 
 use crate::machine::{Phase, Position, Transaction};
 use crate::writes::joined;
@@ -106,7 +106,7 @@ pub(crate) fn place_cursor(
     cursor: usize,
     position: Option<Position>,
 )
-    ensures { cursors_in cursors.new ≡ slice_set (cursors_in cursors.old) session (slice_set (slice_index_or (cursors_in cursors.old) session []) cursor (option_map position_in position)) }
+    ensures { cursors_in cursors.new ≡ cursor_placed (option_map position_in position) session cursor (cursors_in cursors.old) }
 {
     if session < cursors.len() {
         set_cursor(&mut cursors[session], cursor, position);
@@ -171,14 +171,14 @@ fn with_write(
 }
 
 pub(crate) fn number_session(sessions: &mut [Option<Transaction>], session: usize, id: u64)
-    ensures { sessions_in sessions.new ≡ slice_set (sessions_in sessions.old) session (option_map (λ (x : model.Transaction). record x { id = id }) (slice_index_or (sessions_in sessions.old) session None)) }
+    ensures { sessions_in sessions.new ≡ session_changed (λ (x : model.Transaction). record x { id = id }) session (sessions_in sessions.old) }
 {
     let t = take_session(sessions, session);
     set_session(sessions, session, with_id(t, id));
 }
 
 pub(crate) fn fail_session(sessions: &mut [Option<Transaction>], session: usize)
-    ensures { sessions_in sessions.new ≡ slice_set (sessions_in sessions.old) session (option_map (model.in_phase model.Failed) (slice_index_or (sessions_in sessions.old) session None)) }
+    ensures { sessions_in sessions.new ≡ session_changed (model.in_phase model.Failed) session (sessions_in sessions.old) }
 {
     let t = take_session(sessions, session);
     set_session(sessions, session, maybe_in_phase(t, Phase::Failed));
@@ -192,7 +192,7 @@ pub(crate) fn write_session(
     key: Item,
     change: Change,
 ) -> Result<(), NoMemory>
-    ensures { IfOk result (λ _. sessions_in sessions.new ≡ slice_set (sessions_in sessions.old) session (option_map (model.written table key change) (slice_index_or (sessions_in sessions.old) session None))) }
+    ensures { IfOk result (λ _. sessions_in sessions.new ≡ session_changed (model.written table key change) session (sessions_in sessions.old)) }
 {
     let old = take_session(sessions, session);
     let new = with_write(alloc, old, table, key, change)?;

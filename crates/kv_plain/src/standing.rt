@@ -1,18 +1,18 @@
 // The versions that stand, newest first.
 
-ghost use Rattle.std.specs.Prelude.{◌≡◌, ◌++◌, [], ◌∷◌, map, filter, IfOk, if◌then◌else◌};
+ghost use Rattle.std.specs.Prelude.{◌≡◌, ◌++◌, [], ◌∷◌, map, filter, IfOk};
 ghost use Rattle.item.specs.declared.Change.{Change};
 ghost use Rattle.stamp.specs.declared.Version.{Version};
 ghost use Rattle.kv_model.specs.History.{standing, placed_of, first, is_stable};
 ghost use Rattle.kv_plain.specs.Machine.{machine_in};
-ghost use Rattle.kv_plain.specs.Plain.{entry_in, history_in, write_in, placed_in, is_within, standing_by, standing_of, bound_under};
+ghost use Rattle.kv_plain.specs.Plain.{entry_in, history_in, write_in, placed_in, is_within, within, standing_by, standing_of};
 
 use crate::history::{Entry, Placed, Write};
 use crate::looks::{bound_below, is_left};
 use crate::machine::Machine;
 use failure::NoMemory;
 use stamp::{Name, Version, Window};
-use std::alloc::{AllocError, Global};
+use std::alloc::Global;
 
 fn placed(name: Name, write: &Write) -> Result<Placed, NoMemory>
     ensures { IfOk result (λ p. placed_in p ≡ placed_of name (write_in write.now)) }
@@ -46,7 +46,7 @@ fn push_write(
     write: &Write,
     bound: Option<u64>,
 ) -> Result<(), NoMemory>
-    ensures { IfOk result (λ _. map placed_in out.new.items ≡ map placed_in out.old.items ++ filter (λ p. is_within bound p.version) (placed_of name (write_in write.now) ∷ [])) }
+    ensures { IfOk result (λ _. map placed_in out.new.items ≡ map placed_in out.old.items ++ within bound (placed_of name (write_in write.now) ∷ [])) }
 {
     if is_left(bound, write) {
         push(out, placed(name, write)?)?;
@@ -60,7 +60,7 @@ fn push_writes(
     writes: &[Write],
     bound: Option<u64>,
 ) -> Result<(), NoMemory>
-    ensures { IfOk result (λ _. map placed_in out.new.items ≡ map placed_in out.old.items ++ filter (λ p. is_within bound p.version) (map (placed_of name) (map write_in writes.now))) }
+    ensures { IfOk result (λ _. map placed_in out.new.items ≡ map placed_in out.old.items ++ within bound (map (placed_of name) (map write_in writes.now))) }
 {
     match writes.split_first() {
         None => Ok(()),

@@ -6,8 +6,8 @@ ghost use Rattle.kv_model.specs.Reads.{ReadAnswer};
 ghost use Rattle.kv_model.specs.Rows.{key_lt, comes_after, is_past, starts_at, row_event, seek_event, RowAnswer, NextAnswer, SeekAnswer};
 ghost use Rattle.wt_calls.specs.Calls.{way_in};
 ghost use Rattle.kv_plain.specs.Plain.{write_in, entry_in, history_in};
-ghost use Rattle.kv_plain.specs.Machine.{transaction_in, position_in, sessions_in, cursors_in, machine_in};
-ghost use Rattle.kv_plain.specs.Outcome.{outcome_in, event_in};
+ghost use Rattle.kv_plain.specs.Machine.{transaction_in, position_in, sessions_in, machine_in};
+ghost use Rattle.kv_plain.specs.Outcome.{outcome_in, event_in, Judges};
 ghost use Rattle.kv_plain.specs.Answers.{read_in};
 ghost use Rattle.kv_plain.specs.Walk.{walk_in, is_row, is_met, is_nearer, nearer, read_at, nearest_written, nearest_entered, nearest_stored, nearest_held, nearest_of, row_answer, answer_at};
 
@@ -266,7 +266,7 @@ pub(crate) fn seek(
     table: u32,
     key: &Item,
 ) -> Result<Decision, NoMemory>
-    ensures { IfOk result (λ r. SeekAnswer (machine_in m.now) session (transaction_in t.now) cursor table key.now (outcome_in r.outcome) (event_in r.event)) }
+    ensures { IfOk result (λ r. Judges (SeekAnswer (machine_in m.now) session (transaction_in t.now) cursor table key.now) r) }
 {
     let outcome = outcome_of(read(m, session, t, table, key))?;
     let event = seek_event(session, cursor, table, key, &outcome)?;
@@ -284,7 +284,7 @@ pub(crate) fn next_row(
     table: u32,
     way: Way,
 ) -> Result<Decision, NoMemory>
-    ensures { IfOk result (λ r. NextAnswer (machine_in m.now) session (transaction_in t.now) cursor table (way_in way) (outcome_in r.outcome) (event_in r.event)) }
+    ensures { IfOk result (λ r. Judges (NextAnswer (machine_in m.now) session (transaction_in t.now) cursor table (way_in way)) r) }
 {
     let walk = Walk {
         machine: m,

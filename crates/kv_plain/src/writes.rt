@@ -1,9 +1,8 @@
 // The writes of a transaction: with the stamps of its commit, and with one more.
 
-ghost use Rattle.std.specs.Prelude.{◌≡◌, [], ◌∷◌, ◌++◌, not, map, filter, IfOk};
-ghost use Rattle.kv_model.specs.History.{writes_at};
+ghost use Rattle.std.specs.Prelude.{◌≡◌, [], ◌∷◌, ◌++◌, map, IfOk};
 ghost use Rattle.kv_model.specs.Machine as model;
-ghost use Rattle.kv_plain.specs.Plain.{write_in};
+ghost use Rattle.kv_plain.specs.Plain.{write_in, writes_beside};
 
 use crate::history::Write;
 use crate::looks::is_write_of;
@@ -68,7 +67,7 @@ fn push_others(
     table: u32,
     key: &Item,
 ) -> Result<(), NoMemory>
-    ensures { IfOk result (λ _. map write_in out.new.items ≡ map write_in out.old.items ++ filter (λ o. not (writes_at table key.now o)) (map write_in writes.now)) }
+    ensures { IfOk result (λ _. map write_in out.new.items ≡ map write_in out.old.items ++ writes_beside table key.now (map write_in writes.now)) }
 {
     match writes.split_first() {
         None => Ok(()),

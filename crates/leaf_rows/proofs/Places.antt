@@ -1,43 +1,14 @@
 -- Where a key stands among rows that ascend.
-use Rattle.std.proofs.Common.{◌≡◌, ℕ, zero, suc, ◌+◌, ◌<◌, true, false, List, [], ◌∷◌, ◌++◌, length, take, drop, get_or, Option, Some, None, refl, sym, ap, subst, inl, inr, arith}
+use Rattle.std.proofs.Common.{◌≡◌, ℕ, zero, suc, ◌<◌, true, false, List, [], ◌∷◌, ◌++◌, length, take, drop, get_or, Option, Some, None, refl, ap, subst, inl, inr, arith}
 use Rattle.std.specs.Prelude.{bytes_eq, slice_set}
 use Rattle.std.specs.List.{AllByRecursion}
-use Rattle.std.proofs.lemmas.Bool.{cases_Bool, both_ways}
+use Rattle.std.proofs.lemmas.Bool.{cases_Bool}
 use Rattle.std.proofs.lemmas.Slice.Eq.{bytes_eq-Decides}
 use Rattle.stamp.specs.declared.version.Version.{Version}
 use Rattle.row_page.specs.Changes.{PageChange}
 use Rattle.row_page.specs.Rows.{Row, is_below, comes_after, Ascends, RowFits, key_most}
+use Rattle.row_page.proofs.Ascending.{below_trans, keys_part, below_differs, above_differs, all_above}
 use Rattle.leaf_rows.specs.Rows.{AreFit, SplitsAt, version_at, put_row}
-use Rattle.leaf_rows.proofs.Keys.{below_trans, keys_part, below_differs, above_differs, all_above, above_at}
-
-one_more : (i : ℕ) → suc i + 1 ≡ suc (i + 1)
-one_more i = omega arith
-
--- ---- the search
-
-pub below_upto : (before : Option (List ℕ)) (rows : List Row) (i : ℕ) (r : Row) (key : List ℕ) → Ascends before rows → i < length rows → r ≡ get_or rows i r → is_below r.0 key ≡ true → AllByRecursion (λ (x : Row). is_below x.0 key ≡ true) (take (i + 1) rows)
-below_upto before [] i r key ascend lt is below = absurd (omega (arith, lt))
-below_upto before (x ∷ rows) zero r key ascend lt is below = (subst (λ (y : Row). is_below y.0 key ≡ true) is below, tt)
-below_upto before (x ∷ rows) (suc i) r key ascend lt is below =
-    subst (λ (n : ℕ). AllByRecursion (λ (y : Row). is_below y.0 key ≡ true) (take n (x ∷ rows))) (sym (one_more i))
-    (below_trans x.0 r.0 key (above_at x.0 rows i r ascend.1 (omega (arith, lt)) is) below, below_upto (Some x.0) rows i r key ascend.1 (omega (arith, lt)) is below)
-
-not_below_later : (x y key : List ℕ) → is_below x key ≡ false → is_below x y ≡ true → is_below y key ≡ false
-not_below_later x y key isnt lt = elim (cases_Bool (is_below y key)) [
-  | inl is ↦ absurd (both_ways (is_below x key) isnt (below_trans x y key lt is))
-  | inr other ↦ other
-]
-
-all_not_below : (x key : List ℕ) (rows : List Row) → is_below x key ≡ false → AllByRecursion (λ (r : Row). is_below x r.0 ≡ true) rows → AllByRecursion (λ (r : Row). is_below r.0 key ≡ false) rows
-all_not_below x key [] isnt all = tt
-all_not_below x key (r ∷ rows) isnt all = (not_below_later x r.0 key isnt all.0, all_not_below x key rows isnt all.1)
-
-pub above_from : (before : Option (List ℕ)) (rows : List Row) (i : ℕ) (r : Row) (key : List ℕ) → Ascends before rows → i < length rows → r ≡ get_or rows i r → is_below r.0 key ≡ false → AllByRecursion (λ (x : Row). is_below x.0 key ≡ false) (drop i rows)
-above_from before [] i r key ascend lt is above = absurd (omega (arith, lt))
-above_from before (x ∷ rows) zero r key ascend lt is above =
-    let here : is_below x.0 key ≡ false = subst (λ (y : Row). is_below y.0 key ≡ false) is above in
-    (here, all_not_below x.0 key rows here (all_above x.0 rows ascend.1))
-above_from before (x ∷ rows) (suc i) r key ascend lt is above = above_from (Some x.0) rows i r key ascend.1 (omega (arith, lt)) is above
 
 -- ---- the version of a key
 

@@ -1,5 +1,5 @@
 // The rows, and what is asked of them.
-ghost use Rattle.std.specs.Prelude.{◌≡◌, ◌≤◌, ◌<◌, ◌||◌, ◌==◌, ◌++◌, nat_le, true, false, max, ℕ, List, [], ◌∷◌, length, map, take, drop, bytes_eq, slice_index_or, vec_len, vec_capacity, IfOk, OnOk, OnErr, IsTrue, ◌↔◌, None, option_map};
+ghost use Rattle.std.specs.Prelude.{◌≡◌, ◌≤◌, ◌<◌, ◌||◌, ◌==◌, ◌++◌, nat_le, true, max, List, [], ◌∷◌, length, map, take, drop, bytes_eq, slice_index_or, vec_len, vec_capacity, IfOk, OnOk, OnErr, IsTrue, ◌↔◌, None, option_map};
 ghost use Rattle.kv_model.specs.Content.{sees_name};
 ghost use Rattle.row_page.specs.Rows.{Row, RowFits, IsImage, Ascends, cell, key_most, is_below};
 ghost use Rattle.row_page.specs.Greatest.{name_lt, later, greatest_in, most_in};

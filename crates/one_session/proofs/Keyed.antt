@@ -14,7 +14,7 @@ use Rattle.row_page.specs.Rows.{Row, is_below, Ascends}
 use Rattle.stored.specs.Stored.{placed_in}
 use Rattle.leaf_rows.specs.Rows.{version_at, put_row}
 use Rattle.one_session.specs.Shows.{shown_at}
-use Rattle.leaf_rows.proofs.Keys.{keys_part, below_differs, above_differs, all_above, below_trans}
+use Rattle.row_page.proofs.Ascending.{keys_part, below_differs, above_differs, all_above, below_trans}
 
 pub key_self : (key : List ℕ) → bytes_eq key key ≡ true
 key_self key = (bytes_eq-Decides key key).1 refl

@@ -20,7 +20,8 @@ use Rattle.stored.specs.Stored.{placed_in}
 use Rattle.leaf_rows.specs.declared.marks.Marks.{Marks}
 use Rattle.leaf_rows.specs.Rows.{AreFit}
 use Rattle.leaf_rows.specs.Contents.{leaf_content, is_kept_row, kept_rows}
-use Rattle.leaf_rows.proofs.Keys.{all_above, below_self, filter_fit}
+use Rattle.row_page.proofs.Ascending.{all_above, below_self}
+use Rattle.leaf_rows.proofs.Filters.{filter_fit}
 use Rattle.one_session.specs.Shows.{Shows}
 use Rattle.one_session.specs.ShowsLaws.{OpeningShows, ClosingOpens}
 use Rattle.one_session.proofs.Keyed.{key_self, of_key_one, of_key_descending}

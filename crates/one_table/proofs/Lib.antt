@@ -4,3 +4,4 @@ pub mod Shapes
 pub mod Books
 pub mod Opens
 pub mod Writes
+pub mod CloseRefusals

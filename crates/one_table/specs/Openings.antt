@@ -1,5 +1,5 @@
 -- What an opening finds, and why it finds nothing.
-use Rattle.std.specs.Prelude.{◌≡◌, ◌≢◌, ◌⊎◌, ℕ, ◌≤◌, ◌<◌, ◌-◌, ◌^◌, ◌==◌, false, List, [], ◌∷◌, length, Option, Some, None, if◌then◌else◌}
+use Rattle.std.specs.Prelude.{◌≡◌, ◌≢◌, ◌⊎◌, ℕ, ◌≤◌, ◌<◌, ◌-◌, ◌^◌, false, List, [], length, Option, Some, None}
 use Rattle.failure.specs.Counts.{Rose}
 use Rattle.disk_model.specs.declared.disk.Disk.{Ghosts}
 use Rattle.extent_list.specs.Space.{end_of, space_of}

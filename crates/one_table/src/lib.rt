@@ -19,5 +19,5 @@ mod writing;
 pub use law::a_damaged_device_reads_as_nothing;
 pub use opening::{Kept, Opened, open};
 pub use place::Place;
-pub use record::{Entry, Numbers};
+pub use record::{Entry, Numbers, is_table_name};
 pub use writing::close;

@@ -1,14 +1,14 @@
 // The record of a checkpoint of one table of one leaf.
 ghost use Rattle.std.specs.Prelude.{◌≡◌, ◌↔◌, ◌+◌, ◌≤◌, ◌<◌, ◌++◌, ℕ, List, length, take, drop, slice_index_or, IfOk, OnOk, IfSome, IfNone, IsTrue};
-ghost use Rattle.std.specs.List.{list_all};
 ghost use Rattle.item.specs.declared.formats.Format.{Format};
 ghost use Rattle.le_codec.specs.Images.{block_of};
 ghost use Rattle.kv_model.specs.History.{Table};
-ghost use Rattle.kv_model.specs.Decisions.{is_name, is_name_byte};
+ghost use Rattle.kv_model.specs.Decisions.{is_name};
 ghost use Rattle.stored.specs.Links.{LinkFits};
 ghost use Rattle.stored.specs.Records.{letter as letter_of};
 ghost use Rattle.one_table.specs.OneTable.{numbers_text, entry_text, link_bytes, lent, one_image, HasFields, HasTable, HoldsRecord, HoldsNone, AreNumbers, IsTable, IsInForm};
 
+use catalog::is_name;
 use device_layout::{Addr, Link};
 use failure::NoMemory;
 use item::{Format, Formats, Item};
@@ -296,30 +296,14 @@ fn are_numbers(numbers: Numbers) -> bool
 fn is_entry(numbers: Numbers, entry: &TableEntry<'_>) -> bool
     ensures { IsTrue result ↔ (IsTable (lent entry.now) × (entry.now.number < numbers.next_table)) }
 {
-    1 <= entry.number && entry.number < numbers.next_table && is_name(entry.name)
+    1 <= entry.number && entry.number < numbers.next_table && is_table_name(entry.name)
 }
 
-// A table's name has 1 to 128 bytes.
-fn is_name(name: &[u8]) -> bool
+/// Whether a table may have this name, which then has 128 bytes at most.
+pub fn is_table_name(name: &[u8]) -> bool
     ensures is { result ≡ is_name name.now }
     ensures short { IsTrue result → length name.now ≤ 128 }
     ensures bytes { (i : ℕ) → slice_index_or name.now i 0 < 256 }
 {
-    if name.is_empty() || name.len() > 128 {
-        return false;
-    }
-    are_name_bytes(name)
-}
-
-fn are_name_bytes(name: &[u8]) -> bool
-    ensures { result ≡ list_all is_name_byte name.now }
-{
-    name.iter().all(|b| is_name_byte(*b))
-}
-
-// No control byte, no space, no colon.
-fn is_name_byte(byte: u8) -> bool
-    ensures { result ≡ is_name_byte byte }
-{
-    byte > 32 && byte != b':' && byte != 127
+    is_name(name)
 }

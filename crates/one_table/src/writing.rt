@@ -1,5 +1,5 @@
 // How a checkpoint of one table is written.
-ghost use Rattle.std.specs.Prelude.{◌≡◌, ◌+◌, ◌≤◌, ℕ, Option, length, true, IfErr, IsTrue};
+ghost use Rattle.std.specs.Prelude.{◌≡◌, ◌≤◌, Option, length, true, IfErr, IsTrue};
 ghost use Rattle.failure.specs.Counts.{Rose};
 ghost use Rattle.disk_model.specs.Crash.{SameDisk};
 ghost use Rattle.wt_code.specs.StoreErrors.{refusal_of, IsOfDisk};
@@ -81,16 +81,12 @@ fn told(outcome: Result<Addr, StoreError>) -> Result<(), Refusal>
 }
 
 // The refusal that tells of an error.
+#[tactic(auto, using(crate::proofs::CloseRefusals::of_close))]
 fn refused(error: StoreError) -> Refusal
     ensures is { result ≡ refusal_of error }
     ensures refusal { IsOfClose result }
 {
-    match error {
-        StoreError::NoMemory => Refusal::NoMemory,
-        StoreError::NoSpace => Refusal::NoSpace,
-        StoreError::Read => Refusal::DiskFault,
-        StoreError::Down(_) => Refusal::DiskFault,
-    }
+    Refusal::from(error)
 }
 
 // A checkpoint runs from now on; one that was begun goes on.

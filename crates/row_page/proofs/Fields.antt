@@ -14,7 +14,7 @@ use Rattle.le_codec.proofs.Chains.{chain_field}
 use Rattle.row_page.specs.declared.change.CellChange.TheVariants.{Put, Remove}
 use Rattle.row_page.specs.Changes.{PageChange}
 use Rattle.row_page.specs.Rows.{Row, Raw, raw_text, window_text, tail_of, cell_under, code_of, value_of, IsNumber, WindowFits, RowFits, comes_after, key_of}
-use Rattle.row_page.specs.Reading.{Numbers, window_of, window_at, Parts, raw_of, raw_at, change_of, is_number, window_fits, row_fits, row_under, cell_at, row_at, rows_at}
+use Rattle.row_page.specs.Reading.{Numbers, window_of, window_at, Parts, raw_of, raw_at, change_of, is_number, window_fits, row_fits, row_under, cell_at, row_after, row_at, rows_at}
 
 -- ---- a cell before anything is asked of it
 
@@ -140,12 +140,12 @@ row_field front most small = try_field (row_under front most) (tail_of front) (R
 abbrev pub After : List ℕ → ℕ → Option (List ℕ) → Row → Type 0
 After front most before r = RowFits front most r × (comes_after before r.0 ≡ true)
 
-after_there : (front : List ℕ) (most : ℕ) (before : Option (List ℕ)) (a b : Row) → RowFits front most a → cond (comes_after before a.0) (Some a) None ≡ Some b → (b ≡ a) × After front most before b
+after_there : (front : List ℕ) (most : ℕ) (before : Option (List ℕ)) (a b : Row) → RowFits front most a → row_after before a ≡ Some b → (b ≡ a) × After front most before b
 after_there front most before a b h e =
     let g = cond_some (comes_after before a.0) a b e in
     (sym g.1, subst (λ (x : Row). After front most before x) g.1 (h, g.0))
 
-after_here : (front : List ℕ) (most : ℕ) (before : Option (List ℕ)) (b : Row) → After front most before b → (cond (comes_after before b.0) (Some b) None ≡ Some b) × RowFits front most b
+after_here : (front : List ℕ) (most : ℕ) (before : Option (List ℕ)) (b : Row) → After front most before b → (row_after before b ≡ Some b) × RowFits front most b
 after_here front most before b h = (rw h.1 refl, h.0)
 
 abbrev same_row : Row → Row
@@ -153,7 +153,7 @@ same_row r = r
 
 pub row_after_field : (front : List ℕ) (most : ℕ) → most < 2 ^ 16 → (before : Option (List ℕ)) → IsField (cell_under front) (row_at front most before) (After front most before)
 unfolding row_at
-row_after_field front most small before = try_field (λ (r : Row). cond (comes_after before r.0) (Some r) None) same_row (After front most before) (after_there front most before) (after_here front most before) (row_field front most small)
+row_after_field front most small before = try_field (row_after before) same_row (After front most before) (after_there front most before) (after_here front most before) (row_field front most small)
 
 pub rows_field : (front : List ℕ) (most : ℕ) → most < 2 ^ 16 → (count : ℕ) (before : Option (List ℕ)) → IsField (flat_map (cell_under front)) (rows_at front most count before) (λ (rows : List Row). (length rows ≡ count) × Chained (After front most) key_of before rows)
 rows_field front most small count before = chain_field key_of (row_after_field front most small) count before

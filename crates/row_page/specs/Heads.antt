@@ -28,9 +28,13 @@ head_at bytes = do
   s ← slice_at 39 bytes
   if window_fits (head_of bytes).window then Some (head_of bytes, s.1) else None
 
+-- what stands in the cell with this head, key and value
+abbrev pub raw_headed : Head → List ℕ → List ℕ → Raw
+raw_headed h key value = record { key = key; code = h.code; window = h.window; value = value }
+
 -- what stands in the cell whose key and value are this text
 abbrev pub raw_with : Head → List ℕ → Raw
-raw_with h text = record { key = take h.key_len text; code = h.code; window = h.window; value = drop h.key_len text }
+raw_with h text = raw_headed h (take h.key_len text) (drop h.key_len text)
 
 -- its key and its value are not too long, and its window fits
 abbrev pub raw_fits : Raw → Bool

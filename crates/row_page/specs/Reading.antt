@@ -54,9 +54,13 @@ row_under front most x = do
 unfoldable pub cell_at : List ℕ → ℕ → List ℕ → Option (Row × List ℕ)
 cell_at front most = try_at (row_under front most) raw_at
 
+-- the row, where its key comes after the one before
+abbrev pub row_after : Option (List ℕ) → Row → Option Row
+row_after before r = if comes_after before r.0 then Some r else None
+
 -- a cell below a front that comes after a key
 unfoldable pub row_at : List ℕ → ℕ → Option (List ℕ) → List ℕ → Option (Row × List ℕ)
-row_at front most before = try_at (λ (r : Row). if comes_after before r.0 then Some r else None) (cell_at front most)
+row_at front most before = try_at (row_after before) (cell_at front most)
 
 -- so many rows of a page, after one before
 abbrev pub rows_at : List ℕ → ℕ → ℕ → Option (List ℕ) → List ℕ → Option (List Row × List ℕ)

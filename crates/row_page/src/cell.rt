@@ -1,10 +1,10 @@
 // A cell of a leaf: a key and a version of it.
-ghost use Rattle.std.specs.Prelude.{◌≡◌, Option, Some, None, [], option_map, if◌then◌else◌, IfSome};
+ghost use Rattle.std.specs.Prelude.{◌≡◌, [], option_map, IfSome};
 ghost use Rattle.le_codec.specs.Fields.{Gives};
 ghost use Rattle.row_page.specs.Changes.{change_seen};
 ghost use Rattle.row_page.specs.Rows.{comes_after, key_most};
-ghost use Rattle.row_page.specs.Reading.{cell_at, row_at, row_under, change_of};
-ghost use Rattle.row_page.specs.Heads.{raw_fits, behind_at, greatest_with};
+ghost use Rattle.row_page.specs.Reading.{cell_at, row_after, row_at, row_under, change_of};
+ghost use Rattle.row_page.specs.Heads.{raw_headed, raw_fits, behind_at, greatest_with};
 ghost use Rattle.row_page.specs.Views.{row_seen};
 
 use crate::change::CellChange;
@@ -30,7 +30,7 @@ pub struct Cell<'a> {
 }
 
 fn fits(head: &Head, key: &[u8], value: &[u8]) -> bool
-    ensures { result ≡ raw_fits (record { key = key.now; code = head.now.code; window = head.now.window; value = value.now }) }
+    ensures { result ≡ raw_fits (raw_headed head.now key.now value.now) }
 {
     key.len() <= KEY_MAX && value.len() <= VALUE_MAX && window_fits(&head.window)
 }
@@ -47,7 +47,7 @@ fn change_of<'a>(code: u8, value: &'a [u8]) -> Option<CellChange<&'a [u8]>>
 
 #[tactic(auto, using(crate::proofs::Heads::under_is))]
 fn row_of<'a>(head: &Head, key: &'a [u8], value: &'a [u8]) -> Option<Cell<'a>>
-    ensures row { option_map row_seen result ≡ row_under [] key_most (record { key = key.now; code = head.now.code; window = head.now.window; value = value.now }) }
+    ensures row { option_map row_seen result ≡ row_under [] key_most (raw_headed head.now key.now value.now) }
     ensures window { IfSome result (λ c. c.window ≡ head.now.window) }
 {
     if !fits(head, key, value) {
@@ -91,7 +91,7 @@ fn comes_after(before: Option<&[u8]>, key: &[u8]) -> bool
 
 // The cell, where its key comes after the one before.
 fn ordered<'a>(before: Option<&[u8]>, cell: Cell<'a>) -> Option<Cell<'a>>
-    ensures row { option_map row_seen result ≡ (if comes_after (option_map (λ v. v.now) before.entry) (row_seen cell.entry).0 then Some (row_seen cell.entry) else None) }
+    ensures row { option_map row_seen result ≡ row_after (option_map (λ v. v.now) before.entry) (row_seen cell.entry) }
     ensures window { IfSome result (λ c. c.window ≡ cell.entry.window) }
 {
     if comes_after(before, cell.key) {

@@ -1,5 +1,5 @@
 // A leaf in memory: the bytes of its block, and where its cells begin.
-ghost use Rattle.std.specs.Prelude.{◌≡◌, ◌≤◌, ◌<◌, List, [], ◌∷◌, length, drop, slice_get, IfOk, OnOk, ◌++◌, IfSome, IfNone, IsTrue, ◌↔◌, MatchResult, None, Some};
+ghost use Rattle.std.specs.Prelude.{◌≡◌, ◌≤◌, ◌<◌, List, length, drop, slice_get, IfOk, IfSome, IfNone, IsTrue, ◌↔◌, MatchResult, None, Some};
 ghost use Rattle.row_page.specs.Rows.{Row, IsPage};
 ghost use Rattle.row_page.specs.Reading.{leaf_at};
 ghost use Rattle.row_page.specs.Views.{row_seen, HasKeyAt, Splits};

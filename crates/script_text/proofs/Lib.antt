@@ -8,4 +8,3 @@ mod SpokenSystem
 mod SpokenWords
 mod StampLemmas
 mod WordLemmas
-mod ZeroLemmas

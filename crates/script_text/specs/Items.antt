@@ -1,5 +1,5 @@
--- Items as words, and as a table stores them.
-use Rattle.std.specs.Prelude.{ℕ, ◌-◌, ◌&&◌, ◌==◌, nat_le, List, [], ◌∷◌, ◌++◌, Option, Some, None, if◌then◌else◌}
+-- Items as words.
+use Rattle.std.specs.Prelude.{ℕ, ◌-◌, ◌&&◌, ◌==◌, nat_le, List, [], ◌∷◌, Option, Some, None, if◌then◌else◌}
 use Rattle.std.specs.Str.{bytes_eq}
 use Rattle.item.specs.Escapes.{unescaped}
 use Rattle.item.specs.declared.formats.Format.{Format}
@@ -8,22 +8,6 @@ use Rattle.item.specs.declared.formats.Format.TheVariants.{S, U}
 -- the item of a word: a backslash and a hyphen alone are the empty item, any other word is unescaped
 abbrev pub item_of : List ℕ → Option (List ℕ)
 item_of word = if bytes_eq word (92 ∷ 45 ∷ []) then Some [] else unescaped word
-
--- an item as it is written, in a table of the format: one of the format S ends with a zero byte
-abbrev pub stored_as : Format → List ℕ → List ℕ
-stored_as S item = item ++ 0 ∷ []
-stored_as U item = item
-
--- without its final byte, where that is zero
-abbrev pub without_zero : List ℕ → List ℕ
-without_zero [] = []
-without_zero (b ∷ []) = if b == 0 then [] else b ∷ []
-without_zero (b ∷ (c ∷ rest)) = b ∷ without_zero (c ∷ rest)
-
--- a stored item as it is written
-abbrev pub written_as : Format → List ℕ → List ℕ
-written_as S item = without_zero item
-written_as U item = item
 
 -- the format of a word
 abbrev pub format_of : List ℕ → Option Format

@@ -6,7 +6,7 @@ use Rattle.item.specs.declared.formats.Formats.{Formats}
 use Rattle.wt_code.specs.declared.answers.Answer.{Answer}
 use Rattle.wt_code.specs.declared.answers.Answer.TheVariants.{Done, Value, Row, Left, End, Refused}
 use Rattle.wt_code.specs.Text.{text_of_refusal}
-use Rattle.script_text.specs.Items.{written_as}
+use Rattle.item_forms.specs.Forms.{written_as}
 use Rattle.script_text.specs.declared.replies.Reply.{Reply}
 use Rattle.script_text.specs.declared.replies.Reply.TheVariants.{Started, More, Answered}
 

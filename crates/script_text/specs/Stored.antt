@@ -7,7 +7,7 @@ use Rattle.wt_calls.specs.declared.system_call.SystemCall.{SystemCall}
 use Rattle.wt_calls.specs.declared.system_call.SystemCall.TheVariants.{Create, SetStamps, RollbackToStable, StartCheckpoint, StepCheckpoint, FinishCheckpoint, Evict, Close}
 use Rattle.wt_calls.specs.declared.call.Call.{Call}
 use Rattle.wt_calls.specs.declared.call.Call.TheVariants.{Session, System}
-use Rattle.script_text.specs.Items.{stored_as}
+use Rattle.item_forms.specs.Forms.{stored_as}
 
 abbrev pub table_of_session : SessionCall → Option (List ℕ)
 table_of_session (Get table key) = Some table

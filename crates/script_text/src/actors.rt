@@ -1,5 +1,5 @@
 // The first word of a line: an actor, and a mark.
-ghost use Rattle.std.specs.Prelude.{◌≡◌, ◌++◌, ◌≤◌, length, take, drop, option_map};
+ghost use Rattle.std.specs.Prelude.{◌≡◌, ◌≤◌, length, take, drop};
 ghost use Rattle.script_text.specs.Actors.{before_mark, from_mark, mark_of, actor_of, first_of};
 
 use crate::line::Actor;

@@ -1,12 +1,14 @@
 // What the words of a call name.
-ghost use Rattle.std.specs.Prelude.{◌≡◌, ◌++◌, ◌∷◌, [], IfOk, option_map};
+ghost use Rattle.std.specs.Prelude.{◌≡◌, IfOk, option_map};
+ghost use Rattle.item_forms.specs.Forms.{stored_as};
 ghost use Rattle.script_text.specs.Words.{words_behind};
 ghost use Rattle.script_text.specs.SessionCalls.{keyed_of, keyed_in};
-ghost use Rattle.script_text.specs.Items.{item_of, stored_as, without_zero, format_of, cursor_of};
+ghost use Rattle.script_text.specs.Items.{item_of, format_of, cursor_of};
 
 use crate::words::two;
 use failure::NoMemory;
 use item::{Format, Item, unescape};
+use item_forms::stored_as;
 use std::alloc::Global;
 
 // The table that a word names.
@@ -27,34 +29,12 @@ pub(crate) fn item(alloc: Global, word: &[u8]) -> Result<Option<Item>, NoMemory>
 }
 
 // The item as a table of the format stores it.
-pub(crate) fn stored_as(alloc: Global, item: Item, format: Format) -> Result<Item, NoMemory>
+pub(crate) fn stored(alloc: Global, item: Item, format: Format) -> Result<Item, NoMemory>
     ensures { IfOk result (λ stored. stored ≡ stored_as format item) }
 {
     match format {
-        Format::S => with_zero(alloc, item.as_bytes()),
+        Format::S => stored_as(alloc, format, item.as_bytes()),
         Format::U => Ok(item),
-    }
-}
-
-fn with_zero(alloc: Global, item: &[u8]) -> Result<Item, NoMemory>
-    ensures { IfOk result (λ stored. stored ≡ item.now ++ 0 ∷ []) }
-{
-    let mut bytes = Vec::new(alloc);
-    bytes.reserve(item.len())?;
-    bytes.extend_from_slice(item)?;
-    match bytes.push(0) {
-        Ok(()) => Ok(Item::new(bytes)),
-        Err(_) => Err(NoMemory),
-    }
-}
-
-// An item without its final byte, where that is zero.
-pub(crate) fn without_zero(item: &[u8]) -> &[u8]
-    ensures { result.now ≡ without_zero item.now }
-{
-    match item.split_last() {
-        Some((last, front)) => if *last == 0 { front } else { item },
-        None => item,
     }
 }
 

@@ -23,9 +23,7 @@ mod system_calls;
 mod tests;
 mod words;
 
-pub use laws::{
-    a_line_asks_for_one_thing, an_item_is_printed_as_written, words_stand_between_single_spaces,
-};
+pub use laws::{a_line_asks_for_one_thing, words_stand_between_single_spaces};
 pub use line::{Actor, Control, Line};
 pub use parse::{LINE_MAX, parse_line};
 pub use replies::{Reply, line_of_answer};

@@ -1,12 +1,13 @@
 // The line that tells a reply.
-ghost use Rattle.std.specs.Prelude.{◌≡◌, ◌++◌, ◌∷◌, IfOk};
+ghost use Rattle.std.specs.Prelude.{◌≡◌, IfOk};
 ghost use Rattle.item.specs.Escapes.{escaped};
-ghost use Rattle.script_text.specs.Items.{written_as};
+ghost use Rattle.item_forms.specs.Forms.{written_as};
 ghost use Rattle.script_text.specs.Replies.{line_of_reply, line_of_told, line_of_value, line_of_row};
 
-use crate::items::{name, without_zero};
+use crate::items::name;
 use failure::NoMemory;
 use item::{Format, Formats, Item, escape};
+use item_forms::written_as;
 use std::alloc::Global;
 use wt_code::{Answer, text_of};
 
@@ -33,7 +34,7 @@ fn written(alloc: Global, item: &Item, format: Format) -> Result<Vec<u8>, NoMemo
 {
     match format {
         Format::S => {
-            let front = name(alloc, without_zero(item.as_bytes()))?;
+            let front = name(alloc, written_as(format, item.as_bytes()))?;
             escape(alloc, &front)
         }
         Format::U => escape(alloc, item),

@@ -2,7 +2,7 @@
 ghost use Rattle.std.specs.Prelude.{◌≡◌, IfOk, option_map};
 ghost use Rattle.script_text.specs.Stored.{table_of_items, stored_session, stored_system, stored_call};
 
-use crate::items::stored_as;
+use crate::items::stored;
 use failure::NoMemory;
 use item::{Formats, Item};
 use std::alloc::Global;
@@ -34,7 +34,7 @@ fn stored_session(
     match call {
         SessionCall::Get { table, key } => Ok(SessionCall::Get {
             table,
-            key: stored_as(alloc, key, formats.key)?,
+            key: stored(alloc, key, formats.key)?,
         }),
         SessionCall::Put {
             table,
@@ -43,18 +43,18 @@ fn stored_session(
             demand,
         } => Ok(SessionCall::Put {
             table,
-            key: stored_as(alloc, key, formats.key)?,
-            value: stored_as(alloc, value, formats.value)?,
+            key: stored(alloc, key, formats.key)?,
+            value: stored(alloc, value, formats.value)?,
             demand,
         }),
         SessionCall::Remove { table, key } => Ok(SessionCall::Remove {
             table,
-            key: stored_as(alloc, key, formats.key)?,
+            key: stored(alloc, key, formats.key)?,
         }),
         SessionCall::Seek { cursor, table, key } => Ok(SessionCall::Seek {
             cursor,
             table,
-            key: stored_as(alloc, key, formats.key)?,
+            key: stored(alloc, key, formats.key)?,
         }),
         other => Ok(other),
     }
@@ -66,7 +66,7 @@ fn stored_system(alloc: Global, call: SystemCall, formats: Formats) -> Result<Sy
     match call {
         SystemCall::Evict { table, key } => Ok(SystemCall::Evict {
             table,
-            key: stored_as(alloc, key, formats.key)?,
+            key: stored(alloc, key, formats.key)?,
         }),
         other => Ok(other),
     }

@@ -4,3 +4,4 @@ pub mod Frame
 pub mod OneTree
 pub mod Exact
 pub mod Device
+mod Regular

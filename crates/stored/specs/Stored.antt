@@ -5,11 +5,12 @@ use Rattle.kv_model.specs.History.{Table, Placed}
 use Rattle.kv_model.specs.Content.{Content, nothing}
 use Rattle.row_page.specs.Changes.{version_in}
 use Rattle.row_page.specs.Rows.{Row}
+use Rattle.disk_model.specs.Disk.{Torn}
 use Rattle.disk_model.specs.Ranges.{range}
 use Rattle.device_layout.specs.declared.slot.Slot.{Slot}
 use Rattle.device_layout.specs.Slots.{addr_in}
 use Rattle.turtle.specs.Slots.{Chooses}
-use Rattle.stored.specs.Blocks.{Block, IsAddressed, Holds, Apart}
+use Rattle.stored.specs.Blocks.{Block, IsAddressed, Holds, Apart, Same, Away}
 use Rattle.stored.specs.Tree.{IsTree, tree_blocks, join}
 use Rattle.stored.specs.TableTree.{table_kind, TableTree, root_entry}
 use Rattle.stored.specs.HistoryTree.{history_kind, HistoryTree, history_root_entry, HistoryRecord, record_in}
@@ -59,6 +60,14 @@ pub record IsWhole (s : Stored) : Type 0 where
 -- two contents are the same where the slots stand
 abbrev pub SameSlots : List ℕ → List ℕ → Type 0
 SameSlots old new = (range new 0 36 ≡ range old 0 36) × (range new 4096 36 ≡ range old 4096 36)
+
+-- no byte is cut off, and those of the slots and of the blocks stay
+abbrev pub Spares : List ℕ → List ℕ → List Block → Type 0
+Spares old new blocks = (length old ≤ length new) × SameSlots old new × Same old new blocks
+
+-- n bytes are written from this offset on, cut short or not: behind the slots, and away from the blocks
+abbrev pub WritesBeside : ℕ → ℕ → List Block → List ℕ → List ℕ → Type 0
+WritesBeside at n blocks old new = (8192 ≤ at) × Torn at n old new × Away at n blocks
 
 -- the device has it
 pub record IsOn (bytes : List ℕ) (s : Stored) : Type 0 where

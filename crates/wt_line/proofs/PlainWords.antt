@@ -1,5 +1,5 @@
 -- The command of words that do not begin with a hyphen, or stand behind `--`.
-use Rattle.std.proofs.Common.{◌≡◌, ◌∙◌, ◌++◌, ◌<◌, ap, ap₂, refl, Bool, true, false, List, [], ◌∷◌, Option, Some, None, length, codes, arith}
+use Rattle.std.proofs.Common.{◌≡◌, ◌∙◌, ◌++◌, ◌<◌, ◌≤◌, ap, ap₂, refl, Bool, true, false, List, [], ◌∷◌, Option, Some, None, length, codes, arith}
 use Rattle.std.specs.Prelude.{fold, option_and_then, option_map}
 use Rattle.clap.specs.Kinds.{Kinds, or_else}
 use Rattle.clap.specs.Walk.{Row, Text, finished, nothing_held, settled_rows, stop_after, walk_from, walked}
@@ -7,8 +7,8 @@ use Rattle.clap.specs.Faults.{built_fault, level_fault, turn_fault, walk_fault}
 use Rattle.clap.specs.Simple.{Shape, argument_words, built, built_leaf, entered, inherited, names_of, rows_at}
 use Rattle.clap.proofs.OnLiterals.{clap_on_literals}
 use Rattle.wt_line.specs.App.{create_app, read_app, top_app, write_app, wt_app}
-use Rattle.wt_line.specs.Line.{as_command, command_of, create, matched_command, pairs_of, read, where_none, write}
-use Rattle.wt_line.specs.Plain.{IsPlain, ArePlain, EachWord}
+use Rattle.wt_line.specs.Line.{as_command, command_of, create, matched_command, pairs_of, read, where_none, write, write_of}
+use Rattle.wt_line.specs.Plain.{IsPlain, ArePlain, EachWord, HasItems, HasPlainItems, write_words, read_words, dashed}
 use Rattle.wt_line.proofs.WalkedWords.{Enters, Leads, TakesItems, all_pass, at_items, end_fault, entered_below, fault_below, in_range, level_passes, unfaulted_to_items, walked_to_items}
 
 -- ---- from a subcommand to the command
@@ -103,7 +103,7 @@ read_ends uri key rest fits =
     let some : 0 < length (key ∷ rest) = omega arith in
     ap (λ (ks : Kinds). or_else ks []) (ap₂ or_else (in_range (length (key ∷ rest)) some fits) (all_pass rest))
 
-pub read_plain : (uri key : Text) (rest : List Text) → ArePlain (uri ∷ key ∷ rest) → length (key ∷ rest) < 18446744073709551616
+read_plain : (uri key : Text) (rest : List Text) → ArePlain (uri ∷ key ∷ rest) → length (key ∷ rest) < 18446744073709551616
     → command_of (codes "read" ∷ uri ∷ key ∷ rest) ≡ Some (read uri (key ∷ rest))
 read_plain uri key rest plain fits =
     items_read (codes "read") read_shape false IsPlain (uri ∷ key ∷ []) (table_rows read_shape [] uri) key rest read_enters
@@ -131,7 +131,7 @@ unfolding clap_on_literals
 read_behind_unfaulted [] key h = refl
 read_behind_unfaulted (x ∷ xs) key h = simp h
 
-pub read_behind : (uri key : Text) (rest : List Text) → IsPlain uri → length (key ∷ rest) < 18446744073709551616
+read_behind : (uri key : Text) (rest : List Text) → IsPlain uri → length (key ∷ rest) < 18446744073709551616
     → command_of (codes "read" ∷ uri ∷ codes "--" ∷ key ∷ rest) ≡ Some (read uri (key ∷ rest))
 read_behind uri key rest plain fits =
     items_read (codes "read") read_shape true IsWord (uri ∷ codes "--" ∷ key ∷ []) (table_rows read_shape [] uri) key rest read_enters
@@ -191,7 +191,7 @@ write_ends uri key rest fits =
     let some : 0 < length (key ∷ rest) = omega arith in
     ap (λ (ks : Kinds). or_else ks []) (ap₂ or_else (in_range (length (key ∷ rest)) some fits) (all_pass rest))
 
-pub write_plain : (uri key : Text) (rest : List Text) → ArePlain (uri ∷ key ∷ rest) → length (key ∷ rest) < 18446744073709551616
+write_plain : (uri key : Text) (rest : List Text) → ArePlain (uri ∷ key ∷ rest) → length (key ∷ rest) < 18446744073709551616
     → command_of (codes "write" ∷ uri ∷ key ∷ rest) ≡ option_map (write false uri) (pairs_of (key ∷ rest))
 write_plain uri key rest plain fits =
     items_read (codes "write") write_shape false IsPlain (uri ∷ key ∷ []) (table_rows write_shape [] uri) key rest write_enters
@@ -219,7 +219,7 @@ unfolding clap_on_literals
 write_behind_unfaulted [] key h = refl
 write_behind_unfaulted (x ∷ xs) key h = simp h
 
-pub write_behind : (uri key : Text) (rest : List Text) → IsPlain uri → length (key ∷ rest) < 18446744073709551616
+write_behind : (uri key : Text) (rest : List Text) → IsPlain uri → length (key ∷ rest) < 18446744073709551616
     → command_of (codes "write" ∷ uri ∷ codes "--" ∷ key ∷ rest) ≡ option_map (write false uri) (pairs_of (key ∷ rest))
 write_behind uri key rest plain fits =
     items_read (codes "write") write_shape true IsWord (uri ∷ codes "--" ∷ key ∷ []) (table_rows write_shape [] uri) key rest write_enters
@@ -254,7 +254,7 @@ flag_ends uri key rest fits =
     let some : 0 < length (key ∷ rest) = omega arith in
     ap (λ (ks : Kinds). or_else ks []) (ap₂ or_else (in_range (length (key ∷ rest)) some fits) (all_pass rest))
 
-pub overwrite_plain : (uri key : Text) (rest : List Text) → ArePlain (uri ∷ key ∷ rest) → length (key ∷ rest) < 18446744073709551616
+overwrite_plain : (uri key : Text) (rest : List Text) → ArePlain (uri ∷ key ∷ rest) → length (key ∷ rest) < 18446744073709551616
     → command_of (codes "write" ∷ codes "-o" ∷ uri ∷ key ∷ rest) ≡ option_map (write true uri) (pairs_of (key ∷ rest))
 overwrite_plain uri key rest plain fits =
     items_read (codes "write") write_shape false IsPlain (codes "-o" ∷ uri ∷ key ∷ []) (table_rows write_shape flag_rows uri) key rest write_enters
@@ -325,3 +325,29 @@ behind_read uri = refl
 pub create_behind : (uri : Text) → command_of (codes "create" ∷ codes "--" ∷ uri ∷ []) ≡ Some (create None uri)
 create_behind uri =
     entered_by (codes "create") create_shape (codes "--" ∷ uri ∷ []) create_enters (behind_passes uri) ∙ behind_read uri
+
+-- ---- of all the items
+
+-- a table has an item
+no_item : {P : Type 0} (uri : Text) → HasItems uri [] → P
+no_item uri items = absurd (let some : 1 ≤ 0 = items.1 in omega (arith, some))
+
+pub write_items : (uri : Text) (items : List Text) → HasPlainItems uri items → command_of (write_words false uri items) ≡ write_of false uri items
+write_items uri [] plain = no_item uri plain.0
+write_items uri (key ∷ rest) plain = write_plain uri key rest (plain.0.0, plain.1) plain.0.2
+
+pub overwrite_items : (uri : Text) (items : List Text) → HasPlainItems uri items → command_of (write_words true uri items) ≡ write_of true uri items
+overwrite_items uri [] plain = no_item uri plain.0
+overwrite_items uri (key ∷ rest) plain = overwrite_plain uri key rest (plain.0.0, plain.1) plain.0.2
+
+pub read_items : (uri : Text) (items : List Text) → HasPlainItems uri items → command_of (read_words uri items) ≡ Some (read uri items)
+read_items uri [] plain = no_item uri plain.0
+read_items uri (key ∷ rest) plain = read_plain uri key rest (plain.0.0, plain.1) plain.0.2
+
+pub write_dashed : (uri : Text) (items : List Text) → HasItems uri items → command_of (write_words false uri (dashed items)) ≡ write_of false uri items
+write_dashed uri [] has = no_item uri has
+write_dashed uri (key ∷ rest) has = write_behind uri key rest has.0 has.2
+
+pub read_dashed : (uri : Text) (items : List Text) → HasItems uri items → command_of (read_words uri (dashed items)) ≡ Some (read uri items)
+read_dashed uri [] has = no_item uri has
+read_dashed uri (key ∷ rest) has = read_behind uri key rest has.0 has.2

@@ -43,6 +43,10 @@ pairs_of [] = Some []
 pairs_of (key ∷ []) = None
 pairs_of (key ∷ value ∷ rest) = option_map (λ ps. (key, value) ∷ ps) (pairs_of rest)
 
+-- a write of the words two by two, where they are even
+abbrev pub write_of : Bool → Text → List Text → Option Asked
+write_of overwrite uri items = option_map (write overwrite uri) (pairs_of items)
+
 -- the flag was used
 abbrev pub is_set : Text → List Row → Bool
 is_set id rows = option_map_or (λ t. bytes_eq t (codes "true")) (first_of id rows) false

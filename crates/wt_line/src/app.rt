@@ -1,8 +1,8 @@
 // What `clap` is told of the commands.
-ghost use Rattle.std.specs.Prelude.{◌≡◌, IfOk, codes, false};
+ghost use Rattle.std.specs.Prelude.{◌≡◌, IfOk, false};
 ghost use Rattle.clap.specs.Words.{app_of, rule_of};
 ghost use Rattle.clap.specs.declared.builder.command.Command.TheViews.{out-Command};
-ghost use Rattle.wt_line.specs.App.{create_app, read_app, top_app, write_app, wt_app, config_rule, overwrite_rule, items_rule, uri_rule};
+ghost use Rattle.wt_line.specs.App.{create_app, read_app, top_app, write_app, wt_app, items_rule, uri_rule};
 
 use clap::{Arg, ArgAction, Command};
 use std::alloc::{AllocError, Global};

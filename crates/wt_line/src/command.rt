@@ -1,5 +1,5 @@
 // A command, from what `clap` found.
-ghost use Rattle.std.specs.Prelude.{◌≡◌, ◌++◌, IfOk, IfErr, Some, None, map, codes};
+ghost use Rattle.std.specs.Prelude.{◌≡◌, IfOk, IfErr, Some, None, map};
 ghost use Rattle.std.specs.Option.{option_map};
 ghost use Rattle.clap.specs.Words.{all_of, first_of, found_of, rows_of};
 ghost use Rattle.wt_line.specs.Line.{is_set, as_create, as_read, as_write, as_command, meaning, pairs_of, pair_texts};

@@ -1,5 +1,5 @@
 -- Calls that make no call of the disk, on one device.
-use Rattle.std.proofs.Common.{◌≡◌, ℕ, List, None, inl, inr, refl, arith}
+use Rattle.std.proofs.Common.{ℕ, List, None, inl, inr, refl, arith}
 use Rattle.wt_code.specs.declared.answers.Answer.{Answer}
 use Rattle.wt_code.specs.declared.answers.Answer.TheVariants.{Done as IsDone, Refused as Not}
 use Rattle.wt_code.specs.declared.refusals.Refusal.{Refusal}

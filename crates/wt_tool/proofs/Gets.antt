@@ -29,7 +29,8 @@ use Rattle.wt_io.specs.StreamLemmas.{took_more}
 use Rattle.wt_code.specs.declared.refusals.Refusal.TheVariants.{NoMemory, NotFound, NoTable, Invalid as Refusal_Invalid}
 use Rattle.wt_code.specs.Text.{text_of_refusal}
 use Rattle.wt_code.specs.declared.refusals.Invalid.TheVariants.{KeyLong}
-use Rattle.wt_tool.specs.Words.{stored_as, printed_as, plain_formats}
+use Rattle.item_forms.specs.Forms.{stored_as, written_as}
+use Rattle.wt_tool.specs.Words.{plain_formats}
 use Rattle.wt_tool.specs.Points.{Device, Point, Ran, End, Through, Stopped, OutputFailed, ends, stops, prints, tells}
 use Rattle.wt_tool.specs.Openings.{formats_at}
 use Rattle.wt_tool.specs.Reads.{GetsKeys, the_get}
@@ -95,7 +96,7 @@ module _ (c : Content) (name word : List ℕ) (is : IsTrue (is_name name)) where
   opened = beginning c (base c) 1
 
   abbrev WordOne : Option Kept → Type 0
-  WordOne kept = GetsOne opened (the_get opened name word) (get_answer kept name word) (λ value. printed_by kept value ≡ printed_as (formats_at opened name).value value)
+  WordOne kept = GetsOne opened (the_get opened name word) (get_answer kept name word) (λ value. printed_by kept value ≡ written_as (formats_at opened name).value value)
 
   formats_same : (entry : Entry) → tables (base c) ≡ table_of entry ∷ [] → formats_by entry name ≡ formats_at opened name
   formats_same entry table = elim (cases_Bool (bytes_eq entry.name name)) [
@@ -115,13 +116,13 @@ module _ (c : Content) (name word : List ℕ) (is : IsTrue (is_name name)) where
   gets_word None blank =
       let none : tables (base c) ≡ [] = ap (λ (x : Content). tables (base x)) blank in
       let plain : plain_formats ≡ formats_at opened name = rw none refl in
-      subst (λ (f : Formats). GetsOne opened (GetKey name (stored_as f.key word)) (get_answer None name word) (λ value. value ≡ printed_as (formats_at opened name).value value)) plain
-      (weaker opened (GetKey name word) (get_answer None name word) (λ value. ⊥) (λ value. value ≡ printed_as (formats_at opened name).value value) (λ value no. absurd no) (one_nowhere c (base c) 1 name word is none))
+      subst (λ (f : Formats). GetsOne opened (GetKey name (stored_as f.key word)) (get_answer None name word) (λ value. value ≡ written_as (formats_at opened name).value value)) plain
+      (weaker opened (GetKey name word) (get_answer None name word) (λ value. ⊥) (λ value. value ≡ written_as (formats_at opened name).value value) (λ value no. absurd no) (one_nowhere c (base c) 1 name word is none))
   gets_word (Some k) m =
       let formats = formats_same k.entry m.shows.table in
-      subst (λ (f : Formats). GetsOne opened (GetKey name (stored_as f.key word)) (get_answer (Some k) name word) (λ value. printed_by (Some k) value ≡ printed_as (formats_at opened name).value value)) formats
-      (weaker opened (GetKey name (key_of k.entry name word)) (get_answer (Some k) name word) (λ value. k.entry.name ≡ name) (λ value. printed_by (Some k) value ≡ printed_as (formats_at opened name).value value)
-      (λ value same. ap (λ (f : Formats). printed_as f.value value) (formats_own k.entry same ∙ formats)) (one c (table_of k.entry) k.rows (base c) 1 m.shows name (key_of k.entry name word) is))
+      subst (λ (f : Formats). GetsOne opened (GetKey name (stored_as f.key word)) (get_answer (Some k) name word) (λ value. printed_by (Some k) value ≡ written_as (formats_at opened name).value value)) formats
+      (weaker opened (GetKey name (key_of k.entry name word)) (get_answer (Some k) name word) (λ value. k.entry.name ≡ name) (λ value. printed_by (Some k) value ≡ written_as (formats_at opened name).value value)
+      (λ value same. ap (λ (f : Formats). written_as f.value value) (formats_own k.entry same ∙ formats)) (one c (table_of k.entry) k.rows (base c) 1 m.shows name (key_of k.entry name word) is))
 
 -- ---- keys
 
@@ -144,14 +145,14 @@ word_refused m call answer P r (inr (inr refused)) is =
     inr (λ n. refused.3 (e ∙ n), subst (λ (x : Refusal). RefusedBy m call x m) e refused.2)
 
 pub got_value : (c : Content) (name word : List ℕ) (kept : Option Kept) (value : List ℕ) → IsTrue (is_name name) → Meets c kept → get_answer kept name word ≡ Ok value
-    → Decided (beginning c (base c) 1) 0 (the_get (beginning c (base c) 1) name word) (Gives value) (beginning c (base c) 1) × (printed_by kept value ≡ printed_as (formats_at (beginning c (base c) 1) name).value value)
+    → Decided (beginning c (base c) 1) 0 (the_get (beginning c (base c) 1) name word) (Gives value) (beginning c (base c) 1) × (printed_by kept value ≡ written_as (formats_at (beginning c (base c) 1) name).value value)
 got_value c name word kept value is meets answer =
-    word_value (beginning c (base c) 1) (the_get (beginning c (base c) 1) name word) (get_answer kept name word) (λ v. printed_by kept v ≡ printed_as (formats_at (beginning c (base c) 1) name).value v) value (gets_word c name word is kept meets) answer
+    word_value (beginning c (base c) 1) (the_get (beginning c (base c) 1) name word) (get_answer kept name word) (λ v. printed_by kept v ≡ written_as (formats_at (beginning c (base c) 1) name).value v) value (gets_word c name word is kept meets) answer
 
 pub got_refused : (c : Content) (name word : List ℕ) (kept : Option Kept) (r : Refusal) → IsTrue (is_name name) → Meets c kept → get_answer kept name word ≡ Err r
     → ((r ≡ NotFound) × Decided (beginning c (base c) 1) 0 (the_get (beginning c (base c) 1) name word) (Refused NotFound) (beginning c (base c) 1)) ⊎ ((r ≢ NotFound) × RefusedBy (beginning c (base c) 1) (the_get (beginning c (base c) 1) name word) r (beginning c (base c) 1))
 got_refused c name word kept r is meets answer =
-    word_refused (beginning c (base c) 1) (the_get (beginning c (base c) 1) name word) (get_answer kept name word) (λ v. printed_by kept v ≡ printed_as (formats_at (beginning c (base c) 1) name).value v) r (gets_word c name word is kept meets) answer
+    word_refused (beginning c (base c) 1) (the_get (beginning c (base c) 1) name word) (get_answer kept name word) (λ v. printed_by kept v ≡ written_as (formats_at (beginning c (base c) 1) name).value v) r (gets_word c name word is kept meets) answer
 
 -- ---- runs
 
@@ -180,14 +181,14 @@ reading output name keys c d out_before out_now e status ran gets printed told s
 
 -- a key with a value, whose text was printed
 pub more_value : (output : Type 0) (name key : List ℕ) (keys : List (List ℕ)) (d : Device) (c : Content) (value printed : List ℕ) (rest : Ran)
-    → Decided (beginning c (base c) 1) 0 (the_get (beginning c (base c) 1) name key) (Gives value) (beginning c (base c) 1) → printed ≡ printed_as (formats_at (beginning c (base c) 1) name).value value
+    → Decided (beginning c (base c) 1) 0 (the_get (beginning c (base c) 1) name key) (Gives value) (beginning c (base c) 1) → printed ≡ written_as (formats_at (beginning c (base c) 1) name).value value
     → GetsKeys output name keys (begun_at d c) rest → GetsKeys output name (key ∷ keys) (begun_at d c) (prints (printed ++ 10 ∷ []) rest)
 more_value output name key keys d c value printed rest decided is gets =
     inl (value, begun_at d c, rest, did d (beginning c (base c) 1) (beginning c (base c) 1) (the_get (beginning c (base c) 1) name key) (Gives value) (Value value) decided refl, ap (λ (x : List ℕ). prints (x ++ 10 ∷ []) rest) is, inl gets)
 
 -- or was not
 pub failed_value : (output : Type 0) (name key : List ℕ) (keys : List (List ℕ)) (d : Device) (c : Content) (value printed : List ℕ)
-    → Decided (beginning c (base c) 1) 0 (the_get (beginning c (base c) 1) name key) (Gives value) (beginning c (base c) 1) → printed ≡ printed_as (formats_at (beginning c (base c) 1) name).value value → output
+    → Decided (beginning c (base c) 1) 0 (the_get (beginning c (base c) 1) name key) (Gives value) (beginning c (base c) 1) → printed ≡ written_as (formats_at (beginning c (base c) 1) name).value value → output
     → GetsKeys output name (key ∷ keys) (begun_at d c) (prints (printed ++ 10 ∷ []) (ends OutputFailed (begun_at d c)))
 failed_value output name key keys d c value printed decided is why =
     inl (value, begun_at d c, ends OutputFailed (begun_at d c), did d (beginning c (base c) 1) (beginning c (base c) 1) (the_get (beginning c (base c) 1) name key) (Gives value) (Value value) decided refl, ap (λ (x : List ℕ). prints (x ++ 10 ∷ []) (ends OutputFailed (begun_at d c))) is, inr (refl, why))

@@ -26,7 +26,7 @@ use Rattle.wt_code.specs.declared.refusals.Refusal.{Refusal}
 use Rattle.wt_code.specs.declared.refusals.Refusal.TheVariants.{NoMemory, NotFound, DuplicateKey, NoTable, Invalid as Refusal_Invalid, Limit as Refusal_Limit}
 use Rattle.wt_code.specs.declared.refusals.Invalid.TheVariants.{KeyLong, ValueLong, NoStampAfterStamp}
 use Rattle.wt_code.specs.declared.refusals.Limit.TheVariants.{Ids}
-use Rattle.wt_tool.specs.Words.{stored_as}
+use Rattle.item_forms.specs.Forms.{stored_as}
 use Rattle.wt_tool.specs.Points.{Device, Ran, stops}
 use Rattle.wt_tool.specs.Narrow.{ClosesOne}
 use Rattle.wt_tool.specs.Openings.{formats_at}

@@ -28,7 +28,7 @@ use Rattle.wt_code.specs.declared.refusals.Refusal.{Refusal}
 use Rattle.wt_code.specs.declared.refusals.Refusal.TheVariants.{DiskFault, DuplicateKey, NotFound, NoTable, Invalid as Refusal_Invalid, Limit as Refusal_Limit}
 use Rattle.wt_code.specs.declared.refusals.Invalid.TheVariants.{KeyLong, ValueLong, NoStampAfterStamp}
 use Rattle.wt_code.specs.declared.refusals.Limit.TheVariants.{Ids}
-use Rattle.wt_tool.specs.Words.{stored_as}
+use Rattle.item_forms.specs.Forms.{stored_as}
 use Rattle.wt_tool.specs.Points.{Device, Point, Ran, device_of, stops}
 use Rattle.wt_tool.specs.Writes.{WritesPairs, PutsPairs, the_put}
 use Rattle.wt_tool.specs.Closes.{Closes}

@@ -13,7 +13,8 @@ use Rattle.wt_code.specs.declared.refusals.Refusal.TheVariants.{NoMemory, NotFou
 use Rattle.wt_code.specs.declared.refusals.Invalid.TheVariants.{KeyLong, ValueLong, NoStampAfterStamp}
 use Rattle.wt_code.specs.declared.refusals.Limit.TheVariants.{Ids}
 use Rattle.wt_tool.specs.Writes.{demand_of}
-use Rattle.wt_tool.specs.Words.{plain_formats, stored_as, printed_as}
+use Rattle.item_forms.specs.Forms.{stored_as, written_as}
+use Rattle.wt_tool.specs.Words.{plain_formats}
 
 -- the formats of the table, where it has the name
 abbrev pub formats_by : Entry → List ℕ → Formats
@@ -96,7 +97,7 @@ get_answer (Some k) name word =
 -- what is printed of a value
 abbrev pub printed_by : Option Kept → List ℕ → List ℕ
 printed_by None value = value
-printed_by (Some k) value = printed_as k.entry.formats.value value
+printed_by (Some k) value = written_as k.entry.formats.value value
 
 -- the text is what is printed of the value at a key
 abbrev pub IsTextAt : Option Kept → List ℕ → List ℕ → List ℕ → Type 0

@@ -1,5 +1,5 @@
 -- What the private functions of the commands leave.
-use Rattle.std.specs.Prelude.{◌≡◌, ℕ, ◌+◌, List, [], ◌∷◌, ◌++◌, Option, Some, None, Result, Ok, Err, ◌⊎◌}
+use Rattle.std.specs.Prelude.{◌≡◌, ℕ, ◌+◌, List, [], ◌∷◌, ◌++◌, Option, Some, None, Result, Ok, Err, ◌⊎◌, IsTrue}
 use Rattle.failure.specs.Counts.{Rose}
 use Rattle.disk_model.specs.Crash.{LeavesOnly}
 use Rattle.disk_model.specs.declared.disk.Disk.{Ghosts}
@@ -10,11 +10,12 @@ use Rattle.kv_model.specs.Content.{Content, base, nothing, start}
 use Rattle.one_table.specs.declared.opening.Kept.{Kept}
 use Rattle.one_table.specs.OneTable.{table_of}
 use Rattle.one_session.specs.Shows.{Shows}
+use Rattle.wt_io.specs.declared.streams.Source.{Ghosts as SourceGhosts}
 use Rattle.wt_io.specs.declared.streams.Sink.{Ghosts as SinkGhosts}
 use Rattle.wt_line.specs.Line.{Asked, create, write, read}
 use Rattle.wt_tool.specs.Points.{Device, Point, Ran, Installed, End, Through, Stopped, point_of}
 use Rattle.wt_tool.specs.Reads.{ReadsKeys}
-use Rattle.wt_tool.specs.Top.{OpensToLast, OpensToOne, Stays, Errors, errors_of, Printed, Tells, lines, last_line, status_by}
+use Rattle.wt_tool.specs.Top.{OpensToLast, OpensToOne, Stays, EachReads, Errors, errors_of, outside, streams_of, Printed, Tells, lines, last_line, status_by, Went}
 
 -- what was kept at the opening of this content: its numbers are the content's, and its rows show the machine
 pub record MeetsTable (content : Content) (k : Kept) : Type 0 where
@@ -62,6 +63,16 @@ pub record Leaves {D : Type 0} (g : Ghosts D) (Allowed : Point → Ran → Type 
   pub opens : OpensToLast (g.may_leave new) next.completed made
   pub ever : LeavesOnly g old new (OpensToOne (start content).completed made)
   pub stays : Stays (g.left_since new) made
+
+-- from an honest disk each of whose images reads with one content, such a run
+abbrev pub LeavesFrom : {D : Type 0} (g : Ghosts D) → (Point → Ran → Type 0) → D → D → Result (Unit {0}) Refusal → Type 0
+LeavesFrom g Allowed old new result = IsTrue (g.honest old) → (content : Content) → EachReads (g.may_leave old) content → Leaves g Allowed content old new result
+
+-- from such a disk, a run of a command that the definitions allow
+abbrev pub WentFrom : {D S K E : Type 0} (g : Ghosts D) (s : SourceGhosts S) (k : SinkGhosts K) (e : SinkGhosts E) → Asked → S → S → K → K → E → E → D → D → ℕ → Type 0
+WentFrom g s k e asked input input_now out out_now err err_now old new status =
+    IsTrue (g.honest old) → (content : Content) → EachReads (g.may_leave old) content
+    → Went g (outside s k input input_now out out_now) asked content (streams_of s k e input input_now out out_now err err_now) old new status
 
 -- a run of `read` that makes no call of the disk
 pub record Reading (output_failed : Type 0) (name : List ℕ) (keys : List (List ℕ)) (p : Point) (out_before out_now : Option (List ℕ)) (e : Errors) (status : ℕ) : Type 0 where

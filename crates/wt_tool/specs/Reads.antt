@@ -5,7 +5,7 @@ use Rattle.wt_code.specs.declared.refusals.Refusal.{Refusal}
 use Rattle.wt_code.specs.declared.refusals.Refusal.TheVariants.{NotFound}
 use Rattle.kv_model.specs.Machine.{Machine}
 use Rattle.kv_model.specs.Calls.{Session, Call, Begin, GetKey}
-use Rattle.wt_tool.specs.Words.{stored_as, printed_as}
+use Rattle.item_forms.specs.Forms.{stored_as, written_as}
 use Rattle.wt_tool.specs.Points.{Point, Ran, Through, OutputFailed, Outside, ends, stops, prints, tells, Did, Calls, WithSession}
 use Rattle.wt_tool.specs.Openings.{Named, formats_at}
 
@@ -14,7 +14,7 @@ abbrev pub the_get : Machine → List ℕ → List ℕ → Call
 the_get m name key = GetKey name (stored_as (formats_at m name).key key)
 
 abbrev pub printed_of : Machine → List ℕ → List ℕ → List ℕ
-printed_of m name value = printed_as (formats_at m name).value value ++ 10 ∷ []
+printed_of m name value = written_as (formats_at m name).value value ++ 10 ∷ []
 
 -- Each key in order: a value is printed with a newline, an absent key is told and the rest goes on, another refusal ends the run. So does a write of the output that fails: the run has the texts up to there.
 abbrev pub GetsKeys : (output_failed : Type 0) → List ℕ → List (List ℕ) → Point → Ran → Type 0

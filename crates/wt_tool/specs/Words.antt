@@ -1,7 +1,6 @@
 -- What the words of a command mean.
-use Rattle.std.specs.Prelude.{ℕ, ◌==◌, if◌then◌else◌, List, [], ◌∷◌, ◌++◌, take, drop, Option, Some, None, codes}
+use Rattle.std.specs.Prelude.{ℕ, if◌then◌else◌, List, take, drop, Option, Some, None, codes}
 use Rattle.std.specs.Str.{bytes_eq}
-use Rattle.item.specs.declared.formats.Format.{Format}
 use Rattle.item.specs.declared.formats.Format.TheVariants.{S, U}
 use Rattle.item.specs.declared.formats.Formats.{Formats}
 use Rattle.kv_model.specs.Decisions.{is_name}
@@ -30,19 +29,3 @@ after_scheme uri = if bytes_eq (take 6 uri) (codes "table:") then drop 6 uri els
 -- the table that a uri names, where what stands behind the scheme is a name; a name has no colon, so another scheme gives none
 abbrev pub name_in : List ℕ → Option (List ℕ)
 name_in uri = if is_name (after_scheme uri) then Some (after_scheme uri) else None
-
--- a word as an item: one of the format S ends with a zero byte
-abbrev pub stored_as : Format → List ℕ → List ℕ
-stored_as S word = word ++ 0 ∷ []
-stored_as U word = word
-
--- without its final byte, where that is zero
-abbrev pub without_zero : List ℕ → List ℕ
-without_zero [] = []
-without_zero (b ∷ []) = if b == 0 then [] else b ∷ []
-without_zero (b ∷ (c ∷ rest)) = b ∷ without_zero (c ∷ rest)
-
--- what is printed of an item
-abbrev pub printed_as : Format → List ℕ → List ℕ
-printed_as S item = without_zero item
-printed_as U item = item

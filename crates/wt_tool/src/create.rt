@@ -3,7 +3,6 @@ ghost use Rattle.std.specs.Prelude.{◌≡◌, ◌≢◌, ◌≤◌, ◌<◌, �
 ghost use Rattle.std.specs.Option.{option_map};
 ghost use Rattle.failure.specs.Counts.{Rose};
 ghost use Rattle.disk_model.specs.Crash.{SameDisk};
-ghost use Rattle.kv_model.specs.Content.{Content};
 ghost use Rattle.kv_model.specs.Decisions.{is_name};
 ghost use Rattle.one_table.specs.OneTable.{table_of, IsInForm};
 ghost use Rattle.one_table.specs.Openings.{IsOpened, Serves, Keeps};
@@ -12,8 +11,7 @@ ghost use Rattle.wt_tool.specs.Narrow.{ClosesOne};
 ghost use Rattle.wt_tool.specs.Openings.{Configured};
 ghost use Rattle.wt_tool.specs.Creates.{MakesTable};
 ghost use Rattle.wt_tool.specs.Closes.{first_numbers};
-ghost use Rattle.wt_tool.specs.Parts.{Leaves, NoDamage};
-ghost use Rattle.wt_tool.specs.Top.{EachReads};
+ghost use Rattle.wt_tool.specs.Parts.{LeavesFrom, NoDamage};
 
 use crate::closing::close_next;
 use crate::names::formats_asked;
@@ -36,8 +34,7 @@ pub(crate) fn create<D: Disk>(
     requires bytes { (i : ℕ) → slice_index_or name.now i 0 < 256 }
     requires form { IfSome opened.kept (λ k. IsInForm k.numbers (table_of k.entry) × (k.numbers.marks.run < last_number)) }
     requires finds { IsTrue (D.honest disk.old) → IsOpened (D.seen disk.old) opened }
-    ensures run { IsTrue (D.honest disk.old) → (content : Content) → EachReads (D.may_leave disk.old) content →
-        Leaves D.Disk (Configured (option_map (λ x. x.now) config.entry) (λ formats. MakesTable name.now formats ClosesOne)) content disk.old disk.new result }
+    ensures run { LeavesFrom D.Disk (Configured (option_map (λ x. x.now) config.entry) (λ formats. MakesTable name.now formats ClosesOne)) disk.old disk.new result }
     ensures sound { IfErr result NoDamage }
     ensures fault { IfErr result (λ r. r ≡ Refusal.DiskFault → Rose (D.faults disk.old) (D.faults disk.new)) }
     ensures disk { SameDisk D.Disk disk.old disk.new }
@@ -64,8 +61,7 @@ fn create_first<D: Disk>(
     requires short { length name.now ≤ 128 }
     requires bytes { (i : ℕ) → slice_index_or name.now i 0 < 256 }
     requires serves { IsTrue (D.honest disk.old) → Serves (D.seen disk.old) place.old None }
-    ensures run { IsTrue (D.honest disk.old) → (content : Content) → EachReads (D.may_leave disk.old) content →
-        Leaves D.Disk (MakesTable name.now formats ClosesOne) content disk.old disk.new result }
+    ensures run { LeavesFrom D.Disk (MakesTable name.now formats ClosesOne) disk.old disk.new result }
     ensures sound { IfErr result NoDamage }
     ensures fault { IfErr result (λ r. r ≡ Refusal.DiskFault → Rose (D.faults disk.old) (D.faults disk.new)) }
     ensures disk { SameDisk D.Disk disk.old disk.new }
@@ -110,8 +106,7 @@ fn create_again<D: Disk>(
     requires form { IsInForm kept.now.numbers (table_of kept.now.entry) }
     requires run { kept.now.numbers.marks.run < last_number }
     requires keeps { IsTrue (D.honest disk.old) → Keeps (D.seen disk.old) place.old kept.now }
-    ensures run { IsTrue (D.honest disk.old) → (content : Content) → EachReads (D.may_leave disk.old) content →
-        Leaves D.Disk (MakesTable name.now formats ClosesOne) content disk.old disk.new result }
+    ensures run { LeavesFrom D.Disk (MakesTable name.now formats ClosesOne) disk.old disk.new result }
     ensures sound { IfErr result NoDamage }
     ensures fault { IfErr result (λ r. r ≡ Refusal.DiskFault → Rose (D.faults disk.old) (D.faults disk.new)) }
     ensures disk { SameDisk D.Disk disk.old disk.new }

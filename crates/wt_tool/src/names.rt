@@ -1,13 +1,14 @@
 // What the words of a command mean.
-ghost use Rattle.std.specs.Prelude.{◌≡◌, ◌≤◌, ◌<◌, ◌++◌, ◌∷◌, [], ℕ, OnOk, slice_index_or, length, MatchOption, IfOk, IfSome, IsTrue};
+ghost use Rattle.std.specs.Prelude.{◌≡◌, ◌≤◌, ◌<◌, ℕ, slice_index_or, length, MatchOption, IfOk, IfSome, IsTrue};
 ghost use Rattle.std.specs.Option.{option_map};
-ghost use Rattle.std.specs.List.{list_all};
-ghost use Rattle.kv_model.specs.Decisions.{is_name, is_name_byte};
-ghost use Rattle.wt_tool.specs.Words.{formats_in, formats_asked, name_in, after_scheme, stored_as, printed_as, without_zero, plain_formats};
+ghost use Rattle.kv_model.specs.Decisions.{is_name};
+ghost use Rattle.item_forms.specs.Forms.{stored_as};
+ghost use Rattle.wt_tool.specs.Words.{formats_in, formats_asked, name_in, after_scheme, plain_formats};
 
 use failure::NoMemory;
 use item::{Format, Formats, Item};
-use std::alloc::{AllocError, Global};
+use one_table::is_table_name;
+use std::alloc::Global;
 
 /// The length of the longest key, in bytes as stored.
 pub(crate) const KEY_MAX: u64 = 1024;
@@ -69,7 +70,11 @@ pub(crate) fn name_of(uri: &[u8]) -> Option<&[u8]>
     ensures name_is { IfSome result (λ n. IsTrue (is_name n.now)) }
 {
     let name = after_scheme(uri);
-    if is_name(name) { Some(name) } else { None }
+    if is_table_name(name) {
+        Some(name)
+    } else {
+        None
+    }
 }
 
 fn after_scheme(uri: &[u8]) -> &[u8]
@@ -86,79 +91,16 @@ fn after_scheme(uri: &[u8]) -> &[u8]
     }
 }
 
-// A table's name has 1 to 128 bytes.
-fn is_name(name: &[u8]) -> bool
-    ensures is { result ≡ is_name name.now }
-    ensures short { IsTrue result → length name.now ≤ 128 }
-    ensures bytes { (i : ℕ) → slice_index_or name.now i 0 < 256 }
-{
-    if name.is_empty() || name.len() > 128 {
-        return false;
-    }
-    are_name_bytes(name)
-}
-
-fn are_name_bytes(name: &[u8]) -> bool
-    ensures { result ≡ list_all is_name_byte name.now }
-{
-    name.iter().all(|b| is_name_byte(*b))
-}
-
-// No control byte, no space, no colon.
-fn is_name_byte(byte: u8) -> bool
-    ensures { result ≡ is_name_byte byte }
-{
-    byte > 32 && byte != b':' && byte != 127
-}
-
 // How many bytes the item of a word has.
 pub(crate) fn stored_len(format: Format, word: &str) -> u64
     ensures { result ≡ length (stored_as format word.now) }
 {
-    match format {
-        Format::S => word.len() as u64 + 1,
-        Format::U => word.len() as u64,
-    }
+    item_forms::stored_len(format, word.as_bytes())
 }
 
 // The item of a word. The error is want of memory.
 pub(crate) fn stored_as(alloc: Global, format: Format, word: &str) -> Result<Item, NoMemory>
     ensures { IfOk result (λ item. item ≡ stored_as format word.now) }
 {
-    let mut bytes = Vec::new(alloc);
-    bytes.reserve(word.len() + 1)?;
-    bytes.extend_from_slice(word.as_bytes())?;
-    match format {
-        Format::S => push(&mut bytes, 0)?,
-        Format::U => {}
-    }
-    Ok(Item::new(bytes))
-}
-
-fn push(bytes: &mut Vec<u8>, byte: u8) -> Result<(), NoMemory>
-    ensures { OnOk result (bytes.new.items ≡ bytes.old.items ++ byte ∷ []) }
-{
-    match bytes.push(byte) {
-        Ok(()) => Ok(()),
-        Err(failed) => Err(AllocError::from(failed).into()),
-    }
-}
-
-// What is printed of an item.
-pub(crate) fn printed_as(format: Format, item: &[u8]) -> &[u8]
-    ensures { result.now ≡ printed_as format item.now }
-{
-    match format {
-        Format::S => without_zero(item),
-        Format::U => item,
-    }
-}
-
-fn without_zero(item: &[u8]) -> &[u8]
-    ensures { result.now ≡ without_zero item.now }
-{
-    match item.split_last() {
-        Some((last, front)) => { if *last == 0 { front } else { item } }
-        None => item,
-    }
+    item_forms::stored_as(alloc, format, word.as_bytes())
 }

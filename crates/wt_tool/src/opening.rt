@@ -1,5 +1,5 @@
 // How a command comes to its device.
-ghost use Rattle.std.specs.Prelude.{◌≡◌, ◌⊎◌, ◌≤◌, Some, IfOk, IfErr, IsTrue};
+ghost use Rattle.std.specs.Prelude.{◌≡◌, ◌⊎◌, Some, IfOk, IfErr, IsTrue};
 ghost use Rattle.disk_model.specs.Crash.{Looked};
 ghost use Rattle.one_table.specs.Openings.{IsOpened, InForm, RefusesOpen};
 ghost use Rattle.wt_tool.specs.Parts.{IsOfAttach};

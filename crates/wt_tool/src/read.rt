@@ -1,18 +1,17 @@
 // `read`: each key's value is printed.
-ghost use Rattle.std.specs.Prelude.{◌≡◌, ◌⊎◌, ◌↔◌, ◌≤◌, ◌<◌, ◌++◌, ◌∷◌, [], ℕ, List, Option, Some, None, Ok, Err, length, map, option_map, IsTrue, IfOk, IfErr, OnOk, OnErr};
+ghost use Rattle.std.specs.Prelude.{◌≡◌, ◌⊎◌, ◌↔◌, ◌++◌, ◌∷◌, [], ℕ, List, Some, None, Err, length, map, option_map, IsTrue, IfOk, IfErr, OnOk, OnErr};
 ghost use Rattle.failure.specs.Counts.{Rose, HasCause};
 ghost use Rattle.wt_io.specs.Streams.{Took, TookFront};
 ghost use Rattle.kv_model.specs.Decisions.{is_name};
-ghost use Rattle.one_session.specs.Shows.{value_in};
-ghost use Rattle.wt_tool.specs.Words.{printed_as};
 ghost use Rattle.wt_tool.specs.Answers.{get_answer, IsTextAt};
 ghost use Rattle.wt_tool.specs.Parts.{ReadsFrom, NoDamage};
 ghost use Rattle.wt_tool.specs.Top.{Telling, errors_of};
 
-use crate::names::{KEY_MAX, printed_as, stored_as, stored_len};
+use crate::names::{KEY_MAX, stored_as, stored_len};
 use crate::status::Status;
 use crate::telling::report;
 use crate::write::{formats_by, value_in};
+use item_forms::written_as;
 use one_table::Kept;
 use std::alloc::Global;
 use wt_code::{Invalid, Refusal};
@@ -108,7 +107,7 @@ fn get_in<'a>(alloc: Global, kept: &'a Kept, name: &[u8], key: &str) -> Result<&
         return Err(Refusal::NoMemory);
     };
     match value_in(kept.rows.version(key.as_bytes())) {
-        Some(value) => Ok(printed_as(kept.entry.formats.value, value)),
+        Some(value) => Ok(written_as(kept.entry.formats.value, value)),
         None => Err(Refusal::NotFound),
     }
 }

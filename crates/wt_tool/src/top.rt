@@ -2,11 +2,10 @@
 ghost use Rattle.std.specs.Prelude.{◌≡◌, ◌⊎◌, [], map, IsTrue};
 ghost use Rattle.std.specs.String.{string_bytes};
 ghost use Rattle.failure.specs.Counts.{Rose};
-ghost use Rattle.kv_model.specs.Content.{Content};
 ghost use Rattle.wt_io.specs.Streams.{Took};
 ghost use Rattle.wt_line.specs.Line.{command_of, meaning};
-ghost use Rattle.wt_tool.specs.Parts.{met_of, uri_of};
-ghost use Rattle.wt_tool.specs.Top.{Promise, EachReads, Went, Tells, Telling, IsSo, IsAt, IsOpenable, IsStatus, outside, streams_of, errors_of, lines, first_status};
+ghost use Rattle.wt_tool.specs.Parts.{WentFrom, met_of, uri_of};
+ghost use Rattle.wt_tool.specs.Top.{Promise, Tells, Telling, IsSo, IsAt, IsOpenable, IsStatus, errors_of, lines, first_status};
 
 use crate::create::create;
 use crate::names::name_of;
@@ -73,9 +72,7 @@ fn run<S: Source, K: Sink, E: Sink, D: Home>(
     err: &mut E,
     disk: &mut D,
 ) -> u8
-    ensures run { IsTrue (D.honest disk.old) → (content : Content) → EachReads (D.may_leave disk.old) content →
-        Went D.Disk (outside S.Source K.Sink input.old input.new out.old out.new) (meaning command.now) content
-        (streams_of S.Source K.Sink E.Sink input.old input.new out.old out.new err.old err.new) disk.old disk.new result }
+    ensures run { WentFrom D.Disk S.Source K.Sink E.Sink (meaning command.now) input.old input.new out.old out.new err.old err.new disk.old disk.new result }
     ensures told { Telling (IsSo (IsTrue (D.honest disk.old)) (D.seen disk.old)) (errors_of E.Sink err.old err.new) result }
     ensures opened { IsTrue (D.honest disk.old) → result ≡ 0 → IsOpenable (D.seen disk.old) }
     ensures silent { IsTrue (D.honest disk.old) → Took (K.written out.old) (K.written out.new) [] ⊎ IsOpenable (D.seen disk.old) }

@@ -1,8 +1,7 @@
 // `write`: each pair is put in a transaction of its own, and then a checkpoint taken.
-ghost use Rattle.std.specs.Prelude.{◌≡◌, ◌⊎◌, ◌≤◌, ◌<◌, ◌↔◌, ◌+◌, ◌^◌, ℕ, List, Option, Some, None, length, option_map, IsTrue, IfOk, IfErr, IfSome, OnOk, Ok, Err};
+ghost use Rattle.std.specs.Prelude.{◌≡◌, ◌⊎◌, ◌≤◌, ◌<◌, ◌↔◌, ◌^◌, ℕ, List, Some, None, length, option_map, IsTrue, IfOk, IfErr, IfSome, OnOk};
 ghost use Rattle.failure.specs.Counts.{Rose};
 ghost use Rattle.disk_model.specs.Crash.{SameDisk};
-ghost use Rattle.kv_model.specs.Content.{Content};
 ghost use Rattle.kv_model.specs.Decisions.{is_name};
 ghost use Rattle.one_session.specs.Shows.{value_in};
 ghost use Rattle.one_session.specs.ShowsLaws.{durable_in};
@@ -12,8 +11,7 @@ ghost use Rattle.wt_line.specs.Line.{pair_texts};
 ghost use Rattle.wt_tool.specs.Points.{last_number};
 ghost use Rattle.wt_tool.specs.Writes.{WritesPairs, demand_of};
 ghost use Rattle.wt_tool.specs.Answers.{PutsIn, put_nowhere, refusal_in, put_over, rows_in, too_long, formats_by};
-ghost use Rattle.wt_tool.specs.Parts.{Leaves, NoDamage};
-ghost use Rattle.wt_tool.specs.Top.{EachReads};
+ghost use Rattle.wt_tool.specs.Parts.{LeavesFrom, NoDamage};
 
 use crate::closing::close_next;
 use crate::names::{KEY_MAX, plain_formats, stored_as, stored_len};
@@ -41,8 +39,7 @@ pub(crate) fn write<D: Disk>(
     requires name { IsTrue (is_name name.now) }
     requires form { IfSome opened.kept (λ k. IsInForm k.numbers (table_of k.entry) × (k.numbers.marks.run < last_number)) }
     requires finds { IsTrue (D.honest disk.old) → IsOpened (D.seen disk.old) opened }
-    ensures run { IsTrue (D.honest disk.old) → (content : Content) → EachReads (D.may_leave disk.old) content →
-        Leaves D.Disk (WritesPairs name.now (demand_of overwrite) (pair_texts pairs.now)) content disk.old disk.new result }
+    ensures run { LeavesFrom D.Disk (WritesPairs name.now (demand_of overwrite) (pair_texts pairs.now)) disk.old disk.new result }
     ensures sound { IfErr result NoDamage }
     ensures fault { IfErr result (λ r. r ≡ Refusal.DiskFault → Rose (D.faults disk.old) (D.faults disk.new)) }
     ensures disk { SameDisk D.Disk disk.old disk.new }

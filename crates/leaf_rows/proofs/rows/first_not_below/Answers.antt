@@ -1,6 +1,6 @@
 use Rattle.std.proofs.Common.{◌≡◌, ◌+◌, ◌-◌, ◌/◌, ◌∙◌, ℕ, List, None, get_or, sym, ap, arith}
 use Rattle.row_page.specs.Rows.{Row, is_below}
-use Rattle.leaf_rows.proofs.Places.{below_upto, above_from}
+use Rattle.row_page.proofs.Ascending.{below_upto, above_from}
 use Rattle.leaf_rows.proofs.rows.first_not_below.Goals as goal
 
 -- the key of the row that was read, as it was compared

@@ -1,4 +1,4 @@
-use Rattle.wt_line.proofs.PlainWords.{create_plain, create_configured, overwrite_plain, read_plain, write_plain}
+use Rattle.wt_line.proofs.PlainWords.{create_plain, create_configured, overwrite_items, read_items, write_items}
 use Rattle.wt_line.proofs.law.plain_words_are_items.Goals as goal
 
 pub returns-clause-create : goal.returns-clause-create
@@ -8,10 +8,10 @@ pub returns-clause-configured : goal.returns-clause-configured
 returns-clause-configured c = create_configured
 
 pub returns-clause-write : goal.returns-clause-write
-returns-clause-write c = write_plain
+returns-clause-write c = write_items
 
 pub returns-clause-overwrite : goal.returns-clause-overwrite
-returns-clause-overwrite c = overwrite_plain
+returns-clause-overwrite c = overwrite_items
 
 pub returns-clause-read : goal.returns-clause-read
-returns-clause-read c = read_plain
+returns-clause-read c = read_items

@@ -1,11 +1,11 @@
-use Rattle.wt_line.proofs.PlainWords.{create_behind, read_behind, write_behind}
+use Rattle.wt_line.proofs.PlainWords.{create_behind, read_dashed, write_dashed}
 use Rattle.wt_line.proofs.law.words_behind_two_hyphens_are_items.Goals as goal
 
 pub returns-clause-create : goal.returns-clause-create
 returns-clause-create c = create_behind
 
 pub returns-clause-write : goal.returns-clause-write
-returns-clause-write c = write_behind
+returns-clause-write c = write_dashed
 
 pub returns-clause-read : goal.returns-clause-read
-returns-clause-read c = read_behind
+returns-clause-read c = read_dashed

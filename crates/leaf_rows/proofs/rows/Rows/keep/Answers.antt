@@ -2,7 +2,7 @@ use Rattle.std.proofs.Common.{sym, subst, ap, List, ◌∙◌}
 use Rattle.row_page.specs.Rows.{Row}
 use Rattle.leaf_rows.specs.Rows.{AreFit}
 use Rattle.leaf_rows.specs.Contents.{is_kept_row, kept_rows}
-use Rattle.leaf_rows.proofs.Keys.{filter_fit}
+use Rattle.leaf_rows.proofs.Filters.{filter_fit}
 use Rattle.leaf_rows.proofs.rows.Rows.keep.Goals as goal
 
 pub invariant_of-self : goal.invariant_of-self

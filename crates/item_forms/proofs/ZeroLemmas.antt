@@ -1,7 +1,7 @@
 -- The final zero byte of an item.
 use Rattle.std.proofs.Common.{◌≡◌, ◌++◌, ℕ, List, [], ◌∷◌, refl, ap}
 use Rattle.std.proofs.lemmas.Bool.{ne_eqb}
-use Rattle.script_text.specs.Items.{without_zero}
+use Rattle.item_forms.specs.Forms.{without_zero}
 
 -- a final zero byte goes
 pub zero-off : (front : List ℕ) → without_zero (front ++ 0 ∷ []) ≡ front

@@ -1,7 +1,7 @@
 use Rattle.std.proofs.Common.{◌++◌, ◌∷◌, ◌∙◌, ℕ, [], sym, ap}
-use Rattle.script_text.specs.Items.{without_zero}
-use Rattle.script_text.proofs.ZeroLemmas.{zero-off, other-on}
-use Rattle.script_text.proofs.items.without_zero.Goals as goal
+use Rattle.item_forms.specs.Forms.{without_zero}
+use Rattle.item_forms.proofs.ZeroLemmas.{zero-off, other-on}
+use Rattle.item_forms.proofs.without_zero.Goals as goal
 
 pub returns-then-last-eq0 : goal.returns-then-last-eq0
 returns-then-last-eq0 c =

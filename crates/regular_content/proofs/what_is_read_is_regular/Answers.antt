@@ -1,5 +1,0 @@
-use Rattle.regular_content.proofs.Regular.{regular_read}
-use Rattle.regular_content.proofs.what_is_read_is_regular.Goals as goal
-
-pub returns : goal.returns
-returns c = regular_read
