@@ -1,2 +1,5 @@
 pub mod Runs
 pub mod Events
+pub mod Whole
+pub mod Sound
+pub mod Bases

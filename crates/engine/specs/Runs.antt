@@ -6,6 +6,7 @@ use Rattle.wt_code.specs.declared.refusals.Refusal.TheVariants as refusal
 use Rattle.wt_code.specs.declared.refusals.Invalid.TheVariants.{InCall, NoCall}
 use Rattle.kv_model.specs.Machine.{Machine}
 use Rattle.kv_model.specs.Calls.{Call as ModelCall, SystemAnswers}
+use Rattle.wt_calls.specs.declared.call.Call.{Call}
 use Rattle.wt_calls.specs.declared.call.Call.TheVariants as call
 use Rattle.wt_calls.specs.declared.system_call.SystemCall.{SystemCall}
 use Rattle.wt_calls.specs.declared.system_call.SystemCall.TheVariants as system
@@ -62,3 +63,6 @@ StepFits e (Start (call.Session session made)) = session < length e.sessions
 StepFits e (Start (call.System number made)) = (number < length e.systems) × IsBuilt made
 StepFits e (Go (actor.Session session)) = session < length e.sessions
 StepFits e (Go (actor.System number)) = number < length e.systems
+
+abbrev pub CallFits : Engine → Call → Type 0
+CallFits e made = StepFits e (Start made)

@@ -1,6 +1,7 @@
-// What an engine is made of, and the steps of its sessions.
+// What an engine is made of, and the steps of its sessions. A step calls the laws that its proof
+// rests on, which do nothing.
 
-ghost use Rattle.std.specs.Prelude.{◌≡◌, ◌<◌, ◌×◌, length, slice_get, slice_set, slice_index_or, Some};
+ghost use Rattle.std.specs.Prelude.{◌≡◌, ◌<◌, length, slice_get, slice_set, slice_index_or, Some};
 ghost use Rattle.snapshot.specs.Sight.{IsSight, sight_of};
 ghost use Rattle.wt_calls.specs.Calls.{session_call_in};
 ghost use Rattle.call_steps.specs.HubEvents.{IsSeated, hub_made};
@@ -12,9 +13,20 @@ ghost use Rattle.engine_world.specs.Laws.{Leads, with_hub, with_hazard, with_ses
 ghost use Rattle.engine_world.specs.Stands.{Stands};
 ghost use Rattle.engine_world.specs.Steps.{MayBegin};
 ghost use Rattle.engine_world.specs.Worlds.{World};
+ghost use Rattle.kv_model.specs.Machine.{Machine};
+ghost use Rattle.kv_model.specs.Calls.{Call};
+ghost use Rattle.engine_world.specs.Whole.{Reached};
+ghost use Rattle.engine_world.specs.Worlds.{doing_of};
 ghost use Rattle.engine.specs.Events.{HasWorld, IsFrameEvent};
+ghost use Rattle.engine.specs.Whole.{Finishes};
 
 use call_steps::{FramePiece, Hub, Next, Reply, SessionState, frame_event, hub_event};
+use engine_world::{
+    begins_go, clears_go, decides_go, ends_go, finds_go, histories_go, loads_go, marks_go,
+    orders_go, publishes_go, reads_go, releases_go, resets_go, resolves_go, rows_go, stamps_go,
+    starts_go, steps_reach, undos_go, unpins_go, writes_go,
+};
+use item::Item;
 use stamp::View;
 use std::alloc::Global;
 use std::marker::Model;
@@ -49,6 +61,7 @@ impl Parts {
         requires { session < length self.old.sessions }
         ensures { (w : World) → Stands self.old w → (later : World) × MayBegin w session (session_call_in call) result later × Stands self.new later }
     {
+        starts_go();
         self.sessions[session as usize].start(alloc, call)
     }
 
@@ -63,7 +76,22 @@ impl Parts {
             Next::Hub => self.go_on_hub(session),
             Next::Frame(frame) => self.go_on_frame(alloc, session, frame),
             Next::Load(frame) => self.load(session, frame),
-            Next::Store(word, value) => self.store(session, word, value),
+            Next::Store(word, value) => self.store(alloc, session, word, value),
+        }
+    }
+
+    /// The steps that a session's call has left, up to its answer.
+    pub(crate) fn finish(&mut self, alloc: Global, session: u32) -> Answer<Item>
+        requires open { session < length self.old.sessions }
+        requires world { HasWorld self.old }
+        ensures answers { (w : World) (from : Machine) (call : Call) → Stands self.old w → Reached from session call (doing_of w session) w.machine → Finishes self.new w from session call result }
+        ensures world { HasWorld self.new }
+    {
+        steps_reach();
+        loop {
+            if let Reply::Answer(answer) = self.go(alloc, session) {
+                return answer;
+            }
         }
     }
 
@@ -73,6 +101,13 @@ impl Parts {
         requires next { (a : State) → slice_get self.old.sessions session ≡ Some a → next_of a ≡ Next.Hub }
         ensures { (w : World) → Stands self.old w → Leads self.new w session result }
     {
+        begins_go();
+        finds_go();
+        histories_go();
+        releases_go();
+        decides_go();
+        resolves_go();
+        ends_go();
         hub_event(&mut self.hub, session, &mut self.sessions[session as usize])
     }
 
@@ -88,6 +123,13 @@ impl Parts {
         match self.hub.txns.view(session) {
             None => Reply::More,
             Some(view) => {
+                reads_go();
+                writes_go();
+                rows_go();
+                marks_go();
+                orders_go();
+                stamps_go();
+                undos_go();
                 frame_step(
                     alloc,
                     self.pieces.as_mut_slice(),
@@ -106,22 +148,27 @@ impl Parts {
         requires next { (a : State) → slice_get self.old.sessions session ≡ Some a → next_of a ≡ Next.Load frame }
         ensures { (w : World) → Stands self.old w → Leads self.new w session result }
     {
+        loads_go();
         let seen = word_at(self.states.as_slice(), frame);
         self.sessions[session as usize].loaded(seen);
         Reply::More
     }
 
-    fn store(&mut self, session: u32, word: u32, value: u64) -> Reply
+    fn store(&mut self, alloc: Global, session: u32, word: u32, value: u64) -> Reply
         requires open { session < length self.old.sessions }
         requires next { (a : State) → slice_get self.old.sessions session ≡ Some a → next_of a ≡ Next.Store word value }
         ensures { (w : World) → Stands self.old w → Leads self.new w session result }
     {
+        publishes_go();
+        clears_go();
+        resets_go();
+        unpins_go();
         set_word(
             self.hazards.as_mut_slice(),
             session as usize * WORDS + word as usize,
             value,
         );
-        self.sessions[session as usize].stored()
+        self.sessions[session as usize].stored(alloc)
     }
 }
 

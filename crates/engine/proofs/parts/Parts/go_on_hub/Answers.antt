@@ -1,0 +1,46 @@
+use Rattle.std.proofs.Common.{◌≡◌, ◌<◌, ℕ, refl, ap, sym, ◌∙◌, length, subst}
+use Rattle.std.specs.Prelude.{Some, slice_get}
+use Rattle.call_steps.specs.State.{State}
+use Rattle.call_steps.specs.declared.next.Next.TheVariants as next
+use Rattle.call_steps.specs.Words.{next_of}
+use Rattle.engine_world.specs.Stands.{Engine, Stands}
+use Rattle.engine.specs.Events.{HasWorld}
+use Rattle.engine.proofs.Driving.{hub-step, lent-at, seated-at}
+use Rattle.engine.proofs.Stepping.{HubLaws}
+use Rattle.engine.proofs.parts.Parts.go_on_hub.Goals as goal
+
+pub hub_event-requires : goal.hub_event-requires
+hub_event-requires c = seated-at e c.args.session c.index_mut.result.now (subst HasWorld (sym c.self.view_is) c.requires.world) at where
+  e : Engine
+  e = record { hub = c.self.inside.hub; pieces = c.self.inside.pieces.items; states = c.self.inside.states.items; hazards = c.self.inside.hazards.items; sessions = c.self.inside.sessions.items; systems = c.self.inside.systems.items }
+
+  open_one : c.args.session < length e.sessions
+  open_one = subst (λ (x : Engine). c.args.session < length x.sessions) (sym c.self.view_is) c.requires.open
+
+  at : slice_get e.sessions c.args.session ≡ Some c.index_mut.result.now
+  at = lent-at e.sessions c.args.session c.index_mut.result.now open_one c.index_mut.ensures.value
+
+pub returns : goal.returns
+returns c = λ w st. hub-step laws e c.args.session c.index_mut.result.now c.hub_event.new.state c.hub_event.new.hub c.hub_event.result at on c.hub_event.ensures w (subst (λ (x : Engine). Stands x w) (sym c.self.view_is) st) where
+  e : Engine
+  e = record { hub = c.self.inside.hub; pieces = c.self.inside.pieces.items; states = c.self.inside.states.items; hazards = c.self.inside.hazards.items; sessions = c.self.inside.sessions.items; systems = c.self.inside.systems.items }
+
+  open_one : c.args.session < length e.sessions
+  open_one = subst (λ (x : Engine). c.args.session < length x.sessions) (sym c.self.view_is) c.requires.open
+
+  at : slice_get e.sessions c.args.session ≡ Some c.index_mut.result.now
+  at = lent-at e.sessions c.args.session c.index_mut.result.now open_one c.index_mut.ensures.value
+
+  on : next_of c.index_mut.result.now ≡ next.Hub
+  on = c.requires.next c.index_mut.result.now (subst (λ (x : Engine). slice_get x.sessions c.args.session ≡ Some c.index_mut.result.now) c.self.view_is at)
+
+  laws : HubLaws
+  laws = record {
+    begins = c.begins_go.ensures;
+    finds = c.finds_go.ensures;
+    histories = c.histories_go.ensures;
+    releases = c.releases_go.ensures;
+    decides = c.decides_go.ensures;
+    resolves = c.resolves_go.ensures;
+    ends = c.ends_go.ensures;
+  }
