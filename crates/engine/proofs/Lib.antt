@@ -1,2 +1,6 @@
 pub mod Stepping
 pub mod Driving
+pub mod Lefts
+pub mod Ending
+pub mod Calling
+pub mod TablesKept
