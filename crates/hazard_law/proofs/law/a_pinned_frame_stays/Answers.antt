@@ -1,4 +1,3 @@
-use Rattle.hazard_law.proofs.Safe.{steps_to}
 use Rattle.hazard_law.proofs.law.a_pinned_frame_stays.Goals as goal
 
 pub returns : goal.returns

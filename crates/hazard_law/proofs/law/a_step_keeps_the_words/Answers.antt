@@ -1,6 +1,4 @@
 use Rattle.hazard_law.proofs.Steps.{turned_safe}
-use Rattle.hazard_law.proofs.Beside.{turns_beside}
-use Rattle.hazard_law.proofs.Permits.{filling_allowed}
 use Rattle.hazard_law.proofs.law.a_step_keeps_the_words.Goals as goal
 
 pub returns : goal.returns
