@@ -11,7 +11,8 @@ use Rattle.hazard_law.specs.declared.known.Mark.{Mark}
 use Rattle.hazard_law.specs.declared.known.Mark.TheVariants.{Blank, Names, Pins}
 use Rattle.hazard_law.specs.Safety.{Marks, inner, with_mark}
 use Rattle.hazard_law.specs.Words.{filled, hazard_word, naming}
-use Rattle.hazard_table.specs.Asks.{MayPin, MayTurn}
+use Rattle.pool_law.specs.Asks.{MayTurn}
+use Rattle.hazard_table.specs.Asks.{MayPin}
 use Rattle.hazard_table.specs.Leaves.{PinsFrame, Unpins, Validates, own_word}
 use Rattle.hazard_table.specs.declared.answers.Pinning.TheVariants.{Pinned, Again}
 

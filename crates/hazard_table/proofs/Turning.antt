@@ -13,7 +13,7 @@ use Rattle.hazard_law.specs.Words.{empty, filled, hazard_place, locked, naming}
 use Rattle.hazard_law.specs.Safety.{Finds, HasLock, Marks, inner, scanned, with_lock, with_mark, with_note}
 use Rattle.hazard_law.specs.Kinds.{publishing, clearing, looking, validating, locking, scanning, unlocking, freeing, filling}
 use Rattle.hazard_law.proofs.Safe.{filled_locked, same_filled, same_lock}
-use Rattle.hazard_table.specs.Asks.{FindsAndMayGo, MayGo, MayTurn}
+use Rattle.pool_law.specs.Asks.{FindsAndMayGo, MayGo, MayTurn}
 use Rattle.hazard_table.specs.Leaves.{Looks, LocksFrame, Opens, Publishes, Scans, Steps, Unpins, Validates, own_word, word_of_session}
 use Rattle.hazard_table.specs.declared.answers.Pinning.TheVariants.{Pinned, Again}
 use Rattle.hazard_table.specs.declared.answers.Looking.TheVariants.{Empty, Again as NotEmpty}

@@ -1,24 +1,13 @@
--- What a call on a word asks of the law of the pieces.
-use Rattle.std.specs.Prelude.{◌≡◌, ℕ, ◌<◌, ◌^◌}
+-- What a pin asks of the law of the pieces.
+use Rattle.std.specs.Prelude.{ℕ}
+use Rattle.pool_law.specs.Asks.{MayTurn}
 use Rattle.pool_law.specs.Whole.{Noted, noted}
 use Rattle.hazard_law.specs.Words.{naming}
-
-module _ {N : Type 0} (finds : Noted N → ℕ → ℕ → Type 0) (turns : Noted N → ℕ → ℕ → ℕ → N → Type 0) (u : Noted N) where
-  -- whatever the seat finds in the word i, it may turn it to what `to` gives
-  abbrev pub MayTurn : ℕ → (ℕ → ℕ) → Type 0
-  MayTurn i to = (r : ℕ) → r < 2 ^ 64 → finds u i r → (k : N) × turns u i r (to r) k
-
-  -- where the seat finds m in the word i, it may turn it to n
-  abbrev pub MayGo : ℕ → ℕ → ℕ → Type 0
-  MayGo i m n = finds u i m → (k : N) × turns u i m n k
-
-  -- the seat finds nothing but m in the word i, and may turn it to n
-  abbrev pub FindsAndMayGo : ℕ → ℕ → ℕ → Type 0
-  FindsAndMayGo i m n = (r : ℕ) → r < 2 ^ 64 → finds u i r → (r ≡ m) × ((k : N) × turns u i m n k)
 
 module _ {N : Type 0} (finds : Noted N → ℕ → ℕ → Type 0) (turns : Noted N → ℕ → ℕ → ℕ → N → Type 0) (u : Noted N) where
   -- the seat may name the frame f in the word i, then read the state word f, and then let the word i name nothing
   pub record MayPin (i f : ℕ) : Type 0 where
     pub publish : MayTurn finds turns u i (λ r. naming f)
     pub validate : (m : ℕ) (k : N) → turns u i m (naming f) k → MayTurn finds turns (noted k u.held) f (λ r. r)
-    pub clear : (m r : ℕ) (k l : N) → turns u i m (naming f) k → turns (noted k u.held) f r r l → MayTurn finds turns (noted l u.held) i (λ r. 0)
+    pub clear : (m r : ℕ) (k l : N) → turns u i m (naming f) k → turns (noted k u.held) f r r l
+        → MayTurn finds turns (noted l u.held) i (λ r. 0)

@@ -56,7 +56,7 @@ module _ {N : Type 0} (turns : Noted N → ℕ → ℕ → ℕ → N → Type 0)
       × turns (noted k v.held) f (filled g) (filled g) l × (h ≡ with_mark v.note l w (Pins f g))
   PinsFrame w f g (Again seen) = (seen ≢ filled g)
       × ((m : ℕ) × (p : ℕ) × (k : N) × (l : N) × (e : N) × turns (inner v) (own_word v w) m (naming f) k
-          × turns (noted k v.held) f seen seen l
+      × turns (noted k v.held) f seen seen l
       × turns (noted l v.held) (own_word v w) p 0 e × (h ≡ with_mark v.note e w Blank))
 
   -- the frame is empty at g; or its word was another

@@ -2,11 +2,11 @@
 
 ghost use Rattle.std.specs.Prelude.{◌≡◌, ℕ, suc, ◌+◌, ◌<◌, ◌==◌, ◌^◌};
 ghost use prog.Atomic.{either};
+ghost use Rattle.pool_law.specs.Asks.{FindsAndMayGo, MayGo, MayTurn};
 ghost use Rattle.latch_table.specs.Tables.{SamePieces, knows, note_of, shape_of};
 ghost use Rattle.hazard_law.specs.declared.known.Lock.TheVariants.{Locks};
 ghost use Rattle.hazard_law.specs.Safety.{HasLock, inner};
 ghost use Rattle.hazard_law.specs.Words.{empty, filled, locked};
-ghost use Rattle.hazard_table.specs.Asks.{FindsAndMayGo, MayGo, MayTurn};
 ghost use Rattle.hazard_table.specs.Leaves.{HasLocked, HasScannedAll, LocksFrame, Opens, Scans, word_of_session};
 ghost use Rattle.hazard_table.specs.Sessions.{IsSession};
 

@@ -1,7 +1,8 @@
 //! The kinds of steps on words.
 
 ghost use Rattle.hazard_law.specs.Kinds.{clearing, filling, freeing, locking, looking, publishing, scanning, unlocking, validating};
-ghost use Rattle.hazard_table.specs.Laws.{clearing_allowed, filling_allowed, freeing_allowed, locking_allowed, looking_allowed, publishing_allowed, scanning_allowed, unlocking_allowed, validating_allowed};
+ghost use Rattle.hazard_table.specs.Laws.{clearing_allowed, filling_allowed, freeing_allowed, locking_allowed, looking_allowed};
+ghost use Rattle.hazard_table.specs.Laws.{publishing_allowed, scanning_allowed, unlocking_allowed, validating_allowed};
 
 use crate::with_hazards::WithHazards;
 use pool_law::{Law, Turn};

@@ -1,11 +1,12 @@
 //! A seat pins frames by its hazard words.
 
 ghost use Rattle.std.specs.Prelude.{◌≡◌, ℕ, ◌<◌, ◌^◌};
+ghost use Rattle.pool_law.specs.Asks.{MayTurn};
 ghost use Rattle.latch_table.specs.Tables.{SamePieces, knows, note_of, shape_of};
 ghost use Rattle.hazard_law.specs.declared.known.Mark.TheVariants.{Names};
 ghost use Rattle.hazard_law.specs.Safety.{Marks, inner};
 ghost use Rattle.hazard_law.specs.Words.{naming};
-ghost use Rattle.hazard_table.specs.Asks.{MayPin, MayTurn};
+ghost use Rattle.hazard_table.specs.Asks.{MayPin};
 ghost use Rattle.hazard_table.specs.Leaves.{Looks, PinsFrame, Publishes, Unpins, Validates, own_word};
 ghost use Rattle.hazard_table.specs.Sessions.{IsSession};
 

@@ -1,3 +1,4 @@
 pub mod Whole
 pub mod Obligations
+pub mod Asks
 pub mod Growing

@@ -7,7 +7,7 @@ use Rattle.hazard_law.proofs.Safe.{filled_locked, same_locked, small}
 use Rattle.hazard_law.proofs.law.a_frame_that_may_be_freed_has_no_pin.Goals as goal
 
 pub returns : goal.returns
-returns g c frames words seats id f a v s at lock j w h u q m =
+returns g c frames words seats s id f a v at lock j w h u q m =
     let mine = s.locks id f a (5 * v.note.shape.seats) v at lock in
     let own = s.numbered id v at in
     ⊎_elim
