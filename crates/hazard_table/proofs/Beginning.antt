@@ -7,7 +7,7 @@ use Rattle.pool_law.specs.declared.shape.Shape.{Shape}
 use Rattle.pool_law.specs.Whole.{Noted, noted, whole}
 use Rattle.latch_table.specs.declared.latched.Latched.{Latched}
 use Rattle.latch_table.specs.declared.seat.Seat.{Seat}
-use Rattle.latch_table.specs.Opening.{AreSeats}
+use Rattle.latch_table.specs.Opening.{AreSeats, IsFresh}
 use Rattle.latch_table.specs.Rule.{starts}
 use Rattle.latch_table.specs.Tables.{shape_of}
 use Rattle.hazard_law.specs.declared.known.Hazards.{Hazards}
@@ -16,7 +16,6 @@ use Rattle.hazard_law.specs.declared.known.Mark.TheVariants.{Blank, Names, Pins}
 use Rattle.hazard_law.specs.declared.known.Lock.{Lock}
 use Rattle.hazard_law.specs.declared.known.Lock.TheVariants.{Open, Locks}
 use Rattle.hazard_law.specs.Safety.{Both, HasLock, Marks, Safe, beginning, inner}
-use Rattle.hazard_law.proofs.Lists.{inside}
 use Rattle.hazard_law.proofs.Safe.{blank_no_name, blank_no_pin, open_no_lock}
 use Rattle.hazard_table.specs.Sessions.{IsSession, first_words}
 
@@ -78,19 +77,17 @@ at_get (x ∷ xs) zero d h = refl
 at_get (x ∷ xs) (suc k) d h = at_get xs k d (omega arith)
 
 module _ {A H F N : Type 0} (start : Shape → ℕ → N) (t : Latched A H F (Hazards N)) where
-  pub fresh_session : (seats : List (Seat A H F (Hazards N))) → AreSeats (beginning start (shape_of t)) t seats → (j : ℕ) (s : Seat A H F (Hazards N)) → get_elem? seats j ≡ some s → IsSession t s
-  fresh_session seats are j s e =
-      let f = are.fresh j s e in
-      let long = inside seats j s e in
-      let count = are.count in record {
-        seat = f.0;
-        numbered = f.4;
-        own = ap (λ (z : Hazards N). z.seat) f.3 ∙ sym f.1;
-        shape = ap (λ (z : Hazards N). z.shape) f.3;
-        range = (let n = f.1 in omega arith);
-        marks = ap (λ (z : Hazards N). length z.marks) f.3;
-        locks = ap (λ (z : Hazards N). length z.locks) f.3 ∙ length-replicate (shape_of t).frames Open;
-      }
+  -- a seat as it begins is a session
+  pub fresh_session : (j : ℕ) (s : Seat A H F (Hazards N)) → IsFresh (beginning start (shape_of t)) t j s → j < (shape_of t).seats → IsSession t s
+  fresh_session j s f l = record {
+    seat = f.0;
+    numbered = f.4;
+    own = ap (λ (z : Hazards N). z.seat) f.3 ∙ sym f.1;
+    shape = ap (λ (z : Hazards N). z.shape) f.3;
+    range = (let n = f.1 in omega arith);
+    marks = ap (λ (z : Hazards N). length z.marks) f.3;
+    locks = ap (λ (z : Hazards N). length z.locks) f.3 ∙ length-replicate (shape_of t).frames Open;
+  }
 
   pub fresh_sessions : (seats : List (Seat A H F (Hazards N))) → AreSeats (beginning start (shape_of t)) t seats → Rattle.std.specs.Prelude.All (IsSession t) seats
-  fresh_sessions seats are k d h = fresh_session seats are k (get_or seats k d) (at_get seats k d h)
+  fresh_sessions seats are k d h = let count = are.count in fresh_session k (get_or seats k d) (are.fresh k (get_or seats k d) (at_get seats k d h)) (omega arith)

@@ -2,3 +2,4 @@ pub mod Whole
 pub mod Obligations
 pub mod Asks
 pub mod Growing
+pub mod Keeping
