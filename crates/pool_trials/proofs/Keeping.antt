@@ -12,12 +12,15 @@ use Rattle.hazard_law.specs.declared.known.Lock.TheVariants.{Locks}
 use Rattle.hazard_law.specs.Safety.{HasLock, inner, with_lock, with_note}
 use Rattle.hazard_law.specs.Words.{filled, hazard_place, locked, naming}
 use Rattle.hazard_table.specs.Asks.{MayPin}
-use Rattle.hazard_table.specs.Leaves.{LocksFrame, Opens, PinsFrame, Scans, Unpins, own_word, word_of_session}
+use Rattle.hazard_table.specs.Leaves.{LocksFrame, Opens, PinsFrame, Publishes, Scans, Unpins, Validates, own_word, word_of_session}
 use Rattle.hazard_table.specs.Sessions.{IsSession}
+use Rattle.hazard_table.specs.declared.answers.Pinning.{Pinning}
+use Rattle.hazard_table.specs.declared.answers.Locking.{Locking}
+use Rattle.hazard_table.specs.declared.answers.Scanning.{Scanning}
 use Rattle.hazard_table.specs.declared.answers.Pinning.TheVariants.{Pinned, Again}
 use Rattle.hazard_table.specs.declared.answers.Locking.TheVariants.{Locked, Again as NotLocked}
 use Rattle.hazard_table.specs.declared.answers.Scanning.TheVariants.{Clear, Pinned as Named}
-use Rattle.pool_trials.specs.Trials.{HasOwnLocked, IsKeeper}
+use Rattle.pool_trials.specs.Trials.{HasOwnLocked, IsKeeper, IsLocked, LocksOwn}
 
 abbrev F2 : Noted Own → ℕ → ℕ → Type 0
 F2 = finds_own 2
@@ -98,6 +101,21 @@ module _ {A : Type 0} (t : Latched A ℕ ℕ (Hazards Own)) (s : Seat A ℕ ℕ 
         let n : d ≡ c + 1 = omega arith in subst (λ (x : ℕ). HasOwnLocked u g x) n (locks_here f g d h e is)
     clear_has j w f g c e at (m, d, ne, inr (place, more), rest) = absurd (place (sym at))
 
+    pub clear_locked : (j w f g c : ℕ) → f ≡ number_of_seat s → Scans T2 (knows s) (note_of u) j w f g c Clear → IsLocked u g
+    clear_locked j w f g c e (m, d, ne, count, (h, turned, is)) = (d, locks_here f g d h e is)
+
+    pub published_keeper : (w f : ℕ) → Publishes T2 (knows s) (note_of u) w f → IsKeeper t u word
+    published_keeper w f (m, (h, turned, is)) = after_other (own_word (knows s) w) m (naming f) h _ (far_own w) turned is refl
+
+    pub validated_keeper : (w f g : ℕ) (r : Pinning) → f ≢ number_of_seat s → Validates T2 (knows s) (note_of u) w f g r → IsKeeper t u word
+    validated_keeper w f g Pinned ne (h, turned, is) = after_other f (filled g) (filled g) h _ (not_own f ne) turned is refl
+    validated_keeper w f g (Again seen) ne (no_pin, inl (h, turned, is)) = after_other f seen seen h _ (not_own f ne) turned is refl
+    validated_keeper w f g (Again seen) ne (no_pin, inr (e, at, (h, turned, is))) = after_other f seen seen h _ (not_own f ne) turned is refl
+
+    pub locks_own : (f g : ℕ) (r : Locking) → f ≡ number_of_seat s → LocksFrame T2 (knows s) (note_of u) f g r → LocksOwn t u g r
+    locks_own f g Locked e p = (locked_keeper f g e p, locked_has f g e p)
+    locks_own f g (NotLocked seen) e p = not_locked_keeper f g seen e p
+
     pub named_keeper : (j w f g c x : ℕ) → Scans T2 (knows s) (note_of u) j w f g c (Named x) → IsKeeper t u word
     named_keeper j w f g c x (is_j, (h, turned, is)) = after_other (word_of_session (knows s) j w) (naming f) (naming f) h _ (far j w) turned is refl
 
@@ -125,6 +143,14 @@ module _ {A : Type 0} (t : Latched A ℕ ℕ (Hazards Own)) (s : Seat A ℕ ℕ 
         let l_is = read_note f seen seen h l ne (named_note w m (naming f) h named) read in
         after word (ap (λ (z : Hazards Own). z.note) is
         ∙ (other_after 2 (noted l (knows s).held) (own_word (knows s) w) p 0 e (λ z. far_own w (z ∙ ap (λ (y : Own). y.0) l_is)) blank ∙ (l_is ∙ k.note)))
+
+    pub pin_keeper : (w f g : ℕ) (r : Pinning) → f ≢ number_of_seat s → PinsFrame T2 (knows s) (note_of u) w f g r → IsKeeper t u word
+    pin_keeper w f g Pinned ne p = pinned_keeper w f g ne p
+    pin_keeper w f g (Again seen) ne p = not_pinned_keeper w f g seen ne p
+
+    pub scan_keeper : (j w f g c : ℕ) (r : Scanning) → f ≡ number_of_seat s → HasOwnLocked s g c → Scans T2 (knows s) (note_of u) j w f g c r → IsKeeper t u word × IsLocked u g
+    scan_keeper j w f g c Clear e l p = (clear_keeper j w f g c p, clear_locked j w f g c e p)
+    scan_keeper j w f g c (Named x) e l p = (named_keeper j w f g c x p, (c, named_has j w f g c x l p))
 
   pub may_pin : (w f : ℕ) → MayPin F2 T2 (inner (knows s)) (own_word (knows s) w) f
   may_pin w f = record {

@@ -6,7 +6,11 @@ use Rattle.latch_table.specs.declared.seat.Seat.{Seat}
 use Rattle.latch_table.specs.Tables.{note_of, number_of_seat, shape_of, taken}
 use Rattle.hazard_law.specs.declared.known.Hazards.{Hazards}
 use Rattle.hazard_law.specs.declared.known.Lock.TheVariants.{Locks}
-use Rattle.hazard_law.specs.Safety.{HasLock}
+use Rattle.hazard_law.specs.Safety.{HasLock, Marks}
+use Rattle.hazard_law.specs.Words.{locked}
+use Rattle.hazard_law.specs.declared.known.Mark.TheVariants.{Names}
+use Rattle.hazard_table.specs.declared.answers.Locking.{Locking}
+use Rattle.hazard_table.specs.declared.answers.Locking.TheVariants.{Locked, Again}
 use Rattle.hazard_table.specs.Sessions.{IsSession}
 
 module _ {A : Type 0} where
@@ -28,3 +32,12 @@ module _ {A : Type 0} where
   -- what it knows of its own word is the same
   abbrev pub StaysKeeper : Latched A ℕ ℕ (Hazards Own) → Seat A ℕ ℕ (Hazards Own) → Seat A ℕ ℕ (Hazards Own) → Type 0
   StaysKeeper t s u = (word : ℕ) → IsKeeper t s word → IsKeeper t u word
+
+  -- the own frame is locked, and no word is scanned yet; or its word is another
+  abbrev pub LocksOwn : Latched A ℕ ℕ (Hazards Own) → Seat A ℕ ℕ (Hazards Own) → ℕ → Locking → Type 0
+  LocksOwn t s g Locked = IsKeeper t s (locked g) × HasOwnLocked s g 0
+  LocksOwn t s g (Again seen) = IsKeeper t s seen
+
+  -- the first hazard word, which was written last, names the frame
+  abbrev pub PointsAt : Seat A ℕ ℕ (Hazards Own) → ℕ → Type 0
+  PointsAt s f = Marks (note_of s) 0 (Names f) × ((note_of s).last_word ≡ 0)

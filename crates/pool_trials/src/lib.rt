@@ -14,7 +14,10 @@ mod rise;
 mod threads;
 
 pub use grow::Grow;
-pub use keep::{Keeper, KeptPool, Visited, glance, renew, visit};
+pub use keep::{
+    Keeper, KeptPool, Visited, free_own, glance, let_go, lock_own, look_again, pin_other, point_at,
+    renew, scan_all, unlock_own, visit, who_pins,
+};
 pub use keepers::Keepers;
 pub use open::{close_two, open_kept, open_rising};
 pub use pair::{both, two_seats};

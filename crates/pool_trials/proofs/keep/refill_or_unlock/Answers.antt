@@ -1,37 +1,10 @@
-use Rattle.std.proofs.Common.{ℕ, sym, subst, arith}
-use Rattle.pool_law.proofs.Keepers.{may_go_own}
-use Rattle.latch_table.specs.Tables.{knows, note_of}
-use Rattle.hazard_law.specs.declared.known.Lock.TheVariants.{Locks}
-use Rattle.hazard_law.specs.Safety.{HasLock, inner}
-use Rattle.hazard_law.specs.Words.{filled, locked}
-use Rattle.pool_trials.proofs.Keeping.{few, opened_keeper, own_frame, same_seat}
+use Rattle.pool_trials.proofs.Keeping.{same_seat}
 use Rattle.pool_trials.proofs.keep.refill_or_unlock.Goals as goal
-
-pub unlock-requires-clause-session : goal.unlock-requires-clause-session
-unlock-requires-clause-session c =
-    c.scan_all.ensures.keeper.session
-
-pub unlock-requires-clause-lock : goal.unlock-requires-clause-lock
-unlock-requires-clause-lock c =
-    let l = c.scan_all.ensures.locked in
-    (l.0, subst (λ (j : ℕ). HasLock (note_of c.scan_all.new.seat) j (Locks c.args.g l.0)) (sym c.number-own.ensures) l.1.0)
-
-pub unlock-requires-clause-frame : goal.unlock-requires-clause-frame
-unlock-requires-clause-frame c =
-    let a = few c.args.pool.now.pieces c.scan_all.new.seat (locked c.args.g) c.scan_all.ensures.keeper in let b = c.number-own.ensures in let d = c.requires.keeper.frames in omega arith
-
-pub unlock-requires-clause-beside : goal.unlock-requires-clause-beside
-unlock-requires-clause-beside c =
-    may_go_own 2 (inner (knows c.scan_all.new.seat)) c.number-own.result (locked c.args.g) (filled c.args.g) (own_frame c.args.pool.now.pieces c.scan_all.new.seat (locked c.args.g) c.scan_all.ensures.keeper c.number-own.result c.number-own.ensures)
-
-pub returns-clause-keeper : goal.returns-clause-keeper
-returns-clause-keeper c =
-    opened_keeper c.args.pool.now.pieces c.scan_all.new.seat (locked c.args.g) c.scan_all.ensures.keeper c.unlock.new.seat c.unlock.ensures.session c.unlock.ensures.pieces c.number-own.result (locked c.args.g) (filled c.args.g) c.number-own.ensures c.unlock.ensures.unlocked
 
 pub returns-clause-number : goal.returns-clause-number
 returns-clause-number c =
-    same_seat c.args.seat.now c.scan_all.new.seat c.unlock.new.seat c.scan_all.ensures.number c.unlock.ensures.pieces.2
+    same_seat c.args.seat.now c.scan_all.new.seat c.unlock_own.new.seat c.scan_all.ensures.number c.unlock_own.ensures.number
 
 pub returns-then-scan_all-clause-number : goal.returns-then-scan_all-clause-number
 returns-then-scan_all-clause-number c =
-    same_seat c.args.seat.now c.scan_all.new.seat c.refill.new.seat c.scan_all.ensures.number c.refill.ensures.number
+    same_seat c.args.seat.now c.free_own.new.seat c.fill_own.new.seat (same_seat c.args.seat.now c.scan_all.new.seat c.free_own.new.seat c.scan_all.ensures.number c.free_own.ensures.number) c.fill_own.ensures.number

@@ -1,31 +1,14 @@
-use Rattle.std.proofs.Common.{arith}
-use Rattle.pool_trials.proofs.Keeping.{may_pin, not_pinned_keeper, pinned_keeper, same_seat}
+use Rattle.pool_trials.proofs.Keeping.{same_seat}
 use Rattle.pool_trials.proofs.keep.visit.Goals as goal
-
-pub pin-requires-clause-session : goal.pin-requires-clause-session
-pin-requires-clause-session c =
-    c.requires.keeper.1.session
-
-pub pin-requires-clause-frame : goal.pin-requires-clause-frame
-pin-requires-clause-frame c =
-    let a = c.requires.frame.0 in let d = c.requires.keeper.1.frames in omega arith
-
-pub pin-requires-clause-beside : goal.pin-requires-clause-beside
-pin-requires-clause-beside c =
-    may_pin c.args.pool.now.pieces c.args.seat.now c.requires.keeper.0 c.requires.keeper.1 0 c.args.f
 
 pub read_pinned-requires-clause-keeper : goal.read_pinned-requires-clause-keeper
 read_pinned-requires-clause-keeper c =
-    (c.requires.keeper.0, pinned_keeper c.args.pool.now.pieces c.args.seat.now c.requires.keeper.0 c.requires.keeper.1 c.pin.new.seat c.in-Pinned.ensures.session c.in-Pinned.ensures.pieces 0 c.args.f c.args.g c.requires.frame.1 c.in-Pinned.ensures.pinned)
+    (c.requires.keeper.0, c.in-Pinned.ensures.keeper c.requires.keeper.0 c.requires.keeper.1)
 
 pub returns-in-Pinned-clause-keeper : goal.returns-in-Pinned-clause-keeper
 returns-in-Pinned-clause-keeper c =
-    λ word k. c.read_pinned.ensures.keeper word (pinned_keeper c.args.pool.now.pieces c.args.seat.now word k c.pin.new.seat c.in-Pinned.ensures.session c.in-Pinned.ensures.pieces 0 c.args.f c.args.g c.requires.frame.1 c.in-Pinned.ensures.pinned)
+    λ word k. c.read_pinned.ensures.keeper word (c.in-Pinned.ensures.keeper word k)
 
 pub returns-in-Pinned-clause-number : goal.returns-in-Pinned-clause-number
 returns-in-Pinned-clause-number c =
-    same_seat c.args.seat.now c.pin.new.seat c.read_pinned.new.seat c.in-Pinned.ensures.pieces.2 c.read_pinned.ensures.number
-
-pub returns-in-Again-clause-keeper : goal.returns-in-Again-clause-keeper
-returns-in-Again-clause-keeper c =
-    λ word k. not_pinned_keeper c.args.pool.now.pieces c.args.seat.now word k c.pin.new.seat c.in-Again.ensures.session c.in-Again.ensures.pieces 0 c.args.f c.args.g c.in-Again.seen c.requires.frame.1 c.in-Again.ensures.pinned
+    same_seat c.args.seat.now c.pin_other.new.seat c.read_pinned.new.seat c.in-Pinned.ensures.number c.read_pinned.ensures.number
