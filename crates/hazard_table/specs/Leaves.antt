@@ -30,6 +30,19 @@ HasLocked v f g = (c : ℕ) × HasLock v.note f (Locks g c)
 abbrev pub HasScannedAll : {N : Type 0} → Noted (Hazards N) → ℕ → ℕ → Type 0
 HasScannedAll v f g = HasLock v.note f (Locks g (5 * v.note.shape.seats))
 
+-- what the state word was, by the answer
+abbrev pub word_at_look : ℕ → Looking → ℕ
+word_at_look g Empty = empty g
+word_at_look g (NotEmpty seen) = seen
+
+abbrev pub word_at_lock : ℕ → Locking → ℕ
+word_at_lock g Locked = filled g
+word_at_lock g (NotLocked seen) = seen
+
+abbrev pub word_at_validate : ℕ → Pinning → ℕ
+word_at_validate g Pinned = filled g
+word_at_validate g (Again seen) = seen
+
 -- v is what the seat knew, and h its note after the call
 module _ {N : Type 0} (turns : Noted N → ℕ → ℕ → ℕ → N → Type 0) (v : Noted (Hazards N)) (h : Hazards N) where
   -- the word i went from m to n in one step, and the note follows

@@ -7,7 +7,7 @@ ghost use Rattle.latch_table.specs.Tables.{SamePieces, knows, note_of, shape_of}
 ghost use Rattle.hazard_law.specs.declared.known.Lock.TheVariants.{Locks};
 ghost use Rattle.hazard_law.specs.Safety.{HasLock, inner};
 ghost use Rattle.hazard_law.specs.Words.{empty, filled, locked};
-ghost use Rattle.hazard_table.specs.Leaves.{HasLocked, HasScannedAll, LocksFrame, Opens, Scans, word_of_session};
+ghost use Rattle.hazard_table.specs.Leaves.{HasLocked, HasScannedAll, LocksFrame, Opens, Scans, word_at_lock, word_of_session};
 ghost use Rattle.hazard_table.specs.Sessions.{IsSession};
 
 use crate::answers::{Locking, Scanning};
@@ -28,6 +28,7 @@ impl<L: Law> Pool<L> {
         requires beside { MayTurn L.finds L.turns (inner (knows seat.old)) f (λ r. either (r == filled g) (locked g) r) }
         ensures session { IsSession self.now.pieces seat.new }
         ensures pieces { SamePieces seat.old seat.new }
+        ensures finds { L.finds (inner (knows seat.old)) f (word_at_lock g result) }
         ensures locked { LocksFrame L.turns (knows seat.old) (note_of seat.new) f g result }
     {
         let old = filled_at(g);

@@ -7,7 +7,7 @@ ghost use Rattle.hazard_law.specs.declared.known.Mark.TheVariants.{Names};
 ghost use Rattle.hazard_law.specs.Safety.{Marks, inner};
 ghost use Rattle.hazard_law.specs.Words.{naming};
 ghost use Rattle.hazard_table.specs.Asks.{MayPin};
-ghost use Rattle.hazard_table.specs.Leaves.{Looks, PinsFrame, Publishes, Unpins, Validates, own_word};
+ghost use Rattle.hazard_table.specs.Leaves.{Looks, PinsFrame, Publishes, Unpins, Validates, own_word, word_at_look, word_at_validate};
 ghost use Rattle.hazard_table.specs.Sessions.{IsSession};
 
 use crate::answers::{Looking, Pinning};
@@ -43,6 +43,7 @@ impl<L: Law> Pool<L> {
         requires beside { MayTurn L.finds L.turns (inner (knows seat.old)) f (λ r. r) }
         ensures session { IsSession self.now.pieces seat.new }
         ensures pieces { SamePieces seat.old seat.new }
+        ensures finds { L.finds (inner (knows seat.old)) f (word_at_validate g result) }
         ensures validated { Validates L.turns (knows seat.old) (note_of seat.new) word f g result }
     {
         let expected = filled_at(g);
@@ -97,6 +98,7 @@ impl<L: Law> Pool<L> {
         requires beside { MayTurn L.finds L.turns (inner (knows seat.old)) f (λ r. r) }
         ensures session { IsSession self.now.pieces seat.new }
         ensures pieces { SamePieces seat.old seat.new }
+        ensures finds { L.finds (inner (knows seat.old)) f (word_at_look g result) }
         ensures looked { Looks L.turns (knows seat.old) (note_of seat.new) f g result }
     {
         let expected = empty_at(g);

@@ -1,3 +1,5 @@
+use Rattle.std.proofs.Common.{subst}
+use Rattle.hazard_law.specs.Safety.{inner}
 use Rattle.latch_table.specs.Tables.{knows, note_of}
 use Rattle.hazard_law.specs.declared.known.Lock.TheVariants.{Locks}
 use Rattle.hazard_table.proofs.Staying.{frame_known, state_in, stays, with_lock_same, with_note_same}
@@ -29,3 +31,11 @@ returns-in-Err-clause-session g c =
 pub returns-in-Err-clause-locked : goal.returns-in-Err-clause-locked
 returns-in-Err-clause-locked g c =
     did_lock_again g.L.Law.finds g.L.Law.turns (knows c.args.seat.now) c.args.f c.in-Err.seen c.filled_at-old.result c.args.g (note_of c.word_swap.new.seat) c.filled_at-old.ensures c.in-Err.ensures.swapped.0 c.in-Err.ensures.turns
+
+pub returns-in-Ok-clause-finds : goal.returns-in-Ok-clause-finds
+returns-in-Ok-clause-finds g c =
+    subst (λ r. g.L.Law.finds (inner (knows c.args.seat.now)) c.args.f r) c.filled_at-old.ensures c.in-Ok.ensures.swapped.beside
+
+pub returns-in-Err-clause-finds : goal.returns-in-Err-clause-finds
+returns-in-Err-clause-finds g c =
+    c.in-Err.ensures.swapped.1.beside

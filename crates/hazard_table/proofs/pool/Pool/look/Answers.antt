@@ -1,3 +1,5 @@
+use Rattle.std.proofs.Common.{◌∙◌, subst}
+use Rattle.hazard_law.specs.Safety.{inner}
 use Rattle.latch_table.specs.Tables.{knows, note_of}
 use Rattle.hazard_table.proofs.Staying.{state_in, stays, with_note_same}
 use Rattle.hazard_table.proofs.Turning.{did_look_again, did_look_empty, may_look}
@@ -28,3 +30,11 @@ returns-clause-session g c =
 pub returns-clause-looked : goal.returns-clause-looked
 returns-clause-looked g c =
     did_look_again g.L.Law.finds g.L.Law.turns (knows c.args.seat.now) c.args.f c.word_load-seen.result c.empty_at-expected.result c.args.g (note_of c.word_load-seen.new.seat) c.empty_at-expected.ensures c.if-seen-expected.false c.word_load-seen.ensures.turns
+
+pub returns-then-seen-expected-clause-finds : goal.returns-then-seen-expected-clause-finds
+returns-then-seen-expected-clause-finds g c =
+    subst (λ r. g.L.Law.finds (inner (knows c.args.seat.now)) c.args.f r) (c.if-seen-expected.true ∙ c.empty_at-expected.ensures) c.word_load-seen.ensures.finds.beside
+
+pub returns-clause-finds : goal.returns-clause-finds
+returns-clause-finds g c =
+    c.word_load-seen.ensures.finds.beside
