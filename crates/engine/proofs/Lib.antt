@@ -4,3 +4,5 @@ pub mod Lefts
 pub mod Ending
 pub mod Calling
 pub mod TablesKept
+pub mod Systems
+pub mod SystemEvents

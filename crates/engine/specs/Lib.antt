@@ -3,3 +3,4 @@ pub mod Events
 pub mod Whole
 pub mod Sound
 pub mod Bases
+pub mod Systems

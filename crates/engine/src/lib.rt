@@ -10,5 +10,6 @@
 
 mod parts;
 mod step;
+mod system;
 
 pub use step::{Actor, Step};
