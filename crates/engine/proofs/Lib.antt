@@ -6,3 +6,5 @@ pub mod Calling
 pub mod TablesKept
 pub mod Systems
 pub mod SystemEvents
+pub mod Laying
+pub mod Beginning

@@ -4,3 +4,4 @@ pub mod Whole
 pub mod Sound
 pub mod Bases
 pub mod Systems
+pub mod Openings

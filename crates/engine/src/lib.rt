@@ -8,6 +8,7 @@
 //! those who open and close it.
 #![tactic(auto)]
 
+mod opening;
 mod parts;
 mod step;
 mod system;
