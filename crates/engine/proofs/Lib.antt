@@ -4,3 +4,7 @@ pub mod Lefts
 pub mod Ending
 pub mod Calling
 pub mod TablesKept
+pub mod Systems
+pub mod SystemEvents
+pub mod Laying
+pub mod Beginning
