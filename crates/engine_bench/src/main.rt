@@ -1,0 +1,266 @@
+//! What the calls of an engine cost: it fills a table with so many rows, each in a transaction of its
+//! own, and then makes as many rounds of one kind as its words say (`sorted 1000 500`); without words
+//! a few of each. Kinds are `sorted`, `random` and `again`, a transaction with one put, of the next
+//! key in order, of a key at random, and of one that is there; `empty`, a transaction without a put;
+//! `get` and `next`, a read in a transaction that goes on; and `items`, the items of a put without a
+//! call. What a call costs is the difference of two runs.
+#![tactic(auto)]
+
+use catalog::Catalog;
+use engine::Local;
+use failure::NoMemory;
+use item::{Format, Formats, Item};
+use std::alloc::{AllocError, Global};
+use std::{env, io};
+use wt_calls::{Call, Demand, SessionCall, SystemCall, Way};
+use wt_code::{Answer, Invalid, Refusal};
+
+/// What is done in each round.
+#[derive(Clone, Copy, PartialEq, Eq)]
+enum Kind {
+    Sorted,
+    Random,
+    Again,
+    Empty,
+    Get,
+    Next,
+    Items,
+}
+
+/// How many rows there are first, and what is done then.
+#[derive(Clone, Copy)]
+struct Work {
+    kind: Kind,
+    rows: u32,
+    rounds: u32,
+}
+
+const TABLE: &[u8] = b"rows";
+
+const BYTES: Formats = Formats {
+    key: Format::U,
+    value: Format::U,
+};
+
+// The next of numbers that look like chance.
+fn draw(seed: &mut u64) -> u64 {
+    *seed = seed
+        .wrapping_mul(6_364_136_223_846_793_005)
+        .wrapping_add(1_442_695_040_888_963_407);
+    *seed >> 33
+}
+
+// The n-th key: 16 bytes, of which the first are those of all.
+fn key_of(n: u64) -> [u8; 16] {
+    let mut key = *b"key0000000000000";
+    let mut rest = n;
+    for i in 0..13usize {
+        key[15 - i] = b'0' + (rest % 10) as u8;
+        rest /= 10;
+    }
+    key
+}
+
+fn item(alloc: Global, bytes: &[u8]) -> Result<Item, NoMemory> {
+    Ok(Item::new(Vec::from_slice(alloc, bytes)?))
+}
+
+// A whole call of the one session.
+fn ask(alloc: Global, engine: &mut Local, call: SessionCall) -> Answer<Item> {
+    if engine.sessions() == 0 {
+        return Answer::Refused(Refusal::Invalid(Invalid::NoCall));
+    }
+    engine.call(alloc, Call::Session(0, call))
+}
+
+fn begin(alloc: Global, engine: &mut Local) -> Answer<Item> {
+    ask(alloc, engine, SessionCall::Begin(None))
+}
+
+fn commit(alloc: Global, engine: &mut Local) -> Answer<Item> {
+    let call = SessionCall::Commit {
+        commit: None,
+        durable: None,
+    };
+    ask(alloc, engine, call)
+}
+
+fn put_call(alloc: Global, number: u64) -> Result<SessionCall, NoMemory> {
+    Ok(SessionCall::Put {
+        table: item(alloc, TABLE)?,
+        key: item(alloc, key_of(number).as_slice())?,
+        value: item(alloc, [7u8; 100].as_slice())?,
+        demand: Demand::Anything,
+    })
+}
+
+fn put(alloc: Global, engine: &mut Local, number: u64) -> Result<Answer<Item>, NoMemory> {
+    let call = put_call(alloc, number)?;
+    Ok(ask(alloc, engine, call))
+}
+
+fn get(alloc: Global, engine: &mut Local, number: u64) -> Result<Answer<Item>, NoMemory> {
+    let call = SessionCall::Get {
+        table: item(alloc, TABLE)?,
+        key: item(alloc, key_of(number).as_slice())?,
+    };
+    Ok(ask(alloc, engine, call))
+}
+
+fn next(alloc: Global, engine: &mut Local) -> Result<Answer<Item>, NoMemory> {
+    let call = SessionCall::Step {
+        cursor: 0,
+        table: item(alloc, TABLE)?,
+        way: Way::Up,
+    };
+    Ok(ask(alloc, engine, call))
+}
+
+fn is_refused(answer: &Answer<Item>) -> bool {
+    matches!(answer, Answer::Refused(_))
+}
+
+// A transaction with one put. Whether all is answered.
+fn put_alone(alloc: Global, engine: &mut Local, number: u64) -> Result<bool, NoMemory> {
+    let begun = begin(alloc, engine);
+    let made = put(alloc, engine, number)?;
+    let ended = commit(alloc, engine);
+    Ok(!is_refused(&begun) && !is_refused(&made) && !is_refused(&ended))
+}
+
+// A transaction without a put.
+fn empty_alone(alloc: Global, engine: &mut Local) -> bool {
+    let begun = begin(alloc, engine);
+    let ended = commit(alloc, engine);
+    !is_refused(&begun) && !is_refused(&ended)
+}
+
+// An engine on nothing, with one table, which is empty, and one session.
+#[tactic(auto, using(crate::proofs::Bases::nothing_is_base))]
+fn open(alloc: Global) -> Result<Local, NoMemory> {
+    let tables = Catalog::new(alloc);
+    let mut engine = Local::open(alloc, 1, 0, 0, tables, Vec::new(alloc))?;
+    let create = SystemCall::Create {
+        table: item(alloc, TABLE)?,
+        formats: BYTES,
+    };
+    // That there is an actor of the system.
+    let _actors = engine.actors();
+    let _made = engine.call(alloc, Call::System(0, create));
+    match engine.open_session(alloc) {
+        Ok(_) => Ok(engine),
+        Err(_) => Err(NoMemory),
+    }
+}
+
+fn takes_items(call: &SessionCall) -> bool {
+    matches!(call, SessionCall::Put { .. })
+}
+
+// The number of a row's key: in order, or at random.
+fn number_of(kind: Kind, n: u32, seed: &mut u64) -> u64 {
+    match kind {
+        Kind::Random => draw(seed),
+        _ => n as u64,
+    }
+}
+
+fn fill(alloc: Global, engine: &mut Local, work: Work, seed: &mut u64) -> Result<(), NoMemory> {
+    for n in 0..work.rows {
+        let _done = put_alone(alloc, engine, number_of(work.kind, n, seed))?;
+    }
+    Ok(())
+}
+
+// One round, and whether it is answered and not refused.
+fn round(
+    alloc: Global,
+    engine: &mut Local,
+    work: Work,
+    n: u32,
+    seed: &mut u64,
+) -> Result<bool, NoMemory> {
+    let rows = (work.rows as u64).max(1);
+    match work.kind {
+        Kind::Sorted => put_alone(alloc, engine, work.rows as u64 + n as u64),
+        Kind::Random => put_alone(alloc, engine, draw(seed)),
+        Kind::Again => put_alone(alloc, engine, draw(seed) % rows),
+        Kind::Empty => Ok(empty_alone(alloc, engine)),
+        Kind::Get => Ok(!is_refused(&get(alloc, engine, draw(seed) % rows)?)),
+        Kind::Next => Ok(!is_refused(&next(alloc, engine)?)),
+        Kind::Items => Ok(takes_items(&put_call(alloc, n as u64)?)),
+    }
+}
+
+// All rounds, reads in a transaction; how many are answered.
+fn rounds(alloc: Global, engine: &mut Local, work: Work, seed: &mut u64) -> Result<u32, NoMemory> {
+    if matches!(work.kind, Kind::Get | Kind::Next) {
+        let _begun = begin(alloc, engine);
+    }
+    let mut answered = 0u32;
+    for n in 0..work.rounds {
+        if round(alloc, engine, work, n, seed)? {
+            answered = answered.wrapping_add(1);
+        }
+    }
+    Ok(answered)
+}
+
+fn measure(alloc: Global, work: Work) -> Result<u32, NoMemory> {
+    let mut seed = 1u64;
+    let mut engine = open(alloc)?;
+    fill(alloc, &mut engine, work, &mut seed)?;
+    rounds(alloc, &mut engine, work, &mut seed)
+}
+
+fn kind_of(word: &str) -> Kind {
+    match word {
+        "random" => Kind::Random,
+        "again" => Kind::Again,
+        "empty" => Kind::Empty,
+        "get" => Kind::Get,
+        "next" => Kind::Next,
+        "items" => Kind::Items,
+        _ => Kind::Sorted,
+    }
+}
+
+// The work that the words name.
+fn work_to_do(rt: &HostRuntime) -> io::Result<Option<Work>> {
+    let mut args = env::args(rt)?;
+    let _program = args.next();
+    let (Some(kind), Some(rows), Some(rounds)) = (args.next(), args.next(), args.next()) else {
+        return Ok(None);
+    };
+    Ok(Some(Work {
+        kind: kind_of(&kind),
+        rows: rows.parse().unwrap_or(0),
+        rounds: rounds.parse().unwrap_or(0),
+    }))
+}
+
+fn no_memory(_: NoMemory) -> AllocError {
+    AllocError
+}
+
+fn tell(rt: &HostRuntime, word: &str, rows: u32, rounds: u32) -> anyhow::Result<()> {
+    let kind = kind_of(word);
+    let answered = measure(rt.alloc(), Work { kind, rows, rounds }).map_err(no_memory)?;
+    println!(rt; "{word} over {rows}: {answered} of {rounds} answered")?;
+    Ok(())
+}
+
+fn main(rt: HostRuntime) -> anyhow::Result<()> {
+    match work_to_do(&rt)? {
+        Some(work) => {
+            let answered = measure(rt.alloc(), work).map_err(no_memory)?;
+            println!(rt; "{answered} of {} answered", work.rounds)?;
+        }
+        None => {
+            for word in ["sorted", "random", "again", "empty", "get", "next", "items"] {
+                tell(&rt, word, 1000, 500)?;
+            }
+        }
+    }
+    Ok(())
+}
