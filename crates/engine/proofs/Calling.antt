@@ -1,6 +1,6 @@
 -- A whole call of a session is answered as the model says.
-use Rattle.std.proofs.Common.{◌≡◌, ◌⊎◌, ◌<◌, ℕ, zero, suc, refl, ap, sym, ◌∙◌, List, [], length, inl, inr, subst, arith}
-use Rattle.std.specs.Prelude.{Option, Some, None, slice_get, slice_set, slice_index_or}
+use Rattle.std.proofs.Common.{◌≡◌, ◌<◌, ℕ, zero, suc, refl, ap, sym, ◌∙◌, List, length, inl, inr, subst}
+use Rattle.std.specs.Prelude.{slice_set, slice_index_or}
 use Rattle.std.proofs.lemmas.List.{get_or-set_same, length-set, set-get_or}
 use Rattle.wt_code.specs.declared.answers.Answer.{Answer}
 use Rattle.wt_code.specs.declared.answers.Answer.TheVariants as answers
@@ -10,13 +10,12 @@ use Rattle.kv_model.specs.Machine.{Machine}
 use Rattle.kv_model.specs.Calls.{Call, SessionAnswers}
 use Rattle.call_steps.specs.declared.reply.Reply.{Reply}
 use Rattle.call_steps.specs.declared.reply.Reply.TheVariants as reply
-use Rattle.engine_world.specs.Steps.{BeginsIn, GoesOn, MayBegin, MayGo, Made}
-use Rattle.engine_world.specs.Stands.{Engine, Stands}
-use Rattle.engine_world.specs.Whole.{nothing_around, Reached, ReachesOn, StepsReach}
+use Rattle.engine_world.specs.Steps.{BeginsIn, MayGo}
+use Rattle.engine_world.specs.Whole.{nothing_around, Reached, StepsReach}
 use Rattle.engine_world.specs.Worlds.{World, Doing, Resting, Asked, Placed, Decided, Ending, doing_of}
 use Rattle.engine.specs.declared.step.Actor.TheVariants as actor
 use Rattle.engine.specs.Runs.{StepsOut}
-use Rattle.engine.specs.Whole.{CallsIn, Ends, MayCall, moved}
+use Rattle.engine.specs.Whole.{CallsIn, moved}
 use Rattle.engine.proofs.Lefts.{ends-or-fewer}
 use Rattle.engine.proofs.Ending.{IsNoAnswer, moved-then}
 

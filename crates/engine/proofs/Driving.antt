@@ -1,6 +1,6 @@
 -- One step of a session, over the data of an engine.
 use Rattle.std.proofs.Common.{◌≡◌, ◌<◌, ℕ, refl, ap, sym, ◌∙◌, List, length, subst, get_or}
-use Rattle.std.specs.Prelude.{Option, Some, None, slice_get, slice_set, slice_index_or}
+use Rattle.std.specs.Prelude.{Some, slice_get, slice_set}
 use Rattle.std.proofs.lemmas.List.{set-get_or}
 use Rattle.std.proofs.lemmas.Option.{slice_get_read}
 use Rattle.stamp.specs.declared.View.{View}
@@ -20,12 +20,12 @@ use Rattle.call_steps.specs.HubEvents.{Made, IsSeated, hub_made}
 use Rattle.call_steps.specs.Starts.{Starts}
 use Rattle.call_steps.specs.State.{State}
 use Rattle.call_steps.specs.Words.{next_at, next_of, loaded, stored}
-use Rattle.engine_world.specs.Doings.{doing_at, doing_in}
-use Rattle.engine_world.specs.Laws.{Leads, IsViewOf, LoadGoes, StartsGo, with_hub, with_piece, with_hazard, with_session}
+use Rattle.engine_world.specs.Doings.{doing_at}
+use Rattle.engine_world.specs.Laws.{Leads, IsViewOf, LoadGoes, StartsGo, with_hub, with_hazard, with_session}
 use Rattle.engine_world.specs.Leaves.{word_at}
 use Rattle.engine_world.specs.Stands.{Engine, Stands}
-use Rattle.engine_world.specs.Steps.{GoesOn, MayBegin, MayGo}
-use Rattle.engine_world.specs.Worlds.{World, Doing, Resting, doing_of}
+use Rattle.engine_world.specs.Steps.{GoesOn, MayBegin}
+use Rattle.engine_world.specs.Worlds.{World, Resting, doing_of}
 use Rattle.engine.specs.Events.{HasWorld, IsFrameEvent}
 use Rattle.engine.proofs.Stepping.{HubLaws, FrameLaws, StoreLaws, hub-goes, frame-goes, store-goes}
 

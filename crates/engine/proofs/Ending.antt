@@ -1,20 +1,18 @@
 -- The steps of a call, one after the other, come to its answer.
-use Rattle.std.proofs.Common.{◌≡◌, ◌⊎◌, ◌<◌, ℕ, zero, suc, refl, ap, sym, ◌∙◌, List, [], length, inl, inr, subst, arith, get_or}
-use Rattle.std.specs.Prelude.{Option, Some, None, slice_get, slice_set, slice_index_or}
+use Rattle.std.proofs.Common.{◌≡◌, ◌<◌, ℕ, zero, suc, refl, ap, sym, ◌∙◌, List, length, inl, inr, subst, arith, get_or}
+use Rattle.std.specs.Prelude.{Some, slice_get, slice_set}
 use Rattle.std.proofs.lemmas.List.{get_or-set_same, length-set, set-set}
-use Rattle.std.proofs.lemmas.Option.{slice_get-get_or, slice_get_within}
+use Rattle.std.proofs.lemmas.Option.{slice_get-get_or}
 use Rattle.wt_code.specs.declared.answers.Answer.{Answer}
-use Rattle.kv_model.specs.Machine.{Machine, of_some}
-use Rattle.kv_model.specs.Calls.{Call, SessionAnswers}
+use Rattle.kv_model.specs.Machine.{of_some}
 use Rattle.call_steps.specs.declared.reply.Reply.{Reply}
 use Rattle.call_steps.specs.declared.reply.Reply.TheVariants as reply
-use Rattle.call_steps.specs.State.{State, opened}
+use Rattle.call_steps.specs.State.{opened}
 use Rattle.engine_world.specs.Doings.{doing_in}
 use Rattle.engine_world.specs.Laws.{Leads}
 use Rattle.engine_world.specs.Stands.{Engine, Stands}
-use Rattle.engine_world.specs.Steps.{GoesOn, MayGo, Made}
-use Rattle.engine_world.specs.Whole.{nothing_around, Reached, ReachesOn, StepsReach}
-use Rattle.engine_world.specs.Worlds.{World, Doing, Resting, doing_of}
+use Rattle.engine_world.specs.Steps.{MayGo}
+use Rattle.engine_world.specs.Worlds.{World, Resting, doing_of}
 use Rattle.engine.specs.declared.step.Actor.TheVariants as actor
 use Rattle.engine.specs.Events.{HasWorld}
 use Rattle.engine.specs.Runs.{StepsMore, StepsOut}

@@ -1,21 +1,19 @@
 -- A step of a call answers it, or leaves fewer steps.
-use Rattle.std.proofs.Common.{◌≡◌, ◌⊎◌, ◌<◌, ℕ, refl, ap, sym, ◌∙◌, List, [], inl, inr, subst}
+use Rattle.std.proofs.Common.{◌≡◌, ◌⊎◌, ◌<◌, ℕ, refl, ap, sym, ◌∙◌, List, inl, inr, subst}
 use Rattle.std.specs.Prelude.{Option, Some, None}
 use Rattle.failure.specs.declared.Fault.{Fault}
 use Rattle.wt_code.specs.declared.answers.Answer.{Answer}
 use Rattle.wt_code.specs.declared.answers.Answer.TheVariants as answers
-use Rattle.wt_code.specs.declared.refusals.Refusal.{Refusal}
 use Rattle.wt_code.specs.declared.refusals.Refusal.TheVariants as refusal
 use Rattle.wt_code.specs.declared.refusals.Invalid.TheVariants.{NoCall}
 use Rattle.item.specs.declared.Change.TheVariants.{Put as PutOf, Remove as RemoveOf}
 use Rattle.kv_model.specs.Machine.{Machine, Transaction, transaction_of, Event, EndTransaction, Nothing, after}
-use Rattle.kv_model.specs.Decisions.{Outcome, Done, Gives, GivesRow, Left, End, Resumes, Refused, Request, BeginCall, PrepareCall, CommitCall, RollbackCall, FindKey, FindToWrite, FindRow, decision}
+use Rattle.kv_model.specs.Decisions.{Outcome, Done, Gives, GivesRow, Left, End, Resumes, Refused, BeginCall, PrepareCall, CommitCall, RollbackCall, FindKey, FindToWrite, FindRow, decision}
 use Rattle.kv_model.specs.Rows.{reset_decision}
 use Rattle.kv_model.specs.Calls.{Call, Begin, GetKey, PutKey, RemoveKey, SeekKey, NextRow, Reset, Prepare, Commit, Rollback, Create, Set, CkptStart, CkptStep, CkptFinish, Evict, Rts, Close}
-use Rattle.call_steps.specs.declared.reply.Reply.{Reply}
 use Rattle.call_steps.specs.declared.reply.Reply.TheVariants as reply
 use Rattle.engine_world.specs.Worlds.{Doing, Resting, Asked, Placed, Decided, Ending}
-use Rattle.engine_world.specs.Steps.{Made, GoesTo, EndsWith, Finishes, JudgedBy, FoundBy, Finds, EndsIn, SettledBy, Settles, Judges, LooksOn, Looks, LooksShort, TellsFault, EndsUnless, GoesOn}
+use Rattle.engine_world.specs.Steps.{Made, GoesTo, EndsWith, Finishes, JudgedBy, FoundBy, EndsIn, SettledBy, Judges, LooksOn, TellsFault, EndsUnless, GoesOn}
 use Rattle.engine.specs.Whole.{left_of}
 
 -- the call is answered, or goes on with fewer steps left

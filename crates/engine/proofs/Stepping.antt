@@ -1,11 +1,11 @@
 -- What the next event of a session leaves, by the law of its stage.
-use Rattle.std.proofs.Common.{◌≡◌, ◌⊎◌, ◌<◌, ◌≤◌, ℕ, zero, suc, refl, ap, sym, ◌∙◌, Bool, true, false, List, [], ◌∷◌, length, inl, inr, subst, arith}
-use Rattle.std.specs.Prelude.{Option, Some, None, option_and_then, slice_get, slice_set}
-use Rattle.std.proofs.lemmas.Option.{slice_get_within, slice_get_past, slice_get-get_or}
+use Rattle.std.proofs.Common.{◌≡◌, ◌<◌, ◌≤◌, ℕ, zero, suc, refl, sym, List, [], ◌∷◌, length, inl, inr, subst, arith}
+use Rattle.std.specs.Prelude.{Option, Some, None, option_and_then, slice_get}
+use Rattle.std.proofs.lemmas.Option.{slice_get_within}
 use Rattle.stamp.specs.declared.View.{View}
 use Rattle.kv_model.specs.Holds.{Member}
 use Rattle.kv_model.specs.History.{Table}
-use Rattle.kv_model.specs.Machine.{Machine, Transaction, transaction_of, of_some}
+use Rattle.kv_model.specs.Machine.{Transaction, of_some}
 use Rattle.kv_model.specs.Allowed.{HasTransaction}
 use Rattle.txn_table.specs.declared.phase.Phase.TheVariants as phase
 use Rattle.txn_table.specs.SessionData.{MayBe}
@@ -13,7 +13,6 @@ use Rattle.txn_table.specs.Stands.{SessionStands as TableSessionStands}
 use Rattle.txn_table.specs.Tabled.{phase_of, session_of}
 use Rattle.call_steps.specs.declared.frame.Frame.{Frame}
 use Rattle.call_steps.specs.declared.frame.FramePiece.{FramePiece}
-use Rattle.call_steps.specs.declared.next.Next.{Next}
 use Rattle.call_steps.specs.declared.next.Next.TheVariants as next
 use Rattle.call_steps.specs.declared.reply.Reply.TheVariants as reply
 use Rattle.call_steps.specs.declared.stage.KeyCall.{KeyCall}
@@ -31,7 +30,7 @@ use Rattle.engine_world.specs.Worlds.{World}
 use Rattle.engine_world.specs.Laws.{Leads, IsViewOf, with_hub, with_piece, with_hazard, with_session, BeginsGo, FindsGo, HistoriesGo, ReleasesGo, DecidesGo, ResolvesGo, EndsGo, ReadsGo, WritesGo, RowsGo, MarksGo, OrdersGo, StampsGo, UndosGo, PublishesGo, ClearsGo, ResetsGo, UnpinsGo, IsBegin, IsFind, IsHistory, IsRelease, IsDecide, IsResolve, IsDone, ReadsKey, WritesKey, StepsOn, IsLook, IsMark, IsOrder, IsStamp, IsUndo, IsPublish, IsClearing, IsReset, IsUnpin}
 use Rattle.engine_world.specs.Leaves.{frame_in}
 use Rattle.engine_world.specs.Stages.{IsLeft, IsLeafOf, StageStands}
-use Rattle.engine_world.specs.Stands.{Engine, Stands, SessionStands}
+use Rattle.engine_world.specs.Stands.{Engine, Stands}
 
 -- ---- the hub
 

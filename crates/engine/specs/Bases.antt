@@ -1,15 +1,12 @@
 -- On what an engine begins.
-use Rattle.std.specs.Prelude.{◌≡◌, ◌+◌, ◌^◌, ◌<◌, ◌≤◌, ℕ, List, [], length, map}
-use Rattle.limits.specs.declared.TheConstants.{TABLES_MAX}
-use Rattle.kv_model.specs.Content.{Content, base, descending, start, table_lt}
+use Rattle.std.specs.Prelude.{◌≡◌, ◌+◌, ℕ, List, map}
+use Rattle.kv_model.specs.Content.{Content, base, descending, table_lt}
 use Rattle.kv_model.specs.History.{Table, line}
 use Rattle.update_chain.specs.Updates.{unmarked_update}
 use Rattle.leaf_chains.specs.declared.slot.KeyChain.{KeyChain}
 use Rattle.leaf_chains.specs.Slots.{chain_at}
 use Rattle.catalog.specs.Known.{Known}
-use Rattle.engine_world.specs.Stands.{Engine}
-use Rattle.engine_world.specs.Worlds.{World}
-use Rattle.std.specs.Prelude.{Option, None, Some, reverse, slice_get}
+use Rattle.std.specs.Prelude.{Some, reverse, slice_get}
 
 -- the versions that a content keeps are in the leaf of the table at each place
 abbrev pub LeavesKeep : Content → List Table → List (List KeyChain) → Type 0

@@ -1,4 +1,4 @@
-use Rattle.std.proofs.Common.{ap, sym, subst}
+use Rattle.std.proofs.Common.{sym, subst}
 use Rattle.engine_world.specs.Stands.{Engine, Stands}
 use Rattle.engine.specs.declared.step.Step.TheVariants.{Go}
 use Rattle.engine.specs.Runs.{MayStep}

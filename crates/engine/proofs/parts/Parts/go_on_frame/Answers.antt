@@ -1,11 +1,11 @@
-use Rattle.std.proofs.Common.{◌≡◌, ◌<◌, ℕ, refl, ap, sym, ◌∙◌, length, subst}
+use Rattle.std.proofs.Common.{◌≡◌, ◌<◌, refl, ap, sym, ◌∙◌, length, subst}
 use Rattle.std.specs.Prelude.{Some, slice_get}
 use Rattle.call_steps.specs.State.{State}
 use Rattle.call_steps.specs.declared.next.Next.TheVariants as next
 use Rattle.call_steps.specs.Words.{next_of}
 use Rattle.engine_world.specs.Stands.{Engine, Stands}
 use Rattle.std.proofs.Common.{get_or, arith}
-use Rattle.std.specs.Prelude.{List, ◌≤◌, IsNone}
+use Rattle.std.specs.Prelude.{List, IsNone}
 use Rattle.std.proofs.lemmas.List.{with_items_is}
 use Rattle.std.proofs.lemmas.Option.{slice_get-get_or}
 use Rattle.std.specs.Vec.{with_items}

@@ -1,6 +1,5 @@
-use Rattle.std.proofs.Common.{◌≡◌, ◌<◌, ℕ, refl, ap, sym, ◌∙◌, length, subst}
+use Rattle.std.proofs.Common.{◌≡◌, ◌<◌, refl, ap, sym, ◌∙◌, length, subst}
 use Rattle.std.specs.Prelude.{Some, slice_get}
-use Rattle.call_steps.specs.State.{State}
 use Rattle.call_steps.specs.declared.next.Next.TheVariants as next
 use Rattle.call_steps.specs.Words.{next_of}
 use Rattle.engine_world.specs.Stands.{Engine, Stands}
