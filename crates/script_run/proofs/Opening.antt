@@ -1,10 +1,17 @@
 -- Sessions that are opened one after the other.
 use Rattle.std.proofs.Common.{◌≡◌, ◌∙◌, ◌++◌, ◌+◌, ◌-◌, ◌≤◌, ◌<◌, ℕ, zero, suc, List, [], ◌∷◌, length, refl, sym, subst, length-append, arith}
+use Rattle.std.specs.Prelude.{◌⊎◌, Err}
+use Rattle.std.proofs.Common.{inl, inr}
+use Rattle.limits.specs.declared.TheConstants.{SESSIONS_MAX}
+use Rattle.wt_code.specs.declared.refusals.Refusal.{Refusal}
+use Rattle.wt_code.specs.declared.refusals.Refusal.TheVariants.{NoMemory, Limit}
+use Rattle.wt_code.specs.declared.refusals.Limit.TheVariants.{Sessions}
 use Rattle.engine_world.specs.Stands.{Engine, Stands}
 use Rattle.engine_world.specs.Worlds.{World, Resting}
 use Rattle.engine.specs.Whole.{with_session_more}
 use Rattle.engine.specs.declared.step.Actor.TheVariants as by
-use Rattle.script_run.specs.Scripts.{missing, opened_more}
+use Rattle.script_run.specs.Scripts.{NoSession, missing, opened_more}
+use Rattle.script_run.specs.Runs.{OpensAs}
 
 pub opened-last : (n : ℕ) (w : World) → opened_more (suc n) w ≡ with_session_more (opened_more n w)
 opened-last zero w = refl
@@ -42,3 +49,14 @@ all-opened session w e h there =
     let size = sessions-are session w e h in
     let count : h.count ≡ missing (by.Session session) w = omega (arith, size, there, h.within) in
     subst (λ (n : ℕ). Stands e (opened_more n w)) count h.stands
+
+-- no more could be opened
+pub no-more : (session : ℕ) (w : World) (e e' : Engine) (r : Refusal) (h : HasOpened session w e) → length e.sessions ≤ session → (r ≡ NoMemory) ⊎ ((r ≡ Limit Sessions) × (SESSIONS_MAX ≤ length e.sessions)) → e' ≡ e
+    → OpensAs (by.Session session) w (Err r) e'
+no-more session w e e' r h less why same =
+    let size = sessions-are session w e h in
+    (h.count, omega (arith, size, less), because why, subst (λ (x : Engine). Stands x (opened_more h.count w)) (sym same) h.stands)
+  where
+    because : (r ≡ NoMemory) ⊎ ((r ≡ Limit Sessions) × (SESSIONS_MAX ≤ length e.sessions)) → NoSession r (opened_more h.count w)
+    because (inl is) = inl is
+    because (inr (is, many)) = inr (is, subst (λ (n : ℕ). SESSIONS_MAX ≤ n) (sym h.stands.doings) many)

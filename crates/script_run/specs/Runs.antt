@@ -2,6 +2,8 @@
 use Rattle.std.specs.Prelude.{◌≡◌, ◌⊎◌, ◌<◌, ◌∷◌, ◌++◌, [], ℕ, List, Bool, Option, None, Some, Result, Ok, Err, IsTrue, length}
 use Rattle.item.specs.declared.formats.Formats.{Formats}
 use Rattle.wt_code.specs.declared.refusals.Refusal.{Refusal}
+use Rattle.wt_code.specs.declared.refusals.Refusal.TheVariants.{NoMemory}
+use Rattle.wt_calls.specs.declared.call.Call.{Call}
 use Rattle.wt_io.specs.Streams.{AtEnd, Gave, Took}
 use Rattle.script_text.specs.declared.line.Line.{Line}
 use Rattle.script_text.specs.declared.line.Line.TheVariants.{Whole, Start, Step, Finish, Control}
@@ -16,7 +18,7 @@ use Rattle.script_run.specs.declared.one_line.Told.{Told}
 use Rattle.script_run.specs.declared.script.ScriptEnd.{ScriptEnd}
 use Rattle.script_run.specs.declared.script.ScriptEnd.TheVariants.{Through}
 use Rattle.script_run.specs.Lines.{AreLines}
-use Rattle.script_run.specs.Scripts.{Ran, Replies, RunsLines, Script, Streams, IsLater, NoSession, actor_in, caller, fresh, missing, opened_more}
+use Rattle.script_run.specs.Scripts.{Answers, Begins, Ends, Goes, Ran, Refuses, Replies, RunsLines, Script, Streams, IsLater, NoSession, actor_in, caller, fresh, missing, opened_more}
 
 -- one of the four actors of the system, or any session
 abbrev pub IsKnown : Actor → Type 0
@@ -37,7 +39,7 @@ IsThere (by.System number) e = number < 4
 
 -- sessions were opened up to the actor's, or as many as could be
 abbrev pub OpensAs : Actor → World → Result (Unit {0}) Refusal → Engine → Type 0
-OpensAs who w (Ok u) e = Stands e (opened_more (missing who w) w) × IsThere who e
+OpensAs who w (Ok u) e = Stands e (opened_more (missing who w) w)
 OpensAs who w (Err r) e = (n : ℕ) × (n < missing who w) × NoSession r (opened_more n w) × Stands e (opened_more n w)
 
 -- a reply was told so, and the engine is left as the line leaves it
@@ -46,6 +48,19 @@ pub record IsReplied (asked : Line) (s : Script) (told : Told) (e : Engine) (kep
   pub replies : Replies asked s told.formats told.reply later
   pub stands : Stands e later.world
   pub kept_is : kept ≡ later.formats
+
+-- where the actor is there: the call was made, started, stepped or finished, and told so
+abbrev pub IsAnswered : Call → Script → World → Told → Engine → Type 0
+IsAnswered made s w told e = (later : Script) × (Answers made s told.formats told.reply later w ⊎ Refuses NoMemory s w told.reply later) × Stands e later.world × (later.formats ≡ s.formats)
+
+abbrev pub IsBegun : Call → Script → World → Told → Engine → List Formats → Type 0
+IsBegun made s w told e kept = (later : Script) × (Begins made s told.formats told.reply later w ⊎ Refuses NoMemory s w told.reply later) × Stands e later.world × (kept ≡ later.formats)
+
+abbrev pub IsGone : Actor → Script → World → Told → Engine → Type 0
+IsGone who s w told e = (later : Script) × Goes who s told.formats told.reply later w × Stands e later.world × (later.formats ≡ s.formats)
+
+abbrev pub IsEnded : Actor → Script → World → Told → Engine → Type 0
+IsEnded who s w told e = (later : Script) × Ends who s told.formats told.reply later w × Stands e later.world × (later.formats ≡ s.formats)
 
 -- a line was run, and told so
 pub record IsLineRun (text : List ℕ) (s : Script) (e : Engine) (kept : List Formats) (asked : Line) (formats : Formats) (reply : Reply) : Type 0 where

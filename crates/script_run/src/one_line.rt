@@ -7,8 +7,8 @@ ghost use Rattle.script_text.specs.declared.replies.Reply.TheVariants.{Answered}
 ghost use Rattle.engine_world.specs.Stands.{Stands};
 ghost use Rattle.engine_world.specs.Worlds.{World};
 ghost use Rattle.engine.specs.Runs.{IsBuilt};
-ghost use Rattle.script_run.specs.Runs.{IsKnown, IsOfKnown, IsReplied, LineMade, LineStops, OpensAs};
-ghost use Rattle.script_run.specs.Scripts.{IsLater, IsLaterCall, actor_in, caller, formats_in, in_script, kept_formats, kept_more};
+ghost use Rattle.script_run.specs.Runs.{IsAnswered, IsBegun, IsEnded, IsGone, IsKnown, IsOfKnown, IsReplied, IsThere, LineMade, LineStops, OpensAs};
+ghost use Rattle.script_run.specs.Scripts.{Script, IsLater, IsLaterCall, actor_in, caller, formats_in, in_script, kept_after, kept_formats, kept_more};
 
 use engine::{Actor, Local, Step};
 use failure::NoMemory;
@@ -51,8 +51,12 @@ pub(crate) fn run_line(
         return Ok(None);
     }
     let told = reply_to(alloc, local, formats, line);
-    let mut printed = line_of_answer(alloc, &told.reply, told.formats)?;
-    printed.extend_from_slice(b"\n")?;
+    let Ok(mut printed) = line_of_answer(alloc, &told.reply, told.formats) else {
+        return Err(NoMemory);
+    };
+    if printed.extend_from_slice(b"\n").is_err() {
+        return Err(NoMemory);
+    }
     Ok(Some(printed))
 }
 
@@ -131,7 +135,8 @@ fn actor_in(who: LineActor) -> Actor
 // Opens a session that is used, with all below it.
 fn open(alloc: Global, local: &mut Local, who: Actor) -> Result<(), Refusal>
     requires { IsKnown who }
-    ensures { (w : World) → Stands local.old w → OpensAs who w result local.new }
+    ensures opens { (w : World) → Stands local.old w → OpensAs who w result local.new }
+    ensures there { IfOk result (λ _. IsThere who local.new) }
 {
     match who {
         Actor::System(_) => Ok(()),
@@ -140,10 +145,14 @@ fn open(alloc: Global, local: &mut Local, who: Actor) -> Result<(), Refusal>
 }
 
 fn open_up_to(alloc: Global, local: &mut Local, session: u32) -> Result<(), Refusal>
-    ensures { (w : World) → Stands local.old w → OpensAs (Actor.Session session) w result local.new }
+    ensures opens { (w : World) → Stands local.old w → OpensAs (Actor.Session session) w result local.new }
+    ensures there { IfOk result (λ _. session < length local.new.sessions) }
 {
     'opening: while local.sessions() <= session {
-        local.open_session(alloc)?;
+        match local.open_session(alloc) {
+            Ok(_) => {}
+            Err(refusal) => return Err(refusal),
+        }
     }
     Ok(())
 }
@@ -190,9 +199,19 @@ fn whole(alloc: Global, local: &mut Local, call: Call) -> Told
     requires actor { IsKnown (caller call) }
     ensures { (w : World) → (kept : List KeptFormats) → Stands local.old w → IsReplied (WholeLine call) (record { world = w; formats = kept }) result local.new kept }
 {
-    if let Err(refusal) = open(alloc, local, caller(&call)) {
-        return refused(refusal);
+    match open(alloc, local, caller(&call)) {
+        Err(refusal) => refused(refusal),
+        Ok(()) => answer(alloc, local, call),
     }
+}
+
+// The whole call, of an actor that is there.
+fn answer(alloc: Global, local: &mut Local, call: Call) -> Told
+    requires built { IsLaterCall call → ⊥ }
+    requires there { IsThere (caller call) local.old }
+    ensures { (s : Script) → (w : World) → Stands local.old w → IsAnswered call s w result local.new }
+{
+    local.actors();
     let formats = formats_in(local, &call);
     match as_stored(alloc, call, formats) {
         Err(_) => refused(Refusal::NoMemory),
@@ -208,18 +227,26 @@ fn start(alloc: Global, local: &mut Local, kept: &mut [Formats], call: Call) -> 
     requires actor { IsKnown (caller call) }
     ensures { (w : World) → Stands local.old w → IsReplied (StartLine call) (record { world = w; formats = kept.old }) result local.new kept.new }
 {
-    let who = caller(&call);
-    if let Err(refusal) = open(alloc, local, who) {
-        return refused(refusal);
+    match open(alloc, local, caller(&call)) {
+        Err(refusal) => refused(refusal),
+        Ok(()) => begin(alloc, local, kept, call),
     }
+}
+
+// The start of a call, of an actor that is there.
+fn begin(alloc: Global, local: &mut Local, kept: &mut [Formats], call: Call) -> Told
+    requires built { IsLaterCall call → ⊥ }
+    requires there { IsThere (caller call) local.old }
+    ensures { (s : Script) → (w : World) → s.formats ≡ kept.old → Stands local.old w → IsBegun call s w result local.new kept.new }
+{
+    local.actors();
+    let who = caller(&call);
     let formats = formats_in(local, &call);
     match as_stored(alloc, call, formats) {
         Err(_) => refused(Refusal::NoMemory),
         Ok(call) => {
             let reply = local.step(alloc, Step::Start(call));
-            if let call_steps::Reply::Started = &reply {
-                keep_formats(kept, who, formats);
-            }
+            keep_after(&reply, kept, who, formats);
             Told {
                 reply: in_script(reply),
                 formats,
@@ -228,14 +255,34 @@ fn start(alloc: Global, local: &mut Local, kept: &mut [Formats], call: Call) -> 
     }
 }
 
+// The formats of a call that has started are kept.
+fn keep_after(reply: &call_steps::Reply, kept: &mut [Formats], who: Actor, those: Formats)
+    ensures { kept.new ≡ kept_after reply.now who those kept.old }
+{
+    match reply {
+        call_steps::Reply::Started => keep_formats(kept, who, those),
+        call_steps::Reply::More => {}
+        call_steps::Reply::Answer(_) => {}
+    }
+}
+
 fn step(alloc: Global, local: &mut Local, kept: &[Formats], who: LineActor) -> Told
     requires actor { IsKnown (actor_in who) }
     ensures { (w : World) → Stands local.old w → IsReplied (StepLine who) (record { world = w; formats = kept.now }) result local.new kept.now }
 {
-    let who = actor_in(who);
-    if let Err(refusal) = open(alloc, local, who) {
-        return refused(refusal);
+    let actor = actor_in(who);
+    match open(alloc, local, actor) {
+        Err(refusal) => refused(refusal),
+        Ok(()) => go(alloc, local, kept, actor),
     }
+}
+
+// A step of an actor that is there.
+fn go(alloc: Global, local: &mut Local, kept: &[Formats], who: Actor) -> Told
+    requires { IsThere who local.old }
+    ensures { (s : Script) → (w : World) → s.formats ≡ kept.now → Stands local.old w → IsGone who s w result local.new }
+{
+    local.actors();
     let formats = formats_of(kept, who);
     Told {
         reply: in_script(local.step(alloc, Step::Go(who))),
@@ -247,10 +294,19 @@ fn finish(alloc: Global, local: &mut Local, kept: &[Formats], who: LineActor) ->
     requires actor { IsKnown (actor_in who) }
     ensures { (w : World) → Stands local.old w → IsReplied (FinishLine who) (record { world = w; formats = kept.now }) result local.new kept.now }
 {
-    let who = actor_in(who);
-    if let Err(refusal) = open(alloc, local, who) {
-        return refused(refusal);
+    let actor = actor_in(who);
+    match open(alloc, local, actor) {
+        Err(refusal) => refused(refusal),
+        Ok(()) => end(alloc, local, kept, actor),
     }
+}
+
+// The steps that are left, of an actor that is there.
+fn end(alloc: Global, local: &mut Local, kept: &[Formats], who: Actor) -> Told
+    requires { IsThere who local.old }
+    ensures { (s : Script) → (w : World) → s.formats ≡ kept.now → Stands local.old w → IsEnded who s w result local.new }
+{
+    local.actors();
     let formats = formats_of(kept, who);
     Told {
         reply: Reply::Answered(local.finish(alloc, who)),
