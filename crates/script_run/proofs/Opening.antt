@@ -1,5 +1,5 @@
 -- Sessions that are opened one after the other.
-use Rattle.std.proofs.Common.{◌≡◌, ◌∙◌, ◌++◌, ◌+◌, ◌-◌, ◌≤◌, ◌<◌, ℕ, zero, suc, List, [], ◌∷◌, length, refl, sym, subst, length-append, arith}
+use Rattle.std.proofs.Common.{◌≡◌, ◌∙◌, ◌+◌, ◌≤◌, ◌<◌, ℕ, zero, suc, [], ◌∷◌, length, refl, sym, subst, length-append, arith}
 use Rattle.std.specs.Prelude.{◌⊎◌, Err}
 use Rattle.std.proofs.Common.{inl, inr}
 use Rattle.limits.specs.declared.TheConstants.{SESSIONS_MAX}

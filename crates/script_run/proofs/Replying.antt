@@ -1,5 +1,5 @@
 -- What an actor that is there is given, and one that could not be opened.
-use Rattle.std.proofs.Common.{◌≡◌, ◌<◌, ℕ, zero, suc, arith, List, length, refl, sym, subst, inl, inr}
+use Rattle.std.proofs.Common.{◌≡◌, ◌<◌, ℕ, zero, suc, arith, List, length, refl, sym, subst, inr}
 use Rattle.std.specs.Prelude.{Err}
 use Rattle.item.specs.declared.formats.Formats.{Formats}
 use Rattle.wt_code.specs.declared.answers.Answer.TheVariants.{Refused}

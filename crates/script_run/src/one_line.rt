@@ -4,6 +4,7 @@ ghost use Rattle.item.specs.declared.formats.Formats.{Formats as KeptFormats};
 ghost use Rattle.wt_code.specs.declared.answers.Answer.TheVariants.{Refused};
 ghost use Rattle.script_text.specs.declared.line.Line.TheVariants.{Whole as WholeLine, Start as StartLine, Step as StepLine, Finish as FinishLine};
 ghost use Rattle.script_text.specs.declared.replies.Reply.TheVariants.{Answered};
+ghost use Rattle.script_text.specs.Replies.{line_of_reply};
 ghost use Rattle.engine_world.specs.Stands.{Stands};
 ghost use Rattle.engine_world.specs.Worlds.{World};
 ghost use Rattle.engine.specs.Runs.{IsBuilt};
@@ -51,13 +52,19 @@ pub(crate) fn run_line(
         return Ok(None);
     }
     let told = reply_to(alloc, local, formats, line);
-    let Ok(mut printed) = line_of_answer(alloc, &told.reply, told.formats) else {
-        return Err(NoMemory);
-    };
-    if printed.extend_from_slice(b"\n").is_err() {
-        return Err(NoMemory);
+    match printed(alloc, &told) {
+        Err(_) => Err(NoMemory),
+        Ok(line) => Ok(Some(line)),
     }
-    Ok(Some(printed))
+}
+
+// The line that tells a reply, with its newline.
+fn printed(alloc: Global, told: &Told) -> Result<Vec<u8>, NoMemory>
+    ensures { IfOk result (λ line. line.items ≡ line_of_reply told.now.formats told.now.reply ++ 10 ∷ []) }
+{
+    let mut line = line_of_answer(alloc, &told.reply, told.formats)?;
+    line.extend_from_slice(b"\n")?;
+    Ok(line)
 }
 
 fn is_built(call: &SystemCall) -> bool

@@ -1,4 +1,4 @@
-use Rattle.std.proofs.Common.{◌≡◌, length, refl, subst, sym, inl, inr}
+use Rattle.std.proofs.Common.{refl, subst, sym, inl, inr}
 use Rattle.wt_calls.specs.declared.call.Call.{Call}
 use Rattle.engine.specs.Runs.{CallFits}
 use Rattle.engine.specs.Whole.{MayAnswer}

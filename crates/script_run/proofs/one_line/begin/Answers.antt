@@ -1,4 +1,4 @@
-use Rattle.std.proofs.Common.{◌≡◌, ◌∙◌, List, length, refl, ap, subst, sym, inl, inr}
+use Rattle.std.proofs.Common.{◌∙◌, List, refl, ap, subst, sym, inl, inr}
 use Rattle.item.specs.declared.formats.Formats.{Formats}
 use Rattle.wt_calls.specs.declared.call.Call.{Call}
 use Rattle.engine.specs.declared.step.Actor.{Actor}

@@ -1,4 +1,4 @@
-use Rattle.std.proofs.Common.{◌≡◌, ◌∙◌, refl, ap, sym}
+use Rattle.std.proofs.Common.{◌∙◌, refl, ap, sym}
 use Rattle.script_run.specs.Scripts.{kept_formats}
 use Rattle.script_run.proofs.Replying.{actor-fits}
 use Rattle.script_run.proofs.one_line.go.Goals as goal

@@ -1,6 +1,6 @@
-use Rattle.std.proofs.Common.{◌≡◌, ◌≤◌, ◌<◌, length, arith}
+use Rattle.std.proofs.Common.{arith}
 use Rattle.script_run.specs.Scripts.{opened_more}
-use Rattle.script_run.proofs.Opening.{none-opened, one-opened, all-opened, no-more}
+use Rattle.script_run.proofs.Opening.{one-opened, all-opened, no-more}
 use Rattle.script_run.proofs.one_line.open_up_to.Goals as goal
 
 pub opening-preserved : goal.opening-preserved

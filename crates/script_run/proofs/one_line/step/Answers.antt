@@ -1,12 +1,8 @@
-use Rattle.std.proofs.Common.{◌≡◌, List, refl, subst, sym, inl}
-use Rattle.std.specs.Prelude.{◌⊎◌, Err}
-use Rattle.item.specs.declared.formats.Formats.{Formats}
-use Rattle.wt_code.specs.declared.refusals.Refusal.TheVariants.{NoMemory}
-use Rattle.engine_world.specs.Stands.{Stands}
-use Rattle.engine_world.specs.Worlds.{World}
+use Rattle.std.proofs.Common.{refl, subst, sym, inl}
+use Rattle.std.specs.Prelude.{Err}
 use Rattle.engine.specs.declared.step.Actor.{Actor}
 use Rattle.script_run.specs.Runs.{OpensAs}
-use Rattle.script_run.specs.Scripts.{Answers, Begins, Ends, Goes, Opens, Refuses, Script, actor_in, caller, missing, opened_more}
+use Rattle.script_run.specs.Scripts.{Goes, Opens, Refuses, Script, actor_in, missing, opened_more}
 use Rattle.script_run.proofs.Replying.{turned-away}
 use Rattle.script_run.proofs.one_line.step.Goals as goal
 
