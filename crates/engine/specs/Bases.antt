@@ -18,8 +18,8 @@ LeavesKeep c tables leaves = (place : ℕ) (t : Table) → slice_get tables plac
 
 -- what is handed to an engine is this content
 pub record IsBaseOf (c : Content) (run oldest stable : ℕ) (known : Known) (leaves : List (List KeyChain)) : Type 0 where
-  pub run : run ≡ c.run + 1
-  pub oldest : oldest ≡ c.oldest
-  pub stable : stable ≡ c.stable
-  pub tables : reverse known.tables ≡ descending table_lt c.tables
-  pub leaves : LeavesKeep c known.tables leaves
+  pub run_is : run ≡ c.run + 1
+  pub oldest_is : oldest ≡ c.oldest
+  pub stable_is : stable ≡ c.stable
+  pub tables_are : reverse known.tables ≡ descending table_lt c.tables
+  pub leaves_are : LeavesKeep c known.tables leaves

@@ -3,3 +3,5 @@ pub mod Events
 pub mod Whole
 pub mod Sound
 pub mod Bases
+pub mod Systems
+pub mod Openings

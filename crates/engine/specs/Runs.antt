@@ -1,5 +1,5 @@
 -- Steps of actors, one after the other.
-use Rattle.std.specs.Prelude.{◌≡◌, ◌<◌, ℕ, List, [], ◌∷◌, length, Option, Some, None, slice_index_or, slice_set}
+use Rattle.std.specs.Prelude.{◌≡◌, ◌<◌, ℕ, zero, suc, List, [], ◌∷◌, length, Option, Some, None, slice_index_or, slice_set}
 use Rattle.wt_code.specs.declared.answers.Answer.{Answer}
 use Rattle.wt_code.specs.declared.answers.Answer.TheVariants as answers
 use Rattle.wt_code.specs.declared.refusals.Refusal.TheVariants as refusal
@@ -17,6 +17,7 @@ use Rattle.engine_world.specs.Worlds.{World}
 use Rattle.engine_world.specs.Steps.{MayBegin, MayGo}
 use Rattle.engine_world.specs.Whole.{nothing_around}
 use Rattle.engine_world.specs.Stands.{Engine}
+use Rattle.engine.specs.declared.step.Actor.{Actor}
 use Rattle.engine.specs.declared.step.Actor.TheVariants as actor
 use Rattle.engine.specs.declared.step.Step.{Step}
 use Rattle.engine.specs.declared.step.Step.TheVariants.{Start, Go}
@@ -50,6 +51,16 @@ abbrev pub MayRun : World → List Step → List Reply → World → Type 0
 MayRun w [] [] later = later ≡ w
 MayRun w (step ∷ steps) (told ∷ replies) later = (middle : World) × MayStep w step told middle × MayRun middle steps replies later
 MayRun w _ _ later = ⊥
+
+-- steps of an actor up to its answer, so many before it
+abbrev pub StepsOut : ℕ → World → Actor → Answer (List ℕ) → World → Type 0
+StepsOut zero w who answer later = MayStep w (Go who) (reply.Answer answer) later
+StepsOut (suc n) w who answer later = (middle : World) × MayStep w (Go who) reply.More middle × StepsOut n middle who answer later
+
+-- steps of an actor after which its call goes on
+abbrev pub StepsMore : ℕ → World → Actor → World → Type 0
+StepsMore zero w who later = later ≡ w
+StepsMore (suc n) w who later = (middle : World) × MayStep w (Go who) reply.More middle × StepsMore n middle who later
 
 -- a call of the system that the engine has
 abbrev pub IsBuilt : SystemCall → Type 0

@@ -18,3 +18,10 @@ pub record IsSound (e : Engine) : Type 0 where
   pub pieces : length e.pieces ≡ TABLES_MAX
   pub states : length e.states ≡ TABLES_MAX
   pub numbers : e.hub.tables.next + TABLES_MAX < 2 ^ 32 + length e.hub.tables.tables
+
+-- what no step of a session changes
+pub record Keeps (old new : Engine) : Type 0 where
+  pub systems : new.systems ≡ old.systems
+  pub pieces : length new.pieces ≡ length old.pieces
+  pub states : new.states ≡ old.states
+  pub tables : new.hub.tables ≡ old.hub.tables

@@ -1,7 +1,7 @@
 -- Whole calls of a session: its steps, with nobody between.
-use Rattle.std.specs.Prelude.{◌≡◌, ℕ, List, [], ◌∷◌, ◌++◌, Option, None, Some, slice_index_or, slice_set}
+use Rattle.std.specs.Prelude.{◌≡◌, ℕ, List, [], ◌∷◌, ◌++◌, Option, None, Some, slice_get, slice_index_or, slice_set}
 use Rattle.wt_code.specs.declared.answers.Answer.{Answer}
-use Rattle.kv_model.specs.Machine.{Machine, OpenSession, after}
+use Rattle.kv_model.specs.Machine.{Machine, OpenSession, after, of_some}
 use Rattle.kv_model.specs.Calls.{Call, SessionAnswers, SystemAnswers}
 use Rattle.wt_calls.specs.declared.call.Call.{Call as AnyCall}
 use Rattle.wt_calls.specs.declared.call.Call.TheVariants as call
@@ -10,29 +10,33 @@ use Rattle.wt_code.specs.declared.answers.Answer.TheVariants as answers
 use Rattle.wt_code.specs.declared.refusals.Refusal.TheVariants as refusal
 use Rattle.wt_code.specs.declared.refusals.Invalid.TheVariants.{InCall}
 use Rattle.engine_world.specs.Stands.{Engine, Stands}
-use Rattle.engine_world.specs.Whole.{nothing_around, Reached}
-use Rattle.engine_world.specs.Worlds.{World, Doing, Resting, doing_of}
+use Rattle.engine_world.specs.Doings.{doing_in}
+use Rattle.engine_world.specs.Whole.{nothing_around}
+use Rattle.engine.specs.declared.step.Actor.{Actor}
+use Rattle.engine.specs.Runs.{StepsOut}
+use Rattle.engine_world.specs.Worlds.{World, Doing, Resting, Asked, Placed, Decided, Ending, doing_of}
 
 -- the world with one session as it is now, and the machine
 abbrev pub moved : World → ℕ → Machine → Doing → World
 moved w session m doing = record w { machine = m; sessions = slice_set w.sessions session doing }
 
--- the engine stands where a call has come to that began on the first machine
-pub record IsUnderway (e : Engine) (w : World) (from : Machine) (session : ℕ) (asked : Call) : Type 0 where
-  pub now : World
-  pub stands : Stands e now
-  pub reached : Reached from session asked (doing_of now session) now.machine
-  pub moved_to : now ≡ moved w session now.machine (doing_of now session)
+-- the steps that were left of an actor's call, with its answer
+pub record Ends (new : Engine) (w : World) (who : Actor) (answer : Answer (List ℕ)) : Type 0 where
+  pub steps : ℕ
+  pub last : World
+  pub out : StepsOut steps w who answer last
+  pub stands : Stands new last
 
--- each call that has come so far goes on to be under way
-abbrev pub KeepsOn : Engine → Engine → ℕ → Type 0
-KeepsOn old new session = (w : World) (from : Machine) (asked : Call) → Stands old w → Reached from session asked (doing_of w session) w.machine → IsUnderway new w from session asked
+-- how many steps a call has left at most
+abbrev pub left_of : Doing → ℕ
+left_of Resting = 0
+left_of (Asked made left) = left
+left_of (Placed made table left) = left
+left_of (Decided answer event left) = left
+left_of (Ending answer left) = left
 
--- the answer to a call that has come so far, with the session at rest again
-pub record Finishes (new : Engine) (w : World) (from : Machine) (session : ℕ) (asked : Call) (answer : Answer (List ℕ)) : Type 0 where
-  pub machine : Machine
-  pub answers : SessionAnswers nothing_around from session asked answer machine
-  pub stands : Stands new (moved w session machine Resting)
+abbrev pub left_at : Engine → ℕ → ℕ
+left_at e session = of_some 0 (λ a. left_of (doing_in session a)) (slice_get e.sessions session)
 
 -- a whole call: refused where the session has one that is not finished
 abbrev pub CallsIn : Doing → World → ℕ → Call → Answer (List ℕ) → World → Type 0

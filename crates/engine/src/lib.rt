@@ -8,7 +8,9 @@
 //! those who open and close it.
 #![tactic(auto)]
 
+mod opening;
 mod parts;
 mod step;
+mod system;
 
 pub use step::{Actor, Step};

@@ -13,13 +13,11 @@ ghost use Rattle.engine_world.specs.Laws.{Leads, with_hub, with_hazard, with_ses
 ghost use Rattle.engine_world.specs.Stands.{Stands};
 ghost use Rattle.engine_world.specs.Steps.{MayBegin};
 ghost use Rattle.engine_world.specs.Worlds.{World};
-ghost use Rattle.kv_model.specs.Machine.{Machine};
-ghost use Rattle.kv_model.specs.Calls.{Call};
-ghost use Rattle.engine_world.specs.Whole.{Reached};
-ghost use Rattle.engine_world.specs.Worlds.{doing_of};
 ghost use Rattle.engine.specs.Events.{HasWorld, IsFrameEvent};
-ghost use Rattle.engine.specs.Whole.{Finishes};
+ghost use Rattle.engine.specs.Sound.{Keeps};
+ghost use Rattle.engine.specs.Whole.{Ends, MayCall};
 
+use crate::step::Actor;
 use call_steps::{FramePiece, Hub, Next, Reply, SessionState, frame_event, hub_event};
 use engine_world::{
     begins_go, clears_go, decides_go, ends_go, finds_go, histories_go, loads_go, marks_go,
@@ -59,7 +57,8 @@ impl Parts {
     /// A call of a session begins.
     pub(crate) fn start(&mut self, alloc: Global, session: u32, call: SessionCall) -> Reply
         requires { session < length self.old.sessions }
-        ensures { (w : World) → Stands self.old w → (later : World) × MayBegin w session (session_call_in call) result later × Stands self.new later }
+        ensures begun { (w : World) → Stands self.old w → (later : World) × MayBegin w session (session_call_in call) result later × Stands self.new later }
+        ensures kept { Keeps self.old self.new }
     {
         starts_go();
         self.sessions[session as usize].start(alloc, call)
@@ -69,7 +68,8 @@ impl Parts {
     pub(crate) fn go(&mut self, alloc: Global, session: u32) -> Reply
         requires open { session < length self.old.sessions }
         requires world { HasWorld self.old }
-        ensures { (w : World) → Stands self.old w → Leads self.new w session result }
+        ensures step { (w : World) → Stands self.old w → Leads self.new w session result }
+        ensures kept { Keeps self.old self.new }
     {
         match self.sessions[session as usize].next() {
             Next::Nothing => Reply::Answer(Answer::Refused(Refusal::Invalid(Invalid::NoCall))),
@@ -84,10 +84,9 @@ impl Parts {
     pub(crate) fn finish(&mut self, alloc: Global, session: u32) -> Answer<Item>
         requires open { session < length self.old.sessions }
         requires world { HasWorld self.old }
-        ensures answers { (w : World) (from : Machine) (call : Call) → Stands self.old w → Reached from session call (doing_of w session) w.machine → Finishes self.new w from session call result }
-        ensures world { HasWorld self.new }
+        ensures answer { (w : World) → Stands self.old w → Ends self.new w (Actor.Session session) result }
+        ensures kept { Keeps self.old self.new }
     {
-        steps_reach();
         loop {
             if let Reply::Answer(answer) = self.go(alloc, session) {
                 return answer;
@@ -95,11 +94,26 @@ impl Parts {
         }
     }
 
+    /// A whole call of a session.
+    pub(crate) fn call(&mut self, alloc: Global, session: u32, call: SessionCall) -> Answer<Item>
+        requires open { session < length self.old.sessions }
+        requires world { HasWorld self.old }
+        ensures answer { (w : World) → Stands self.old w → (later : World) × MayCall w session (session_call_in call) result later × Stands self.new later }
+        ensures kept { Keeps self.old self.new }
+    {
+        steps_reach();
+        match self.start(alloc, session, call) {
+            Reply::Answer(answer) => answer,
+            _ => self.finish(alloc, session),
+        }
+    }
+
     fn go_on_hub(&mut self, session: u32) -> Reply
         requires open { session < length self.old.sessions }
         requires world { HasWorld self.old }
         requires next { (a : State) → slice_get self.old.sessions session ≡ Some a → next_of a ≡ Next.Hub }
-        ensures { (w : World) → Stands self.old w → Leads self.new w session result }
+        ensures step { (w : World) → Stands self.old w → Leads self.new w session result }
+        ensures kept { Keeps self.old self.new }
     {
         begins_go();
         finds_go();
@@ -115,7 +129,8 @@ impl Parts {
         requires open { session < length self.old.sessions }
         requires world { HasWorld self.old }
         requires next { (a : State) → slice_get self.old.sessions session ≡ Some a → next_of a ≡ Next.Frame frame }
-        ensures { (w : World) → Stands self.old w → Leads self.new w session result }
+        ensures step { (w : World) → Stands self.old w → Leads self.new w session result }
+        ensures kept { Keeps self.old self.new }
     {
         if frame as usize >= self.pieces.len() {
             return Reply::More;
@@ -146,7 +161,8 @@ impl Parts {
     fn load(&mut self, session: u32, frame: u32) -> Reply
         requires open { session < length self.old.sessions }
         requires next { (a : State) → slice_get self.old.sessions session ≡ Some a → next_of a ≡ Next.Load frame }
-        ensures { (w : World) → Stands self.old w → Leads self.new w session result }
+        ensures step { (w : World) → Stands self.old w → Leads self.new w session result }
+        ensures kept { Keeps self.old self.new }
     {
         loads_go();
         let seen = word_at(self.states.as_slice(), frame);
@@ -157,7 +173,8 @@ impl Parts {
     fn store(&mut self, alloc: Global, session: u32, word: u32, value: u64) -> Reply
         requires open { session < length self.old.sessions }
         requires next { (a : State) → slice_get self.old.sessions session ≡ Some a → next_of a ≡ Next.Store word value }
-        ensures { (w : World) → Stands self.old w → Leads self.new w session result }
+        ensures step { (w : World) → Stands self.old w → Leads self.new w session result }
+        ensures kept { Keeps self.old self.new }
     {
         publishes_go();
         clears_go();

@@ -24,8 +24,8 @@ use Rattle.call_steps.specs.declared.stage.KeyCall.{KeyCall}
 use Rattle.call_steps.specs.declared.stage.KeyCall.TheVariants as key_call
 use Rattle.call_steps.specs.declared.stage.Stage.{Stage}
 use Rattle.call_steps.specs.Stages.{is_write}
-use Rattle.call_steps.specs.HubEvents.{item_checks, draws, finds}
-use Rattle.call_steps.specs.State.{State, at_stage, refuses}
+use Rattle.call_steps.specs.HubEvents.{item_checks, draws}
+use Rattle.call_steps.specs.State.{State, at_stage}
 use Rattle.call_steps.specs.Tables.{target_at, target_of}
 use Rattle.engine_world.specs.Worlds.{Resting, Placed}
 use Rattle.engine_world.specs.Doings.{call_in}

@@ -26,7 +26,7 @@ use Rattle.call_steps.specs.declared.stage.Stage.{Stage}
 use Rattle.call_steps.specs.declared.stage.Stage.TheVariants as stage
 use Rattle.call_steps.specs.declared.stage.Target.{Target}
 use Rattle.call_steps.specs.Stages.{is_write}
-use Rattle.call_steps.specs.HubEvents.{beside, with_txns, item_checks, draws, finds_drawn, finds_at, finds, find_made, refuses_as, hub_made_at}
+use Rattle.call_steps.specs.HubEvents.{beside, with_txns, item_checks, finds_drawn, finds_at, finds, find_made, refuses_as, hub_made_at}
 use Rattle.call_steps.specs.State.{State, at_stage, refuses}
 use Rattle.call_steps.specs.Tables.{target_at, target_of}
 use Rattle.call_steps.specs.Words.{unless_running}

@@ -1,7 +1,6 @@
 -- A call that began with nobody between comes to an answer of the whole call.
-use Rattle.std.proofs.Common.{◌≡◌, ◌⊎◌, ◌<◌, ℕ, refl, ap, sym, ◌∙◌, Bool, true, false, List, [], ◌∷◌, inl, inr, subst}
-use Rattle.std.specs.Prelude.{Option, Some, None, if◌then◌else◌, nat_lt, nat_le, not, ◌==◌}
-use Rattle.std.proofs.lemmas.Bool.{cases_Bool}
+use Rattle.std.proofs.Common.{◌≡◌, ◌⊎◌, ℕ, refl, ap, sym, ◌∙◌, Bool, true, false, List, [], ◌∷◌, inl, inr, subst}
+use Rattle.std.specs.Prelude.{Option, Some, None, if◌then◌else◌, nat_lt, not, ◌==◌}
 use Rattle.failure.specs.declared.Fault.{Fault}
 use Rattle.item.specs.declared.Change.{Change}
 use Rattle.item.specs.declared.Change.TheVariants.{Put as PutOf, Remove as RemoveOf}
@@ -16,13 +15,12 @@ use Rattle.limits.specs.declared.TheConstants.{NUMBER_MAX}
 use Rattle.kv_model.specs.History.{Table, tables, named}
 use Rattle.kv_model.specs.Machine.{Machine, Transaction, Phase, Running, Failed, Prepared, Resolving, Leaving, transaction_of, of_some, Event, OpenSession, BeginAt, DrawId, AcceptWrite, RefuseWrite, PrepareAt, CommitAt, StartLeaving, EndTransaction, PlaceCursor, CreateTable, SetStamps, RollbackToStable, CheckpointStart, CheckpointFinish, CheckpointDrop, GoDown, Nothing, after}
 use Rattle.kv_model.specs.Refusals.{first_of, stamp_of, or_stamp, durable_below, commit_rules, resolve_rules}
-use Rattle.kv_model.specs.Decisions.{Outcome, Done, Gives, GivesRow, Left, End, Resumes, Refused, Request, BeginCall, PrepareCall, CommitCall, RollbackCall, EndCall, FindKey, FindToWrite, FindRow, decision, judged, is_on_page, while_up, with_session, in_state, checked, ruled, invalid, id_drawn, commit_decision, rollback_decision, Demand, Occupied, GetAnswer, WriteAnswer, key_checks, write_checks, table_checks, is_name}
+use Rattle.kv_model.specs.Decisions.{Outcome, Done, Gives, GivesRow, Left, End, Resumes, Refused, Request, BeginCall, PrepareCall, CommitCall, RollbackCall, FindKey, FindToWrite, FindRow, decision, judged, is_on_page, while_up, with_session, in_state, checked, ruled, invalid, id_drawn, commit_decision, rollback_decision, Demand, Occupied, GetAnswer, WriteAnswer, key_checks, write_checks, table_checks, is_name}
 use Rattle.kv_model.specs.Rows.{SeekAnswer, NextAnswer, reset_decision}
 use Rattle.kv_model.specs.Calls.{Call, Begin, GetKey, PutKey, RemoveKey, SeekKey, NextRow, Reset, Prepare, Commit, Rollback, Create, Set, CkptStart, CkptStep, CkptFinish, Evict, Rts, Close, SessionAnswers, AtPlace, IsHeldUp, Finds as FindsPlace, settled, ended}
 use Rattle.kv_model.specs.Told.{Tells}
-use Rattle.call_steps.specs.declared.reply.Reply.TheVariants as reply
 use Rattle.engine_world.specs.Worlds.{Doing, Resting, Asked, Placed, Decided, Ending}
-use Rattle.engine_world.specs.Steps.{Made, GoesTo, EndsWith, Finishes, JudgedBy, FoundBy, Finds, EndsIn, SettledBy, Settles, Judges, LookAnswer, LooksOn, Looks, LooksShort, TellsFault, EndsUnless, GoesOn}
+use Rattle.engine_world.specs.Steps.{Made, GoesTo, EndsWith, Finishes, JudgedBy, FoundBy, Finds, EndsIn, SettledBy, Settles, Judges, LookAnswer, Looks, LooksShort, TellsFault, EndsUnless}
 use Rattle.engine_world.specs.Whole.{nothing_around, IsFound, PlacedFrom, Reached, ReachesOn, StepsReach}
 
 -- ---- the events of decisions

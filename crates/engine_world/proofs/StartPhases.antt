@@ -7,7 +7,6 @@ use Rattle.kv_model.specs.Calls.{Call, Prepare, Commit, Rollback}
 use Rattle.txn_table.specs.declared.phase.Phase.{Phase}
 use Rattle.txn_table.specs.declared.phase.Phase.TheVariants as phase
 use Rattle.txn_table.specs.SessionData.{phase_in}
-use Rattle.wt_calls.specs.declared.SessionCall.TheVariants as call
 use Rattle.call_steps.specs.declared.edit.Edit.{Edit}
 use Rattle.call_steps.specs.declared.edit.Edit.TheVariants as edit
 use Rattle.call_steps.specs.declared.stage.Stage.{Stage}

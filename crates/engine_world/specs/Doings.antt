@@ -1,9 +1,9 @@
 -- What a session does, as its state says.
-use Rattle.std.specs.Prelude.{ℕ, ◌+◌, List, length, filter, Option, Some, None}
+use Rattle.std.specs.Prelude.{ℕ, ◌+◌, List, length, filter, Some, None}
 use Rattle.wt_code.specs.declared.answers.Answer.{Answer}
 use Rattle.wt_code.specs.declared.answers.Answer.TheVariants as answers
 use Rattle.wt_code.specs.declared.refusals.Refusal.TheVariants.{NotFound}
-use Rattle.kv_model.specs.Machine.{Machine, Position, Event, PlaceCursor, Nothing, of_some}
+use Rattle.kv_model.specs.Machine.{Event, PlaceCursor, Nothing, of_some}
 use Rattle.kv_model.specs.Calls.{Call, Begin, GetKey, PutKey, RemoveKey, SeekKey, NextRow, Reset, Prepare, Commit, Rollback}
 use Rattle.wt_calls.specs.Calls.{demand_in, way_in}
 use Rattle.txn_table.specs.declared.phase.Phase.{Phase}

@@ -1,5 +1,5 @@
 -- What each event of a session's call leaves of an engine that stands for a world.
-use Rattle.std.specs.Prelude.{◌≡◌, ◌⊎◌, ℕ, List, Option, Some, slice_get, slice_set}
+use Rattle.std.specs.Prelude.{◌≡◌, ℕ, Some, slice_get, slice_set}
 use Rattle.stamp.specs.declared.View.{View}
 use Rattle.snapshot.specs.Sight.{sight_of}
 use Rattle.txn_table.specs.Tabled.{session_of}

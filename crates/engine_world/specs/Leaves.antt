@@ -3,7 +3,7 @@ use Rattle.std.specs.Prelude.{◌≡◌, ◌⊎◌, ◌≤◌, ℕ, List, [], Op
 use Rattle.stamp.specs.declared.Name.{Name}
 use Rattle.kv_model.specs.History.{Table, Write, line}
 use Rattle.kv_model.specs.Holds.{Member}
-use Rattle.kv_model.specs.Machine.{Machine, Transaction, of_some}
+use Rattle.kv_model.specs.Machine.{Machine, of_some}
 use Rattle.kv_model.specs.Refusals.{newest_durable}
 use Rattle.update_chain.specs.declared.update.Update.{Update}
 use Rattle.update_chain.specs.EventLaws.{StandsFor}

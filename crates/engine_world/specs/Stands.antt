@@ -1,9 +1,7 @@
 -- When an engine's data stands for a machine with the calls that are under way.
-use Rattle.std.specs.Prelude.{◌≡◌, ◌≤◌, ℕ, List, [], length, map, reverse, Option, Some, None, option_map, slice_get}
-use Rattle.limits.specs.declared.TheConstants.{SESSIONS_MAX}
-use Rattle.ts_rules.specs.declared.stamps.Stamps.{Stamps}
+use Rattle.std.specs.Prelude.{◌≡◌, ℕ, List, [], length, map, reverse, Option, Some, option_map, slice_get}
 use Rattle.kv_model.specs.History.{Table, Write, tables}
-use Rattle.kv_model.specs.Machine.{Machine, Transaction, Position as ModelPosition, of_some, transaction_of, cursors_of}
+use Rattle.kv_model.specs.Machine.{Machine, Position as ModelPosition, of_some, transaction_of, cursors_of}
 use Rattle.kv_model.specs.Valid.{Valid}
 use Rattle.txn_table.specs.SessionData.{phase_in}
 use Rattle.txn_table.specs.Stands.{TableStands}

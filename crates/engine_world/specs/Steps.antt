@@ -4,7 +4,6 @@ use Rattle.failure.specs.declared.Fault.{Fault}
 use Rattle.item.specs.declared.Change.TheVariants.{Put as PutOf, Remove as RemoveOf}
 use Rattle.wt_code.specs.declared.answers.Answer.{Answer}
 use Rattle.wt_code.specs.declared.answers.Answer.TheVariants as answers
-use Rattle.wt_code.specs.declared.refusals.Refusal.{Refusal}
 use Rattle.wt_code.specs.declared.refusals.Refusal.TheVariants.{NoMemory, Panic, Invalid}
 use Rattle.wt_code.specs.declared.refusals.Invalid.TheVariants.{InCall, NoCall}
 use Rattle.kv_model.specs.History.{Table, tables, named}

@@ -1,5 +1,5 @@
 -- What the opening of a session, a create and a set leave of an engine that stands for a world, and with what an engine starts.
-use Rattle.std.specs.Prelude.{◌≡◌, ◌<◌, ◌+◌, ℕ, List, [], ◌∷◌, ◌++◌, length, map, reverse, Option, None, Some, Result, Ok, slice_get, slice_set}
+use Rattle.std.specs.Prelude.{◌≡◌, ◌<◌, ◌+◌, ℕ, List, [], ◌∷◌, ◌++◌, length, map, reverse, Option, None, Some, Ok, slice_get, slice_set}
 use Rattle.item.specs.declared.Formats.{Formats}
 use Rattle.kv_model.specs.Content.{Content, base, descending, start, table_lt}
 use Rattle.kv_model.specs.History.{Table, line}

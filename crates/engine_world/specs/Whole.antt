@@ -1,5 +1,5 @@
 -- A whole call: its steps with nobody between, and what they come to.
-use Rattle.std.specs.Prelude.{◌≡◌, ◌⊎◌, ℕ, false, List, [], Option, Some, None}
+use Rattle.std.specs.Prelude.{◌≡◌, ◌⊎◌, ℕ, false, List, [], Some, None}
 use Rattle.failure.specs.declared.Fault.{Fault}
 use Rattle.wt_code.specs.declared.answers.Answer.{Answer}
 use Rattle.wt_code.specs.declared.answers.Answer.TheVariants as answers
@@ -7,9 +7,8 @@ use Rattle.wt_code.specs.declared.refusals.Refusal.TheVariants.{Panic}
 use Rattle.item.specs.declared.Change.TheVariants.{Put as PutOf, Remove as RemoveOf}
 use Rattle.kv_model.specs.History.{Table, tables, named}
 use Rattle.kv_model.specs.Machine.{Machine, Event, EndTransaction, after}
-use Rattle.kv_model.specs.Outside.{Unfinished}
 use Rattle.kv_model.specs.Decisions.{Done, Request, FindKey, FindToWrite, FindRow, decision}
-use Rattle.kv_model.specs.Calls.{Call, Begin, GetKey, PutKey, RemoveKey, SeekKey, NextRow, Reset, Prepare, Commit, Rollback, Around, SessionAnswers}
+use Rattle.kv_model.specs.Calls.{Call, GetKey, PutKey, RemoveKey, SeekKey, NextRow, Around, SessionAnswers}
 use Rattle.kv_model.specs.CallLaws.{any_around}
 use Rattle.call_steps.specs.declared.reply.Reply.TheVariants as reply
 use Rattle.engine_world.specs.Worlds.{Doing, Resting, Asked, Placed, Decided, Ending}

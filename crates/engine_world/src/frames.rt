@@ -1,4 +1,5 @@
-//! Laws of the events on the piece of a frame.
+//! Laws of the events on the piece of a frame. A law calls those of lower crates
+//! that its proof rests on.
 
 ghost use Rattle.engine_world.specs.Laws.{MarksGo, OrdersGo, ReadsGo, RowsGo, StampsGo, UndosGo, WritesGo};
 

@@ -1,4 +1,5 @@
-//! Laws of the events on the hub.
+//! Laws of the events on the hub. A law calls those of lower crates
+//! that its proof rests on.
 
 ghost use Rattle.engine_world.specs.Laws.{BeginsGo, DecidesGo, EndsGo, FindsGo, HistoriesGo, ReleasesGo, ResolvesGo};
 

@@ -1,4 +1,5 @@
-//! Laws of the start of an engine, of sessions that are opened, and of the events of the system.
+//! Laws of the start of an engine, of sessions that are opened, and of the events of the system. A law calls those of lower crates
+//! that its proof rests on.
 
 ghost use Rattle.engine_world.specs.Systems.{CreatesGo, EnginesStart, OpensGo, SetsGo};
 

@@ -1,4 +1,5 @@
-//! Laws of the start of a call and of events on words.
+//! Laws of the start of a call and of events on words. A law calls those of lower crates
+//! that its proof rests on.
 
 ghost use Rattle.engine_world.specs.Laws.{ClearsGo, LoadGoes, PublishesGo, ResetsGo, StartsGo, UnpinsGo};
 

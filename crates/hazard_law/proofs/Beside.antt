@@ -1,16 +1,13 @@
 -- The law of the words beside any law of the pieces.
-use Rattle.std.proofs.Common.{◌≡◌, ◌⊎◌, ◌≢◌, ℕ, zero, suc, ◌+◌, ◌*◌, ◌<◌, ◌≤◌, List, [], ◌∷◌, map, length, get_or, set, sym, refl, ap, ◌∙◌, subst, inl, inr, ⊎_elim, arith, length-set}
-use mathlib.Core.Option.{some}
+use Rattle.std.proofs.Common.{◌≡◌, ℕ, zero, suc, List, ◌∷◌, length, get_or, set, sym, refl, ap, ◌∙◌, subst, inl, inr, ⊎_elim, length-set}
 use lib.ListN.{get_elem?}
 use Rattle.pool_law.specs.declared.part.Part.{Part}
 use Rattle.pool_law.specs.declared.part.Part.TheVariants.{Hub, Frame, Gone}
-use Rattle.pool_law.specs.Whole.{Noted, noted, part_at, frames_after, hub_after, Fits, Whole, whole, Holds, IsFree, IsOnly, latched, put, stepped}
+use Rattle.pool_law.specs.Whole.{Noted, noted, frames_after, hub_after, Whole, whole, Holds, IsFree, IsOnly}
 use Rattle.pool_law.specs.Obligations.{LatchKeeps, PutKeeps, FindHolds, TurnKeeps}
 use Rattle.hazard_law.specs.declared.known.Hazards.{Hazards}
-use Rattle.hazard_law.specs.declared.known.Mark.TheVariants.{Blank, Names, Pins}
-use Rattle.hazard_law.specs.declared.known.Lock.TheVariants.{Open, Locks}
-use Rattle.hazard_law.specs.Words.{filled, locked, hazard_word, naming}
-use Rattle.hazard_law.specs.Safety.{Marks, HasLock, with_note, Safe, inner, inner_whole, Both, Finds, Turns, looks, publishes, validates, clears, locks_frame, scans, unlocks, frees, fills, MayLatch, Told, Puts}
+use Rattle.hazard_law.specs.Words.{filled, locked, hazard_word}
+use Rattle.hazard_law.specs.Safety.{with_note, Safe, inner, inner_whole, Both, Finds, Turns, looks, publishes, validates, clears, locks_frame, scans, unlocks, frees, fills, MayLatch, Told, Puts}
 use Rattle.hazard_law.proofs.Lists.{at_map, mapped, map_set}
 use Rattle.hazard_law.proofs.Safe.{notes}
 use Rattle.hazard_law.proofs.Steps.{turned_safe}

@@ -1,11 +1,9 @@
 -- Each kind of step is one that the law of the words allows.
-use Rattle.std.proofs.Common.{◌≡◌, ◌≢◌, ◌⊎◌, ℕ, zero, suc, ◌+◌, ◌*◌, ◌<◌, refl, inl, inr, arith}
+use Rattle.std.proofs.Common.{ℕ, inl, inr}
 use Rattle.pool_law.specs.Whole.{Noted}
 use Rattle.pool_law.specs.Obligations.{Allowed}
-use Rattle.hazard_law.specs.declared.known.Hazards.{Hazards}
-use Rattle.hazard_law.specs.Words.{filled}
 use Rattle.hazard_law.specs.Safety.{Turns, looks, publishes, validates, clears, locks_frame, scans, unlocks, frees, fills}
-use Rattle.hazard_law.specs.Kinds.{Publishing, Clearing, Validating, Looking, Locking, Scanning, Unlocking, Freeing, Filling, publishing, clearing, looking, validating, locking, scanning, unlocking, freeing, filling}
+use Rattle.hazard_law.specs.Kinds.{publishing, clearing, looking, validating, locking, scanning, unlocking, freeing, filling}
 
 module _ {N : Type 0} (turns : Noted N → ℕ → ℕ → ℕ → N → Type 0) where
   pub publishing_allowed : Allowed (Turns turns) (publishing turns)

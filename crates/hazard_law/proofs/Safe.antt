@@ -1,10 +1,9 @@
 -- Each step on a word keeps what holds of the words.
-use Rattle.std.proofs.Common.{◌≡◌, ◌⊎◌, ◌≢◌, ℕ, zero, suc, ◌+◌, ◌*◌, ◌<◌, ◌≤◌, List, [], ◌∷◌, length, get_or, set, sym, refl, ap, ◌∙◌, subst, inl, inr, ⊎_elim, arith, length-set, get_or-set_other, get_or-set_same}
+use Rattle.std.proofs.Common.{◌≡◌, ◌⊎◌, ◌≢◌, ℕ, ◌+◌, ◌*◌, ◌<◌, ◌≤◌, List, length, get_or, set, sym, refl, ap, ◌∙◌, subst, inl, inr, ⊎_elim, arith, length-set}
 use mathlib.Core.Logic.{dite}
 use mathlib.Core.Option.{Option, none, some, some-injective, some-ne-none}
 use native.Mathlib.Decide.{ℕ_discrete}
 use lib.ListN.{get_elem?}
-use lib.Seq.{set-get_or}
 use Rattle.pool_law.specs.Whole.{Noted, noted}
 use Rattle.hazard_law.specs.declared.known.Hazards.{Hazards}
 use Rattle.hazard_law.specs.declared.known.Mark.{Mark}
@@ -12,8 +11,8 @@ use Rattle.hazard_law.specs.declared.known.Mark.TheVariants.{Blank, Names, Pins}
 use Rattle.hazard_law.specs.declared.known.Lock.{Lock}
 use Rattle.hazard_law.specs.declared.known.Lock.TheVariants.{Open, Locks}
 use Rattle.hazard_law.specs.Words.{empty, filled, locked, hazard_place, hazard_word, naming}
-use Rattle.hazard_law.specs.Safety.{Marks, HasLock, with_note, with_mark, with_lock, Safe, Turns, looks, publishes, validates, clears, locks_frame, scans, unlocks, frees, fills, scanned}
-use Rattle.hazard_law.proofs.Lists.{at_set, inside, there, set_again}
+use Rattle.hazard_law.specs.Safety.{Marks, HasLock, with_note, with_mark, with_lock, Safe}
+use Rattle.hazard_law.proofs.Lists.{at_set, inside}
 
 abbrev pin_of : Mark → Option (ℕ × ℕ)
 pin_of Blank = none

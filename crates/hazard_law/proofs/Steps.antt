@@ -1,5 +1,5 @@
 -- Every step on a word that there is keeps what holds of the words.
-use Rattle.std.proofs.Common.{◌≡◌, ◌⊎◌, ◌≢◌, ℕ, zero, suc, ◌+◌, ◌*◌, ◌<◌, ◌≤◌, List, [], ◌∷◌, length, get_or, set, sym, refl, ap, ◌∙◌, subst, inl, inr, ⊎_elim, arith, length-set, get_or-set_other, get_or-set_same}
+use Rattle.std.proofs.Common.{◌≡◌, ◌⊎◌, ◌≢◌, ℕ, suc, ◌+◌, ◌*◌, ◌<◌, List, get_or, set, sym, refl, ap, ◌∙◌, subst, inl, inr, ⊎_elim, arith, length-set, get_or-set_other, get_or-set_same}
 use mathlib.Core.Logic.{dite}
 use mathlib.Core.Option.{some}
 use native.Mathlib.Decide.{ℕ_discrete}
@@ -12,9 +12,9 @@ use Rattle.hazard_law.specs.declared.known.Mark.TheVariants.{Blank, Names, Pins}
 use Rattle.hazard_law.specs.declared.known.Lock.{Lock}
 use Rattle.hazard_law.specs.declared.known.Lock.TheVariants.{Open, Locks}
 use Rattle.hazard_law.specs.Words.{empty, filled, locked, hazard_place, hazard_word, naming}
-use Rattle.hazard_law.specs.Safety.{Marks, HasLock, with_note, with_mark, with_lock, Safe, Turns, looks, publishes, validates, clears, locks_frame, scans, unlocks, frees, fills, scanned}
-use Rattle.hazard_law.proofs.Lists.{inside, there, set_again}
-use Rattle.hazard_law.proofs.Safe.{Stays, small, notes, marks_one, locks_one, same_pin, same_name, same_lock, names_no_pin, blank_no_pin, blank_no_name, pins_no_name, open_no_lock, filled_locked, empty_filled, empty_locked, same_filled, same_locked, same_seat, same_word}
+use Rattle.hazard_law.specs.Safety.{Marks, HasLock, with_note, with_mark, with_lock, Safe, Turns, looks, publishes, validates, clears, locks_frame, scans, unlocks, frees, fills}
+use Rattle.hazard_law.proofs.Lists.{inside}
+use Rattle.hazard_law.proofs.Safe.{small, notes, marks_one, locks_one, same_pin, same_name, same_lock, names_no_pin, blank_no_pin, blank_no_name, pins_no_name, open_no_lock, filled_locked, empty_filled, empty_locked, same_filled, same_locked, same_seat, same_word}
 
 module _ {N : Type 0} (frames : ℕ) (words : List ℕ) (seats : List (Noted (Hazards N))) (id : ℕ) (v : Noted (Hazards N)) (at : get_elem? seats id ≡ some v) (s : Safe frames words seats) where
   abbrev V : Type 0

@@ -1,3 +1,4 @@
 pub mod Words
 pub mod Safety
 pub mod Kinds
+pub mod Promises

@@ -1,5 +1,5 @@
 -- What holds of the words between any two steps, and which steps there are.
-use Rattle.std.specs.Prelude.{◌≡◌, ◌≢◌, ◌⊎◌, ℕ, zero, suc, ◌+◌, ◌*◌, ◌<◌, ◌≤◌, List, [], ◌∷◌, map, length, replicate, slice_index, slice_set}
+use Rattle.std.specs.Prelude.{◌≡◌, ◌≢◌, ◌⊎◌, ℕ, suc, ◌+◌, ◌*◌, ◌<◌, List, map, length, replicate, slice_index, slice_set}
 use mathlib.Core.Option.{some}
 use lib.ListN.{get_elem?}
 use Rattle.pool_law.specs.declared.part.Part.{Part}
@@ -15,7 +15,15 @@ use Rattle.hazard_law.specs.Words.{empty, filled, locked, hazard_place, hazard_w
 module _ {N : Type 0} where
   -- how a seat begins: its words name nothing, and it has locked nothing
   abbrev pub beginning : (Shape → ℕ → N) → Shape → ℕ → Hazards N
-  beginning start shape j = record { note = start shape j; seat = j; shape = shape; marks = replicate 5 Blank; locks = replicate shape.frames Open; last_word = 0; last_frame = 0 }
+  beginning start shape j = record {
+    note = start shape j;
+    seat = j;
+    shape = shape;
+    marks = replicate 5 Blank;
+    locks = replicate shape.frames Open;
+    last_word = 0;
+    last_frame = 0;
+  }
 
   -- what the seat knows in the law of the pieces
   abbrev pub inner : Noted (Hazards N) → Noted N
@@ -33,10 +41,12 @@ module _ {N : Type 0} where
   with_note h n = record { note = n; seat = h.seat; shape = h.shape; marks = h.marks; locks = h.locks; last_word = h.last_word; last_frame = h.last_frame }
 
   abbrev pub with_mark : Hazards N → N → ℕ → Mark → Hazards N
-  with_mark h n w m = record { note = n; seat = h.seat; shape = h.shape; marks = slice_set h.marks w m; locks = h.locks; last_word = w; last_frame = h.last_frame }
+  with_mark h n w m =
+      record { note = n; seat = h.seat; shape = h.shape; marks = slice_set h.marks w m; locks = h.locks; last_word = w; last_frame = h.last_frame }
 
   abbrev pub with_lock : Hazards N → N → ℕ → Lock → Hazards N
-  with_lock h n f l = record { note = n; seat = h.seat; shape = h.shape; marks = h.marks; locks = slice_set h.locks f l; last_word = h.last_word; last_frame = f }
+  with_lock h n f l =
+      record { note = n; seat = h.seat; shape = h.shape; marks = h.marks; locks = slice_set h.locks f l; last_word = h.last_word; last_frame = f }
 
   -- What holds of the words, for so many frames
   pub record Safe (frames : ℕ) (words : List ℕ) (seats : List (Noted (Hazards N))) : Type 0 where

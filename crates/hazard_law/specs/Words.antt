@@ -1,6 +1,7 @@
 -- State words and hazard words.
--- The state word of the frame f is the word f. The hazard word w of the seat j is the word frames + 5 * j + w; it holds f + 1 where it names the frame f, and else 0.
-use Rattle.std.specs.Prelude.{◌≡◌, ℕ, suc, ◌+◌, ◌*◌, ◌<◌, ◌≤◌}
+-- The state word of the frame f is the word f. The hazard word w of the seat j is the word frames + 5 * j + w;
+-- it holds f + 1 where it names the frame f, and else 0.
+use Rattle.std.specs.Prelude.{ℕ, suc, ◌+◌, ◌*◌}
 
 -- the states of a frame at the generation g
 abbrev pub empty : ℕ → ℕ

@@ -10,4 +10,4 @@ mod known;
 mod law;
 
 pub use known::{Hazards, Lock, Mark};
-pub use law::{a_pinned_frame_stays, a_step_keeps_the_words};
+pub use law::{a_frame_that_may_be_freed_has_no_pin, a_pinned_frame_stays, a_step_keeps_the_words};

@@ -5,3 +5,4 @@ mod Opening
 mod Packing
 mod Growing
 mod Ending
+pub mod Lent

@@ -70,6 +70,11 @@ module _ {H F N : Type 0} (told : Noted N → ℕ → Part H F → N → Type 0)
       × (¬ (r ≡ 0) → (m' ≡ m) × (r ≡ 1))
 
 module _ {H F N : Type 0} (puts : Noted N → ℕ → Part H F → Part H F → N → Type 0) where
+  -- the seat took the slot last, and may put it back as it lies there
+  abbrev pub MayGive : ℕ → Me (Part H F) (View H F N) → Type 0
+  MayGive at m = (x : Part H F) × (y : Part H F) × (held : List (ℕ × Part H F)) × (out : List (ℕ × Part H F)) × (n : N)
+      × (m.0.held ≡ (at, x) ∷ held) × (m.1 ≡ (at, y) ∷ out) × Fits at y × puts (known m.0) at x y n
+
   -- the piece went home as it lay in the slot
   abbrev pub gave : Step (Part H F) → Me (Part H F) (View H F N) → ℕ → Me (Part H F) (View H F N) → Type 0
   gave st m r m' =
@@ -79,7 +84,8 @@ module _ {H F N : Type 0} (puts : Noted N → ℕ → Part H F → Part H F → 
 module _ {H F N : Type 0} (finds : Noted N → ℕ → ℕ → Type 0) (turns : Noted N → ℕ → ℕ → ℕ → N → Type 0) where
   -- the further word went from r, which the seat could find there, to what `after` gives, and the note followed
   abbrev pub moved : (Step (Part H F) → ℕ → ℕ) → Step (Part H F) → Me (Part H F) (View H F N) → ℕ → Me (Part H F) (View H F N) → Type 0
-  moved after st m r m' = (n : N) × (m' ≡ (turned m.0 n m.0.held, m.1)) × finds (known m.0) (st.word - st.slots) r × turns (known m.0) (st.word - st.slots) r (after st r) n
+  moved after st m r m' = (n : N) × (m' ≡ (turned m.0 n m.0.held, m.1)) × finds (known m.0) (st.word - st.slots) r
+      × turns (known m.0) (st.word - st.slots) r (after st r) n
 
 -- how the first seat makes another, and how a seat takes in another at the end
 module _ {H F N : Type 0} where
@@ -87,7 +93,15 @@ module _ {H F N : Type 0} where
   maker v = record { note = v.note; held = v.held; seat = v.seat; made = v.made + 1; shape = v.shape; gathered = v.gathered; spent = v.spent }
 
   abbrev pub gathering : View H F N → View H F N → View H F N
-  gathering v w = record { note = v.note; held = v.held; seat = v.seat; made = v.made; shape = v.shape; gathered = (w.seat, w.note) ∷ (w.gathered ++ v.gathered); spent = v.spent }
+  gathering v w = record {
+    note = v.note;
+    held = v.held;
+    seat = v.seat;
+    made = v.made;
+    shape = v.shape;
+    gathered = (w.seat, w.note) ∷ (w.gathered ++ v.gathered);
+    spent = v.spent;
+  }
 
   abbrev pub next_seat : (ℕ → N) → View H F N → View H F N
   next_seat start v = newcomer (start v.made) v.shape v.made 0

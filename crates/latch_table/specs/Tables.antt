@@ -63,12 +63,14 @@ module _ {L H F N : Type 0} where
 
   -- the seat holds the piece k, and was told so; or another seat held it, and nothing changed
   abbrev pub Latches : (Noted N → ℕ → Part H F → N → Type 0) → ℕ → Seat L H F N → Seat L H F N → Latching → Type 0
-  Latches told k s t Held = (x : Part H F) × (taken t ≡ (k, x) ∷ taken s) × (pieces_with t ≡ slice_set (pieces_with s) k x) × Fits k x × told (knows s) k x (note_of t)
+  Latches told k s t Held = (x : Part H F) × (taken t ≡ (k, x) ∷ taken s) × (pieces_with t ≡ slice_set (pieces_with s) k x)
+      × Fits k x × told (knows s) k x (note_of t)
   Latches told k s t (Again seen) = (note_of t ≡ note_of s) × (taken t ≡ taken s) × (pieces_with t ≡ pieces_with s) × (seen ≡ 1)
 
   -- the seat took the piece k last, and may put it back as it is now
   abbrev pub MayPut : (Noted N → ℕ → Part H F → Part H F → N → Type 0) → ℕ → Seat L H F N → Type 0
-  MayPut puts k s = (x : Part H F) × (y : Part H F) × (held : List (ℕ × Part H F)) × (n : N) × (taken s ≡ (k, x) ∷ held) × (piece_with s k ≡ some y) × puts (knows s) k x y n
+  MayPut puts k s = (x : Part H F) × (y : Part H F) × (held : List (ℕ × Part H F)) × (n : N)
+      × (taken s ≡ (k, x) ∷ held) × (piece_with s k ≡ some y) × puts (knows s) k x y n
 
   -- the seat put the piece k back, and its note followed
   abbrev pub Puts : (Noted N → ℕ → Part H F → Part H F → N → Type 0) → ℕ → Seat L H F N → Seat L H F N → Type 0

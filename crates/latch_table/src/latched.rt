@@ -1,8 +1,9 @@
 //! The calls of a table of latched pieces.
 
-ghost use Rattle.std.specs.Prelude.{◌≡◌, ℕ, suc, ◌<◌, ◌==◌, ◌^◌, ◌≢◌, MatchResult, slice_set};
+ghost use Rattle.std.specs.Prelude.{◌≡◌, ◌<◌, ◌==◌, ◌≢◌, MatchResult, slice_set};
 ghost use prog.Atomic.{either};
 ghost use Rattle.pool_law.specs.declared.part.Part.TheVariants.{Gone};
+ghost use Rattle.pool_law.specs.Asks.{MayTurn};
 ghost use Rattle.pool_law.specs.Whole.{Holds};
 ghost use Rattle.latch_table.specs.declared.latching.Latching.TheVariants.{Held};
 ghost use Rattle.latch_table.specs.Seats.{piece_number};
@@ -80,7 +81,7 @@ impl<L: Law> Latched<L> {
     pub fn word_load<M: Turn<L>>(&self, seat: &mut Seat<L>, word: u32) -> u64
         requires seat { IsSeatOf self.now seat.old }
         requires word { word < words_in self.now }
-        requires turns { (r : ℕ) → r < 2 ^ 64 → L.finds (knows seat.old) word r → (n : L.Note) × M.turns (knows seat.old) word r r n }
+        requires turns { MayTurn L.finds M.turns (knows seat.old) word (λ r. r) }
         ensures seat { IsSeatOf self.now seat.new }
         ensures pieces { SamePieces seat.old seat.new }
         ensures finds { L.finds (knows seat.old) word result }
@@ -95,7 +96,7 @@ impl<L: Law> Latched<L> {
     pub fn word_store<M: Turn<L>>(&self, seat: &mut Seat<L>, word: u32, value: u64) -> u64
         requires seat { IsSeatOf self.now seat.old }
         requires word { word < words_in self.now }
-        requires turns { (r : ℕ) → r < 2 ^ 64 → L.finds (knows seat.old) word r → (n : L.Note) × M.turns (knows seat.old) word r value n }
+        requires turns { MayTurn L.finds M.turns (knows seat.old) word (λ r. value) }
         ensures seat { IsSeatOf self.now seat.new }
         ensures pieces { SamePieces seat.old seat.new }
         ensures finds { L.finds (knows seat.old) word result }
@@ -116,11 +117,12 @@ impl<L: Law> Latched<L> {
     ) -> Result<(), u64>
         requires seat { IsSeatOf self.now seat.old }
         requires word { word < words_in self.now }
-        requires turns { (r : ℕ) → r < 2 ^ 64 → L.finds (knows seat.old) word r → (n : L.Note) × M.turns (knows seat.old) word r (either (r == old) new r) n }
+        requires turns { MayTurn L.finds M.turns (knows seat.old) word (λ r. either (r == old) new r) }
         ensures seat { IsSeatOf self.now seat.new }
         ensures pieces { SamePieces seat.old seat.new }
         ensures swapped { MatchResult result (λ _. L.finds (knows seat.old) word old) (λ r. (r ≢ old) × L.finds (knows seat.old) word r) }
-        ensures turns { MatchResult result (λ _. M.turns (knows seat.old) word old new (note_of seat.new)) (λ r. M.turns (knows seat.old) word r r (note_of seat.new)) }
+        ensures turns { MatchResult result (λ _. M.turns (knows seat.old) word old new (note_of seat.new))
+            (λ r. M.turns (knows seat.old) word r r (note_of seat.new)) }
     {
         let at = seat.parts.len() + word as usize;
         let found = self.swap_at::<M>(&mut seat.raw, at, word, old, new);

@@ -17,6 +17,7 @@ mod seat;
 mod steps;
 mod view;
 
+pub use close::Pieces;
 pub use failure::NoMemory;
 pub use latched::Latched;
 pub use latching::Latching;

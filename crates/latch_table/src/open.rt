@@ -3,8 +3,9 @@
 ghost use Rattle.std.specs.Prelude.{◌≡◌, ℕ, suc, ◌+◌, ◌<◌, ◌≤◌, ◌^◌, ◌++◌, [], ◌∷◌, All, IfErr, IfOk, length, map, replicate, vec_capacity, vec_len};
 ghost use Rattle.pool_law.specs.declared.part.Part.TheVariants.{Frame, Gone, Hub};
 ghost use Rattle.pool_law.specs.Whole.{whole};
-ghost use Rattle.latch_table.specs.Rule.{newcomer, starts};
+ghost use Rattle.latch_table.specs.Rule.{starts};
 ghost use Rattle.latch_table.specs.Opening.{AreSeats, Grows, IsGone, shape};
+ghost use Rattle.latch_table.specs.Seats.{IsFirst};
 ghost use Rattle.latch_table.specs.Tables.{pieces_in, shape_of, words_in};
 
 use crate::latched::Latched;
@@ -163,7 +164,7 @@ fn seat_all<L: Law>(
     mut rows: Vec<Vec<Part<L::Hub, L::Frame>>>,
     mut seats: Vec<Seat<L>>,
 ) -> Vec<Seat<L>>
-    requires first { (first.table_id ≡ table.now.table.shared.table_id) × (first.id ≡ 0) × (first.me ≡ (newcomer (L.start (shape_of table.now) 0) (shape_of table.now) 0 1, [])) }
+    requires first { IsFirst (L.start (shape_of table.now) 0) (shape_of table.now) table.now.table.shared.table_id first }
     requires few { (shape_of table.now).seats < 2 ^ 32 }
     requires wide { (pieces_in table.now ≤ table.now.table.shared.table_id.words) × (0 < table.now.table.shared.table_id.words) }
     requires rows { All (IsGone (pieces_in table.now)) rows.items × (length rows.items ≡ (shape_of table.now).seats) }

@@ -1,13 +1,14 @@
 //! The single steps on the table that lies below.
 
-ghost use Rattle.std.specs.Prelude.{◌≡◌, ℕ, ◌+◌, ◌<◌, ◌==◌, ◌^◌, false, [], ◌∷◌, map, length, slice_set, IfOk, IfErr};
+ghost use Rattle.std.specs.Prelude.{◌≡◌, ◌+◌, ◌<◌, ◌==◌, false, [], IfErr, IfOk, length};
 ghost use mathlib.Core.Option.{none};
 ghost use prog.Atomic.{either};
 ghost use Rattle.std.specs.Slots.{slots_items, slots_len, IsFull};
-ghost use Rattle.pool_law.specs.Whole.{Fits};
+ghost use Rattle.pool_law.specs.Asks.{MayTurn};
 ghost use Rattle.atomic_table.specs.Table.{step};
-ghost use Rattle.latch_table.specs.Seats.{Covers, Leaves, Begins};
-ghost use Rattle.latch_table.specs.Rule.{known, newcomer, maker, next_seat, gathering, took, gave, moved};
+ghost use Rattle.latch_table.specs.Seats.{Begins, Covers, IsFirst, Leaves};
+ghost use Rattle.latch_table.specs.Rule.{MayGive, gathering, gave, known, maker, moved, next_seat, took};
+ghost use Rattle.latch_table.specs.Tables.{pieces_in, shape_of};
 
 use crate::latched::Latched;
 use crate::rule::{Gatherer, Give, Maker, Read, Swap, Take, Write};
@@ -27,7 +28,9 @@ impl<L: Law> Latched<L> {
         shape: Shape,
     ) -> Result<(Latched<L>, Raws<L::Hub, L::Frame, L::Note>), Vec<Part<L::Hub, L::Frame>>>
         requires { Begins (L.start shape) shape.seats L.joint words.now parts.items }
-        ensures ok { IfOk result (λ r. (r.0.table.shared.key ≡ shape) × (r.0.table.shared.table_id.slots ≡ length parts.items) × (r.0.table.shared.table_id.words ≡ length words.now) × (r.1.table_id ≡ r.0.table.shared.table_id) × (r.1.id ≡ 0) × (r.1.me ≡ (newcomer (L.start shape 0) shape 0 1, []))) }
+        ensures table { IfOk result (λ r. (shape_of r.0 ≡ shape) × (pieces_in r.0 ≡ length parts.items)) }
+        ensures words { IfOk result (λ r. r.0.table.shared.table_id.words ≡ length words.now) }
+        ensures first { IfOk result (λ r. IsFirst (L.start shape 0) shape r.0.table.shared.table_id r.1) }
         ensures err { IfErr result (λ p. p.items ≡ parts.items) }
     {
         match Table::new(alloc, words, parts, &shape) {
@@ -72,16 +75,19 @@ impl<L: Law> Latched<L> {
         first: &mut Raws<L::Hub, L::Frame, L::Note>,
         other: Raws<L::Hub, L::Frame, L::Note>,
     )
-        requires table { (first.old.table_id ≡ self.now.table.shared.table_id) × (other.table_id ≡ self.now.table.shared.table_id) × (0 < self.now.table.shared.table_id.words) }
+        requires table { (first.old.table_id ≡ self.now.table.shared.table_id) × (other.table_id ≡ self.now.table.shared.table_id) }
+        requires words { 0 < self.now.table.shared.table_id.words }
         requires seats { (first.old.me.0.spent ≡ false) × (other.me.0.spent ≡ false) × (other.me.0.held ≡ []) × (other.me.1 ≡ []) }
-        ensures { (first.new.table_id ≡ first.old.table_id) × (first.new.id ≡ first.old.id) × (first.new.me ≡ (gathering first.old.me.0 other.me.0, first.old.me.1)) }
+        ensures same { (first.new.table_id ≡ first.old.table_id) × (first.new.id ≡ first.old.id) }
+        ensures gathered { first.new.me ≡ (gathering first.old.me.0 other.me.0, first.old.me.1) }
     {
         self.table.shared.join_seat::<Gatherer<L>>(first, other);
     }
 
     // The latch word goes from free to held, and the slot to the seat; or it was held.
     pub(crate) fn take(&self, seat: &mut Raws<L::Hub, L::Frame, L::Note>, at: usize) -> u64
-        requires table { (seat.old.table_id ≡ self.now.table.shared.table_id) × (at < self.now.table.shared.table_id.slots) × (at < self.now.table.shared.table_id.words) }
+        requires table { seat.old.table_id ≡ self.now.table.shared.table_id }
+        requires place { (at < self.now.table.shared.table_id.slots) × (at < self.now.table.shared.table_id.words) }
         requires seat { (seat.old.me.0.spent ≡ false) × L.may_latch (known seat.old.me.0) at }
         ensures same { (seat.new.table_id ≡ seat.old.table_id) × (seat.new.id ≡ seat.old.id) }
         ensures took { took L.told (step self.now.table.shared.table_id.slots at 0 1 none) seat.old.me result seat.new.me }
@@ -93,9 +99,10 @@ impl<L: Law> Latched<L> {
 
     // The latch word goes from held to free, and the slot home.
     pub(crate) fn give(&self, seat: &mut Raws<L::Hub, L::Frame, L::Note>, at: usize)
-        requires table { (seat.old.table_id ≡ self.now.table.shared.table_id) × (at < self.now.table.shared.table_id.slots) × (at < self.now.table.shared.table_id.words) }
+        requires table { seat.old.table_id ≡ self.now.table.shared.table_id }
+        requires place { (at < self.now.table.shared.table_id.slots) × (at < self.now.table.shared.table_id.words) }
         requires seat { seat.old.me.0.spent ≡ false }
-        requires puts { (x : _) × (y : _) × (held : _) × (out : _) × (n : _) × (seat.old.me.0.held ≡ (at, x) ∷ held) × (seat.old.me.1 ≡ (at, y) ∷ out) × Fits at y × L.puts (known seat.old.me.0) at x y n }
+        requires puts { MayGive L.puts at seat.old.me }
         ensures same { (seat.new.table_id ≡ seat.old.table_id) × (seat.new.id ≡ seat.old.id) }
         ensures gave { gave L.puts (step self.now.table.shared.table_id.slots at 0 0 none) seat.old.me 0 seat.new.me }
     {
@@ -109,9 +116,10 @@ impl<L: Law> Latched<L> {
         at: usize,
         word: u32,
     ) -> u64
-        requires table { (seat.old.table_id ≡ self.now.table.shared.table_id) × (at ≡ self.now.table.shared.table_id.slots + word) × (at < self.now.table.shared.table_id.words) }
+        requires table { seat.old.table_id ≡ self.now.table.shared.table_id }
+        requires place { (at ≡ self.now.table.shared.table_id.slots + word) × (at < self.now.table.shared.table_id.words) }
         requires seat { seat.old.me.0.spent ≡ false }
-        requires turns { (r : ℕ) → r < 2 ^ 64 → L.finds (known seat.old.me.0) word r → (n : L.Note) × M.turns (known seat.old.me.0) word r r n }
+        requires turns { MayTurn L.finds M.turns (known seat.old.me.0) word (λ r. r) }
         ensures same { (seat.new.table_id ≡ seat.old.table_id) × (seat.new.id ≡ seat.old.id) }
         ensures moved { moved L.finds M.turns (λ st r. r) (step self.now.table.shared.table_id.slots at 0 0 none) seat.old.me result seat.new.me }
     {
@@ -126,9 +134,10 @@ impl<L: Law> Latched<L> {
         word: u32,
         value: u64,
     ) -> u64
-        requires table { (seat.old.table_id ≡ self.now.table.shared.table_id) × (at ≡ self.now.table.shared.table_id.slots + word) × (at < self.now.table.shared.table_id.words) }
+        requires table { seat.old.table_id ≡ self.now.table.shared.table_id }
+        requires place { (at ≡ self.now.table.shared.table_id.slots + word) × (at < self.now.table.shared.table_id.words) }
         requires seat { seat.old.me.0.spent ≡ false }
-        requires turns { (r : ℕ) → r < 2 ^ 64 → L.finds (known seat.old.me.0) word r → (n : L.Note) × M.turns (known seat.old.me.0) word r value n }
+        requires turns { MayTurn L.finds M.turns (known seat.old.me.0) word (λ r. value) }
         ensures same { (seat.new.table_id ≡ seat.old.table_id) × (seat.new.id ≡ seat.old.id) }
         ensures moved { moved L.finds M.turns (λ st r. st.first) (step self.now.table.shared.table_id.slots at value 0 none) seat.old.me result seat.new.me }
     {
@@ -144,11 +153,13 @@ impl<L: Law> Latched<L> {
         old: u64,
         new: u64,
     ) -> u64
-        requires table { (seat.old.table_id ≡ self.now.table.shared.table_id) × (at ≡ self.now.table.shared.table_id.slots + word) × (at < self.now.table.shared.table_id.words) }
+        requires table { seat.old.table_id ≡ self.now.table.shared.table_id }
+        requires place { (at ≡ self.now.table.shared.table_id.slots + word) × (at < self.now.table.shared.table_id.words) }
         requires seat { seat.old.me.0.spent ≡ false }
-        requires turns { (r : ℕ) → r < 2 ^ 64 → L.finds (known seat.old.me.0) word r → (n : L.Note) × M.turns (known seat.old.me.0) word r (either (r == old) new r) n }
+        requires turns { MayTurn L.finds M.turns (known seat.old.me.0) word (λ r. either (r == old) new r) }
         ensures same { (seat.new.table_id ≡ seat.old.table_id) × (seat.new.id ≡ seat.old.id) }
-        ensures moved { moved L.finds M.turns (λ st r. either (r == st.first) st.second r) (step self.now.table.shared.table_id.slots at old new none) seat.old.me result seat.new.me }
+        ensures moved { moved L.finds M.turns (λ st r. either (r == st.first) st.second r)
+            (step self.now.table.shared.table_id.slots at old new none) seat.old.me result seat.new.me }
     {
         self.table
             .shared

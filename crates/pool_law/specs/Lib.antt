@@ -1,3 +1,5 @@
 pub mod Whole
 pub mod Obligations
+pub mod Asks
 pub mod Growing
+pub mod Keeping

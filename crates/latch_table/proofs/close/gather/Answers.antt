@@ -13,7 +13,7 @@ pub absorb-requires-clause-table : goal.absorb-requires-clause-table
 absorb-requires-clause-table g c =
     let i = c.loop-seat.invariant in
     let idle = last_idle c.args.table c.args.seats.items c.loop-seat.seats.items c.pop-in-loop-seat.new.self.items c.in-Some-pop.seat c.loop-seat.keeper.me.0 c.in-Some-pop.ensures.items i.0 in
-    (i.1, idle.0.table, c.requires.some_word)
+    (i.1, idle.0.table)
 
 pub absorb-requires-clause-seats : goal.absorb-requires-clause-seats
 absorb-requires-clause-seats g c =
@@ -26,7 +26,7 @@ loop-seat-preserved g c =
     let i = c.loop-seat.invariant in
     let more = gathers_more c.args.table c.args.seats.items c.loop-seat.seats.items c.pop-in-loop-seat.new.self.items c.in-Some-pop.seat c.loop-seat.keeper.me.0 c.in-Some-pop.ensures.items i.0 in
     let e = c.absorb.ensures in
-    (rw e.2 more, e.0 ∙ i.1, ap (λ m. m.0.spent) e.2 ∙ i.2, ap (λ m. m.0.held) e.2 ∙ i.3)
+    (rw e.gathered more, e.same.0 ∙ i.1, ap (λ m. m.0.spent) e.gathered ∙ i.2, ap (λ m. m.0.held) e.gathered ∙ i.3)
 
 pub finish-requires-clause-all : goal.finish-requires-clause-all
 finish-requires-clause-all g c =

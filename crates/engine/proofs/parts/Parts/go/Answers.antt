@@ -9,11 +9,15 @@ use Rattle.wt_code.specs.declared.refusals.Refusal.TheVariants as refusal
 use Rattle.wt_code.specs.declared.refusals.Invalid.TheVariants.{NoCall}
 use Rattle.call_steps.specs.declared.reply.Reply.TheVariants as reply
 use Rattle.engine_world.specs.Laws.{Leads}
+use Rattle.engine.proofs.Ending.{keeps-same}
 use Rattle.engine.proofs.Driving.{rest-step, lent-at}
 use Rattle.engine.proofs.parts.Parts.go.Goals as goal
 
 pub returns-in-Nothing : goal.returns-in-Nothing
-returns-in-Nothing c = λ w st. subst (λ (x : Engine). Leads x w c.args.session (reply.Answer (answers.Refused (refusal.Invalid NoCall)))) c.self.view_is (rest-step e c.args.session c.index.result.now at (sym c.in-Nothing.is ∙ c.next.ensures) w (subst (λ (x : Engine). Stands x w) (sym c.self.view_is) st)) where
+returns-in-Nothing c = record {
+  step = λ w st. subst (λ (x : Engine). Leads x w c.args.session (reply.Answer (answers.Refused (refusal.Invalid NoCall)))) c.self.view_is (rest-step e c.args.session c.index.result.now at (sym c.in-Nothing.is ∙ c.next.ensures) w (subst (λ (x : Engine). Stands x w) (sym c.self.view_is) st));
+  kept = keeps-same c.args.self.now;
+} where
   e : Engine
   e = record { hub = c.self.inside.hub; pieces = c.self.inside.pieces.items; states = c.self.inside.states.items; hazards = c.self.inside.hazards.items; sessions = c.self.inside.sessions.items; systems = c.self.inside.systems.items }
 

@@ -4,6 +4,9 @@ use Rattle.call_steps.specs.State.{State}
 use Rattle.call_steps.specs.declared.next.Next.TheVariants as next
 use Rattle.call_steps.specs.Words.{next_of}
 use Rattle.engine_world.specs.Stands.{Engine, Stands}
+use Rattle.engine.proofs.Ending.{keeps-from}
+use Rattle.call_steps.specs.HubEvents.{Made}
+use Rattle.engine.proofs.TablesKept.{hub-keeps}
 use Rattle.engine.specs.Events.{HasWorld}
 use Rattle.engine.proofs.Driving.{hub-step, lent-at, seated-at}
 use Rattle.engine.proofs.Stepping.{HubLaws}
@@ -21,7 +24,10 @@ hub_event-requires c = seated-at e c.args.session c.index_mut.result.now (subst 
   at = lent-at e.sessions c.args.session c.index_mut.result.now open_one c.index_mut.ensures.value
 
 pub returns : goal.returns
-returns c = λ w st. hub-step laws e c.args.session c.index_mut.result.now c.hub_event.new.state c.hub_event.new.hub c.hub_event.result at on c.hub_event.ensures w (subst (λ (x : Engine). Stands x w) (sym c.self.view_is) st) where
+returns c = record {
+  step = λ w st. hub-step laws e c.args.session c.index_mut.result.now c.hub_event.new.state c.hub_event.new.hub c.hub_event.result at on c.hub_event.ensures w (subst (λ (x : Engine). Stands x w) (sym c.self.view_is) st);
+  kept = keeps-from e c.args.self.now c.self.view_is (record { systems = refl; pieces = refl; states = refl; tables = ap (λ (m : Made). m.1.0.tables) c.hub_event.ensures ∙ hub-keeps e.hub c.args.session c.index_mut.result.now });
+} where
   e : Engine
   e = record { hub = c.self.inside.hub; pieces = c.self.inside.pieces.items; states = c.self.inside.states.items; hazards = c.self.inside.hazards.items; sessions = c.self.inside.sessions.items; systems = c.self.inside.systems.items }
 

@@ -24,7 +24,7 @@ seat_all-seats-requires-clause-rows g c =
     let n = c.len-pieces.ensures in
     let l = c.args.frames.ok.0 in
     let long : length c.pack-parts.result.items ≡ suc (length c.args.frames.items) = pack_length c.args.hub c.args.frames.items c.pack-parts.result.items c.pack-parts.ensures.packed in
-    let o = c.in-Ok-open.ensures.ok in
+    let o = c.in-Ok-open.ensures.table in
     let pieces : c.len-pieces.result + 1 ≡ pieces_in c.in-Ok-open.table = omega (arith, o.1) in
     let r = c.in-Ok.ensures.rows in (
       (λ k d h. r.0 k d h ∙ ap (λ (i : ℕ). replicate i Rattle.pool_law.specs.declared.part.Part.TheVariants.Gone) pieces),

@@ -6,4 +6,4 @@ use Rattle.latch_table.proofs.Keeps.{moves}
 use Rattle.latch_table.proofs.latched.Latched.swap_at.Goals as goal
 
 pub compare_exchange-requires : goal.compare_exchange-requires
-compare_exchange-requires g c = (search rules, search rules, moves (g.L.Law.start _) _ g.L.Law.joint g.L.Law.finds g.M.Turn.turns g.L.Law.find_holds (λ x id v i m n j at t. g.L.Law.turn_keeps x id v i m n j at (g.met.M.Turn.allowed v i _ m n t)) _ c.args.word _ (step c.args.self.now.table.shared.table_id.slots c.args.at c.args.old c.args.new none) (λ st r. either (eqb r st.first) st.second r) c.requires.table.1 c.requires.seat c.requires.turns)
+compare_exchange-requires g c = (search rules, search rules, moves (g.L.Law.start _) _ g.L.Law.joint g.L.Law.finds g.M.Turn.turns g.L.Law.find_holds (λ x id v i m n j at t. g.L.Law.turn_keeps x id v i m n j at (g.met.M.Turn.allowed v i _ m n t)) _ c.args.word _ (step c.args.self.now.table.shared.table_id.slots c.args.at c.args.old c.args.new none) (λ st r. either (eqb r st.first) st.second r) c.requires.place.0 c.requires.seat c.requires.turns)

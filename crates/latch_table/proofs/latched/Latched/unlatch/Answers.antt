@@ -23,13 +23,16 @@ exchange-requires g c =
     (s.table, (_, front_me c.args.seat.now.raw.me c.number_of-at.result p.0 p.2 s.away h))
 
 pub give-requires-clause-table : goal.give-requires-clause-table
-give-requires-clause-table g c =
+give-requires-clause-table g c = c.exchange.ensures.0 ∙ c.requires.seat.table
+
+pub give-requires-clause-place : goal.give-requires-clause-place
+give-requires-clause-place g c =
     let p = c.requires.puts in
     let s = c.requires.seat in
     let f = (s.fit 0 _ p.0 p.1 (ap (λ l. get_elem? l 0) p.4) p.5).0 in
     let e = c.number_of-at.ensures in
     let w = s.wide in
-    (c.exchange.ensures.0 ∙ s.table, omega arith, omega arith)
+    (omega arith, omega arith)
 
 pub give-requires-clause-puts : goal.give-requires-clause-puts
 give-requires-clause-puts g c =

@@ -1,0 +1,52 @@
+use Rattle.std.proofs.Common.{◌≡◌, ◌<◌, ℕ, ap, sym, ◌∙◌, List, [], ◌∷◌, length, subst, arith}
+use Rattle.std.specs.Prelude.{Some, slice_set}
+use Rattle.std.proofs.lemmas.List.{length-set, length-append}
+use Rattle.kv_model.specs.History.{Table}
+use Rattle.leaf_chains.specs.declared.slot.KeyChain.{KeyChain}
+use Rattle.call_steps.specs.declared.frame.FramePiece.{FramePiece}
+use Rattle.engine.proofs.Laying.{LeftOf, laid_piece, one-laid}
+use Rattle.engine.proofs.opening.lay_leaves.Goals as goal
+
+pub loop-chains-preserved-in-Some : goal.loop-chains-preserved-in-Some
+loop-chains-preserved-in-Some c = record {
+  room = (let long = length-set c.loop-chains.pieces c.len-place.result piece in let room = c.loop-chains.invariant.room in let items = ap (λ (l : List (List KeyChain)). length l) c.in-Some.ensures.items ∙ length-append c.pop.new.self.items (c.in-Some.chains ∷ []) in omega arith);
+  rest = subst (λ (p : FramePiece). LeftOf known c.args.leaves.items c.pop.new.self.items (slice_set c.loop-chains.pieces c.len-place.result p)) (sym (ap (λ (n : ℕ). numbered n) c.number_at.ensures))
+      (subst (λ (n : ℕ). LeftOf known c.args.leaves.items c.pop.new.self.items (slice_set c.loop-chains.pieces n (laid_piece known n c.in-Some.chains))) (sym len-is)
+      (one-laid known c.args.leaves.items c.pop.new.self.items c.in-Some.chains c.loop-chains.pieces inside (subst (λ (l : List (List KeyChain)). LeftOf known c.args.leaves.items l c.loop-chains.pieces) c.in-Some.ensures.items c.loop-chains.invariant.rest)));
+} where
+  len-is : c.len-place.result ≡ length c.pop.new.self.items
+  len-is = (let held = c.pop.new.self.ok.0 in let told = c.len-place.ensures in omega arith)
+
+  known : List Table
+  known = c.args.tables.now.tables
+
+  numbered : ℕ → FramePiece
+  numbered n = record { generation = 0; frame = Some (record { table = n; chains = c.in-Some.chains }) }
+
+  piece : FramePiece
+  piece = numbered c.number_at.result
+
+  inside : length c.pop.new.self.items < length c.loop-chains.pieces
+  inside = (let room = c.loop-chains.invariant.room in let items = ap (λ (l : List (List KeyChain)). length l) c.in-Some.ensures.items ∙ length-append c.pop.new.self.items (c.in-Some.chains ∷ []) in omega arith)
+
+pub loop-chains-preserved : goal.loop-chains-preserved
+loop-chains-preserved c = record {
+  room = (let long = length-set c.loop-chains.pieces c.len-place.result piece in let room = c.loop-chains.invariant.room in let items = ap (λ (l : List (List KeyChain)). length l) c.in-Some.ensures.items ∙ length-append c.pop.new.self.items (c.in-Some.chains ∷ []) in omega arith);
+  rest = subst (λ (p : FramePiece). LeftOf known c.args.leaves.items c.pop.new.self.items (slice_set c.loop-chains.pieces c.len-place.result p)) (sym (ap (λ (n : ℕ). numbered n) c.number_at.ensures))
+      (subst (λ (n : ℕ). LeftOf known c.args.leaves.items c.pop.new.self.items (slice_set c.loop-chains.pieces n (laid_piece known n c.in-Some.chains))) (sym len-is)
+      (one-laid known c.args.leaves.items c.pop.new.self.items c.in-Some.chains c.loop-chains.pieces inside (subst (λ (l : List (List KeyChain)). LeftOf known c.args.leaves.items l c.loop-chains.pieces) c.in-Some.ensures.items c.loop-chains.invariant.rest)));
+} where
+  len-is : c.len-place.result ≡ length c.pop.new.self.items
+  len-is = (let held = c.pop.new.self.ok.0 in let told = c.len-place.ensures in omega arith)
+
+  known : List Table
+  known = c.args.tables.now.tables
+
+  numbered : ℕ → FramePiece
+  numbered n = record { generation = 0; frame = Some (record { table = n; chains = c.in-Some.chains }) }
+
+  piece : FramePiece
+  piece = numbered c.number_at.result
+
+  inside : length c.pop.new.self.items < length c.loop-chains.pieces
+  inside = (let room = c.loop-chains.invariant.room in let items = ap (λ (l : List (List KeyChain)). length l) c.in-Some.ensures.items ∙ length-append c.pop.new.self.items (c.in-Some.chains ∷ []) in omega arith)

@@ -1,0 +1,217 @@
+// What an engine does beside the steps of sessions: sessions are opened, and calls of the system are
+// made, each by one event. A function calls the laws that its proof rests on, which do nothing.
+
+ghost use Rattle.std.specs.Prelude.{◌≡◌, ◌⊎◌, ◌<◌, ◌≤◌, ◌+◌, [], Some, length, slice_set, option_map, IfOk, IfErr, OnErr};
+ghost use Rattle.kv_model.specs.Calls.{Create, Set};
+ghost use Rattle.kv_model.specs.History.{named, tables};
+ghost use Rattle.wt_calls.specs.Calls.{system_call_in};
+ghost use Rattle.call_steps.specs.Tables.{first_word};
+ghost use Rattle.engine_world.specs.Stands.{Stands};
+ghost use Rattle.engine_world.specs.Worlds.{World};
+ghost use Rattle.engine.specs.Events.{HasWorld};
+ghost use Rattle.engine.specs.Runs.{IsBuilt, MayAsk, MayMake, StepsOut};
+ghost use Rattle.engine.specs.Sound.{IsSound};
+ghost use Rattle.engine.specs.Systems.{Makes};
+ghost use Rattle.engine.specs.Whole.{MayAnswer, with_session_more};
+
+use crate::parts::Parts;
+use crate::step::Actor;
+use call_steps::{Frame, FramePiece, Reply, SessionState};
+use catalog::{Created, creates_are_judged, creates_suit, names_turn, places_are_named};
+use engine_world::{creates_go, opens_go, sets_go};
+use item::{Formats, Item};
+use leaf_chains::LeafChains;
+use limits::SESSIONS_MAX;
+use std::alloc::Global;
+use wt_calls::{Call, SystemCall};
+use wt_code::{Answer, Invalid, Limit, Refusal};
+
+impl Parts {
+    /// How many sessions are open.
+    pub(crate) fn count(&self) -> u32
+        requires { HasWorld self.now }
+        ensures { result ≡ length self.now.sessions }
+    {
+        self.hub.txns.sessions()
+    }
+
+    /// The formats of the table of this name. `O(log n)` in the tables.
+    pub(crate) fn formats_of(&self, name: &[u8]) -> Option<Formats>
+        ensures { (w : World) → Stands self.now w → result ≡ option_map (λ t. t.formats) (named name.now (tables w.machine.history)) }
+    {
+        names_turn();
+        places_are_named();
+        let place = self.hub.tables.find(name)?;
+        let table = self.hub.tables.table(place)?;
+        Some(table.formats)
+    }
+
+    /// Opens a session, and gives its number.
+    pub(crate) fn open_session(&mut self, alloc: Global) -> Result<u32, Refusal>
+        requires { IsSound self.old }
+        ensures opened { (w : World) → Stands self.old w → IfOk result (λ n. (n ≡ length self.old.sessions) × Stands self.new (with_session_more w)) }
+        ensures more { IfOk result (λ n. length self.new.sessions ≡ length self.old.sessions + 1) }
+        ensures refused { IfErr result (λ r. (r ≡ Refusal.NoMemory) ⊎ ((r ≡ Refusal.Limit Limit.Sessions) × (SESSIONS_MAX ≤ length self.old.sessions))) }
+        ensures kept { OnErr result (self.new ≡ self.old) }
+        ensures sound { IsSound self.new }
+    {
+        opens_go();
+        let state = SessionState::new(alloc)?;
+        self.sessions.reserve(1)?;
+        let session = self.hub.txns.open_session()?;
+        self.sessions.push_reserved(state);
+        Ok(session)
+    }
+
+    /// A call of an actor of the system begins, unless it has one.
+    pub(crate) fn ask(&mut self, number: u32, call: SystemCall) -> Reply
+        requires there { number < length self.old.systems }
+        requires built { IsBuilt call }
+        requires sound { IsSound self.old }
+        ensures steps { (w : World) → Stands self.old w → (later : World) × MayAsk w number (system_call_in call) result later × Stands self.new later }
+        ensures sessions { self.new.sessions ≡ self.old.sessions }
+        ensures sound { IsSound self.new }
+    {
+        if self.systems[number as usize].is_some() {
+            return Reply::Answer(Answer::Refused(Refusal::Invalid(Invalid::InCall)));
+        }
+        self.systems[number as usize] = Some(call);
+        Reply::Started
+    }
+
+    /// The event of the call that an actor of the system has started.
+    pub(crate) fn make(&mut self, alloc: Global, number: u32) -> Reply
+        requires there { number < length self.old.systems }
+        requires sound { IsSound self.old }
+        ensures steps { (w : World) → Stands self.old w → (later : World) × MayMake w number result later × Stands self.new later }
+        ensures sessions { self.new.sessions ≡ self.old.sessions }
+        ensures sound { IsSound self.new }
+    {
+        Reply::Answer(self.make_whole(alloc, number))
+    }
+
+    /// All that is left of the call that an actor of the system has started: one event.
+    pub(crate) fn make_whole(&mut self, alloc: Global, number: u32) -> Answer<Item>
+        requires there { number < length self.old.systems }
+        requires sound { IsSound self.old }
+        ensures steps { (w : World) → Stands self.old w → (later : World) × StepsOut 0 w (Actor.System number) result later × Stands self.new later }
+        ensures sessions { self.new.sessions ≡ self.old.sessions }
+        ensures sound { IsSound self.new }
+    {
+        match self.systems[number as usize].take() {
+            None => Answer::Refused(Refusal::Invalid(Invalid::NoCall)),
+            Some(call) => self.made(alloc, call),
+        }
+    }
+
+    /// A whole call of an actor of the system, unless it has one.
+    pub(crate) fn call_system(
+        &mut self,
+        alloc: Global,
+        number: u32,
+        call: SystemCall,
+    ) -> Answer<Item>
+        requires there { number < length self.old.systems }
+        requires built { IsBuilt call }
+        requires sound { IsSound self.old }
+        ensures steps { (w : World) → Stands self.old w → (later : World) × MayAnswer w (Call.System number call) result later × Stands self.new later }
+        ensures sessions { self.new.sessions ≡ self.old.sessions }
+        ensures sound { IsSound self.new }
+    {
+        if self.systems[number as usize].is_some() {
+            return Answer::Refused(Refusal::Invalid(Invalid::InCall));
+        }
+        self.made(alloc, call)
+    }
+
+    // One event makes the call.
+    fn made(&mut self, alloc: Global, call: SystemCall) -> Answer<Item>
+        requires built { IsBuilt call }
+        requires sound { IsSound self.old }
+        ensures makes { (w : World) → Stands self.old w → Makes self.new w (system_call_in call) result }
+        ensures systems { self.new.systems ≡ self.old.systems }
+        ensures sessions { self.new.sessions ≡ self.old.sessions }
+        ensures sound { IsSound self.new }
+    {
+        match call {
+            SystemCall::Create { table, formats } => self.create(alloc, table.as_bytes(), formats),
+            SystemCall::SetStamps { oldest, stable } => self.set(oldest, stable),
+            _ => Answer::Done,
+        }
+    }
+
+    /// Makes a table, or finds it. Its leaf is empty, in the frame of its place. `O(log n)` in the
+    /// tables, and for a new one a copy of the name.
+    pub(crate) fn create(&mut self, alloc: Global, name: &[u8], formats: Formats) -> Answer<Item>
+        requires { IsSound self.old }
+        ensures makes { (w : World) → Stands self.old w → Makes self.new w (Create name.now formats) result }
+        ensures systems { self.new.systems ≡ self.old.systems }
+        ensures sessions { self.new.sessions ≡ self.old.sessions }
+        ensures sound { IsSound self.new }
+    {
+        creates_go();
+        creates_are_judged();
+        creates_suit();
+        if let Some(fault) = self.hub.fault {
+            return Answer::Refused(Refusal::Panic { fault });
+        }
+        let number = self.hub.tables.next_number();
+        match self.hub.tables.create(alloc, name, formats) {
+            Err(refusal) => Answer::Refused(refusal),
+            Ok(Created::Same(_)) => Answer::Done,
+            Ok(Created::New(place)) => {
+                // What holds of every catalog holds of the one with the new table.
+                let _count = self.hub.tables.len();
+                put_leaf(self.pieces.as_mut_slice(), alloc, place, number);
+                set_first_word(self.states.as_mut_slice(), place);
+                Answer::Done
+            }
+        }
+    }
+
+    /// Raises the oldest and the stable stamp. `O(1)`.
+    pub(crate) fn set(&mut self, oldest: Option<u64>, stable: Option<u64>) -> Answer<Item>
+        requires { IsSound self.old }
+        ensures makes { (w : World) → Stands self.old w → Makes self.new w (Set oldest stable) result }
+        ensures systems { self.new.systems ≡ self.old.systems }
+        ensures sessions { self.new.sessions ≡ self.old.sessions }
+        ensures sound { IsSound self.new }
+    {
+        sets_go();
+        if let Some(fault) = self.hub.fault {
+            return Answer::Refused(Refusal::Panic { fault });
+        }
+        if let Err(reason) = self.hub.stamps.set(oldest, stable) {
+            return Answer::Refused(Refusal::Invalid(reason));
+        }
+        Answer::Done
+    }
+}
+
+// The state word of a frame that has the first leaf that it ever had.
+const FIRST_WORD: u64 = 1;
+
+// An empty leaf of the table of this number.
+fn put_leaf(pieces: &mut [FramePiece], alloc: Global, place: u32, number: u32)
+    ensures { pieces.new ≡ slice_set pieces.old place (record { generation = 0; frame = Some (record { table = number; chains = [] }) }) }
+{
+    let at = place as usize;
+    if at < pieces.len() {
+        pieces[at] = FramePiece {
+            generation: 0,
+            frame: Some(Frame {
+                table: number,
+                chains: LeafChains::new(alloc),
+            }),
+        };
+    }
+}
+
+fn set_first_word(states: &mut [u64], place: u32)
+    ensures { states.new ≡ slice_set states.old place first_word }
+{
+    let at = place as usize;
+    if at < states.len() {
+        states[at] = FIRST_WORD;
+    }
+}

@@ -1,0 +1,4 @@
+pub mod Turning
+pub mod Staying
+pub mod PinSteps
+pub mod Beginning

@@ -1,0 +1,4 @@
+pub mod Laws
+pub mod Sessions
+pub mod Asks
+pub mod Leaves

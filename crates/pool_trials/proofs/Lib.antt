@@ -1,0 +1,4 @@
+pub mod Pairs
+pub mod Held
+pub mod Begins
+pub mod Keeping
