@@ -8,9 +8,11 @@
 //! those who open and close it.
 #![tactic(auto)]
 
+mod local;
 mod opening;
 mod parts;
 mod step;
 mod system;
 
+pub use local::Local;
 pub use step::{Actor, Step};
