@@ -121,3 +121,15 @@ moved-then w middle last session told inside is go = go.leaves ∙ (ap (λ (x : 
 
       does-is : go.made.doing ≡ doing_of last session
       does-is = sym (ap (λ (x : World). doing_of x session) go.leaves ∙ get_or-set_same middle.sessions session go.made.doing Resting long)
+
+-- ---- how many sessions there are
+
+one-length : (w later : World) (session : ℕ) (told : Reply) → MayGo w session told later → length later.sessions ≡ length w.sessions
+one-length w later session told go = ap (λ (x : World). length x.sessions) go.leaves ∙ length-set w.sessions session go.made.doing
+
+out-length : (n : ℕ) (w last : World) (session : ℕ) (answer : Answer (List ℕ)) → StepsOut n w (actor.Session session) answer last → length last.sessions ≡ length w.sessions
+out-length zero w last session answer go = one-length w last session (reply.Answer answer) go
+out-length (suc n) w last session answer steps = out-length n steps.0 last session answer steps.2 ∙ one-length w steps.0 session reply.More steps.1
+
+pub ends-length : (old new : Engine) (w : World) (session : ℕ) (answer : Answer (List ℕ)) → Stands old w → Ends new w (actor.Session session) answer → length new.sessions ≡ length old.sessions
+ends-length old new w session answer st e = sym e.stands.doings ∙ (out-length e.steps w e.last session answer e.out ∙ st.doings)

@@ -1,6 +1,6 @@
 // The engine of one thread.
 
-ghost use Rattle.std.specs.Prelude.{◌⊎◌, ℕ, ◌≡◌, ◌<◌, ◌≤◌, ◌+◌, ◌^◌, length, IfOk, IfErr, OnErr, option_map, map};
+ghost use Rattle.std.specs.Prelude.{◌≡◌, ◌⊎◌, ◌<◌, ◌≤◌, ◌+◌, ◌^◌, ℕ, length, IfOk, IfErr, OnErr, option_map};
 ghost use Rattle.limits.specs.declared.TheConstants.{SESSIONS_MAX, TABLES_MAX};
 ghost use Rattle.kv_model.specs.Content.{Content};
 ghost use Rattle.kv_model.specs.History.{named, tables};
@@ -106,8 +106,18 @@ impl Local {
         match step {
             Step::Start(Call::Session(session, call)) => self.parts.start(alloc, session, call),
             Step::Start(Call::System(number, call)) => self.parts.ask(number, call),
-            Step::Go(Actor::Session(session)) => self.parts.go(alloc, session),
-            Step::Go(Actor::System(number)) => self.parts.make(alloc, number),
+            Step::Go(actor) => self.go(alloc, actor),
+        }
+    }
+
+    fn go(&mut self, alloc: Global, actor: Actor) -> Reply
+        requires { StepFits self.old (Step.Go actor) }
+        ensures step { (w : World) → Stands self.old w → (later : World) × MayStep w (Step.Go actor) result later × Stands self.new later }
+        ensures sessions { length self.new.sessions ≡ length self.old.sessions }
+    {
+        match actor {
+            Actor::Session(session) => self.parts.go(alloc, session),
+            Actor::System(number) => self.parts.make(alloc, number),
         }
     }
 

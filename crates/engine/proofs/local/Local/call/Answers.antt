@@ -1,0 +1,8 @@
+use Rattle.std.proofs.Common.{sym, subst}
+use Rattle.engine_world.specs.Stands.{Engine, Stands}
+use Rattle.engine.specs.Whole.{MayAnswer}
+use Rattle.engine.proofs.local.Local.call.Goals as goal
+
+pub returns-in-System-clause-answer : goal.returns-in-System-clause-answer
+returns-in-System-clause-answer c = λ w st. let r = c.call_system.ensures.steps w (subst (λ (e : Engine). Stands e w) (sym c.self.view_is) st) in
+    (r.0, subst (λ made. MayAnswer w made c.call_system.result r.0) (sym c.in-System.is) r.1, r.2)

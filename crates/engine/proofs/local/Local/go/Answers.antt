@@ -1,0 +1,13 @@
+use Rattle.std.proofs.Common.{ap, sym, subst}
+use Rattle.engine_world.specs.Stands.{Engine, Stands}
+use Rattle.engine.specs.declared.step.Step.TheVariants.{Go}
+use Rattle.engine.specs.Runs.{MayStep}
+use Rattle.engine.proofs.local.Local.go.Goals as goal
+
+pub returns-in-Session-clause-step : goal.returns-in-Session-clause-step
+returns-in-Session-clause-step c = λ w st. let r = c.go.ensures.step w (subst (λ (e : Engine). Stands e w) (sym c.self.view_is) st) in
+    (r.0, subst (λ who. MayStep w (Go who) c.go.result r.0) (sym c.in-Session.is) r.1, r.2)
+
+pub returns-in-System-clause-step : goal.returns-in-System-clause-step
+returns-in-System-clause-step c = λ w st. let r = c.make.ensures.steps w (subst (λ (e : Engine). Stands e w) (sym c.self.view_is) st) in
+    (r.0, subst (λ who. MayStep w (Go who) c.make.result r.0) (sym c.in-System.is) r.1, r.2)
