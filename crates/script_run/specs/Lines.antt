@@ -28,11 +28,6 @@ EndsSo ended bytes line behind =
 abbrev pub IsCut : Bool → List ℕ → List ℕ → List ℕ → Type 0
 IsCut ended bytes line behind = (is_unbroken line ≡ true) × EndsSo ended bytes line behind
 
--- the lines at the front of the bytes, one after the other, and what is behind them
-abbrev pub AreLines : Bool → List ℕ → List (List ℕ) → List ℕ → Type 0
-AreLines ended bytes [] behind = bytes ≡ behind
-AreLines ended bytes (line ∷ lines) behind = (middle : List ℕ) × IsCut ended bytes line middle × AreLines ended middle lines behind
-
 -- ---- what a reader does
 
 -- it reads into its empty buffer

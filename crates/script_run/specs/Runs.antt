@@ -1,10 +1,9 @@
 -- What the functions of a run do.
-use Rattle.std.specs.Prelude.{◌≡◌, ◌⊎◌, ◌<◌, ◌∷◌, ◌++◌, [], ℕ, List, Bool, Option, None, Some, Result, Ok, Err, IsTrue, length}
+use Rattle.std.specs.Prelude.{◌≡◌, ◌⊎◌, ◌<◌, ◌∷◌, ◌++◌, [], ℕ, List, Option, None, Some, Result, Ok, Err, length}
 use Rattle.item.specs.declared.formats.Formats.{Formats}
 use Rattle.wt_code.specs.declared.refusals.Refusal.{Refusal}
 use Rattle.wt_code.specs.declared.refusals.Refusal.TheVariants.{NoMemory}
 use Rattle.wt_calls.specs.declared.call.Call.{Call}
-use Rattle.wt_io.specs.Streams.{AtEnd, Gave, Took}
 use Rattle.script_text.specs.declared.line.Line.{Line}
 use Rattle.script_text.specs.declared.line.Line.TheVariants.{Whole, Start, Step, Finish, Control}
 use Rattle.script_text.specs.declared.replies.Reply.{Reply}
@@ -15,10 +14,7 @@ use Rattle.engine_world.specs.Worlds.{World}
 use Rattle.engine.specs.declared.step.Actor.{Actor}
 use Rattle.engine.specs.declared.step.Actor.TheVariants as by
 use Rattle.script_run.specs.declared.one_line.Told.{Told}
-use Rattle.script_run.specs.declared.script.ScriptEnd.{ScriptEnd}
-use Rattle.script_run.specs.declared.script.ScriptEnd.TheVariants.{Through}
-use Rattle.script_run.specs.Lines.{AreLines}
-use Rattle.script_run.specs.Scripts.{Answers, Begins, Ends, Goes, Ran, Refuses, Replies, RunsLines, Script, Streams, IsLater, NoSession, actor_in, caller, fresh, missing, opened_more}
+use Rattle.script_run.specs.Scripts.{Answers, Begins, Ends, Goes, Refuses, Replies, Script, IsLater, NoSession, actor_in, caller, missing, opened_more}
 
 -- one of the four actors of the system, or any session
 abbrev pub IsKnown : Actor → Type 0
@@ -83,20 +79,3 @@ LineMade text s e kept (Some printed) =
 -- for want of memory nothing was made of it, or its reply is not printed
 abbrev pub LineStops : List ℕ → Script → Engine → List Formats → Type 0
 LineStops text s e kept = IsUntouched s e kept ⊎ ((asked : Line) × (formats : Formats) × (reply : Reply) × IsLineRun text s e kept asked formats reply)
-
--- a run of a script: what the input gave, the lines of that, and what they make
-pub record IsRun (o : Streams) (left written written' : Option (List ℕ)) (w : World) (e : Engine) (told : ScriptEnd) : Type 0 where
-  pub given : List ℕ
-  pub gave : Gave left o.left given
-  pub texts : List (List ℕ)
-  pub behind : List ℕ
-  pub ended : Bool
-  pub at_end : IsTrue ended → AtEnd o.left
-  pub lines : AreLines ended given texts behind
-  pub ran : Ran
-  pub runs : RunsLines o 1 0 texts (fresh w) ran
-  pub took : Took written written' ran.text
-  pub end : told ≡ ran.end
-  -- at its end there is no byte behind the last line
-  pub whole : told ≡ Through → behind ≡ []
-  pub stands : Stands e ran.last.world

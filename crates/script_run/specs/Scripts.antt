@@ -1,7 +1,6 @@
--- What the lines of a script reply, what each leaves, and how a script ends.
-use Rattle.std.specs.Prelude.{◌≡◌, ◌⊎◌, ◌<◌, ◌≤◌, ◌+◌, ◌-◌, ℕ, zero, suc, List, [], ◌∷◌, ◌++◌, length, take, replicate, slice_index_or, slice_set, Option}
+-- What the lines of a script reply, and what each leaves.
+use Rattle.std.specs.Prelude.{◌≡◌, ◌⊎◌, ◌<◌, ◌≤◌, ◌+◌, ◌-◌, ℕ, zero, suc, List, length, slice_index_or, slice_set}
 use Rattle.limits.specs.declared.TheConstants.{SESSIONS_MAX}
-use Rattle.failure.specs.Counts.{Rose}
 use Rattle.item.specs.declared.formats.Format.TheVariants.{U}
 use Rattle.item.specs.declared.formats.Formats.{Formats}
 use Rattle.wt_code.specs.declared.answers.Answer.{Answer}
@@ -9,8 +8,6 @@ use Rattle.wt_code.specs.declared.answers.Answer.TheVariants as answers
 use Rattle.wt_code.specs.declared.refusals.Refusal.{Refusal}
 use Rattle.wt_code.specs.declared.refusals.Refusal.TheVariants as refusal
 use Rattle.wt_code.specs.declared.refusals.Limit.TheVariants.{Sessions}
-use Rattle.wt_code.specs.declared.refusals.Invalid.TheVariants.{Text}
-use Rattle.wt_io.specs.Streams.{AtEnd}
 use Rattle.kv_model.specs.History.{named, tables}
 use Rattle.kv_model.specs.Machine.{Machine, of_some}
 use Rattle.wt_calls.specs.declared.call.Call.{Call}
@@ -23,8 +20,6 @@ use Rattle.script_text.specs.declared.line.Line.{Line}
 use Rattle.script_text.specs.declared.line.Line.TheVariants.{Whole, Start, Step, Finish, Control}
 use Rattle.script_text.specs.declared.replies.Reply.{Reply}
 use Rattle.script_text.specs.declared.replies.Reply.TheVariants.{Started, More, Answered}
-use Rattle.script_text.specs.Grammar.{IsLine}
-use Rattle.script_text.specs.Replies.{line_of_reply}
 use Rattle.script_text.specs.Stored.{table_of_items, stored_call}
 use Rattle.engine_world.specs.Worlds.{World}
 use Rattle.engine.specs.declared.step.Actor.{Actor as EngineActor}
@@ -32,9 +27,6 @@ use Rattle.engine.specs.declared.step.Actor.TheVariants as by
 use Rattle.engine.specs.declared.step.Step.TheVariants as step
 use Rattle.engine.specs.Runs.{MayStep, StepsOut, IsBuilt}
 use Rattle.engine.specs.Whole.{MayAnswer, with_session_more}
-use Rattle.script_run.specs.declared.script.ScriptEnd.{ScriptEnd}
-use Rattle.script_run.specs.declared.script.ScriptEnd.TheVariants.{Through, Stopped, InputFailed, OutputFailed}
-use Rattle.script_run.specs.declared.script.TheConstants.{INPUT_MAX}
 
 -- between two lines: the world, and by session the formats of the call that it has started
 pub record Script : Type 0 where
@@ -43,10 +35,6 @@ pub record Script : Type 0 where
 
 abbrev pub plain : Formats
 plain = record { key = U; value = U }
-
--- before the first line
-abbrev pub fresh : World → Script
-fresh w = record { world = w; formats = replicate SESSIONS_MAX plain }
 
 -- the formats of the items of a call; plain where its table is not there
 abbrev pub formats_in : Machine → Call → Formats
@@ -165,52 +153,3 @@ Replies (Start made) s formats reply later =
 Replies (Step who) s formats reply later = Opens (actor_in who) s.world (λ w. Goes (actor_in who) s formats reply later w) (λ r w. Refuses r s w reply later)
 Replies (Finish who) s formats reply later = Opens (actor_in who) s.world (λ w. Ends (actor_in who) s formats reply later w) (λ r w. Refuses r s w reply later)
 Replies (Control asked) s formats reply later = ⊥
-
--- the refusal that a reply tells, if it does
-abbrev pub refusals_in : Reply → List Refusal
-refusals_in (Answered (answers.Refused r)) = r ∷ []
-refusals_in _ = []
-
--- ---- runs
-
--- what is printed, and which refusals stand in it
-pub record Ran : Type 0 where
-  pub text : List ℕ
-  pub replies : List Refusal
-  pub last : Script
-  pub end : ScriptEnd
-
-abbrev pub ends : ScriptEnd → Script → Ran
-ends end s = record { text = []; replies = []; last = s; end = end }
-
-abbrev pub prints : List ℕ → Reply → Ran → Ran
-prints line reply ran = record ran { text = line ++ 10 ∷ ran.text; replies = refusals_in reply ++ ran.replies }
-
--- what is left of the input, and how often each stream had failed before and has failed now
-pub record Streams : Type 0 where
-  pub left : Option (List ℕ)
-  pub input_before : ℕ
-  pub input_now : ℕ
-  pub output_before : ℕ
-  pub output_now : ℕ
-
--- the line is none, is of a later stage, or has a byte behind those that an input may have
-abbrev pub IsNone : ℕ → List ℕ → Type 0
-IsNone used text = ((asked : Line) → IsLine text asked → IsLater asked) ⊎ (INPUT_MAX < used + length text)
-
--- what is printed of a reply and what follows: all and the lines behind it, a front of it where the output fails, or nothing for want of memory
-abbrev pub Prints : Streams → List ℕ → (Ran → Type 0) → List (List ℕ) → Reply → Script → Ran → Type 0
-Prints o line Rest texts reply later ran =
-    ((rest : Ran) × (ran ≡ prints line reply rest) × Rest rest)
-    ⊎ (((n : ℕ) × (texts ≡ []) × Rose o.output_before o.output_now × (n < length (line ++ 10 ∷ [])) × (ran ≡ record (ends OutputFailed later) { text = take n (line ++ 10 ∷ []) }))
-    ⊎ ((texts ≡ []) × (ran ≡ ends (Stopped refusal.NoMemory) later)))
-
--- the lines in order, the first of them with this number, behind so many bytes of lines with their newlines
-abbrev pub RunsLines : Streams → ℕ → ℕ → List (List ℕ) → Script → Ran → Type 0
-RunsLines o at used [] s ran =
-    (AtEnd o.left × (ran ≡ ends Through s)) ⊎ ((Rose o.input_before o.input_now × (ran ≡ ends InputFailed s)) ⊎ (ran ≡ ends (Stopped refusal.NoMemory) s))
-RunsLines o at used (text ∷ texts) s ran =
-    (IsNone used text × (texts ≡ []) × (ran ≡ ends (Stopped (refusal.Invalid (Text at))) s))
-    ⊎ (((texts ≡ []) × (ran ≡ ends (Stopped refusal.NoMemory) s))
-    ⊎ ((used + length text ≤ INPUT_MAX) × (asked : Line) × (formats : Formats) × (reply : Reply) × (later : Script) × IsLine text asked × (IsLater asked → ⊥) × Replies asked s formats reply later
-    × Prints o (line_of_reply formats reply) (λ rest. RunsLines o (at + 1) (used + (length text + 1)) texts later rest) texts reply later ran))

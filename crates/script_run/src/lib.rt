@@ -1,16 +1,16 @@
-//! A script over the engine: lines of text, each a call or a step of one, and a line of text for each
-//! reply.
+//! The lines of a script, one by one, over the engine: each is a call or a step of one, and its reply
+//! is a line of text.
 //!
-//! It stands for `specs/Scripts`, which says what a line replies, what it leaves and how a script
-//! ends. Promises that the lines of the input are run in order, that what is printed are the lines
-//! that tell their replies, and that the engine is left as the lines that were run leave it. Leaves
-//! to the caller where the engine comes from, and what is told of a script that stopped.
+//! It stands for `specs/Lines`, which says how an input is cut into lines, and for `specs/Scripts`,
+//! which says what a line replies and what it leaves. Promises that a reader gives the lines of its
+//! input in order, that a line is run as it says, that what is printed tells its reply, and that
+//! bytes which are no line, or one of a later stage, change nothing. Leaves to the caller the turn
+//! from line to line, the formats that are kept by session, where the engine comes from, and what
+//! is told of bytes that are no line.
 #![tactic(auto)]
 
 mod lines;
 mod one_line;
-mod script;
-#[cfg(test)]
-mod tests;
 
-pub use script::{INPUT_MAX, ScriptEnd, run_script};
+pub use lines::{Lines, NoLine};
+pub use one_line::{PLAIN, run_line};

@@ -14,7 +14,7 @@ use wt_io::Source;
 
 /// Why there is no line.
 #[derive(Clone, Copy, PartialEq, Eq, Debug)]
-pub(crate) enum NoLine {
+pub enum NoLine {
     /// The source failed.
     Failed,
     /// Memory is wanted.
@@ -39,7 +39,7 @@ impl From<NoMemory> for NoLine {
 
 /// A reader of lines. Its buffer and its line are used again for each.
 #[derive(Drop)]
-pub(crate) struct Lines {
+pub struct Lines {
     buffer: Vec<u8>,
     // The bytes of the buffer that are not taken yet.
     at: usize,
@@ -64,7 +64,7 @@ const PIECE: usize = 4_096;
 
 impl Lines {
     /// A reader that has read nothing.
-    pub(crate) fn new(alloc: Global) -> Result<Lines, NoMemory>
+    pub fn new(alloc: Global) -> Result<Lines, NoMemory>
         ensures { IfOk result (λ l. l ≡ record { behind = []; line = []; ended = false }) }
     {
         let buffer = vec![in alloc; 0u8; PIECE]?;
@@ -78,7 +78,7 @@ impl Lines {
     }
 
     /// The line that was read last, without its newline.
-    pub(crate) fn line(&self) -> &[u8]
+    pub fn line(&self) -> &[u8]
         ensures { result.now ≡ self.now.line }
     {
         self.line.as_slice()
@@ -86,7 +86,7 @@ impl Lines {
 
     /// Reads the next line, and tells whether there is one. It ends at its newline, at the end of
     /// the input, or at its byte behind the greatest length.
-    pub(crate) fn next<S: Source>(&mut self, input: &mut S) -> Result<bool, NoLine>
+    pub fn next<S: Source>(&mut self, input: &mut S) -> Result<bool, NoLine>
         requires { IsTrue self.old.ended → AtEnd (S.left input.old) }
         ensures line { (given : List ℕ) × Gave (S.left input.old) (S.left input.new) given × IfOk result (λ some. NextLine some self.old self.new given) }
         ensures ended { IfOk result (λ some. IsTrue self.new.ended → AtEnd (S.left input.new)) }

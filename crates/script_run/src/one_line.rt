@@ -21,8 +21,8 @@ use std::alloc::Global;
 use wt_calls::{Call, SystemCall};
 use wt_code::{Answer, Refusal};
 
-/// The formats in which items are told that are of no table.
-pub(crate) const PLAIN: Formats = Formats {
+/// The formats in which items are told that are of no table. Those that are kept at first.
+pub const PLAIN: Formats = Formats {
     key: Format::U,
     value: Format::U,
 };
@@ -36,7 +36,7 @@ pub(crate) struct Told {
 
 /// Runs a line, and gives the line that is printed, with its newline; none where the bytes are no
 /// line, or one of a later stage. Where memory is wanted, what the line asks for may be done.
-pub(crate) fn run_line(
+pub fn run_line(
     alloc: Global,
     local: &mut Local,
     formats: &mut [Formats],
