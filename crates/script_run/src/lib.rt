@@ -11,6 +11,8 @@
 
 mod lines;
 mod one_line;
+#[cfg(test)]
+mod tests;
 
 pub use lines::{Lines, NoLine};
 pub use one_line::{PLAIN, run_line};
