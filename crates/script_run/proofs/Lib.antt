@@ -1,0 +1,5 @@
+pub mod Cutting
+pub mod Taking
+pub mod Opening
+pub mod Replying
+pub mod Bases

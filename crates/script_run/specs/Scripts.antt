@@ -1,0 +1,155 @@
+-- What the lines of a script reply, and what each leaves.
+use Rattle.std.specs.Prelude.{◌≡◌, ◌⊎◌, ◌<◌, ◌≤◌, ◌+◌, ◌-◌, ℕ, zero, suc, List, length, slice_index_or, slice_set}
+use Rattle.limits.specs.declared.TheConstants.{SESSIONS_MAX}
+use Rattle.item.specs.declared.formats.Format.TheVariants.{U}
+use Rattle.item.specs.declared.formats.Formats.{Formats}
+use Rattle.wt_code.specs.declared.answers.Answer.{Answer}
+use Rattle.wt_code.specs.declared.answers.Answer.TheVariants as answers
+use Rattle.wt_code.specs.declared.refusals.Refusal.{Refusal}
+use Rattle.wt_code.specs.declared.refusals.Refusal.TheVariants as refusal
+use Rattle.wt_code.specs.declared.refusals.Limit.TheVariants.{Sessions}
+use Rattle.kv_model.specs.History.{named, tables}
+use Rattle.kv_model.specs.Machine.{Machine, of_some}
+use Rattle.wt_calls.specs.declared.call.Call.{Call}
+use Rattle.wt_calls.specs.declared.call.Call.TheVariants as call
+use Rattle.call_steps.specs.declared.reply.Reply.{Reply as Told}
+use Rattle.call_steps.specs.declared.reply.Reply.TheVariants as told
+use Rattle.script_text.specs.declared.line.Actor.{Actor}
+use Rattle.script_text.specs.declared.line.Actor.TheVariants as actor
+use Rattle.script_text.specs.declared.line.Line.{Line}
+use Rattle.script_text.specs.declared.line.Line.TheVariants.{Whole, Start, Step, Finish, Control}
+use Rattle.script_text.specs.declared.replies.Reply.{Reply}
+use Rattle.script_text.specs.declared.replies.Reply.TheVariants.{Started, More, Answered}
+use Rattle.script_text.specs.Stored.{table_of_items, stored_call}
+use Rattle.engine_world.specs.Worlds.{World}
+use Rattle.engine.specs.declared.step.Actor.{Actor as EngineActor}
+use Rattle.engine.specs.declared.step.Actor.TheVariants as by
+use Rattle.engine.specs.declared.step.Step.TheVariants as step
+use Rattle.engine.specs.Runs.{MayStep, StepsOut, IsBuilt}
+use Rattle.engine.specs.Whole.{MayAnswer, with_session_more}
+
+-- between two lines: the world, and by session the formats of the call that it has started
+pub record Script : Type 0 where
+  pub world : World
+  pub formats : List Formats
+
+abbrev pub plain : Formats
+plain = record { key = U; value = U }
+
+-- the formats of the items of a call; plain where its table is not there
+abbrev pub formats_in : Machine → Call → Formats
+formats_in m made = of_some plain (λ name. of_some plain (λ t. t.formats) (named name (tables m.history))) (table_of_items made)
+
+-- a call, and a line, of a later stage
+abbrev pub IsLaterCall : Call → Type 0
+IsLaterCall (call.Session session made) = ⊥
+IsLaterCall (call.System number made) = IsBuilt made → ⊥
+
+abbrev pub IsLater : Line → Type 0
+IsLater (Whole made) = IsLaterCall made
+IsLater (Start made) = IsLaterCall made
+IsLater (Step who) = ⊥
+IsLater (Finish who) = ⊥
+IsLater (Control asked) = Unit {0}
+
+-- ---- actors
+
+abbrev pub caller : Call → EngineActor
+caller (call.Session session made) = by.Session session
+caller (call.System number made) = by.System number
+
+abbrev pub actor_in : Actor → EngineActor
+actor_in (actor.Session session) = by.Session session
+actor_in (actor.System number) = by.System number
+
+-- sessions are opened, so many
+abbrev pub opened_more : ℕ → World → World
+opened_more zero w = w
+opened_more (suc n) w = opened_more n (with_session_more w)
+
+-- how many sessions are to be opened, so that the actor is there
+abbrev pub missing : EngineActor → World → ℕ
+missing (by.Session session) w = (session + 1) - length w.sessions
+missing (by.System number) w = 0
+
+-- why no session more is opened: memory is wanted, or there are as many as there may be
+abbrev pub NoSession : Refusal → World → Type 0
+NoSession r w = (r ≡ refusal.NoMemory) ⊎ ((r ≡ refusal.Limit Sessions) × (SESSIONS_MAX ≤ length w.sessions))
+
+-- a session that is used is opened first, with all below it
+abbrev pub Opens : EngineActor → World → (World → Type 0) → (Refusal → World → Type 0) → Type 0
+Opens who w Goes Ends =
+    Goes (opened_more (missing who w) w)
+    ⊎ ((n : ℕ) × (r : Refusal) × (n < missing who w) × NoSession r (opened_more n w) × Ends r (opened_more n w))
+
+-- the formats that are kept of the call that an actor has started
+abbrev pub kept_formats : EngineActor → List Formats → Formats
+kept_formats (by.Session session) kept = slice_index_or kept session plain
+kept_formats (by.System number) kept = plain
+
+abbrev pub kept_more : EngineActor → Formats → List Formats → List Formats
+kept_more (by.Session session) formats kept = slice_set kept session formats
+kept_more (by.System number) formats kept = kept
+
+-- ---- replies
+
+abbrev pub in_script : Told → Reply
+in_script told.Started = Started
+in_script told.More = More
+in_script (told.Answer answer) = Answered answer
+
+-- nothing was made of the line
+abbrev pub Refuses : Refusal → Script → World → Reply → Script → Type 0
+Refuses r s w reply later = (reply ≡ Answered (answers.Refused r)) × (later ≡ record s { world = w })
+
+-- the whole call is made
+pub record Answers (made : Call) (s : Script) (formats : Formats) (reply : Reply) (later : Script) (w : World) : Type 0 where
+  pub formats_are : formats ≡ formats_in w.machine made
+  pub answer : Answer (List ℕ)
+  pub next : World
+  pub answered : MayAnswer w (stored_call formats made) answer next
+  pub told : reply ≡ Answered answer
+  pub leaves : later ≡ record s { world = next }
+
+-- what is kept after a call was to start
+abbrev pub kept_after : Told → EngineActor → Formats → List Formats → List Formats
+kept_after told.Started who formats kept = kept_more who formats kept
+kept_after _ who formats kept = kept
+
+-- the call is started; where its actor has one already, that is its answer
+pub record Begins (made : Call) (s : Script) (formats : Formats) (reply : Reply) (later : Script) (w : World) : Type 0 where
+  pub formats_are : formats ≡ formats_in w.machine made
+  pub t : Told
+  pub next : World
+  pub stepped : MayStep w (step.Start (stored_call formats made)) t next
+  pub told : reply ≡ in_script t
+  pub leaves : later ≡ record { world = next; formats = kept_after t (caller made) formats s.formats }
+
+-- one step is made
+pub record Goes (who : EngineActor) (s : Script) (formats : Formats) (reply : Reply) (later : Script) (w : World) : Type 0 where
+  pub formats_are : formats ≡ kept_formats who s.formats
+  pub t : Told
+  pub next : World
+  pub stepped : MayStep w (step.Go who) t next
+  pub told : reply ≡ in_script t
+  pub leaves : later ≡ record s { world = next }
+
+-- the steps that are left are made
+pub record Ends (who : EngineActor) (s : Script) (formats : Formats) (reply : Reply) (later : Script) (w : World) : Type 0 where
+  pub formats_are : formats ≡ kept_formats who s.formats
+  pub count : ℕ
+  pub answer : Answer (List ℕ)
+  pub next : World
+  pub stepped : StepsOut count w who answer next
+  pub told : reply ≡ Answered answer
+  pub leaves : later ≡ record s { world = next }
+
+-- the reply to a line, in these formats, and what it leaves
+abbrev pub Replies : Line → Script → Formats → Reply → Script → Type 0
+Replies (Whole made) s formats reply later =
+    Opens (caller made) s.world (λ w. Answers made s formats reply later w ⊎ Refuses refusal.NoMemory s w reply later) (λ r w. Refuses r s w reply later)
+Replies (Start made) s formats reply later =
+    Opens (caller made) s.world (λ w. Begins made s formats reply later w ⊎ Refuses refusal.NoMemory s w reply later) (λ r w. Refuses r s w reply later)
+Replies (Step who) s formats reply later = Opens (actor_in who) s.world (λ w. Goes (actor_in who) s formats reply later w) (λ r w. Refuses r s w reply later)
+Replies (Finish who) s formats reply later = Opens (actor_in who) s.world (λ w. Ends (actor_in who) s formats reply later w) (λ r w. Refuses r s w reply later)
+Replies (Control asked) s formats reply later = ⊥
