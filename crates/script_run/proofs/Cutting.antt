@@ -1,9 +1,9 @@
 -- Bytes without a newline, and what a source gives in pieces.
-use Rattle.std.proofs.Common.{◌≡◌, ◌≢◌, ◌∙◌, ◌++◌, ◌+◌, ◌≤◌, ◌<◌, ℕ, zero, suc, List, [], ◌∷◌, length, take, drop, refl, sym, ap, subst, inl, inr, get_or, append_assoc, arith}
+use Rattle.std.proofs.Common.{◌≡◌, ◌≢◌, ◌∙◌, ◌++◌, ◌+◌, ◌<◌, ℕ, zero, suc, List, [], ◌∷◌, length, take, refl, sym, ap, subst, get_or, append_assoc}
 use Rattle.std.specs.Prelude.{Option, Some, None, ◌==◌, ◌&&◌, not, Bool, true, false}
-use Rattle.std.proofs.lemmas.Bool.{cases_Bool, ne_eqb, false≢true}
-use Rattle.std.proofs.lemmas.List.{append-nil, take_more}
-use Rattle.wt_io.specs.Streams.{AtEnd, Gave}
+use Rattle.std.proofs.lemmas.Bool.{ne_eqb, false≢true}
+use Rattle.std.proofs.lemmas.List.{take_more}
+use Rattle.wt_io.specs.Streams.{Gave}
 use Rattle.script_run.specs.Lines.{is_unbroken}
 
 -- ---- bytes without a newline

@@ -1,5 +1,5 @@
 -- What a reader takes from its buffer to its line.
-use Rattle.std.proofs.Common.{◌≡◌, ◌≢◌, ◌∙◌, ◌++◌, ◌+◌, ◌-◌, ◌≤◌, ◌<◌, ℕ, suc, List, [], ◌∷◌, length, take, drop, refl, sym, ap, subst, inl, inr, get_or, append_assoc, take-append-drop, drop-cons, length-append, length-drop, length-take, arith}
+use Rattle.std.proofs.Common.{◌≡◌, ◌≢◌, ◌∙◌, ◌++◌, ◌+◌, ◌-◌, ◌≤◌, ◌<◌, ℕ, suc, List, ◌∷◌, length, take, drop, refl, sym, ap, subst, inl, inr, get_or, append_assoc, take-append-drop, drop-cons, length-append, length-drop, arith}
 use Rattle.std.specs.Prelude.{Bool, true, false}
 use Rattle.std.proofs.lemmas.List.{take-take, take_all, drop-take, drop-drop, length-take-le, nil_from_length}
 use Rattle.script_text.specs.declared.parse.TheConstants.{LINE_MAX}

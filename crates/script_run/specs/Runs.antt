@@ -1,4 +1,4 @@
--- What the functions of a run do.
+-- What the functions that run a line do.
 use Rattle.std.specs.Prelude.{◌≡◌, ◌⊎◌, ◌<◌, ◌∷◌, ◌++◌, [], ℕ, List, Option, None, Some, Result, Ok, Err, length}
 use Rattle.item.specs.declared.formats.Formats.{Formats}
 use Rattle.wt_code.specs.declared.refusals.Refusal.{Refusal}
@@ -47,10 +47,12 @@ pub record IsReplied (asked : Line) (s : Script) (told : Told) (e : Engine) (kep
 
 -- where the actor is there: the call was made, started, stepped or finished, and told so
 abbrev pub IsAnswered : Call → Script → World → Told → Engine → Type 0
-IsAnswered made s w told e = (later : Script) × (Answers made s told.formats told.reply later w ⊎ Refuses NoMemory s w told.reply later) × Stands e later.world × (later.formats ≡ s.formats)
+IsAnswered made s w told e =
+    (later : Script) × (Answers made s told.formats told.reply later w ⊎ Refuses NoMemory s w told.reply later) × Stands e later.world × (later.formats ≡ s.formats)
 
 abbrev pub IsBegun : Call → Script → World → Told → Engine → List Formats → Type 0
-IsBegun made s w told e kept = (later : Script) × (Begins made s told.formats told.reply later w ⊎ Refuses NoMemory s w told.reply later) × Stands e later.world × (kept ≡ later.formats)
+IsBegun made s w told e kept =
+    (later : Script) × (Begins made s told.formats told.reply later w ⊎ Refuses NoMemory s w told.reply later) × Stands e later.world × (kept ≡ later.formats)
 
 abbrev pub IsGone : Actor → Script → World → Told → Engine → Type 0
 IsGone who s w told e = (later : Script) × Goes who s told.formats told.reply later w × Stands e later.world × (later.formats ≡ s.formats)
@@ -67,15 +69,18 @@ pub record IsLineRun (text : List ℕ) (s : Script) (e : Engine) (kept : List Fo
   pub stands : Stands e later.world
   pub kept_is : kept ≡ later.formats
 
-abbrev pub IsUntouched : Script → Engine → List Formats → Type 0
-IsUntouched s e kept = Stands e s.world × (kept ≡ s.formats)
+abbrev pub IsUntouched : World → List Formats → Engine → List Formats → Type 0
+IsUntouched w before e kept = Stands e w × (kept ≡ before)
 
 -- what was made of a line: it is none, or this is printed of it
-abbrev pub LineMade : List ℕ → Script → Engine → List Formats → Option (List ℕ) → Type 0
-LineMade text s e kept None = ((asked : Line) → IsLine text asked → IsLater asked) × IsUntouched s e kept
-LineMade text s e kept (Some printed) =
-    (asked : Line) × (formats : Formats) × (reply : Reply) × IsLineRun text s e kept asked formats reply × (printed ≡ line_of_reply formats reply ++ 10 ∷ [])
+abbrev pub LineMade : List ℕ → World → List Formats → Engine → List Formats → Option (List ℕ) → Type 0
+LineMade text w before e kept None = ((asked : Line) → IsLine text asked → IsLater asked) × IsUntouched w before e kept
+LineMade text w before e kept (Some printed) =
+    (asked : Line) × (formats : Formats) × (reply : Reply) × IsLineRun text (record { world = w; formats = before }) e kept asked formats reply
+    × (printed ≡ line_of_reply formats reply ++ 10 ∷ [])
 
 -- for want of memory nothing was made of it, or its reply is not printed
-abbrev pub LineStops : List ℕ → Script → Engine → List Formats → Type 0
-LineStops text s e kept = IsUntouched s e kept ⊎ ((asked : Line) × (formats : Formats) × (reply : Reply) × IsLineRun text s e kept asked formats reply)
+abbrev pub LineStops : List ℕ → World → List Formats → Engine → List Formats → Type 0
+LineStops text w before e kept =
+    IsUntouched w before e kept
+    ⊎ ((asked : Line) × (formats : Formats) × (reply : Reply) × IsLineRun text (record { world = w; formats = before }) e kept asked formats reply)

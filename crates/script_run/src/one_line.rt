@@ -36,14 +36,15 @@ pub(crate) struct Told {
 
 /// Runs a line, and gives the line that is printed, with its newline; none where the bytes are no
 /// line, or one of a later stage. Where memory is wanted, what the line asks for may be done.
+/// By session, `formats` has those of the call that it has started: at first `PLAIN` for each.
 pub fn run_line(
     alloc: Global,
     local: &mut Local,
     formats: &mut [Formats],
     text: &[u8],
 ) -> Result<Option<Vec<u8>>, NoMemory>
-    ensures made { (w : World) → Stands local.old w → IfOk result (λ printed. LineMade text.now (record { world = w; formats = formats.old }) local.new formats.new (option_map (λ v. v.items) printed)) }
-    ensures stops { (w : World) → Stands local.old w → OnErr result (LineStops text.now (record { world = w; formats = formats.old }) local.new formats.new) }
+    ensures made { (w : World) → Stands local.old w → IfOk result (λ printed. LineMade text.now w formats.old local.new formats.new (option_map (λ v. v.items) printed)) }
+    ensures stops { (w : World) → Stands local.old w → OnErr result (LineStops text.now w formats.old local.new formats.new) }
 {
     let Some(line) = parse_line(alloc, text)? else {
         return Ok(None);

@@ -1,4 +1,4 @@
-use Rattle.std.proofs.Common.{◌≡◌, ◌<◌, true, arith}
+use Rattle.std.proofs.Common.{arith}
 use Rattle.script_run.proofs.Cutting.{unbroken-more}
 use Rattle.script_run.proofs.lines.newline_at.Goals as goal
 
