@@ -108,6 +108,14 @@ impl Rows {
         true
     }
 
+    /// The rows themselves. None is copied.
+    pub fn into_rows(self) -> Vec<(Item, Version<CellChange<Item>>)>
+        ensures rows { result.items ≡ self }
+        ensures fit { AreFit result.items }
+    {
+        self.rows
+    }
+
     /// Whether there are no rows.
     pub fn is_empty(&self) -> bool
         ensures { IsTrue result ↔ (self.now ≡ []) }
