@@ -1,0 +1,4 @@
+pub mod Contents
+pub mod ContentLaws
+pub mod Chains
+pub mod ByNumber

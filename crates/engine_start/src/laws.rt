@@ -1,0 +1,13 @@
+//! Laws of the contents of devices.
+
+ghost use Rattle.engine_start.specs.ContentLaws.{LeavesAreOne, KeptStay};
+
+/// With one table the content is that of a device with one leaf.
+pub fn leaves_are_one()
+    ensures { LeavesAreOne }
+{}
+
+/// What an opening keeps, a second one keeps.
+pub fn kept_stay()
+    ensures { KeptStay }
+{}
