@@ -10,6 +10,12 @@ pub record AreFit (rows : List Row) : Type 0 where
   pub fit : AllByRecursion (λ (r : Row). RowFits [] key_most r) rows
   pub ascend : Ascends None rows
 
+-- the key is above the last row's, where there is one
+abbrev pub IsAboveLast : List ℕ → List Row → Type 0
+IsAboveLast key [] = Unit {0}
+IsAboveLast key (r ∷ []) = is_below r.0 key ≡ true
+IsAboveLast key (r ∷ (q ∷ rows)) = IsAboveLast key (q ∷ rows)
+
 -- the version of a key
 abbrev pub version_at : List ℕ → List Row → Option (Version PageChange)
 version_at key [] = None

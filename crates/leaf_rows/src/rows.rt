@@ -4,7 +4,7 @@ ghost use Rattle.kv_model.specs.Content.{sees_name};
 ghost use Rattle.row_page.specs.Rows.{Row, RowFits, IsImage, Ascends, cell, key_most, is_below};
 ghost use Rattle.row_page.specs.Greatest.{name_lt, later, greatest_in, most_in};
 ghost use Rattle.row_page.specs.Views.{row_seen};
-ghost use Rattle.leaf_rows.specs.Rows.{AreFit, SplitsAt, version_at, put_row, image_length};
+ghost use Rattle.leaf_rows.specs.Rows.{AreFit, IsAboveLast, SplitsAt, version_at, put_row, image_length};
 ghost use Rattle.leaf_rows.specs.Contents.{is_kept_window, kept_rows};
 
 use crate::Marks;
@@ -43,6 +43,15 @@ impl Rows {
         Rows {
             rows: Vec::new(alloc),
         }
+    }
+
+    /// No rows, with room for this many. One allocation. The error is want of memory.
+    pub fn with_capacity(alloc: Global, rows: usize) -> Result<Self, NoMemory>
+        ensures { IfOk result (λ s. s ≡ []) }
+    {
+        Ok(Rows {
+            rows: Vec::with_capacity(alloc, rows)?,
+        })
     }
 
     /// The rows of a leaf, each key and value copied once. The error is want of memory.
@@ -90,6 +99,19 @@ impl Rows {
         }
         self.rows.reserve(1)?;
         insert_at(&mut self.rows, i, (key, version));
+        Ok(())
+    }
+
+    /// Puts a row behind all others: its key is above that of the last. `O(1)`, and no memory where
+    /// there is room. Where memory is short nothing is changed.
+    pub fn push(&mut self, key: Item, version: Version<CellChange<Item>>) -> Result<(), NoMemory>
+        requires fits { RowFits [] key_most (key, version) }
+        requires above { IsAboveLast key self.old }
+        ensures pushed { OnOk result (self.new ≡ self.old ++ (key, version) ∷ []) }
+        ensures same { OnErr result (self.new ≡ self.old) }
+    {
+        self.rows.reserve(1)?;
+        self.rows.push_reserved((key, version));
         Ok(())
     }
 

@@ -1,0 +1,5 @@
+pub mod Picking
+pub mod Gathering
+pub mod Newest
+pub mod Fitting
+pub mod Cutting

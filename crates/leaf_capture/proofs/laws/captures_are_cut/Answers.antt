@@ -1,0 +1,5 @@
+use Rattle.leaf_capture.proofs.Cutting.{captures-cut}
+use Rattle.leaf_capture.proofs.laws.captures_are_cut.Goals as goal
+
+pub returns : goal.returns
+returns c = captures-cut

@@ -1,0 +1,10 @@
+use Rattle.std.proofs.Common.{◌≡◌, ◌++◌, length}
+use Rattle.leaf_capture.specs.Gathered.{rows_of}
+use Rattle.leaf_capture.proofs.Gathering.{slots_at}
+use Rattle.leaf_capture.proofs.rows.capture.Given as goal
+
+abbrev pub invariant-loop-slot : goal.invariant-loop-slot
+invariant-loop-slot l = l.rows ++ rows_of l.snapshot.sight (slots_at l.chains l.walk) ≡ rows_of l.snapshot.sight (slots_at l.chains l.initial.walk)
+
+abbrev pub decreases-loop-slot : goal.decreases-loop-slot
+decreases-loop-slot l = length l.walk

@@ -1,0 +1,19 @@
+-- Rows as they are gathered, key by key.
+use Rattle.std.specs.Prelude.{ℕ, List, [], ◌∷◌, ◌++◌, Option, Some, None}
+use Rattle.item.specs.declared.Change.{Change}
+use Rattle.stamp.specs.declared.Version.{Version}
+use Rattle.row_page.specs.Rows.{Row}
+use Rattle.snapshot.specs.Sight.{Sight}
+use Rattle.leaf_chains.specs.declared.slot.KeyChain.{KeyChain}
+use Rattle.leaf_capture.specs.Cells.{cell_version}
+use Rattle.leaf_capture.specs.Capture.{captured}
+
+-- the row of a key, where there is a version
+abbrev pub row_of : List ℕ → Option (Version Change) → List Row
+row_of key None = []
+row_of key (Some v) = (key, cell_version v) ∷ []
+
+-- the rows of some keys with their chains
+abbrev pub rows_of : Sight → List KeyChain → List Row
+rows_of s [] = []
+rows_of s (c ∷ chains) = row_of c.key (captured s c.chain) ++ rows_of s chains
