@@ -1,0 +1,8 @@
+pub mod Lists
+pub mod Many
+pub mod InParts
+pub mod Sizes
+pub mod Numbers
+pub mod Kept
+pub mod Blocks
+pub mod Recorded

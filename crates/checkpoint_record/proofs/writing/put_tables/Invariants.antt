@@ -1,0 +1,7 @@
+use Rattle.std.proofs.Common.{◌≡◌, ◌++◌, take}
+use Rattle.std.specs.List.{flat_map}
+use Rattle.stored.specs.Records.{table_text}
+use Rattle.checkpoint_record.proofs.writing.put_tables.Given as goal
+
+abbrev pub invariant-loop-table : goal.invariant-loop-table
+invariant-loop-table l = l.out ≡ l.fn.out ++ flat_map table_text (take l.table-index l.tables)

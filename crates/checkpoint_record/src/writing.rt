@@ -1,0 +1,173 @@
+// From a record to its image.
+ghost use Rattle.std.specs.Prelude.{◌≡◌, ◌≤◌, ◌<◌, ◌^◌, ◌++◌, length, IfOk, OnOk};
+ghost use Rattle.std.specs.List.{flat_map, AllByRecursion};
+ghost use Rattle.std.specs.Int.{w64};
+ghost use Rattle.le_codec.specs.Fields.{le};
+ghost use Rattle.stored.specs.Links.{link_text};
+ghost use Rattle.stored.specs.Records.{IsRecord, letter as letter_of, record_body, record_image, snapshot_text, table_text};
+ghost use Rattle.checkpoint_record.specs.Parts.{marks_text, history_text};
+
+use crate::record::{Record, Snapshot, TableRoot};
+use device_layout::Link;
+use failure::NoMemory;
+use item::Format;
+use le_codec::{FIRST_FORMAT, Writer, write_header};
+use std::alloc::Global;
+
+// The kind of a record's image, as its header says.
+pub(crate) const KIND: u8 = 5;
+
+const HEADER: usize = 16; // bytes
+
+const NUMBERS: usize = 95; // bytes of a body beside its ids and tables
+
+const ID: usize = 8; // bytes
+
+const TABLE: usize = 48; // bytes of a table beside its name
+
+/// The image of a record; zeros up to the next multiple of 4,096 bytes make it the block that
+/// `decode` reads. It has at most 2^18 bytes, so the block has no more. The error is want of memory.
+/// `O(bytes)`, each byte written once, and one allocation.
+pub fn encode(alloc: Global, record: &Record) -> Result<Vec<u8>, NoMemory>
+    requires { IsRecord record.now }
+    ensures image { IfOk result (λ v. v.items ≡ record_image record.now) }
+    ensures size { IfOk result (λ v. length v.items ≤ 2 ^ 18) }
+{
+    let used = image_len(record);
+    let mut out = Writer::with_capacity(alloc, used)?;
+    write_header(
+        &mut out,
+        KIND,
+        FIRST_FORMAT,
+        record.tables.len() as u16,
+        used as u32,
+        0,
+    )?;
+    put_body(&mut out, record)?;
+    Ok(out.into_bytes())
+}
+
+// The length of a record's image in bytes. `O(tables)`.
+fn image_len(record: &Record) -> usize
+    requires { IsRecord record.now }
+    ensures { result ≡ length (record_image record.now) }
+{
+    HEADER + NUMBERS + ID * id_count(&record.snapshot) + tables_len(&record.tables)
+}
+
+fn id_count(snapshot: &Snapshot) -> usize
+    ensures { result ≡ length snapshot.now.ids }
+{
+    snapshot.ids.len()
+}
+
+fn tables_len(tables: &[TableRoot]) -> usize
+    requires { length (flat_map table_text tables.now) < 2 ^ 32 }
+    ensures { result ≡ length (flat_map table_text tables.now) }
+{
+    let mut len = 0;
+    for table in tables {
+        len += TABLE + name_of(table).len();
+    }
+    len
+}
+
+fn name_of(table: &TableRoot) -> &[u8]
+    ensures { result.now ≡ table.now.table.name }
+{
+    let named = &table.table;
+    named.name.as_bytes()
+}
+
+fn put_body(out: &mut Writer, record: &Record) -> Result<(), NoMemory>
+    requires { IsRecord record.now }
+    ensures { OnOk result (out.new ≡ out.old ++ record_body record.now) }
+{
+    put_marks(out, record)?;
+    put_snapshot(out, &record.snapshot)?;
+    put_history(out, record)?;
+    put_tables(out, &record.tables)
+}
+
+fn put_marks(out: &mut Writer, record: &Record) -> Result<(), NoMemory>
+    ensures { OnOk result (out.new ≡ out.old ++ marks_text record.now) }
+{
+    out.u64(record.sequence)?;
+    out.u64(record.run)?;
+    out.u64(record.oldest)?;
+    out.u64(record.stable)
+}
+
+fn put_history(out: &mut Writer, record: &Record) -> Result<(), NoMemory>
+    ensures { OnOk result (out.new ≡ out.old ++ history_text record.now) }
+{
+    let history = &record.history;
+    out.u32(record.next_table)?;
+    out.u8(history.level)?;
+    put_link(out, &history.link)
+}
+
+fn put_snapshot(out: &mut Writer, snapshot: &Snapshot) -> Result<(), NoMemory>
+    requires { length snapshot.now.ids ≤ 64 }
+    ensures { OnOk result (out.new ≡ out.old ++ snapshot_text snapshot.now) }
+{
+    out.u64(snapshot.min)?;
+    out.u64(snapshot.max)?;
+    out.u16(snapshot.ids.len() as u16)?;
+    put_ids(out, &snapshot.ids)
+}
+
+fn put_ids(out: &mut Writer, ids: &[u64]) -> Result<(), NoMemory>
+    ensures { OnOk result (out.new ≡ out.old ++ flat_map (le w64) ids.now) }
+{
+    for id in ids {
+        out.u64(*id)?;
+    }
+    Ok(())
+}
+
+fn put_link(out: &mut Writer, link: &Link) -> Result<(), NoMemory>
+    ensures { OnOk result (out.new ≡ out.old ++ link_text link.now) }
+{
+    out.u64(link.addr.offset)?;
+    out.u32(link.addr.size)?;
+    out.u32(link.addr.sum)?;
+    out.u64(link.greatest.run)?;
+    out.u64(link.greatest.id)?;
+    out.u64(link.durable)
+}
+
+fn put_tables(out: &mut Writer, tables: &[TableRoot]) -> Result<(), NoMemory>
+    requires { AllByRecursion (λ t. length t.table.name ≤ 128) tables.now }
+    ensures { OnOk result (out.new ≡ out.old ++ flat_map table_text tables.now) }
+{
+    for table in tables {
+        put_table(out, table)?;
+    }
+    Ok(())
+}
+
+fn put_table(out: &mut Writer, table: &TableRoot) -> Result<(), NoMemory>
+    requires { length table.now.table.name ≤ 128 }
+    ensures { OnOk result (out.new ≡ out.old ++ table_text table.now) }
+{
+    let named = &table.table;
+    let root = &table.root;
+    let name = named.name.as_bytes();
+    out.u32(named.number)?;
+    out.u8(letter(named.formats.key))?;
+    out.u8(letter(named.formats.value))?;
+    out.u8(root.level)?;
+    out.u8(name.len() as u8)?;
+    put_link(out, &root.link)?;
+    out.slice(name)
+}
+
+fn letter(format: Format) -> u8
+    ensures { result ≡ letter_of format }
+{
+    match format {
+        Format::S => b'S',
+        Format::U => b'u',
+    }
+}
