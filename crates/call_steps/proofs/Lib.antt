@@ -1,4 +1,5 @@
 mod Cursors
 mod Newest
 mod RowWalk
+mod SlotWrites
 mod WriteFinds

@@ -1,6 +1,6 @@
 -- A search for a row, from the nearest slot to the next.
 use Rattle.std.proofs.Common.{◌≡◌, ◌≢◌, ◌∙◌, ◌⊎◌, ℕ, zero, suc, ◌<◌, ◌≤◌, true, false, List, [], ◌∷◌, length, filter, get_or, Option, Some, None, refl, sym, ap, subst, inl, inr, arith}
-use Rattle.std.specs.Prelude.{MatchOption, option_map, slice_get}
+use Rattle.std.specs.Prelude.{MatchOption, slice_get}
 use Rattle.std.specs.declared.cmp.Ordering.{Ordering}
 use Rattle.std.specs.declared.cmp.Ordering.TheVariants.{Less, Equal, Greater}
 use Rattle.std.specs.Ordering.{nat_cmp, is_lt, ordering_reverse}
@@ -18,6 +18,7 @@ use Rattle.leaf_chains.proofs.Changes.{slot_of_none}
 use Rattle.std.proofs.lemmas.Map.Lookups.{exact_bytes}
 use Rattle.call_steps.specs.declared.rows.RowFound.{RowFound}
 use Rattle.call_steps.specs.declared.rows.RowFound.TheVariants as row
+use Rattle.call_steps.specs.SlotLooks.{IsRowIn}
 use Rattle.call_steps.specs.Looks.{IsSilent, SilentBefore, NoRow, IsRowAt, RowFoundBy}
 use Rattle.call_steps.proofs.Newest.{no_chain}
 
@@ -132,7 +133,12 @@ finds view way from slots i (row.Row k v) stands is = record {
 finds view way from slots i (row.Conflict id) stands is = (key_at slots i, record { past = stands.1; reads = is; before = stands.2 })
 finds view way from slots i row.End stands is = absurd is
 
-pub some_key : (slots : List KeyChain) (i : ℕ) → i < length slots → option_map (λ (s : KeyChain). s.key) (slice_get slots i) ≡ Some (key_at slots i)
-some_key [] i lt = absurd (omega (arith, lt))
-some_key (s ∷ slots) zero lt = refl
-some_key (s ∷ slots) (suc i) lt = some_key slots i (omega (arith, lt))
+pub is_row : (view : View) (slots : List KeyChain) (s : KeyChain) (found : RowFound) → s.chain ≡ chain_at s.key slots → IsRowIn view s found → IsRowAt view s.key slots found
+is_row view slots s (row.Row k v) same is = (is.0, ap (read_of view) (sym same) ∙ is.1)
+is_row view slots s (row.Conflict id) same is = ap (read_of view) (sym same) ∙ is
+is_row view slots s row.End same is = is
+
+pub some_slot : (slots : List KeyChain) (i : ℕ) → i < length slots → (s : KeyChain) × (slice_get slots i ≡ Some s)
+some_slot [] i lt = absurd (omega (arith, lt))
+some_slot (s ∷ slots) zero lt = (s, refl)
+some_slot (s ∷ slots) (suc i) lt = some_slot slots i (omega (arith, lt))

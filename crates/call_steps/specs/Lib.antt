@@ -8,3 +8,4 @@ pub mod HubEvents
 pub mod Leaves
 pub mod Looks
 pub mod FrameEvents
+pub mod SlotLooks

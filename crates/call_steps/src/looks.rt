@@ -1,13 +1,15 @@
 // Looks at a leaf.
 
-ghost use Rattle.std.specs.Prelude.{◌≡◌, None, OnOk, OnErr, option_copied, option_map};
+ghost use Rattle.std.specs.Prelude.{◌≡◌, ◌≢◌, None, Some, IfOk, OnOk, OnErr, option_copied, option_map};
 ghost use Rattle.snapshot.specs.Sight.{IsSight, sight_of};
-ghost use Rattle.update_chain.specs.Updates.{read_of, is_led_by};
+ghost use Rattle.update_chain.specs.Updates.{installed, read_of, is_led_by};
 ghost use Rattle.update_chain.specs.Writing.{newest_of};
-ghost use Rattle.leaf_chains.specs.Slots.{chain_at};
+ghost use Rattle.leaf_chains.specs.Adds.{IsAdded};
+ghost use Rattle.leaf_chains.specs.Slots.{chain_at, slot_changed, slot_of};
 ghost use Rattle.wt_calls.specs.Calls.{way_in};
 ghost use Rattle.call_steps.specs.Leaves.{chain_in};
-ghost use Rattle.call_steps.specs.Looks.{own_name, conflicts, free_or_unmet, found_over, is_put, write_found, IsInstalled, ReadBy, update_by, AcceptedBy, WrittenBy, SteppedBy, LookedBy, from_of, start_in};
+ghost use Rattle.call_steps.specs.Looks.{own_name, conflicts, free_or_unmet, found_over, is_put, noted, write_found, ReadBy, update_by, AcceptedBy, WrittenBy, SteppedBy, LookedBy, from_of, start_in};
+ghost use Rattle.call_steps.specs.SlotLooks.{IsBy, IsNoted};
 
 use crate::cursor::Cursor;
 use crate::rows::{Stepped, find_row, row_copied};
@@ -16,7 +18,7 @@ use crate::state::SessionState;
 use crate::written::WrittenKey;
 use failure::NoMemory;
 use item::{Change, Item};
-use leaf_chains::LeafChains;
+use leaf_chains::{Added, LeafChains};
 use stamp::{Name, Version, View, Window};
 use std::alloc::Global;
 use std::mem::replace;
@@ -75,6 +77,7 @@ impl SessionState {
         }
     }
 
+    // A write of a key that need not be there adds it, where it has no slot.
     fn write(
         &mut self,
         alloc: Global,
@@ -88,13 +91,123 @@ impl SessionState {
         requires { IsSight (sight_of view.now) }
         ensures { WrittenBy view.now call target demand change chains.old self.old chains.new self.new }
     {
-        match judge_write(chains, self.key.as_bytes(), view, demand) {
+        let update = update_by(own_name(view), change);
+        match demand {
+            Demand::Occupied => self.write_over(chains, view, call, target, update),
+            _ => self.add_or_write(alloc, chains, view, call, target, demand, update),
+        }
+    }
+
+    // A write of a key that has to be there.
+    fn write_over(
+        &mut self,
+        chains: &mut LeafChains,
+        view: &View<'_>,
+        call: KeyCall,
+        target: Target,
+        update: Update,
+    )
+        requires sight { IsSight (sight_of view.now) }
+        requires own { IsBy (own_name view.now) update }
+        ensures { WrittenBy view.now call target Demand.Occupied update.version.change chains.old self.old chains.new self.new }
+    {
+        match chains.find(self.key.as_bytes()) {
+            None => self.clear(call, target, Answer::Refused(Refusal::NotFound)),
+            Some(slot) => {
+                self.write_at(chains, slot, view, call, target, Demand::Occupied, update);
+            }
+        }
+    }
+
+    // A write of a key that need not be there.
+    fn add_or_write(
+        &mut self,
+        alloc: Global,
+        chains: &mut LeafChains,
+        view: &View<'_>,
+        call: KeyCall,
+        target: Target,
+        demand: Demand,
+        update: Update,
+    )
+        requires sight { IsSight (sight_of view.now) }
+        requires own { IsBy (own_name view.now) update }
+        requires demand { demand ≢ Demand.Occupied }
+        ensures { WrittenBy view.now call target demand update.version.change chains.old self.old chains.new self.new }
+    {
+        match self.add(alloc, chains, target.frame, update) {
+            Ok(Added::New(_)) => self.clear(call, target, Answer::Done),
+            Ok(Added::There(slot, update)) => {
+                self.write_at(chains, slot, view, call, target, demand, update);
+            }
+            Err(NoMemory) => self.judge_only(chains, view, call, target, demand),
+        }
+    }
+
+    // Adds the key with its first update and notes it, where it has no slot.
+    fn add(
+        &mut self,
+        alloc: Global,
+        chains: &mut LeafChains,
+        frame: u32,
+        update: Update,
+    ) -> Result<Added, NoMemory>
+        ensures added { IfOk result (IsAdded self.old.key update chains.old chains.new) }
+        ensures noted { IfOk result (IsNoted frame self.old self.new) }
+        ensures chains { OnErr result (chains.new ≡ chains.old) }
+        ensures state { OnErr result (self.new ≡ self.old) }
+    {
+        self.written.reserve(1)?;
+        match chains.add(alloc, self.key.as_bytes(), update)? {
+            Added::New(slot) => {
+                self.written.push_reserved(WrittenKey { frame, slot });
+                Ok(Added::New(slot))
+            }
+            Added::There(slot, update) => Ok(Added::There(slot, update)),
+        }
+    }
+
+    // A write of the key in this slot.
+    fn write_at(
+        &mut self,
+        chains: &mut LeafChains,
+        slot: u32,
+        view: &View<'_>,
+        call: KeyCall,
+        target: Target,
+        demand: Demand,
+        update: Update,
+    )
+        requires sight { IsSight (sight_of view.now) }
+        requires own { IsBy (own_name view.now) update }
+        requires slot { slot_of self.old.key chains.old ≡ Some slot }
+        ensures { WrittenBy view.now call target demand update.version.change chains.old self.old chains.new self.new }
+    {
+        match judge_slot(chains, slot, view, demand) {
             Found::Conflict(name) => self.conflict(call, target, name),
             Found::Unmet(refusal) => self.clear(call, target, Answer::Refused(refusal)),
             Found::Free(is_led) => {
-                let name = own_name(view);
-                self.accept(alloc, chains, name, call, target, change, is_led);
+                self.accept(chains, slot, own_name(view), call, target, update, is_led);
             }
+        }
+    }
+
+    // A write for which memory is short is refused for that, if for nothing else.
+    fn judge_only(
+        &mut self,
+        chains: &LeafChains,
+        view: &View<'_>,
+        call: KeyCall,
+        target: Target,
+        demand: Demand,
+    )
+        requires { IsSight (sight_of view.now) }
+        ensures { (change : Change) → WrittenBy view.now call target demand change chains.now self.old chains.now self.new }
+    {
+        match judge_write(chains, self.key.as_bytes(), view, demand) {
+            Found::Conflict(name) => self.conflict(call, target, name),
+            Found::Unmet(refusal) => self.clear(call, target, Answer::Refused(refusal)),
+            Found::Free(_) => self.clear(call, target, Answer::Refused(Refusal::NoMemory)),
         }
     }
 
@@ -110,21 +223,24 @@ impl SessionState {
         self.clear(call, target, Answer::Refused(refusal));
     }
 
-    // Installs an update of the key, and notes the key where it is the transaction's first.
+    // Installs an update of the key in this slot, and notes the key where it is the transaction's
+    // first.
     fn accept(
         &mut self,
-        alloc: Global,
         chains: &mut LeafChains,
+        slot: u32,
         name: Name,
         call: KeyCall,
         target: Target,
-        change: Change,
+        update: Update,
         is_led: bool,
     )
-        requires { is_led ≡ is_led_by name (chain_at self.old.key chains.old) }
-        ensures { AcceptedBy name call target change chains.old self.old chains.new self.new }
+        requires slot { slot_of self.old.key chains.old ≡ Some slot }
+        requires own { IsBy name update }
+        requires led { is_led ≡ is_led_by name (chain_at self.old.key chains.old) }
+        ensures { AcceptedBy name call target update.version.change chains.old self.old chains.new self.new }
     {
-        match self.install(alloc, chains, name, target.frame, change, is_led) {
+        match self.install(chains, slot, target.frame, update, is_led) {
             Ok(()) => self.clear(call, target, Answer::Done),
             Err(NoMemory) => self.clear(call, target, Answer::Refused(Refusal::NoMemory)),
         }
@@ -132,22 +248,24 @@ impl SessionState {
 
     fn install(
         &mut self,
-        alloc: Global,
         chains: &mut LeafChains,
-        name: Name,
+        slot: u32,
         frame: u32,
-        change: Change,
+        update: Update,
         is_led: bool,
     ) -> Result<(), NoMemory>
-        ensures ok { OnOk result (IsInstalled name frame change is_led chains.old self.old chains.new self.new) }
-        ensures chains { OnErr result (chains.new ≡ chains.old) }
-        ensures state { OnErr result (self.new ≡ self.old) }
+        ensures chains { OnOk result (chains.new ≡ slot_changed slot (installed update) chains.old) }
+        ensures state { OnOk result (self.new ≡ noted is_led (record { frame = frame; slot = slot }) self.old) }
+        ensures chains_kept { OnErr result (chains.new ≡ chains.old) }
+        ensures state_kept { OnErr result (self.new ≡ self.old) }
     {
-        self.written.reserve(1)?;
-        let slot = chains.install(alloc, self.key.as_bytes(), update_by(name, change))?;
-        if !is_led {
-            self.written.push_reserved(WrittenKey { frame, slot });
+        if is_led {
+            chains.install_at(slot, update)?;
+            return Ok(());
         }
+        self.written.reserve(1)?;
+        chains.install_at(slot, update)?;
+        self.written.push_reserved(WrittenKey { frame, slot });
         Ok(())
     }
 
@@ -216,11 +334,23 @@ pub(crate) enum Found {
     Free(bool),
 }
 
+// What a write finds at a key.
 fn judge_write(chains: &LeafChains, key: &[u8], view: &View<'_>, demand: Demand) -> Found
     requires { IsSight (sight_of view.now) }
     ensures { result ≡ write_found view.now demand (chain_at key.now chains.now) }
 {
-    match newest_at(chains, key) {
+    match chains.find(key) {
+        None => free_or_unmet(demand, false, false),
+        Some(slot) => judge_slot(chains, slot, view, demand),
+    }
+}
+
+// What it finds in a slot.
+fn judge_slot(chains: &LeafChains, slot: u32, view: &View<'_>, demand: Demand) -> Found
+    requires { IsSight (sight_of view.now) }
+    ensures { result ≡ write_found view.now demand (chain_in chains.now slot) }
+{
+    match newest_in(chains, slot) {
         None => free_or_unmet(demand, false, false),
         Some(update) => judge_over(update, view, demand),
     }
@@ -254,16 +384,6 @@ fn is_put(change: &Change) -> bool
     ensures { result ≡ is_put change.now }
 {
     matches!(change, Change::Put(_))
-}
-
-// The newest update of a key.
-fn newest_at<'a>(chains: &'a LeafChains, key: &[u8]) -> Option<&'a Update>
-    ensures { option_copied result ≡ newest_of (chain_at key.now chains.now) None }
-{
-    match chains.find(key) {
-        None => None,
-        Some(slot) => newest_in(chains, slot),
-    }
 }
 
 // The newest update in a slot.

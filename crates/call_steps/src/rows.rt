@@ -4,12 +4,12 @@ ghost use Rattle.std.specs.Prelude.{◌≡◌, IfOk, MatchOption, option_map};
 ghost use Rattle.snapshot.specs.Sight.{IsSight, sight_of};
 ghost use Rattle.leaf_chains.specs.Nearest.{IsNearest, NonePast};
 ghost use Rattle.wt_calls.specs.Calls.{way_in};
-ghost use Rattle.leaf_chains.specs.Slots.{chain_at};
-ghost use Rattle.call_steps.specs.Looks.{IsRowAt, IsSilent, RowFoundBy, StepsAs};
+ghost use Rattle.call_steps.specs.SlotLooks.{IsRowIn};
+ghost use Rattle.call_steps.specs.Looks.{IsSilent, RowFoundBy, StepsAs};
 
 use failure::NoMemory;
 use item::Item;
-use leaf_chains::LeafChains;
+use leaf_chains::{KeyChain, LeafChains};
 use stamp::View;
 use update_chain::Read;
 use wt_calls::Way;
@@ -49,24 +49,24 @@ pub(crate) fn find_row<'a>(
 {
     let mut slot = next_slot(chains, way, from);
     while let Some(i) = slot {
-        let Some(key) = chains.key(i) else {
+        let Some(there) = chains.slot(i) else {
             return RowFound::End;
         };
-        if let Some(found) = row_at(chains, view, key) {
+        if let Some(found) = row_in(there, view) {
             return found;
         }
-        slot = next_slot(chains, way, Some(key.as_bytes()));
+        slot = next_slot(chains, way, Some(there.key.as_bytes()));
     }
     RowFound::End
 }
 
-// What a key gives, where its chain is not silent.
-fn row_at<'a>(chains: &'a LeafChains, view: &View<'_>, key: &'a Item) -> Option<RowFound<'a>>
+// What the key in a slot gives, where its chain is not silent.
+fn row_in<'a>(there: &'a KeyChain, view: &View<'_>) -> Option<RowFound<'a>>
     requires { IsSight (sight_of view.now) }
-    ensures { MatchOption result (IsSilent view.now (chain_at key.now chains.now)) (IsRowAt view.now key.now chains.now) }
+    ensures { MatchOption result (IsSilent view.now there.now.chain) (IsRowIn view.now there.now) }
 {
-    match chains.read(key.as_bytes(), view) {
-        Read::Found(value) => Some(RowFound::Row(key, value)),
+    match there.chain.read(view) {
+        Read::Found(value) => Some(RowFound::Row(&there.key, value)),
         Read::Conflict(id) => Some(RowFound::Conflict(id)),
         Read::Removed | Read::Older => None,
     }

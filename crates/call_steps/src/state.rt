@@ -86,6 +86,7 @@ impl SessionState {
     }
 
     // A look at the leaf or the history answers.
+    #[inline(always)]
     pub(crate) fn answer(&mut self, call: KeyCall, target: Target, answer: Answer<Item>)
         ensures { self.new ≡ answered call target answer self.old }
     {
@@ -95,6 +96,7 @@ impl SessionState {
         }
     }
 
+    #[inline(always)]
     pub(crate) fn clear(&mut self, call: KeyCall, target: Target, answer: Answer<Item>)
         ensures { self.new ≡ clears call target answer self.old }
     {

@@ -1,6 +1,6 @@
 -- The steps of a call, one after the other, come to its answer.
 use Rattle.std.proofs.Common.{◌≡◌, ◌<◌, ℕ, zero, suc, refl, ap, sym, ◌∙◌, List, length, inl, inr, subst, arith, get_or}
-use Rattle.std.specs.Prelude.{Some, slice_get, slice_set}
+use Rattle.std.specs.Prelude.{Some, slice_get, slice_set, true, false}
 use Rattle.std.proofs.lemmas.List.{get_or-set_same, length-set, set-set}
 use Rattle.std.proofs.lemmas.Option.{slice_get-get_or}
 use Rattle.wt_code.specs.declared.answers.Answer.{Answer}
@@ -15,6 +15,7 @@ use Rattle.engine_world.specs.Steps.{MayGo}
 use Rattle.engine_world.specs.Worlds.{World, Resting, doing_of}
 use Rattle.engine.specs.declared.step.Actor.TheVariants as actor
 use Rattle.engine.specs.Events.{HasWorld}
+use Rattle.engine.specs.Goings.{IsTaken}
 use Rattle.engine.specs.Runs.{StepsMore, StepsOut}
 use Rattle.engine.specs.Sound.{Keeps}
 use Rattle.engine.specs.Whole.{Ends, left_of, left_at, moved}
@@ -131,3 +132,15 @@ out-length (suc n) w last session answer steps = out-length n steps.0 last sessi
 
 pub ends-length : (old new : Engine) (w : World) (session : ℕ) (answer : Answer (List ℕ)) → Stands old w → Ends new w (actor.Session session) answer → length new.sessions ≡ length old.sessions
 ends-length old new w session answer st e = sym e.stands.doings ∙ (out-length e.steps w e.last session answer e.out ∙ st.doings)
+
+-- ---- a reply, by what was taken of it
+
+pub told-answer : (told : Reply) (answer : Answer (List ℕ)) → IsTaken told true answer → told ≡ reply.Answer answer
+told-answer reply.Started answer t = absurd cc
+told-answer reply.More answer t = absurd cc
+told-answer (reply.Answer a) answer t = ap reply.Answer (sym t.1)
+
+pub told-more : (told : Reply) (answer : Answer (List ℕ)) → IsTaken told false answer → IsNoAnswer told
+told-more reply.Started answer t = λ a e. absurd cc
+told-more reply.More answer t = λ a e. absurd cc
+told-more (reply.Answer a) answer t = absurd cc

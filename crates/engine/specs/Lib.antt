@@ -5,3 +5,4 @@ pub mod Sound
 pub mod Bases
 pub mod Systems
 pub mod Openings
+pub mod Goings

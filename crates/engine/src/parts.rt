@@ -14,6 +14,7 @@ ghost use Rattle.engine_world.specs.Stands.{Stands};
 ghost use Rattle.engine_world.specs.Steps.{MayBegin};
 ghost use Rattle.engine_world.specs.Worlds.{World};
 ghost use Rattle.engine.specs.Events.{HasWorld, IsFrameEvent};
+ghost use Rattle.engine.specs.Goings.{IsTaken, Passes};
 ghost use Rattle.engine.specs.Sound.{Keeps};
 ghost use Rattle.engine.specs.Whole.{Ends, MayCall};
 
@@ -72,7 +73,7 @@ impl Parts {
         ensures kept { Keeps self.old self.new }
     {
         match self.sessions[session as usize].next() {
-            Next::Nothing => Reply::Answer(Answer::Refused(Refusal::Invalid(Invalid::NoCall))),
+            Next::Nothing => self.rest(session),
             Next::Hub => self.go_on_hub(session),
             Next::Frame(frame) => self.go_on_frame(alloc, session, frame),
             Next::Load(frame) => self.load(session, frame),
@@ -87,9 +88,29 @@ impl Parts {
         ensures answer { (w : World) → Stands self.old w → Ends self.new w (Actor.Session session) result }
         ensures kept { Keeps self.old self.new }
     {
+        let mut answer = Answer::Done;
         loop {
-            if let Reply::Answer(answer) = self.go(alloc, session) {
+            if self.go_on(alloc, session, &mut answer) {
                 return answer;
+            }
+        }
+    }
+
+    // One step of a session's call; whether it was the last, with the answer.
+    #[inline(always)]
+    fn go_on(&mut self, alloc: Global, session: u32, answer: &mut Answer<Item>) -> bool
+        requires open { session < length self.old.sessions }
+        requires world { HasWorld self.old }
+        ensures step { Passes self.old self.new session result answer.new }
+        ensures kept { Keeps self.old self.new }
+    {
+        match self.sessions[session as usize].next() {
+            Next::Nothing => take_answer(self.rest(session), answer),
+            Next::Hub => take_answer(self.go_on_hub(session), answer),
+            Next::Frame(frame) => take_answer(self.go_on_frame(alloc, session, frame), answer),
+            Next::Load(frame) => take_answer(self.load(session, frame), answer),
+            Next::Store(word, value) => {
+                take_answer(self.store(alloc, session, word, value), answer)
             }
         }
     }
@@ -106,6 +127,15 @@ impl Parts {
             Reply::Answer(answer) => answer,
             _ => self.finish(alloc, session),
         }
+    }
+
+    // There is no call to go on with.
+    fn rest(&self, session: u32) -> Reply
+        requires open { session < length self.now.sessions }
+        requires next { (a : State) → slice_get self.now.sessions session ≡ Some a → next_of a ≡ Next.Nothing }
+        ensures { (w : World) → Stands self.now w → Leads self.now w session result }
+    {
+        Reply::Answer(Answer::Refused(Refusal::Invalid(Invalid::NoCall)))
     }
 
     fn go_on_hub(&mut self, session: u32) -> Reply
@@ -186,6 +216,20 @@ impl Parts {
             value,
         );
         self.sessions[session as usize].stored(alloc)
+    }
+}
+
+// Whether the reply ends the call, with its answer.
+#[inline(always)]
+fn take_answer(reply: Reply, answer: &mut Answer<Item>) -> bool
+    ensures { IsTaken reply result answer.new }
+{
+    match reply {
+        Reply::Answer(made) => {
+            *answer = made;
+            true
+        }
+        _ => false,
     }
 }
 

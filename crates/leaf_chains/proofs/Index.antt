@@ -1,5 +1,6 @@
 -- The slots in the order of their keys: what a search by key finds, and what a change keeps.
-use Rattle.std.proofs.Common.{◌≡◌, ℕ, ◌<◌, ◌≤◌, List, [], length, get_or, Some, None, refl, sym, ap, subst, ◌∙◌, inl, inr, arith}
+use Rattle.std.proofs.Common.{◌≡◌, ℕ, zero, suc, ◌<◌, ◌≤◌, List, [], ◌∷◌, length, get_or, Option, Some, None, Bor, refl, sym, ap, subst, ◌∙◌, inl, inr, arith}
+use Rattle.std.specs.Prelude.{slice_get, option_copied, IfSome}
 use Rattle.std.specs.List.{HoldsAt}
 use Rattle.std.specs.List.Sorted.{IsPartitionPoint}
 use Rattle.std.specs.Ordering.{nat_cmp, ordering_index}
@@ -17,7 +18,7 @@ use Rattle.ordered_groups.specs.declared.Place.{Place}
 use Rattle.ordered_groups.proofs.Entries.{group_in, in_list, length_at, before_all}
 use Rattle.update_chain.specs.declared.update.Update.{Update}
 use Rattle.leaf_chains.specs.declared.slot.KeyChain.{KeyChain}
-use Rattle.leaf_chains.specs.Slots.{slot_of, key_at, slot_changed}
+use Rattle.leaf_chains.specs.Slots.{slot_of, key_at, key_of, slot_changed}
 use Rattle.leaf_chains.specs.Order.{IsIndex, key_order}
 use Rattle.leaf_chains.proofs.Changes.{slot_of_is, slot_of_none, length_changed, key_changed}
 
@@ -113,3 +114,19 @@ index_changed i change slots order ix =
           ∙ (ap (λ (k : List ℕ). slice_cmp nat_cmp (key_at slots (get_or order a d)) k) (key_changed i change slots (get_or order b d)) ∙ ix.ascends a b d lt le);
       whole = λ k lt. ix.whole k (omega (arith, lt, length_changed i change slots));
     }
+
+-- ---- each slot is its key's
+
+within : (slots : List KeyChain) (i : ℕ) (s : KeyChain) → slice_get slots i ≡ Some s → i < length slots
+within [] i s e = absurd cc
+within (x ∷ slots) zero s e = omega arith
+within (x ∷ slots) (suc i) s e = let h = within slots i s e in omega (arith, h)
+
+its_keys : (slots : List KeyChain) (order : List ℕ) (i : ℕ) → IsIndex slots order → i < length slots → slot_of (key_at slots i) slots ≡ Some i
+its_keys slots order i ix lt =
+    slot_of_is (key_at slots i) slots i lt refl (λ j l same. let q = distinct slots order j i ix (omega (arith, l, lt)) lt same in omega (arith, q, l))
+
+pub own_slot : (slots : List KeyChain) (order : List ℕ) (i : ℕ) (o : Option (Bor KeyChain)) → IsIndex slots order → option_copied o ≡ slice_get slots i → IfSome o (λ s. slot_of s.now.key slots ≡ Some i)
+own_slot slots order i None ix e = tt
+own_slot slots order i (Some s) ix e =
+    subst (λ (k : List ℕ). slot_of k slots ≡ Some i) (ap key_of (sym e)) (its_keys slots order i ix (within slots i s.now (sym e)))

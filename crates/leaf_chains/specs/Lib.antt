@@ -2,3 +2,4 @@ pub mod Slots
 pub mod Nearest
 pub mod Order
 pub mod SlotLaws
+pub mod Adds

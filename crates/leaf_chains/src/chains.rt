@@ -1,6 +1,6 @@
 //! The chains of a leaf.
 
-ghost use Rattle.std.specs.Prelude.{◌≡◌, ◌↔◌, ◌+◌, ◌++◌, [], ◌∷◌, length, slice_get, option_copied, option_map, IsTrue, IfOk, OnOk, OnErr, Some, MatchOption};
+ghost use Rattle.std.specs.Prelude.{◌≡◌, ◌↔◌, ◌+◌, ◌++◌, [], ◌∷◌, length, slice_get, option_copied, option_map, IsTrue, IfOk, IfSome, OnOk, OnErr, Some, MatchOption};
 ghost use Rattle.std.specs.List.{insert};
 ghost use Rattle.kv_model.specs.Rows.{Up, Down};
 ghost use Rattle.snapshot.specs.Sight.{IsSight, sight_of};
@@ -9,9 +9,11 @@ ghost use Rattle.update_chain.specs.Updates.{front_changed, installed, marked, r
 ghost use Rattle.update_chain.specs.Writing.{judgement_of};
 ghost use Rattle.ordered_groups.specs.Groups.{entries};
 ghost use Rattle.ordered_groups.specs.Places.{IsGap, rank};
+ghost use Rattle.leaf_chains.specs.Adds.{IsAdded};
 ghost use Rattle.leaf_chains.specs.Nearest.{IsWayUp, NextAbove, NextBelow, NonePast};
 ghost use Rattle.leaf_chains.specs.Slots.{chain_at, slot_changed, slot_of, with_update};
 
+use crate::added::Added;
 use crate::places::{place_from_last, slot_above, slot_below, slot_with, walk_above};
 use crate::slot::KeyChain;
 use failure::NoMemory;
@@ -78,9 +80,10 @@ impl LeafChains {
 
     /// The key and the chain in a slot, none where there is no such slot. `O(1)`.
     pub fn slot(&self, slot: u32) -> Option<&KeyChain>
-        ensures { option_copied result ≡ slice_get self.now slot }
+        ensures there { option_copied result ≡ slice_get self.now slot }
+        ensures own { IfSome result (λ s. slot_of s.now.key self.now ≡ Some slot) }
     {
-        self.slots.get(slot as usize)
+        slot_in(self.slots.as_slice(), slot)
     }
 
     /// The key in a slot, none where there is no such slot. `O(1)`.
@@ -136,18 +139,42 @@ impl LeafChains {
         ensures slot { IfOk result (λ i. slot_of key.now self.new ≡ Some i) }
         ensures kept { OnErr result (self.new ≡ self.old) }
     {
+        match self.add(alloc, key, update)? {
+            Added::New(slot) => Ok(slot),
+            Added::There(slot, update) => {
+                self.install_at(slot, update)?;
+                Ok(slot)
+            }
+        }
+    }
+
+    /// Gives a key that has no slot one behind all others, with this update; a key that has one
+    /// keeps its chain, and the update comes back. What it takes is as for `install`: one search.
+    pub fn add(&mut self, alloc: Global, key: &[u8], update: Update) -> Result<Added, NoMemory>
+        ensures added { IfOk result (IsAdded key.now update self.old self.new) }
+        ensures kept { OnErr result (self.new ≡ self.old) }
+    {
         match place_from_last(self.slots.as_slice(), &self.order, key) {
             Ok(place) => {
                 let slot = self.order.get(place);
-                install_in(&mut self.slots, slot, update)?;
-                Ok(slot)
+                Ok(Added::There(slot, update))
             }
             Err(gap) => {
                 let added = first_of(alloc, key, update)?;
                 let slot = add(&mut self.slots, &mut self.order, gap, added)?;
-                Ok(slot)
+                Ok(Added::New(slot))
             }
         }
+    }
+
+    /// Puts an update on top of the chain in a slot, as `Chain::install`. Nothing where there is no
+    /// such slot. Where memory is short, nothing is changed. `O(1)`.
+    pub fn install_at(&mut self, slot: u32, update: Update) -> Result<(), NoMemory>
+        ensures installed { OnOk result (self.new ≡ slot_changed slot (installed update) self.old) }
+        ensures kept { OnErr result (self.new ≡ self.old) }
+    {
+        install_in(&mut self.slots, slot, update)?;
+        Ok(())
     }
 
     /// Commits the newest update in a slot at these stamps, as `Chain::stamp`. Nothing where there
@@ -221,6 +248,12 @@ impl LeafChains {
         let slot = self.find(key)?;
         self.chain(slot)
     }
+}
+
+fn slot_in(slots: &[KeyChain], slot: u32) -> Option<&KeyChain>
+    ensures { option_copied result ≡ slice_get slots.now slot }
+{
+    slots.get(slot as usize)
 }
 
 // The slot of a new key.

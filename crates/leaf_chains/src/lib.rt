@@ -9,6 +9,7 @@
 //! caller which update belongs to which key, and that a leaf with an unresolved update stays.
 #![tactic(auto)]
 
+mod added;
 mod chains;
 mod laws;
 mod places;
@@ -16,6 +17,7 @@ mod slot;
 #[cfg(test)]
 mod tests;
 
+pub use added::Added;
 pub use chains::LeafChains;
 pub use failure::NoMemory;
 pub use laws::{

@@ -3,7 +3,7 @@
 ghost use Rattle.std.specs.Prelude.{◌≤◌, length};
 ghost use Rattle.snapshot.specs.Sight.{Ascends};
 
-use crate::{LeafChains, NoMemory};
+use crate::{Added, LeafChains, NoMemory};
 use item::{Change, Item};
 use snapshot::Snapshot;
 use stamp::{Name, Version, Window};
@@ -13,6 +13,12 @@ use update_chain::{Chain, Judgement, Read, Update};
 #[derive(Clone, Copy)]
 enum Step {
     Put {
+        key: &'static [u8],
+        id: u64,
+        letter: u8,
+    },
+    // An add, and an install in the slot where the key has one.
+    Add {
         key: &'static [u8],
         id: u64,
         letter: u8,
@@ -44,7 +50,7 @@ const STEPS: [Step; 11] = [
         id: 1,
         letter: b'y',
     },
-    Step::Put {
+    Step::Add {
         key: b"ma",
         id: 1,
         letter: b'z',
@@ -64,7 +70,7 @@ const STEPS: [Step; 11] = [
         id: 1,
         at: 5,
     },
-    Step::Put {
+    Step::Add {
         key: b"m",
         id: 2,
         letter: b'v',
@@ -107,11 +113,22 @@ fn update(alloc: Global, id: u64, letter: u8) -> Result<Update, NoMemory> {
     })
 }
 
+fn add(alloc: Global, chains: &mut LeafChains, key: &[u8], update: Update) -> Result<(), NoMemory> {
+    match chains.add(alloc, key, update)? {
+        Added::New(_) => Ok(()),
+        Added::There(slot, update) => chains.install_at(slot, update),
+    }
+}
+
 fn take(alloc: Global, chains: &mut LeafChains, step: Step) -> Result<(), NoMemory> {
     match step {
         Step::Put { key, id, letter } => {
             let update = update(alloc, id, letter)?;
             let _slot = chains.install(alloc, key, update)?;
+        }
+        Step::Add { key, id, letter } => {
+            let update = update(alloc, id, letter)?;
+            add(alloc, chains, key, update)?;
         }
         Step::Stamp { slot, id, at } => chains.stamp(slot, Name { run: 1, id }, at, at),
         Step::Mark { slot, id, at } => chains.mark_prepared(slot, Name { run: 1, id }, at),

@@ -1,76 +1,14 @@
-use Rattle.std.proofs.Common.{◌≡◌, ◌∙◌, ℕ, List, [], ◌∷◌, ◌++◌, Some, None, ap, sym, subst}
-use Rattle.std.specs.List.{HoldsAt}
-use Rattle.std.specs.List.Sorted.{IsPartitionPoint}
-use Rattle.std.specs.declared.cmp.Ordering.TheVariants.{Less, Equal, Greater}
-use Rattle.ordered_groups.specs.Groups.{entries}
-use Rattle.ordered_groups.specs.Places.{rank, PartsAt}
+use Rattle.std.proofs.Common.{◌∙◌, ap, subst}
 use Rattle.update_chain.specs.Updates.{installed}
-use Rattle.leaf_chains.specs.declared.slot.KeyChain.{KeyChain}
-use Rattle.leaf_chains.specs.Slots.{slot_of, with_update}
-use Rattle.leaf_chains.specs.Order.{key_order}
+use Rattle.leaf_chains.specs.declared.added.Added.{Added}
+use Rattle.leaf_chains.specs.Adds.{IsAdded}
+use Rattle.leaf_chains.specs.Slots.{slot_of}
 use Rattle.leaf_chains.proofs.Changes.{kept_slots}
-use Rattle.leaf_chains.proofs.Installs.{installed_over, installed_new, pushed_slot}
-use Rattle.leaf_chains.proofs.Index.{found_slot, no_slot, place_within, gap_within, rises, index_changed}
-use Rattle.leaf_chains.proofs.Pushing.{index_pushed}
 use Rattle.leaf_chains.proofs.chains.LeafChains.install.Goals as goal
-use Rattle.leaf_chains.proofs.chains.LeafChains.install.Goals.{In_ok-install_in-in-Ok, In_ok-slot-in-Err}
 
-is_there : (c : In_ok-install_in-in-Ok) → slot_of c.args.key.now c.self.inside.slots.items ≡ Some c.get-slot.result
-is_there c =
-    let slots = c.self.inside.slots.items in
-    let gs = c.self.inside.order in
-    let p = c.in-Ok.place in
+pub returns-in_ok-install_at-in-There-clause-slot : goal.returns-in_ok-install_at-in-There-clause-slot
+returns-in_ok-install_at-in-There-clause-slot c =
     let key = c.args.key.now in
-    let equal = subst (λ (s : List KeyChain). HoldsAt (λ y. key_order s key y ≡ Equal) (entries gs) (rank gs p)) c.as_slice.ensures.value c.in-Ok.ensures.found in
-    found_slot slots (entries gs) key (rank gs p) c.get-slot.result c.self.invariant (place_within gs p c.in-Ok.ensures.place) c.get-slot.ensures equal
-
-pub invariant_of-self-in-Ok : goal.invariant_of-self-in-Ok
-invariant_of-self-in-Ok c =
-    rw c.in_ok-install_in-in-Ok.ensures.installed (index_changed c.get-slot.result (installed c.args.update) c.self.inside.slots.items (entries c.self.inside.order) c.self.invariant)
-
-pub returns-in_ok-install_in-in-Ok-clause-installed : goal.returns-in_ok-install_in-in-Ok-clause-installed
-returns-in_ok-install_in-in-Ok-clause-installed c =
-    c.in_ok-install_in-in-Ok.ensures.installed
-    ∙ (installed_over c.args.key.now c.args.update c.self.inside.slots.items c.get-slot.result (is_there c)
-    ∙ ap (λ (s : List KeyChain). with_update c.args.key.now c.args.update s) c.self.view_is)
-
-pub returns-in_ok-install_in-in-Ok-clause-slot : goal.returns-in_ok-install_in-in-Ok-clause-slot
-returns-in_ok-install_in-in-Ok-clause-slot c =
-    rw c.in_ok-install_in-in-Ok.ensures.installed (kept_slots c.args.key.now (installed c.args.update) c.self.inside.slots.items c.get-slot.result ∙ is_there c)
-
-parts : (c : In_ok-slot-in-Err) → IsPartitionPoint (λ y. key_order c.self.inside.slots.items c.args.key.now y ≡ Less) (λ y. key_order c.self.inside.slots.items c.args.key.now y ≡ Greater) (entries c.self.inside.order) (rank c.self.inside.order c.in-Err.gap)
-parts c =
-    let slots = c.self.inside.slots.items in
-    let gs = c.self.inside.order in
-    let key = c.args.key.now in
-    let splits = subst (λ (s : List KeyChain). PartsAt (key_order s key) (entries gs) (rank gs c.in-Err.gap)) c.as_slice.ensures.value c.in-Err.ensures.found in
-    splits (rises slots (entries gs) key c.self.invariant)
-
-is_new : (c : In_ok-slot-in-Err) → slot_of c.args.key.now c.self.inside.slots.items ≡ None
-is_new c = no_slot c.self.inside.slots.items (entries c.self.inside.order) c.args.key.now (rank c.self.inside.order c.in-Err.gap) c.self.invariant (parts c)
-
-pub invariant_of-self-in-Err : goal.invariant_of-self-in-Err
-invariant_of-self-in-Err c =
-    let slots = c.self.inside.slots.items in
-    let gs = c.self.inside.order in
-    let r = rank gs c.in-Err.gap in
-    let key = ap (λ (s : KeyChain). s.key) c.in_ok-added-in-Err.ensures in
-    let here = subst (λ (k : List ℕ). IsPartitionPoint (λ y. key_order slots k y ≡ Less) (λ y. key_order slots k y ≡ Greater) (entries gs) r) (sym key) (parts c) in
-    rw (c.in_ok-slot-in-Err.ensures.slots, c.in_ok-slot-in-Err.ensures.named)
-    (index_pushed slots (entries gs) r c.in_ok-added-in-Err.added c.self.invariant (gap_within gs c.in-Err.gap c.in-Err.ensures.place) here)
-
-pub returns-in_ok-slot-in-Err-clause-installed : goal.returns-in_ok-slot-in-Err-clause-installed
-returns-in_ok-slot-in-Err-clause-installed c =
-    let slots = c.self.inside.slots.items in
-    c.in_ok-slot-in-Err.ensures.slots
-    ∙ (ap (λ (s : KeyChain). slots ++ s ∷ []) c.in_ok-added-in-Err.ensures
-    ∙ (installed_new c.args.key.now c.args.update slots (is_new c)
-    ∙ ap (λ (s : List KeyChain). with_update c.args.key.now c.args.update s) c.self.view_is))
-
-pub returns-in_ok-slot-in-Err-clause-slot : goal.returns-in_ok-slot-in-Err-clause-slot
-returns-in_ok-slot-in-Err-clause-slot c =
-    let slots = c.self.inside.slots.items in
-    rw c.in_ok-slot-in-Err.ensures.slots
-    (ap (λ (s : KeyChain). slot_of c.args.key.now (slots ++ s ∷ [])) c.in_ok-added-in-Err.ensures
-    ∙ (pushed_slot c.args.key.now (installed c.args.update []) slots (is_new c)
-    ∙ ap (λ (i : ℕ). Some i) (sym c.in_ok-slot-in-Err.ensures.slot)))
+    let added = subst (λ (a : Added). IsAdded key c.args.update c.args.self.now c.add.new.self a) c.in-There.is c.in_ok-slot.ensures.added in
+    ap (slot_of key) c.in_ok-install_at-in-There.ensures.installed
+    ∙ (kept_slots key (installed c.in-There.update) c.add.new.self c.in-There.slot ∙ (ap (slot_of key) added.1 ∙ added.0))
