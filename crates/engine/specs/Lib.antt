@@ -5,3 +5,5 @@ pub mod Sound
 pub mod Bases
 pub mod Systems
 pub mod Openings
+pub mod Checkpoints
+pub mod Closes

@@ -8,11 +8,14 @@
 //! those who open and close it.
 #![tactic(auto)]
 
+mod checkpoint;
+mod close;
 mod local;
 mod opening;
 mod parts;
 mod step;
 mod system;
 
+pub use checkpoint::EngineMarks;
 pub use local::Local;
 pub use step::{Actor, Step};
