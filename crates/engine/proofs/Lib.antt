@@ -11,3 +11,4 @@ pub mod Beginning
 pub mod Checkpoints
 pub mod Closes
 pub mod RollingBack
+pub mod Bases

@@ -15,6 +15,8 @@ mod opening;
 mod parts;
 mod step;
 mod system;
+#[cfg(test)]
+mod tests;
 
 pub use checkpoint::EngineMarks;
 pub use local::Local;
