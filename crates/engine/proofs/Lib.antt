@@ -8,3 +8,7 @@ pub mod Systems
 pub mod SystemEvents
 pub mod Laying
 pub mod Beginning
+pub mod Checkpoints
+pub mod Closes
+pub mod RollingBack
+pub mod Bases

@@ -6,3 +6,5 @@ pub mod Bases
 pub mod Systems
 pub mod Openings
 pub mod Goings
+pub mod Checkpoints
+pub mod Closes

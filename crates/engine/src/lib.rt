@@ -8,11 +8,16 @@
 //! those who open and close it.
 #![tactic(auto)]
 
+mod checkpoint;
+mod close;
 mod local;
 mod opening;
 mod parts;
 mod step;
 mod system;
+#[cfg(test)]
+mod tests;
 
+pub use checkpoint::EngineMarks;
 pub use local::Local;
 pub use step::{Actor, Step};

@@ -29,7 +29,7 @@ use wt_code::{Answer, Limit, Refusal};
 /// The engine of one thread.
 #[derive(Drop)]
 pub struct Local {
-    parts: Parts,
+    pub(crate) parts: Parts,
 }
 
 impl Model for Local {

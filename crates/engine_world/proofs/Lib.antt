@@ -2,10 +2,12 @@ pub mod Appended
 pub mod Arranged
 pub mod Begins
 pub mod Beside
+pub mod CheckpointsInOne
 pub mod Commits
 pub mod Creates
 pub mod CursorChanges
 pub mod Deciding
+pub mod Downs
 pub mod EditMoves
 pub mod EditedChains
 pub mod EditedLeaves

@@ -1,13 +1,15 @@
--- What the opening of a session, a create and a set leave of an engine that stands for a world, and with what an engine starts.
+-- What the opening of a session, a create, a set, a checkpoint in one go and a failed write of the device leave of an engine that stands for a world, and with what an engine starts.
 use Rattle.std.specs.Prelude.{◌≡◌, ◌<◌, ◌+◌, ℕ, List, [], ◌∷◌, ◌++◌, length, map, reverse, Option, None, Some, Ok, slice_get, slice_set}
+use Rattle.failure.specs.declared.Fault.{Fault}
 use Rattle.item.specs.declared.Formats.{Formats}
 use Rattle.kv_model.specs.Content.{Content, base, descending, start, table_lt}
 use Rattle.kv_model.specs.History.{Table, line}
-use Rattle.kv_model.specs.Machine.{OpenSession, CreateTable, SetStamps, after}
+use Rattle.kv_model.specs.Machine.{Machine, OpenSession, CreateTable, SetStamps, CheckpointStart, CheckpointFinish, GoDown, after}
 use Rattle.kv_model.specs.Refusals.{set_rules, stamp_of}
 use Rattle.kv_model.specs.Regular.{IsRegular}
 use Rattle.update_chain.specs.Updates.{unmarked_update}
 use Rattle.leaf_chains.specs.Slots.{chain_at}
+use Rattle.snapshot.specs.Matters.{NoneResolves}
 use Rattle.ts_rules.specs.Rules.{answer_by, raised}
 use Rattle.txn_table.specs.Tabled.{fresh, one_more}
 use Rattle.catalog.specs.Known.{Known, AreTables}
@@ -45,6 +47,21 @@ abbrev pub CreatesGo : Type 0
 CreatesGo = (e : Engine) (w : World) (name : List ℕ) (formats : Formats) (known : Known) (place : ℕ) → Stands e w → IsCreated e.hub.tables (asked e.hub.tables name formats) known (New place)
     → AreTables known → place < length e.pieces → place < length e.states
     → Stands (with_table e known (asked e.hub.tables name formats) place) (record w { machine = after w.machine (CreateTable (asked e.hub.tables name formats)) })
+
+-- a checkpoint starts and finishes, with nobody between
+abbrev pub checkpointed : Machine → Machine
+checkpointed m = after (after m CheckpointStart) CheckpointFinish
+
+-- a checkpoint in one go changes nothing of the engine
+abbrev pub CheckpointsGo : Type 0
+CheckpointsGo = (e : Engine) (w : World) → Stands e w → w.machine.checkpoint ≡ None → NoneResolves w.machine → Stands e (record w { machine = checkpointed w.machine })
+
+-- a write or sync of the device failed; the newest fault is told
+abbrev pub with_fault : Engine → Fault → Engine
+with_fault e fault = record e { hub = record e.hub { fault = Some fault } }
+
+abbrev pub DownsGo : Type 0
+DownsGo = (e : Engine) (w : World) (fault : Fault) → Stands e w → Stands (with_fault e fault) (record w { machine = after w.machine (GoDown fault) })
 
 -- ---- the start
 

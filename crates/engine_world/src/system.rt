@@ -1,7 +1,7 @@
 //! Laws of the start of an engine, of sessions that are opened, and of the events of the system. A law calls those of lower crates
 //! that its proof rests on.
 
-ghost use Rattle.engine_world.specs.Systems.{CreatesGo, EnginesStart, OpensGo, SetsGo};
+ghost use Rattle.engine_world.specs.Systems.{CheckpointsGo, CreatesGo, DownsGo, EnginesStart, OpensGo, SetsGo};
 
 use update_chain::chains_go_on;
 
@@ -27,6 +27,20 @@ pub fn sets_go()
 /// A table is made.
 pub fn creates_go()
     ensures { CreatesGo }
+{
+    chains_go_on();
+}
+
+/// A checkpoint starts and finishes, with nobody between. None runs, and no prepared transaction is being resolved.
+pub fn checkpoints_go()
+    ensures { CheckpointsGo }
+{
+    chains_go_on();
+}
+
+/// A write or sync of the device failed: the machine goes down, also where it was down before.
+pub fn downs_go()
+    ensures { DownsGo }
 {
     chains_go_on();
 }

@@ -1,0 +1,177 @@
+// What a checkpoint in one go asks of an engine, and what it leaves. The layer above has the device:
+// it asks whether a checkpoint may start, takes its snapshot, reads the leaf of each table, writes, and
+// tells the engine how that went, with nobody between. A function calls the laws that its proof rests
+// on, which do nothing.
+
+ghost use Rattle.std.specs.Prelude.{◌≡◌, ℕ, None, Some, length, reverse, slice_get, option_map, IfOk, OnOk, MatchOption};
+ghost use Rattle.kv_model.specs.History.{Table, tables};
+ghost use Rattle.kv_model.specs.Machine.{GoDown, after};
+ghost use Rattle.snapshot.specs.Matters.{NoneResolves, SeesCommitted};
+ghost use Rattle.snapshot.specs.Sight.{sight_at};
+ghost use Rattle.txn_table.specs.Tabled.{unended};
+ghost use Rattle.catalog.specs.Known.{AreTables};
+ghost use Rattle.engine_world.specs.Leaves.{frame_in};
+ghost use Rattle.engine_world.specs.Stands.{Stands};
+ghost use Rattle.engine_world.specs.Systems.{checkpointed, with_fault};
+ghost use Rattle.engine_world.specs.Worlds.{World};
+ghost use Rattle.engine.specs.Checkpoints.{ChainsStand, MayStart, marks_of};
+ghost use Rattle.engine.specs.Sound.{IsSound};
+
+use crate::local::Local;
+use crate::parts::Parts;
+use catalog::Catalog;
+use engine_world::{checkpoints_go, downs_go};
+use failure::{Fault, NoMemory};
+use leaf_chains::LeafChains;
+use limits::{NUMBER_MAX, SESSIONS_MAX};
+use snapshot::Snapshot;
+use std::alloc::Global;
+use txn_table::{calls_stand, checkpoints_see, lowest_are_the_machines};
+use wt_code::{Busy, Limit, Refusal};
+
+/// What the record of a checkpoint keeps of the machine.
+#[derive(Clone, Copy, PartialEq, Eq, Debug)]
+pub struct EngineMarks {
+    /// The run.
+    pub run: u64,
+    /// The next id of this run.
+    pub next: u64,
+    /// The oldest stamp, 0 where it is not set.
+    pub oldest: u64,
+    /// The stable stamp, 0 where it is not set.
+    pub stable: u64,
+}
+
+impl Local {
+    /// Why a checkpoint may not start now: the engine is down, a prepared transaction is being
+    /// resolved, or there were too many. `number` is that of the last completed one, 0 where there is
+    /// none. `O(n)` in the sessions.
+    pub fn may_checkpoint(&self, number: u64) -> Result<(), Refusal>
+        ensures decided { (w : World) → Stands self.now w → w.machine.checkpoint ≡ None → MayStart w.machine number result }
+        ensures resolves { (w : World) → Stands self.now w → OnOk result (NoneResolves w.machine) }
+    {
+        self.parts.may_checkpoint(number)
+    }
+
+    /// The snapshot of a checkpoint that starts now. The error is want of memory. `O(n log n)` in
+    /// the sessions.
+    pub fn checkpoint_snapshot(&self, alloc: Global) -> Result<Snapshot, NoMemory>
+        ensures sight { IfOk result (λ s. s.sight ≡ sight_at self.now.hub.txns.run self.now.hub.txns.next (unended self.now.hub.txns)) }
+        ensures sees { (w : World) → Stands self.now w → NoneResolves w.machine → IfOk result (λ s. SeesCommitted w.machine (length w.machine.history) s.sight) }
+    {
+        self.parts.checkpoint_snapshot(alloc)
+    }
+
+    /// What a record keeps of the machine. `O(1)`.
+    pub fn marks(&self) -> EngineMarks
+        ensures { (w : World) → Stands self.now w → result ≡ marks_of w.machine }
+    {
+        self.parts.marks()
+    }
+
+    /// The tables. `O(1)`.
+    pub fn tables(&self) -> &Catalog
+        ensures are { result.now ≡ self.now.hub.tables }
+        ensures known { AreTables result.now }
+        ensures made { (w : World) → Stands self.now w → reverse result.now.tables ≡ tables w.machine.history }
+    {
+        self.parts.tables()
+    }
+
+    /// The update chains of the leaf of the table at a place of the catalog. `O(1)`.
+    pub fn leaf(&self, place: u32) -> Option<&LeafChains>
+        ensures { (w : World) → Stands self.now w → (t : Table) → slice_get self.now.hub.tables.tables place ≡ Some t → MatchOption result ⊥ (λ chains. ChainsStand w.machine t chains.now) }
+    {
+        self.parts.leaf(place)
+    }
+
+    /// A checkpoint was completed, with nobody between its start and its finish. Nothing changes.
+    pub fn checkpointed(&mut self)
+        ensures same { self.new ≡ self.old }
+        ensures stands { (w : World) → Stands self.old w → w.machine.checkpoint ≡ None → NoneResolves w.machine → Stands self.new (record w { machine = checkpointed w.machine }) }
+    {
+        checkpoints_go();
+    }
+
+    /// A write or sync of the device failed: the engine is down from now on, and tells this fault.
+    /// `O(1)`.
+    pub fn go_down(&mut self, fault: Fault)
+        ensures is { self.new ≡ with_fault self.old fault }
+        ensures down { (w : World) → Stands self.old w → Stands self.new (record w { machine = after w.machine (GoDown fault) }) }
+    {
+        self.parts.go_down(fault)
+    }
+}
+
+impl Parts {
+    /// Why a checkpoint may not start now.
+    pub(crate) fn may_checkpoint(&self, number: u64) -> Result<(), Refusal>
+        ensures decided { (w : World) → Stands self.now w → w.machine.checkpoint ≡ None → MayStart w.machine number result }
+        ensures resolves { (w : World) → Stands self.now w → OnOk result (NoneResolves w.machine) }
+    {
+        lowest_are_the_machines();
+        if let Some(fault) = self.hub.fault {
+            return Err(Refusal::Panic { fault });
+        }
+        if let Some(session) = self.hub.txns.resolving() {
+            return Err(Refusal::Busy(Busy::Resolving(session)));
+        }
+        if number >= NUMBER_MAX {
+            return Err(Refusal::Limit(Limit::Checkpoints));
+        }
+        Ok(())
+    }
+
+    /// The snapshot of a checkpoint that starts now.
+    pub(crate) fn checkpoint_snapshot(&self, alloc: Global) -> Result<Snapshot, NoMemory>
+        ensures sight { IfOk result (λ s. s.sight ≡ sight_at self.now.hub.txns.run self.now.hub.txns.next (unended self.now.hub.txns)) }
+        ensures sees { (w : World) → Stands self.now w → NoneResolves w.machine → IfOk result (λ s. SeesCommitted w.machine (length w.machine.history) s.sight) }
+    {
+        calls_stand();
+        checkpoints_see();
+        let mut snapshot = Snapshot::new(alloc, self.hub.txns.run(), SESSIONS_MAX)?;
+        self.hub.txns.checkpoint_snapshot(&mut snapshot);
+        Ok(snapshot)
+    }
+
+    /// What a record keeps of the machine.
+    pub(crate) fn marks(&self) -> EngineMarks
+        ensures { (w : World) → Stands self.now w → result ≡ marks_of w.machine }
+    {
+        EngineMarks {
+            run: self.hub.txns.run(),
+            next: self.hub.txns.next_id(),
+            oldest: self.hub.stamps.oldest,
+            stable: self.hub.stamps.stable,
+        }
+    }
+
+    /// The tables.
+    pub(crate) fn tables(&self) -> &Catalog
+        ensures { result.now ≡ self.now.hub.tables }
+    {
+        &self.hub.tables
+    }
+
+    /// The update chains of the leaf in a frame.
+    pub(crate) fn leaf(&self, frame: u32) -> Option<&LeafChains>
+        ensures { option_map (λ chains. chains.now) result ≡ option_map (λ f. f.chains) (frame_in self.now.pieces frame) }
+    {
+        let piece = self.pieces.get(frame as usize)?;
+        match &piece.frame {
+            None => None,
+            Some(frame) => Some(&frame.chains),
+        }
+    }
+
+    /// The engine is down from now on.
+    pub(crate) fn go_down(&mut self, fault: Fault)
+        requires { IsSound self.old }
+        ensures is { self.new ≡ with_fault self.old fault }
+        ensures down { (w : World) → Stands self.old w → Stands self.new (record w { machine = after w.machine (GoDown fault) }) }
+        ensures sound { IsSound self.new }
+    {
+        downs_go();
+        self.hub.fault = Some(fault);
+    }
+}
