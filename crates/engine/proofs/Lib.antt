@@ -8,3 +8,4 @@ pub mod Systems
 pub mod SystemEvents
 pub mod Laying
 pub mod Beginning
+pub mod Running

@@ -11,8 +11,10 @@
 mod local;
 mod opening;
 mod parts;
+mod runs;
 mod step;
 mod system;
 
 pub use local::Local;
+pub use runs::run_steps;
 pub use step::{Actor, Step};
