@@ -12,3 +12,4 @@ pub mod Checkpoints
 pub mod Closes
 pub mod RollingBack
 pub mod Bases
+pub mod Running

@@ -13,6 +13,7 @@ mod close;
 mod local;
 mod opening;
 mod parts;
+mod runs;
 mod step;
 mod system;
 #[cfg(test)]
@@ -20,4 +21,5 @@ mod tests;
 
 pub use checkpoint::EngineMarks;
 pub use local::Local;
+pub use runs::run_steps;
 pub use step::{Actor, Step};

@@ -104,6 +104,7 @@ impl Local {
         requires { StepFits self.old step }
         ensures step { (w : World) → Stands self.old w → (later : World) × MayStep w step result later × Stands self.new later }
         ensures sessions { length self.new.sessions ≡ length self.old.sessions }
+        ensures systems { length self.new.systems ≡ length self.old.systems }
     {
         match step {
             Step::Start(Call::Session(session, call)) => self.parts.start(alloc, session, call),
@@ -116,6 +117,7 @@ impl Local {
         requires { StepFits self.old (Step.Go actor) }
         ensures step { (w : World) → Stands self.old w → (later : World) × MayStep w (Step.Go actor) result later × Stands self.new later }
         ensures sessions { length self.new.sessions ≡ length self.old.sessions }
+        ensures systems { length self.new.systems ≡ length self.old.systems }
     {
         match actor {
             Actor::Session(session) => self.parts.go(alloc, session),
