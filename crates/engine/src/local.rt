@@ -11,6 +11,7 @@ ghost use Rattle.engine_world.specs.Worlds.{World};
 ghost use Rattle.engine.specs.Bases.{IsBaseOf};
 ghost use Rattle.engine.specs.Openings.{HasBase};
 ghost use Rattle.engine.specs.Runs.{CallFits, MayRun, MayStep, StepFits, StepsOut};
+ghost use Rattle.engine.specs.Sound.{AreBuilt};
 ghost use Rattle.engine.specs.Whole.{MayAnswer, with_session_more};
 
 use crate::parts::Parts;
@@ -74,6 +75,7 @@ impl Local {
     pub fn actors(&self) -> u32
         ensures count { result ≡ 4 }
         ensures systems { length self.now.systems ≡ 4 }
+        ensures built { AreBuilt self.now.systems }
     {
         let _ = &self.parts;
         4

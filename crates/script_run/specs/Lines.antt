@@ -1,5 +1,6 @@
 -- How an input is cut into lines.
-use Rattle.std.specs.Prelude.{◌≡◌, ◌⊎◌, ◌≤◌, ◌+◌, ◌==◌, ◌&&◌, not, ℕ, Bool, true, false, List, [], ◌∷◌, ◌++◌, length, IsTrue}
+use Rattle.std.specs.Prelude.{◌≡◌, ◌⊎◌, ◌≤◌, ◌+◌, ◌==◌, ◌&&◌, not, ℕ, Bool, true, false, List, [], ◌∷◌, ◌++◌, length, Option, IsTrue}
+use Rattle.wt_io.specs.Streams.{Gave}
 use Rattle.script_text.specs.declared.parse.TheConstants.{LINE_MAX}
 
 -- no byte is a newline
@@ -28,6 +29,11 @@ EndsSo ended bytes line behind =
 abbrev pub IsCut : Bool → List ℕ → List ℕ → List ℕ → Type 0
 IsCut ended bytes line behind = (is_unbroken line ≡ true) × EndsSo ended bytes line behind
 
+-- the lines at the front of the bytes, one after the other, and what is behind them
+abbrev pub AreLines : Bool → List ℕ → List (List ℕ) → List ℕ → Type 0
+AreLines ended bytes [] behind = bytes ≡ behind
+AreLines ended bytes (line ∷ lines) behind = (middle : List ℕ) × IsCut ended bytes line middle × AreLines ended middle lines behind
+
 -- ---- what a reader does
 
 -- it reads into its empty buffer
@@ -45,6 +51,10 @@ pub record Takes (whole : Bool) (old new : Held) : Type 0 where
   pub unbroken : is_unbroken new.line ≡ true
   pub ended : new.ended ≡ old.ended
   pub taken : TakesUpTo whole old new
+
+-- what the source gives to a reader, which reads no more behind the end
+abbrev pub GaveMore : Bool → Option (List ℕ) → Option (List ℕ) → List ℕ → Type 0
+GaveMore ended left left' given = Gave left left' given × (IsTrue ended → given ≡ [])
 
 -- what it had and what the source gave begin with its line; or there is no line more
 abbrev pub NextLine : Bool → Held → Held → List ℕ → Type 0

@@ -1,8 +1,9 @@
 -- What the functions that run a line do.
-use Rattle.std.specs.Prelude.{◌≡◌, ◌⊎◌, ◌<◌, ◌∷◌, ◌++◌, [], ℕ, List, Option, None, Some, Result, Ok, Err, length}
+use Rattle.std.specs.Prelude.{◌≡◌, ◌⊎◌, ◌<◌, ◌∷◌, ◌++◌, [], ℕ, Bool, List, Option, None, Some, Result, Ok, Err, length, filter, IsTrue}
 use Rattle.item.specs.declared.formats.Formats.{Formats}
 use Rattle.wt_code.specs.declared.refusals.Refusal.{Refusal}
 use Rattle.wt_code.specs.declared.refusals.Refusal.TheVariants.{NoMemory}
+use Rattle.wt_io.specs.Streams.{Gave, Took}
 use Rattle.wt_calls.specs.declared.call.Call.{Call}
 use Rattle.script_text.specs.declared.line.Line.{Line}
 use Rattle.script_text.specs.declared.line.Line.TheVariants.{Whole, Start, Step, Finish, Control}
@@ -13,8 +14,12 @@ use Rattle.engine_world.specs.Stands.{Engine, Stands}
 use Rattle.engine_world.specs.Worlds.{World}
 use Rattle.engine.specs.declared.step.Actor.{Actor}
 use Rattle.engine.specs.declared.step.Actor.TheVariants as by
+use Rattle.script_run.specs.declared.one_line.Printed.{Printed}
 use Rattle.script_run.specs.declared.one_line.Told.{Told}
-use Rattle.script_run.specs.Scripts.{Answers, Begins, Ends, Goes, Refuses, Replies, Script, IsLater, NoSession, actor_in, caller, missing, opened_more}
+use Rattle.script_run.specs.declared.script.End.TheVariants.{Through}
+use Rattle.script_run.specs.declared.script.ScriptRun.{ScriptRun}
+use Rattle.script_run.specs.Lines.{AreLines}
+use Rattle.script_run.specs.Scripts.{Answers, Begins, Ends, Goes, Outside, Ran, Refuses, Replies, RunsLines, Script, IsLater, NoSession, actor_in, caller, counts, first_of, fresh, listed, missing, opened_more, refusals_in}
 
 -- one of the four actors of the system, or any session
 abbrev pub IsKnown : Actor → Type 0
@@ -73,14 +78,38 @@ abbrev pub IsUntouched : World → List Formats → Engine → List Formats → 
 IsUntouched w before e kept = Stands e w × (kept ≡ before)
 
 -- what was made of a line: it is none, or this is printed of it
-abbrev pub LineMade : List ℕ → World → List Formats → Engine → List Formats → Option (List ℕ) → Type 0
+abbrev pub LineMade : List ℕ → World → List Formats → Engine → List Formats → Option Printed → Type 0
 LineMade text w before e kept None = ((asked : Line) → IsLine text asked → IsLater asked) × IsUntouched w before e kept
 LineMade text w before e kept (Some printed) =
     (asked : Line) × (formats : Formats) × (reply : Reply) × IsLineRun text (record { world = w; formats = before }) e kept asked formats reply
-    × (printed ≡ line_of_reply formats reply ++ 10 ∷ [])
+    × (printed.line.items ≡ line_of_reply formats reply ++ 10 ∷ []) × (listed printed.refusal ≡ refusals_in reply)
 
 -- for want of memory nothing was made of it, or its reply is not printed
 abbrev pub LineStops : List ℕ → World → List Formats → Engine → List Formats → Type 0
 LineStops text w before e kept =
     IsUntouched w before e kept
     ⊎ ((asked : Line) × (formats : Formats) × (reply : Reply) × IsLineRun text (record { world = w; formats = before }) e kept asked formats reply)
+
+-- ---- whole scripts
+
+-- A run of a script on an engine that stands for this world: what the input gave, the lines of that, and what they make.
+pub record IsRun (o : Outside) (left left' written written' : Option (List ℕ)) (w : World) (e : Engine) (told : ScriptRun) : Type 0 where
+  pub given : List ℕ
+  pub gave : Gave left left' given
+  pub texts : List (List ℕ)
+  -- what was read behind the last line that was taken
+  pub behind : List ℕ
+  pub ended : Bool
+  pub at_end : IsTrue ended → o.input_ended
+  pub lines : AreLines ended given texts behind
+  pub ran : Ran
+  pub runs : RunsLines o 1 0 texts (fresh w) ran
+  pub took : Took written written' ran.text
+  pub end_is : told.end ≡ ran.end
+  -- the first fault of the disk or want of memory that a line replied
+  pub met : told.met ≡ first_of (filter counts ran.replies)
+  -- at the end of its input there is no byte behind the last line
+  pub whole : ran.end ≡ Through → behind ≡ []
+  pub stands : Stands e ran.last.world
+  -- no line changes the checkpoint that the device has
+  pub checkpoint : ran.last.world.machine.completed ≡ w.machine.completed

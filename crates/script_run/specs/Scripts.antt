@@ -1,6 +1,7 @@
--- What the lines of a script reply, and what each leaves.
-use Rattle.std.specs.Prelude.{◌≡◌, ◌⊎◌, ◌<◌, ◌≤◌, ◌+◌, ◌-◌, ℕ, zero, suc, List, length, slice_index_or, slice_set}
+-- What the lines of a script reply, what each leaves, and how a script ends.
+use Rattle.std.specs.Prelude.{◌≡◌, ◌⊎◌, ◌<◌, ◌≤◌, ◌+◌, ◌-◌, ℕ, zero, suc, Bool, true, false, List, [], ◌∷◌, ◌++◌, length, take, replicate, slice_index_or, slice_set, Option, None, Some}
 use Rattle.limits.specs.declared.TheConstants.{SESSIONS_MAX}
+use Rattle.failure.specs.Counts.{Rose}
 use Rattle.item.specs.declared.formats.Format.TheVariants.{U}
 use Rattle.item.specs.declared.formats.Formats.{Formats}
 use Rattle.wt_code.specs.declared.answers.Answer.{Answer}
@@ -8,6 +9,10 @@ use Rattle.wt_code.specs.declared.answers.Answer.TheVariants as answers
 use Rattle.wt_code.specs.declared.refusals.Refusal.{Refusal}
 use Rattle.wt_code.specs.declared.refusals.Refusal.TheVariants as refusal
 use Rattle.wt_code.specs.declared.refusals.Limit.TheVariants.{Sessions}
+use Rattle.wt_code.specs.declared.refusals.Invalid.TheVariants.{Text}
+use Rattle.wt_io.specs.Streams.{AtEnd}
+use Rattle.wt_io.specs.declared.streams.Source.{Ghosts as SourceGhosts}
+use Rattle.wt_io.specs.declared.streams.Sink.{Ghosts as SinkGhosts}
 use Rattle.kv_model.specs.History.{named, tables}
 use Rattle.kv_model.specs.Machine.{Machine, of_some}
 use Rattle.wt_calls.specs.declared.call.Call.{Call}
@@ -20,6 +25,8 @@ use Rattle.script_text.specs.declared.line.Line.{Line}
 use Rattle.script_text.specs.declared.line.Line.TheVariants.{Whole, Start, Step, Finish, Control}
 use Rattle.script_text.specs.declared.replies.Reply.{Reply}
 use Rattle.script_text.specs.declared.replies.Reply.TheVariants.{Started, More, Answered}
+use Rattle.script_text.specs.Grammar.{IsLine}
+use Rattle.script_text.specs.Replies.{line_of_reply}
 use Rattle.script_text.specs.Stored.{table_of_items, stored_call}
 use Rattle.engine_world.specs.Worlds.{World}
 use Rattle.engine.specs.declared.step.Actor.{Actor as EngineActor}
@@ -27,6 +34,9 @@ use Rattle.engine.specs.declared.step.Actor.TheVariants as by
 use Rattle.engine.specs.declared.step.Step.TheVariants as step
 use Rattle.engine.specs.Runs.{MayStep, StepsOut, IsBuilt}
 use Rattle.engine.specs.Whole.{MayAnswer, with_session_more}
+use Rattle.script_run.specs.declared.script.End.{End}
+use Rattle.script_run.specs.declared.script.End.TheVariants.{Through, Stopped, InputFailed, OutputFailed}
+use Rattle.script_run.specs.declared.script.TheConstants.{INPUT_MAX}
 
 -- between two lines: the world, and by session the formats of the call that it has started
 pub record Script : Type 0 where
@@ -153,3 +163,79 @@ Replies (Start made) s formats reply later =
 Replies (Step who) s formats reply later = Opens (actor_in who) s.world (λ w. Goes (actor_in who) s formats reply later w) (λ r w. Refuses r s w reply later)
 Replies (Finish who) s formats reply later = Opens (actor_in who) s.world (λ w. Ends (actor_in who) s formats reply later w) (λ r w. Refuses r s w reply later)
 Replies (Control asked) s formats reply later = ⊥
+
+-- the refusal that a reply tells, if it does
+abbrev pub refusals_in : Reply → List Refusal
+refusals_in (Answered (answers.Refused r)) = r ∷ []
+refusals_in _ = []
+
+abbrev pub listed : Option Refusal → List Refusal
+listed None = []
+listed (Some r) = r ∷ []
+
+-- ---- runs
+
+-- facts of a run's input and output
+pub record Outside : Type 1 where
+  -- a read of the input failed
+  pub input_failed : Type 0
+  -- the input was read to its end
+  pub input_ended : Type 0
+  -- a write of the output failed
+  pub output_failed : Type 0
+
+-- the same of streams, before and after
+abbrev pub outside : {S K : Type 0} → SourceGhosts S → SinkGhosts K → S → S → K → K → Outside
+outside s k input input_now out out_now = record {
+  input_failed = Rose (s.fault_count input) (s.fault_count input_now);
+  input_ended = AtEnd (s.left input_now);
+  output_failed = Rose (k.fault_count out) (k.fault_count out_now);
+}
+
+-- what is printed, the refusals that stand in it, in their order, and how it ended
+pub record Ran : Type 0 where
+  pub text : List ℕ
+  pub replies : List Refusal
+  pub last : Script
+  pub end : End
+
+-- before the first line
+abbrev pub fresh : World → Script
+fresh w = record { world = w; formats = replicate SESSIONS_MAX plain }
+
+abbrev pub ends : End → Script → Ran
+ends end s = record { text = []; replies = []; last = s; end = end }
+
+abbrev pub prints : List ℕ → Reply → Ran → Ran
+prints line reply ran = record ran { text = line ++ 10 ∷ ran.text; replies = refusals_in reply ++ ran.replies }
+
+-- the line is none, is of a later stage, or has a byte behind those that an input may have
+abbrev pub IsNone : ℕ → List ℕ → Type 0
+IsNone used text = ((asked : Line) → IsLine text asked → IsLater asked) ⊎ (INPUT_MAX < used + length text)
+
+-- What is printed of a reply and what follows: all of it and the lines behind it, a front of it where the output fails, or nothing for want of memory. The last two end the run.
+abbrev pub Prints : Outside → List ℕ → (Ran → Type 0) → List (List ℕ) → Reply → Script → Ran → Type 0
+Prints o line Rest texts reply later ran =
+    ((rest : Ran) × (ran ≡ prints line reply rest) × Rest rest)
+    ⊎ (((n : ℕ) × (texts ≡ []) × o.output_failed × (n < length (line ++ 10 ∷ [])) × (ran ≡ record (ends OutputFailed later) { text = take n (line ++ 10 ∷ []) }))
+    ⊎ ((texts ≡ []) × (ran ≡ ends (Stopped refusal.NoMemory) later)))
+
+-- The lines in order, the first of them with this number, behind so many bytes of lines with their newlines. A line that is none, want of memory and a stream that fails end the run; a refusal that a line replies does not.
+abbrev pub RunsLines : Outside → ℕ → ℕ → List (List ℕ) → Script → Ran → Type 0
+RunsLines o at used [] s ran =
+    (o.input_ended × (ran ≡ ends Through s)) ⊎ ((o.input_failed × (ran ≡ ends InputFailed s)) ⊎ (ran ≡ ends (Stopped refusal.NoMemory) s))
+RunsLines o at used (text ∷ texts) s ran =
+    (IsNone used text × (texts ≡ []) × (ran ≡ ends (Stopped (refusal.Invalid (Text at))) s))
+    ⊎ (((texts ≡ []) × (ran ≡ ends (Stopped refusal.NoMemory) s))
+    ⊎ ((used + length text ≤ INPUT_MAX) × (asked : Line) × (formats : Formats) × (reply : Reply) × (later : Script) × IsLine text asked × (IsLater asked → ⊥) × Replies asked s formats reply later
+    × Prints o (line_of_reply formats reply) (λ rest. RunsLines o (at + 1) (used + (length text + 1)) texts later rest) texts reply later ran))
+
+-- of the refusals that a script replies, a fault of the disk and want of memory count
+abbrev pub counts : Refusal → Bool
+counts refusal.DiskFault = true
+counts refusal.NoMemory = true
+counts _ = false
+
+abbrev pub first_of : List Refusal → Option Refusal
+first_of [] = None
+first_of (r ∷ later) = Some r

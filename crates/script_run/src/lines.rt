@@ -2,7 +2,7 @@
 ghost use Rattle.std.specs.Prelude.{◌≡◌, ◌≤◌, ◌<◌, ◌↔◌, ◌++◌, ◌∷◌, [], ℕ, List, true, false, length, take, slice_index, IsTrue, IfOk, IfErr, OnErr};
 ghost use Rattle.failure.specs.Counts.{HasCause, Rose};
 ghost use Rattle.wt_io.specs.Streams.{AtEnd, Gave};
-ghost use Rattle.script_run.specs.Lines.{is_unbroken, IsFilled, NextLine, Takes};
+ghost use Rattle.script_run.specs.Lines.{is_unbroken, GaveMore, IsFilled, NextLine, Takes};
 ghost use Rattle.script_run.specs.declared.lines.NoLine.TheVariants.{Failed as OfSource, NoMemory as OfMemory};
 ghost use Rattle.script_text.specs.declared.parse.TheConstants.{LINE_MAX};
 
@@ -85,11 +85,12 @@ impl Lines {
     }
 
     /// Reads the next line, and tells whether there is one. It ends at its newline, at the end of
-    /// the input, or at its byte behind the greatest length.
+    /// the input, or at its byte behind the greatest length. Behind the end nothing more is read.
     pub fn next<S: Source>(&mut self, input: &mut S) -> Result<bool, NoLine>
         requires { IsTrue self.old.ended → AtEnd (S.left input.old) }
-        ensures line { (given : List ℕ) × Gave (S.left input.old) (S.left input.new) given × IfOk result (λ some. NextLine some self.old self.new given) }
+        ensures line { (given : List ℕ) × GaveMore self.old.ended (S.left input.old) (S.left input.new) given × IfOk result (λ some. NextLine some self.old self.new given) }
         ensures ended { IfOk result (λ some. IsTrue self.new.ended → AtEnd (S.left input.new)) }
+        ensures stays { IfOk result (λ some. IsTrue self.old.ended → IsTrue self.new.ended) }
         ensures failed { IfErr result (λ e. e ≡ NoLine.Failed → Rose (S.fault_count input.old) (S.fault_count input.new)) }
         ensures later { S.fault_count input.old ≤ S.fault_count input.new }
     {

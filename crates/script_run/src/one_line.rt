@@ -1,5 +1,5 @@
 // One line of a script: what it asks for is made, and the line that tells its reply.
-ghost use Rattle.std.specs.Prelude.{◌≡◌, ◌⊎◌, ◌↔◌, ◌<◌, ◌++◌, ◌∷◌, [], List, length, option_map, IsTrue, IfOk, IfErr, OnErr};
+ghost use Rattle.std.specs.Prelude.{◌≡◌, ◌⊎◌, ◌↔◌, ◌<◌, ◌++◌, ◌∷◌, [], List, length, IsTrue, IfOk, IfErr, OnErr};
 ghost use Rattle.item.specs.declared.formats.Formats.{Formats as KeptFormats};
 ghost use Rattle.wt_code.specs.declared.answers.Answer.TheVariants.{Refused};
 ghost use Rattle.script_text.specs.declared.line.Line.TheVariants.{Whole as WholeLine, Start as StartLine, Step as StepLine, Finish as FinishLine};
@@ -9,7 +9,7 @@ ghost use Rattle.engine_world.specs.Stands.{Stands};
 ghost use Rattle.engine_world.specs.Worlds.{World};
 ghost use Rattle.engine.specs.Runs.{IsBuilt};
 ghost use Rattle.script_run.specs.Runs.{IsAnswered, IsBegun, IsEnded, IsGone, IsKnown, IsOfKnown, IsReplied, IsThere, LineMade, LineStops, OpensAs};
-ghost use Rattle.script_run.specs.Scripts.{Script, IsLater, IsLaterCall, actor_in, caller, formats_in, in_script, kept_after, kept_formats, kept_more};
+ghost use Rattle.script_run.specs.Scripts.{Script, IsLater, IsLaterCall, actor_in, caller, formats_in, in_script, kept_after, kept_formats, kept_more, listed, refusals_in};
 
 use engine::{Actor, Local, Step};
 use failure::NoMemory;
@@ -34,16 +34,25 @@ pub(crate) struct Told {
     formats: Formats,
 }
 
-/// Runs a line, and gives the line that is printed, with its newline; none where the bytes are no
-/// line, or one of a later stage. Where memory is wanted, what the line asks for may be done.
+/// What is printed of a line.
+#[derive(Drop)]
+pub struct Printed {
+    /// The line that tells its reply, with its newline.
+    pub line: Vec<u8>,
+    /// The refusal that the reply tells, if it does.
+    pub refusal: Option<Refusal>,
+}
+
+/// Runs a line, and gives what is printed of it; none where the bytes are no line, or one of a
+/// later stage. Where memory is wanted, what the line asks for may be done.
 /// By session, `formats` has those of the call that it has started: at first `PLAIN` for each.
 pub fn run_line(
     alloc: Global,
     local: &mut Local,
     formats: &mut [Formats],
     text: &[u8],
-) -> Result<Option<Vec<u8>>, NoMemory>
-    ensures made { (w : World) → Stands local.old w → IfOk result (λ printed. LineMade text.now w formats.old local.new formats.new (option_map (λ v. v.items) printed)) }
+) -> Result<Option<Printed>, NoMemory>
+    ensures made { (w : World) → Stands local.old w → IfOk result (λ printed. LineMade text.now w formats.old local.new formats.new printed) }
     ensures stops { (w : World) → Stands local.old w → OnErr result (LineStops text.now w formats.old local.new formats.new) }
 {
     let Some(line) = parse_line(alloc, text)? else {
@@ -53,19 +62,32 @@ pub fn run_line(
         return Ok(None);
     }
     let told = reply_to(alloc, local, formats, line);
-    match printed(alloc, &told) {
+    match print_of(alloc, &told) {
         Err(_) => Err(NoMemory),
-        Ok(line) => Ok(Some(line)),
+        Ok(printed) => Ok(Some(printed)),
     }
 }
 
-// The line that tells a reply, with its newline.
-fn printed(alloc: Global, told: &Told) -> Result<Vec<u8>, NoMemory>
-    ensures { IfOk result (λ line. line.items ≡ line_of_reply told.now.formats told.now.reply ++ 10 ∷ []) }
+fn print_of(alloc: Global, told: &Told) -> Result<Printed, NoMemory>
+    ensures line { IfOk result (λ p. p.line.items ≡ line_of_reply told.now.formats told.now.reply ++ 10 ∷ []) }
+    ensures refusal { IfOk result (λ p. listed p.refusal ≡ refusals_in told.now.reply) }
 {
     let mut line = line_of_answer(alloc, &told.reply, told.formats)?;
     line.extend_from_slice(b"\n")?;
-    Ok(line)
+    Ok(Printed {
+        line,
+        refusal: refusal_in(&told.reply),
+    })
+}
+
+// The refusal that a reply tells, if it does.
+fn refusal_in(reply: &Reply) -> Option<Refusal>
+    ensures { listed result ≡ refusals_in reply.now }
+{
+    match reply {
+        Reply::Answered(Answer::Refused(refusal)) => Some(*refusal),
+        _ => None,
+    }
 }
 
 fn is_built(call: &SystemCall) -> bool

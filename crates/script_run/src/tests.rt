@@ -1,21 +1,19 @@
-// Stories: lines with what they print, on an engine without tables.
+// Scripts, with what each prints and how it ends, on an engine without tables.
 mod bad_lines;
 mod steps;
 mod stories;
 
-use crate::{Lines, NoLine, PLAIN, run_line};
+use crate::{Lines, NoLine, ScriptRun, run_script};
 use bad_lines::NO_LINES;
 use catalog::Catalog;
 use engine::Local;
 use failure::NoMemory;
-use item::Formats;
-use limits::SESSIONS_MAX;
 use std::alloc::Global;
 use std::process::Abort;
 use std::test::Fail;
 use steps::{COMMITS, ROLLBACKS, SINGLE};
 use stories::{CALLS, SNAPSHOTS, STAMPS};
-use wt_io::MemSource;
+use wt_io::{MemSink, MemSource};
 
 // What is shown, and lines with what they print. The line before them makes the table `t` of texts.
 #[derive(Clone, Copy)]
@@ -24,51 +22,59 @@ struct Story<'a> {
     rows: &'a [(&'a str, &'a str)],
 }
 
+// A script, with the numbers of the reads and the writes that fail.
+#[derive(Clone, Copy)]
+struct Script<'a> {
+    text: &'a str,
+    reads: &'a [u64],
+    writes: &'a [u64],
+}
+
+// A script whose streams do not fail, with what it prints and behind it how it ends.
+#[derive(Clone, Copy)]
+struct Row<'a> {
+    text: &'a str,
+    told: &'a str,
+}
+
 #[tactic(auto, using(crate::proofs::Bases::nothing_is_base))]
 fn engine(alloc: Global) -> Result<Local, NoMemory> {
     let tables = Catalog::new(alloc);
     Local::open(alloc, 1, 0, 0, tables, Vec::new(alloc))
 }
 
-// What lines print. Behind one that is none they are not run.
-fn run(
-    alloc: Global,
-    local: &mut Local,
-    formats: &mut [Formats],
-    text: &str,
-) -> Result<String, Fail> {
-    let mut told = String::new(alloc);
-    for line in text.split_terminator('\n') {
-        match run_line(alloc, local, formats, line.as_bytes())? {
-            None => {
-                told.push_str("no line\n")?;
-                return Ok(told);
-            }
-            Some(printed) => {
-                let printed = String::from_utf8_lossy(alloc, printed.as_slice())?;
-                told.push_str(printed.as_str())?;
-            }
-        }
-    }
+// What a script prints, and behind it how it ends.
+fn told(alloc: Global, script: Script<'_>) -> Result<String, Fail> {
+    let mut local = engine(alloc)?;
+    let mut input = MemSource::new(alloc, script.text.as_bytes(), script.reads)?;
+    let mut out = MemSink::new(alloc, script.writes)?;
+    let ScriptRun { end, met } = run_script(alloc, &mut local, &mut input, &mut out);
+    let mut told = String::from_utf8_lossy(alloc, out.bytes())?;
+    let ending = format!(in alloc; "{end:?} {met:?}")?;
+    told.push_str(ending.as_str())?;
     Ok(told)
 }
 
-// Whether each row of a story prints what it says.
+fn plainly(alloc: Global, text: &str) -> Result<String, Fail> {
+    let script = Script {
+        text,
+        reads: &[],
+        writes: &[],
+    };
+    told(alloc, script)
+}
+
+// Whether a story prints what its rows say, up to the end of its input.
 fn comes_out(alloc: Global, story: &Story<'_>) -> Result<bool, Fail> {
-    let mut local = engine(alloc)?;
-    let mut kept = [PLAIN; SESSIONS_MAX];
-    let formats = kept.as_mut_slice();
-    let made = run(alloc, &mut local, formats, "sys create t S S\n")?;
-    if made.as_str() != "ok\n" {
-        return Ok(false);
+    let mut text = String::from_str(alloc, "sys create t S S\n")?;
+    let mut wanted = String::from_str(alloc, "ok\n")?;
+    for (lines, printed) in story.rows {
+        text.push_str(lines)?;
+        wanted.push_str(printed)?;
     }
-    for (lines, wanted) in story.rows {
-        let told = run(alloc, &mut local, formats, lines)?;
-        if told.as_str() != *wanted {
-            return Ok(false);
-        }
-    }
-    Ok(true)
+    wanted.push_str("Through None")?;
+    let told = plainly(alloc, text.as_str())?;
+    Ok(told.as_str() == wanted.as_str())
 }
 
 fn all_come_out(rt: &impl Abort, alloc: Global, stories: &[Story<'_>]) -> Result<(), Fail> {
@@ -91,35 +97,125 @@ fn stories_come_out_as_written(rt: HostRuntime) -> Result<(), Fail> {
     all_come_out(&rt, alloc, ROLLBACKS)
 }
 
-// A line that puts a value of so many letters.
+// A line that puts a value of so many letters, behind two other lines.
 fn long_line(alloc: Global, count: usize) -> Result<String, Fail> {
-    let mut line = String::from_str(alloc, "s1 put t a ")?;
+    let mut text = String::from_str(alloc, "sys create t S S\ns1 begin\ns1 put t a ")?;
     for _ in 0..count {
-        line.push('v')?;
+        text.push('v')?;
     }
-    Ok(line)
-}
-
-// What a line prints as the first one.
-fn alone(alloc: Global, line: &str) -> Result<String, Fail> {
-    let mut local = engine(alloc)?;
-    let mut kept = [PLAIN; SESSIONS_MAX];
-    run(alloc, &mut local, kept.as_mut_slice(), line)
+    text.push_str("\ns1 commit\n")?;
+    Ok(text)
 }
 
 #[test]
-fn what_is_no_line_is_not_run(rt: HostRuntime) -> Result<(), Fail> {
+fn what_is_no_line_stops_the_script_with_its_number(rt: HostRuntime) -> Result<(), Fail> {
     let alloc = rt.alloc();
     for line in NO_LINES {
-        let told = alone(alloc, line)?;
-        assert_eq!(rt; told.as_str(), "no line\n", "at {line}");
+        let text = format!(in alloc; "sys create t S S\n{line}\ns1 begin\n")?;
+        let told = plainly(alloc, text.as_str())?;
+        assert_eq!(rt;
+            told.as_str(),
+            "ok\nStopped(Invalid(Text { line: 2 })) None",
+            "at {line}"
+        );
     }
     let longest = long_line(alloc, 65_525)?;
-    let told = alone(alloc, longest.as_str())?;
-    assert_eq!(rt; told.as_str(), "22 no transaction\n");
+    let told = plainly(alloc, longest.as_str())?;
+    assert_eq!(rt; told.as_str(), "ok\nok\n22 value long\nok\nThrough None");
     let longer = long_line(alloc, 65_526)?;
-    let told = alone(alloc, longer.as_str())?;
-    assert_eq!(rt; told.as_str(), "no line\n");
+    let told = plainly(alloc, longer.as_str())?;
+    assert_eq!(rt;
+        told.as_str(),
+        "ok\nok\nStopped(Invalid(Text { line: 3 })) None"
+    );
+    Ok(())
+}
+
+const LAST_LINES: &[Row<'static>] = &[
+    Row {
+        text: "",
+        told: "Through None",
+    },
+    Row {
+        text: "\n",
+        told: "Stopped(Invalid(Text { line: 1 })) None",
+    },
+    Row {
+        text: "s1 begin\ns1 commit",
+        told: "ok\nok\nThrough None",
+    },
+    Row {
+        text: "s1 begin\ns1 comm",
+        told: "ok\nStopped(Invalid(Text { line: 2 })) None",
+    },
+    Row {
+        text: "s1 commit\n\n",
+        told: "22 no transaction\nStopped(Invalid(Text { line: 2 })) None",
+    },
+];
+
+#[test]
+fn the_last_line_may_have_no_newline(rt: HostRuntime) -> Result<(), Fail> {
+    let alloc = rt.alloc();
+    for row in LAST_LINES {
+        let told = plainly(alloc, row.text)?;
+        assert_eq!(rt; told.as_str(), row.told);
+    }
+    Ok(())
+}
+
+// Lines that make so many tables.
+fn tables(alloc: Global, count: u32) -> Result<String, Fail> {
+    let mut text = String::new(alloc);
+    for number in 0..count {
+        let line = format!(in alloc; "sys create t{number} u u\n")?;
+        text.push_str(line.as_str())?;
+    }
+    Ok(text)
+}
+
+// What so many lines print that answer `ok`, and what is printed behind them.
+fn oks(alloc: Global, count: u32, behind: &str) -> Result<String, Fail> {
+    let mut text = String::new(alloc);
+    for _ in 0..count {
+        text.push_str("ok\n")?;
+    }
+    text.push_str(behind)?;
+    Ok(text)
+}
+
+#[test]
+fn there_are_1024_tables_at_most(rt: HostRuntime) -> Result<(), Fail> {
+    let alloc = rt.alloc();
+    let text = tables(alloc, 1_025)?;
+    let told = plainly(alloc, text.as_str())?;
+    let wanted = oks(alloc, 1_024, "75 limit tables\nThrough None")?;
+    assert_eq!(rt; told.as_str(), wanted.as_str());
+    Ok(())
+}
+
+// Each of the first ten lines has 18 bytes here, each of the next ninety 19, and each behind them
+// 20. What is read at once are 4,096 bytes, which 210 lines fit.
+#[test]
+fn a_stream_that_fails_ends_the_script(rt: HostRuntime) -> Result<(), Fail> {
+    let alloc = rt.alloc();
+    let text = tables(alloc, 300)?;
+    let text = text.as_str();
+    let script = Script {
+        text,
+        reads: &[1],
+        writes: &[],
+    };
+    let read = told(alloc, script)?;
+    let wanted = oks(alloc, 210, "InputFailed None")?;
+    assert_eq!(rt; read.as_str(), wanted.as_str());
+    let script = Script {
+        text,
+        reads: &[],
+        writes: &[2],
+    };
+    let written = told(alloc, script)?;
+    assert_eq!(rt; written.as_str(), "ok\nok\nOutputFailed None");
     Ok(())
 }
 

@@ -1,6 +1,6 @@
 // Lines that are none, or of a later stage.
 pub(super) const NO_LINES: &[&str] = &[
-    "\n",
+    "",
     " ",
     "s1",
     "s1 fly",

@@ -40,5 +40,6 @@ returns-clause-made c = λ w st.
         stands = r.stands;
         kept_is = r.kept_is;
       },
-      c.in-Ok.ensures,
+      c.in-Ok.ensures.line,
+      c.in-Ok.ensures.refusal,
     )

@@ -9,11 +9,13 @@ abbrev pub invariant-loop-self : goal.invariant-loop-self
 invariant-loop-self g l = record {
   given : List ℕ;
   gave : Gave (g.S.Source.left l.fn.input) (g.S.Source.left l.input) given;
+  none : IsTrue l.fn.self.ended → given ≡ [];
   unbroken : is_unbroken l.self.line ≡ true;
   short : length l.self.line ≤ LINE_MAX;
   empty : l.self.behind ≡ [];
   read : l.fn.self.behind ++ given ≡ l.self.line;
   ended : IsTrue l.self.ended → AtEnd (g.S.Source.left l.input);
+  stays : IsTrue l.fn.self.ended → IsTrue l.self.ended;
   later : g.S.Source.fault_count l.fn.input ≤ g.S.Source.fault_count l.input;
 }
 
