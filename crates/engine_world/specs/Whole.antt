@@ -14,9 +14,9 @@ use Rattle.call_steps.specs.declared.reply.Reply.TheVariants as reply
 use Rattle.engine_world.specs.Worlds.{Doing, Resting, Asked, Placed, Decided, Ending}
 use Rattle.engine_world.specs.Steps.{Made, GoesOn}
 
--- of the outside a session's call rests on nothing
+-- of the outside a session's call rests on nothing, and no page is kept from it
 abbrev pub nothing_around : Around
-nothing_around = any_around false (record { eviction = None; calls = [] }) 0
+nothing_around = record (any_around false (record { eviction = None; calls = [] }) 0) { MayKeepOut = λ r. ⊥ }
 
 -- the table was found, by the first event of a call on a leaf
 pub record IsFound (from : Machine) (session : ℕ) (name : List ℕ) (request : Request) (table : ℕ) (m : Machine) : Type 0 where

@@ -1,5 +1,5 @@
 -- What an opening finds, and why it finds nothing.
-use Rattle.std.specs.Prelude.{◌≡◌, ◌≢◌, ◌⊎◌, ℕ, ◌+◌, ◌<◌, ◌≤◌, Bool, true, false, not, IsTrue, ◌&&◌, ◌==◌, nat_lt, nat_le, suc, List, [], ◌∷◌, length, slice_index_or, Option, Some, None, Result, Ok, Err, IfOk, IfErr, refl}
+use Rattle.std.specs.Prelude.{◌≡◌, ◌≢◌, ◌⊎◌, ℕ, ◌+◌, ◌<◌, ◌≤◌, Bool, true, false, not, IsTrue, ◌&&◌, ◌==◌, nat_lt, nat_le, suc, List, [], ◌∷◌, length, slice_index_or, filter, Option, Some, None, Result, Ok, Err, IfOk, IfErr, refl}
 use Rattle.std.specs.List.{list_all, AllByRecursion}
 use Rattle.std.proofs.Common.{inl, inr, sym, ◌∙◌, ap, subst, arith}
 use Rattle.std.proofs.lemmas.Bool.{ltb-true, cases_Bool, eqb-true, eq-eqb, both_ways, false≢true}
@@ -36,7 +36,7 @@ use Rattle.one_table.specs.declared.place.Place.{Place}
 use Rattle.one_table.specs.declared.opening.Kept.{Kept}
 use Rattle.one_table.specs.declared.opening.Opened.{Opened}
 use Rattle.one_table.specs.declared.record.OneRecord.{OneRecord}
-use Rattle.leaf_rows.specs.Contents.{kept_rows}
+use Rattle.leaf_rows.specs.Contents.{kept_rows, is_kept_row}
 use Rattle.extent_list.specs.Space.{Space, IsFree, end_of as space_end}
 use Rattle.one_table.specs.OneTable.{table_of, lent, one_record, one_image, one_stored, IsTable, IsInForm, HoldsOne, HoldsNone}
 use Rattle.failure.specs.Counts.{Rose}
@@ -328,11 +328,23 @@ pub ok_map : {T E : Type 0} {P Q : T → Type 0} (r : Result T E) → IfOk r P �
 ok_map (Ok x) is more = more x is
 ok_map (Err e) is more = tt
 
+-- rows that were kept are kept again
+kept_again : (p : Row → Bool) (rows : List Row) → filter p (filter p rows) ≡ filter p rows
+kept_again p [] = refl
+kept_again p (r ∷ rows) = elim (cases_Bool (p r)) [
+  | inl is ↦ rw (is, is) (ap (λ (l : List Row). r ∷ l) (kept_again p rows))
+  | inr isnt ↦ rw isnt (kept_again p rows)
+]
+
 pub kept_in_form : (slot : Slot) (r : OneRecord) (rows : List Row) (books : Books) (o : Opened) → IsInForm r.numbers (lent r.entry) → r.numbers.marks.run < last_number → IsAssembled slot r rows books o → InForm o.kept
 kept_in_form slot r rows books o form run made = subst (λ (k : Option Kept). InForm k) (sym made.is) (record {
   form = subst (λ (n : Numbers). IsInForm n (table_of made.kept.entry)) (sym made.numbers) (subst (λ (t : Table). IsInForm r.numbers t) (sym made.entry) form);
   run = subst (λ (n : Numbers). n.marks.run < last_number) (sym made.numbers) run;
+  kept = subst (λ (l : List Row). kept_rows made.kept.numbers.marks l ≡ l) (sym rows_are) (kept_again (is_kept_row made.kept.numbers.marks) rows);
 })
+  where
+    rows_are : made.kept.rows ≡ kept_rows made.kept.numbers.marks rows
+    rows_are = made.rows_are ∙ ap (λ (n : Numbers). kept_rows n.marks rows) (sym made.numbers)
 
 pub none_in_form : (o : Opened) → IsNothing o → InForm o.kept
 none_in_form o none = subst (λ (k : Option Kept). InForm k) (sym none.none) tt

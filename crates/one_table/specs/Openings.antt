@@ -66,10 +66,11 @@ abbrev pub KeepsOr : List ℕ → Place → Option Kept → Type 0
 KeepsOr bytes place None = Serves bytes place None
 KeepsOr bytes place (Some k) = Keeps bytes place k
 
--- whatever the disk, the numbers and the table of what was kept are in form, and another run may follow
+-- whatever the disk, the numbers and the table of what was kept are in form, another run may follow, and the rows are those that an opening keeps
 pub record KeptInForm (k : Kept) : Type 0 where
   pub form : IsInForm k.numbers (table_of k.entry)
   pub run : k.numbers.marks.run < last_number
+  pub kept : kept_rows k.numbers.marks k.rows ≡ k.rows
 
 abbrev pub InForm : Option Kept → Type 0
 InForm None = Unit {0}
