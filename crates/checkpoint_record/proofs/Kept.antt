@@ -2,7 +2,7 @@
 use Rattle.std.proofs.Common.{◌≡◌, ◌≢◌, ℕ, suc, ◌+◌, ◌<◌, ◌≤◌, ◌==◌, ◌^◌, true, List, [], ◌∷◌, ◌++◌, length, refl, sym, subst, inl, inr, arith}
 use Rattle.std.specs.Prelude.{◌⊎◌, ◌&&◌, ◌||◌, not, nat_le, nat_lt}
 use Rattle.std.specs.List.{flat_map, list_all, AllByRecursion}
-use Rattle.std.specs.Int.{w8, w32, w64}
+use Rattle.std.specs.Int.{w8, w32}
 use Rattle.std.proofs.lemmas.Bool.{cases_lt, and_parts, and_from, or_cases, or_left, or_right, not-true, not_from_false, leb-true, le-leb, ltb-true, lt-ltb, eqb-true, eqb-false, eq-eqb, ne_eqb}
 use Rattle.std.proofs.lemmas.List.{get_or-append-add, get_or_append_left, get_or_past}
 use Rattle.limits.specs.declared.TheConstants.{NUMBER_MAX, LEVELS_MAX}
@@ -11,8 +11,9 @@ use Rattle.kv_model.specs.Content.{Snapshot}
 use Rattle.kv_model.specs.Decisions.{is_name, is_name_byte}
 use Rattle.row_page.specs.Rows.{is_below}
 use Rattle.stored.specs.Links.{link_text}
-use Rattle.stored.specs.Records.{TableRoot, Record, letter, table_text, snapshot_text, record_body, IdsAscend, SnapshotFits, IsNameByte, IsTableName, TableFits, TablesClimb, IsRecord}
+use Rattle.stored.specs.Records.{TableRoot, Record, table_text, snapshot_text, record_body, IdsAscend, SnapshotFits, IsNameByte, IsTableName, TableFits, TablesClimb, IsRecord}
 use Rattle.stored.proofs.Fields.{TableSpelled, RecordSpelled}
+use Rattle.checkpoint_record.specs.Parts.{marks_text, numbers_text}
 use Rattle.checkpoint_record.specs.Rules.{marks_keep, ids_ascend, snapshot_keeps, table_keeps, names_ascend, tables_keep, Keeps}
 
 -- ---- bytes of parts
@@ -32,8 +33,7 @@ HasBytes t = IsBytes t.table.name
 tables_bytes : (tables : List TableRoot) → IsBytes (flat_map table_text tables) → AllByRecursion (λ (t : TableRoot). HasBytes t) tables
 tables_bytes [] fits = tt
 tables_bytes (t ∷ tables) fits = (
-  bytes_behind (le w32 t.table.number ++ le w8 (letter t.table.formats.key) ++ le w8 (letter t.table.formats.value) ++ le w8 t.root.level ++ le w8 (length t.table.name) ++ link_text t.root.link) t.table.name
-      (bytes_before (table_text t) (flat_map table_text tables) fits),
+  bytes_behind (numbers_text t ++ link_text t.root.link) t.table.name (bytes_before (table_text t) (flat_map table_text tables) fits),
   tables_bytes tables (bytes_behind (table_text t) (flat_map table_text tables) fits),
 )
 
@@ -41,7 +41,7 @@ tables_bytes (t ∷ tables) fits = (
 pub names_bytes : (r : Record) → IsBytes (record_body r) → AllByRecursion (λ (t : TableRoot). HasBytes t) r.tables
 names_bytes r fits =
     tables_bytes r.tables
-    (bytes_behind (le w64 r.sequence ++ le w64 r.run ++ le w64 r.oldest ++ le w64 r.stable ++ snapshot_text r.snapshot ++ le w32 r.next_table ++ le w8 r.history.level ++ link_text r.history.link) (flat_map table_text r.tables) fits)
+    (bytes_behind (marks_text r ++ snapshot_text r.snapshot ++ le w32 r.next_table ++ le w8 r.history.level ++ link_text r.history.link) (flat_map table_text r.tables) fits)
 
 -- ---- names
 

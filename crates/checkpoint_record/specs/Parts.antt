@@ -1,11 +1,11 @@
 -- The body of a record in four parts: its marks, the snapshot, what leads to the history, the tables.
-use Rattle.std.specs.Prelude.{ℕ, List, ◌++◌, Option, Some}
+use Rattle.std.specs.Prelude.{ℕ, List, ◌++◌, length, Option, Some}
 use Rattle.std.specs.Int.{w8, w32, w64}
 use Rattle.le_codec.specs.Fields.{◌>>=◌, le, number_at}
 use Rattle.le_codec.specs.Combine.{then_at, many_at, as_at}
 use Rattle.device_layout.specs.declared.link.Link.{Link}
 use Rattle.stored.specs.Links.{link_text}
-use Rattle.stored.specs.Records.{TableRoot, Record}
+use Rattle.stored.specs.Records.{TableRoot, Record, letter}
 use Rattle.stored.specs.Reading.{link_at, snapshot_at, table_at}
 use Rattle.checkpoint_record.specs.declared.reading.Marks.{Marks}
 use Rattle.checkpoint_record.specs.declared.reading.History.{History}
@@ -61,3 +61,7 @@ marks_text r = le w64 r.sequence ++ le w64 r.run ++ le w64 r.oldest ++ le w64 r.
 
 abbrev pub history_text : Record → List ℕ
 history_text r = le w32 r.next_table ++ le w8 r.history.level ++ link_text r.history.link
+
+-- what stands before the link of a table
+abbrev pub numbers_text : TableRoot → List ℕ
+numbers_text t = le w32 t.table.number ++ le w8 (letter t.table.formats.key) ++ le w8 (letter t.table.formats.value) ++ le w8 t.root.level ++ le w8 (length t.table.name)

@@ -85,5 +85,14 @@ impl Model for Record {
 
     ghost Value = { StoredRecord };
 
-    ghost view = { λ r. record { sequence = r.sequence; run = r.run; oldest = r.oldest; stable = r.stable; snapshot = r.snapshot; next_table = r.next_table; history = r.history; tables = r.tables.items } };
+    ghost view = { λ r. record {
+      sequence = r.sequence;
+      run = r.run;
+      oldest = r.oldest;
+      stable = r.stable;
+      snapshot = r.snapshot;
+      next_table = r.next_table;
+      history = r.history;
+      tables = r.tables.items;
+    } };
 }

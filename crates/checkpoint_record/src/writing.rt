@@ -5,7 +5,7 @@ ghost use Rattle.std.specs.Int.{w64};
 ghost use Rattle.le_codec.specs.Fields.{le};
 ghost use Rattle.stored.specs.Links.{link_text};
 ghost use Rattle.stored.specs.Records.{IsRecord, letter as letter_of, record_body, record_image, snapshot_text, table_text};
-ghost use Rattle.checkpoint_record.specs.Parts.{marks_text, history_text};
+ghost use Rattle.checkpoint_record.specs.Parts.{marks_text, history_text, numbers_text};
 
 use crate::record::{Record, Snapshot, TableRoot};
 use device_layout::Link;
@@ -151,16 +151,24 @@ fn put_table(out: &mut Writer, table: &TableRoot) -> Result<(), NoMemory>
     requires { length table.now.table.name ≤ 128 }
     ensures { OnOk result (out.new ≡ out.old ++ table_text table.now) }
 {
+    put_numbers(out, table)?;
+    let root = &table.root;
+    put_link(out, &root.link)?;
+    out.slice(name_of(table))
+}
+
+// What stands before the link of a table.
+fn put_numbers(out: &mut Writer, table: &TableRoot) -> Result<(), NoMemory>
+    requires { length table.now.table.name ≤ 128 }
+    ensures { OnOk result (out.new ≡ out.old ++ numbers_text table.now) }
+{
     let named = &table.table;
     let root = &table.root;
-    let name = named.name.as_bytes();
     out.u32(named.number)?;
     out.u8(letter(named.formats.key))?;
     out.u8(letter(named.formats.value))?;
     out.u8(root.level)?;
-    out.u8(name.len() as u8)?;
-    put_link(out, &root.link)?;
-    out.slice(name)
+    out.u8(name_of(table).len() as u8)
 }
 
 fn letter(format: Format) -> u8
