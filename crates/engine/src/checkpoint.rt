@@ -69,7 +69,7 @@ impl Local {
         self.parts.marks()
     }
 
-    /// The tables. `O(1)`.
+    /// The tables: `leaf` gives that of the one at each place. `O(1)`.
     pub fn tables(&self) -> &Catalog
         ensures are { result.now ≡ self.now.hub.tables }
         ensures known { AreTables result.now }
@@ -80,7 +80,7 @@ impl Local {
 
     /// The update chains of the leaf of the table at a place of the catalog. `O(1)`.
     pub fn leaf(&self, place: u32) -> Option<&LeafChains>
-        ensures { (w : World) → Stands self.now w → (t : Table) → slice_get self.now.hub.tables.tables place ≡ Some t → MatchOption result ⊥ (λ chains. ChainsStand w.machine t chains.now) }
+        ensures { (w : World) → Stands self.now w → (t : Table) → slice_get self.now.hub.tables.tables place ≡ Some t → MatchOption result ⊥ (λ c. ChainsStand w.machine t c.now) }
     {
         self.parts.leaf(place)
     }

@@ -25,7 +25,7 @@ impl Local {
     }
 
     /// Rolls back the transaction of each session, the lowest first, prepared ones too: what a close
-    /// begins with. Each ends where a close may come.
+    /// begins with. Each ends where a close may come. The cost of a rollback for each session.
     pub fn roll_back_all(&mut self, alloc: Global)
         ensures rolled_back { (w : World) → Stands self.old w → MayClose w → Stands self.new (record w { machine = rolled_back w.machine }) }
         ensures sessions { length self.new.sessions ≡ length self.old.sessions }

@@ -4,8 +4,8 @@
 //! Promises, for every world for which the engine stands, that each step of a session may reply so
 //! in that world, and that the engine stands for a world to which the step may lead (`engine_world`
 //! says what a step may do, whatever the other sessions have under way); that whole calls with
-//! nobody between answer as `kv_model` says; and that each call ends. Leaves what a device keeps to
-//! those who open and close it.
+//! nobody between answer as `kv_model` says; and that each call ends. Tells those who open and close
+//! it what a checkpoint in one go and a close rest on, and leaves to them what a device keeps.
 #![tactic(auto)]
 
 mod checkpoint;
