@@ -1,4 +1,5 @@
 mod Cursors
+mod Names
 mod Newest
 mod RowWalk
 mod SlotWrites

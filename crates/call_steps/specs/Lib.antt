@@ -9,3 +9,4 @@ pub mod Leaves
 pub mod Looks
 pub mod FrameEvents
 pub mod SlotLooks
+pub mod Lengths

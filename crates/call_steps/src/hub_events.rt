@@ -1,9 +1,11 @@
 // The events on the hub.
 
-ghost use Rattle.std.specs.Prelude.{◌≡◌, ◌⊎◌, ◌<◌, Some, length, true};
+ghost use Rattle.std.specs.Prelude.{◌≡◌, ◌⊎◌, ◌<◌, None, Some, length, true};
 ghost use Rattle.txn_table.specs.SessionData.{is_unreleased};
 ghost use Rattle.txn_table.specs.Tabled.{phase_of};
 ghost use Rattle.kv_model.specs.Refusals.{first_of};
+ghost use Rattle.call_steps.specs.Lengths.{length_checks};
+ghost use Rattle.call_steps.specs.Tables.{target_of};
 ghost use Rattle.call_steps.specs.HubEvents.{IsSeated, hub_made, hub_made_at, begin_made, begins_in, find_made, finds, finds_at, finds_drawn, item_checks, history_made, release_made, done, done_made, decide_made, decides_in, decides_running, decides_prepared, leaves_with, resolve_made, resolves_in};
 
 use crate::hub::{Hub, target_of};
@@ -74,12 +76,41 @@ fn find(hub: &mut Hub, session: u32, state: &mut SessionState, call: KeyCall) ->
     if let Some(reason) = unless_running(state.phase()) {
         return state.refuse(Refusal::Invalid(reason));
     }
-    if let Some(reason) = wrong_items(state) {
-        return state.refuse(Refusal::Invalid(reason));
-    }
     match target_of(&hub.tables, state.name.as_bytes()) {
+        None => find_nothing(hub, session, state, call),
+        Some(target) => find_known(hub, session, state, call, target),
+    }
+}
+
+// There is no table of this name. That is told where nothing is wrong with the call.
+fn find_nothing(hub: &Hub, session: u32, state: &mut SessionState, call: KeyCall) -> Reply
+    requires { target_of hub.now.tables state.old.name ≡ None }
+    ensures { (result, (hub.now, state.new)) ≡ finds hub.now session state.old call }
+{
+    match wrong_items(state) {
+        Some(reason) => state.refuse(Refusal::Invalid(reason)),
         None => state.refuse(Refusal::NoTable),
-        Some(target) => go_to_leaf(hub, session, state, call, target),
+    }
+}
+
+// The name is that of a table, and so nothing is wrong with it.
+fn find_known(
+    hub: &mut Hub,
+    session: u32,
+    state: &mut SessionState,
+    call: KeyCall,
+    target: Target,
+) -> Reply
+    requires open { session < length hub.old.txns.sessions }
+    requires running { phase_of hub.old.txns session ≡ Phase.Running }
+    requires known { target_of hub.old.tables state.old.name ≡ Some target }
+    ensures { (result, (hub.new, state.new)) ≡ finds hub.old session state.old call }
+{
+    // What holds of every catalog holds of this one.
+    let _count = hub.tables.len();
+    match wrong_lengths(state) {
+        Some(reason) => state.refuse(Refusal::Invalid(reason)),
+        None => go_to_leaf(hub, session, state, call, target),
     }
 }
 
@@ -90,6 +121,13 @@ fn wrong_items(state: &SessionState) -> Option<Invalid>
     if !is_name(state.name.as_bytes()) {
         return Some(Invalid::BadName);
     }
+    wrong_lengths(state)
+}
+
+// What is wrong with the lengths of the key and the value.
+fn wrong_lengths(state: &SessionState) -> Option<Invalid>
+    ensures { result ≡ first_of (length_checks state.now) }
+{
     let key = state.key.len();
     if key > KEY_MAX {
         return Some(Invalid::KeyLong { len: key as u64 });

@@ -115,6 +115,7 @@ impl SessionState {
         }
     }
 
+    #[inline(always)]
     fn land(&mut self, cursor: u32, call: KeyCall, target: Target, answer: Answer<Item>)
         ensures { self.new ≡ lands cursor call target answer self.old }
     {

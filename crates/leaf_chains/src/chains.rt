@@ -148,8 +148,9 @@ impl LeafChains {
         }
     }
 
-    /// Gives a key that has no slot one behind all others, with this update; a key that has one
-    /// keeps its chain, and the update comes back. What it takes is as for `install`: one search.
+    /// Puts the first update of a key that has no slot into one behind all others; its bytes are
+    /// copied once. Where the key has a slot, or memory is short, or there are 2^32 slots, nothing is
+    /// changed; the slot that it has comes back, with the update. One search, as for `install`.
     pub fn add(&mut self, alloc: Global, key: &[u8], update: Update) -> Result<Added, NoMemory>
         ensures added { IfOk result (IsAdded key.now update self.old self.new) }
         ensures kept { OnErr result (self.new ≡ self.old) }
