@@ -6,8 +6,8 @@ use Rattle.clap.specs.Walk.{Row, Text, finished, nothing_held, settled_rows, sto
 use Rattle.clap.specs.Faults.{built_fault, level_fault, turn_fault, walk_fault}
 use Rattle.clap.specs.Simple.{Shape, argument_words, built, built_leaf, entered, inherited, names_of, rows_at}
 use Rattle.clap.proofs.OnLiterals.{clap_on_literals}
-use Rattle.wt_line.specs.App.{create_app, read_app, top_app, write_app, wt_app}
-use Rattle.wt_line.specs.Line.{as_command, command_of, create, matched_command, pairs_of, read, where_none, write, write_of}
+use Rattle.wt_line.specs.App.{create_app, read_app, script_app, top_app, write_app, wt_app}
+use Rattle.wt_line.specs.Line.{as_command, command_of, create, matched_command, pairs_of, read, script, where_none, write, write_of}
 use Rattle.wt_line.specs.Plain.{IsPlain, ArePlain, EachWord, HasItems, HasPlainItems, write_words, read_words, dashed}
 use Rattle.wt_line.proofs.WalkedWords.{Enters, Leads, TakesItems, all_pass, at_items, end_fault, entered_below, fault_below, in_range, level_passes, unfaulted_to_items, walked_to_items}
 
@@ -325,6 +325,33 @@ behind_read uri = refl
 pub create_behind : (uri : Text) → command_of (codes "create" ∷ codes "--" ∷ uri ∷ []) ≡ Some (create None uri)
 create_behind uri =
     entered_by (codes "create") create_shape (codes "--" ∷ uri ∷ []) create_enters (behind_passes uri) ∙ behind_read uri
+
+-- ---- script
+
+abbrev script_shape : Shape
+script_shape = built_leaf (inherited top_app.top script_app.top)
+
+script_enters : Enters (built wt_app) (codes "script") script_shape
+unfolding wt_app clap_on_literals
+script_enters = record {
+  met = refl;
+  unfaulted = refl;
+  found = refl;
+  settles = refl;
+  defaults = refl;
+  checks = refl;
+}
+
+script_passes : level_fault script_shape [] nothing_held [] false [] ≡ []
+unfolding clap_on_literals
+script_passes = refl
+
+script_read : as_command (rows_at script_shape []) ≡ Some script
+unfolding clap_on_literals
+script_read = refl
+
+pub script_alone : command_of (codes "script" ∷ []) ≡ Some script
+script_alone = entered_by (codes "script") script_shape [] script_enters script_passes ∙ script_read
 
 -- ---- of all the items
 

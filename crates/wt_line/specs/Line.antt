@@ -14,13 +14,14 @@ use Rattle.wt_line.specs.App.{wt_app}
 use Rattle.wt_line.specs.declared.line.LineFault.{LineFault}
 use Rattle.wt_line.specs.declared.line.LineFault.TheVariants.{Usage, NoMemory}
 use Rattle.wt_line.specs.declared.command.Command.{Command}
-use Rattle.wt_line.specs.declared.command.Command.TheVariants.{Create, Write, Read}
+use Rattle.wt_line.specs.declared.command.Command.TheVariants.{Create, Write, Read, Script}
 
 -- a command
 pub data Asked : Type 0 where
   create : Option Text → Text → Asked
   write : Bool → Text → List (Text × Text) → Asked
   read : Text → List Text → Asked
+  script : Asked
 
 -- ---- the home
 
@@ -64,6 +65,7 @@ as_command p =
     if bytes_eq p.0 (codes "create") then as_create p.1
     else if bytes_eq p.0 (codes "write") then as_write p.1
     else if bytes_eq p.0 (codes "read") then as_read p.1
+    else if bytes_eq p.0 (codes "script") then Some script
     else None
 
 -- the command, where there is no fault
@@ -93,3 +95,4 @@ abbrev pub meaning : Command → Asked
 meaning (Create config uri) = create (option_map (λ s. s.now) config) uri.now
 meaning (Write overwrite uri pairs) = write overwrite uri.now (pair_texts pairs.items)
 meaning (Read uri keys) = read uri.now (map (λ s. s.now) keys.items)
+meaning Script = script

@@ -2,7 +2,7 @@
 ghost use Rattle.std.specs.Prelude.{◌≡◌, IfOk, false};
 ghost use Rattle.clap.specs.Words.{app_of, rule_of};
 ghost use Rattle.clap.specs.declared.builder.command.Command.TheViews.{out-Command};
-ghost use Rattle.wt_line.specs.App.{create_app, read_app, top_app, write_app, wt_app, items_rule, uri_rule};
+ghost use Rattle.wt_line.specs.App.{create_app, read_app, script_app, top_app, write_app, wt_app, items_rule, uri_rule};
 
 use clap::{Arg, ArgAction, Command};
 use std::alloc::{AllocError, Global};
@@ -17,7 +17,8 @@ pub(crate) fn app<'a>(alloc: Global) -> Result<Command<'a>, AllocError>
     top(alloc)
         .subcommand(create)?
         .subcommand(write)?
-        .subcommand(read)
+        .subcommand(read)?
+        .subcommand(script(alloc))
 }
 
 fn top<'a>(alloc: Global) -> Command<'a>
@@ -65,6 +66,13 @@ fn write<'a>(alloc: Global) -> Result<Command<'a>, AllocError>
         .arg(overwrite)?
         .arg(uri(alloc))?
         .arg(items(alloc))
+}
+
+fn script<'a>(alloc: Global) -> Command<'a>
+    ensures app { app_of result ≡ script_app }
+    ensures local { (out-Command result).has_globals ≡ false }
+{
+    Command::new(alloc, "script")
 }
 
 // read uri key ..

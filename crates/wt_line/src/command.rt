@@ -35,6 +35,8 @@ pub enum Command<'a> {
         /// The keys, one or more.
         keys: Vec<&'a str>,
     },
+    /// Runs the script on the standard input.
+    Script,
 }
 
 // The command of this name, of what was found for it.
@@ -52,6 +54,8 @@ pub(crate) fn command_in<'a>(
         write_in(alloc, found)
     } else if name == "read" {
         read_in(alloc, found)
+    } else if name == "script" {
+        Ok(Command::Script)
     } else {
         Err(LineFault::Usage)
     }

@@ -144,6 +144,9 @@ fn words_are_read_as_a_simple_command_s_are(rt: HostRuntime) -> Result<(), Fail>
         ("-h||create|t", " Create { config: None, uri: \"t\" }"),
         ("-h|-x|create|t", "-x Create { config: None, uri: \"t\" }"),
         ("-h|-h|create|t", "-h Create { config: None, uri: \"t\" }"),
+        ("script", ". Script"),
+        ("script|--", ". Script"),
+        ("-h|d|script", "d Script"),
     ];
     for (line, wanted) in &rows {
         let words = split(alloc, line)?;
@@ -210,6 +213,11 @@ fn other_words_are_no_command(rt: HostRuntime) -> Result<(), Fail> {
         "Create|t",
         "list",
         "t|create",
+        "script|t",
+        "script|-o",
+        "script|-h|d",
+        "script|--|t",
+        "scripts",
     ];
     for line in &rows {
         let words = split(alloc, line)?;

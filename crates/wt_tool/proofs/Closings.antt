@@ -25,7 +25,7 @@ use Rattle.stored.specs.Stored.{Reads, IsOn}
 use Rattle.stored.specs.Opens.{Opens}
 use Rattle.stored.proofs.Device.{one_content, one_choice}
 use Rattle.leaf_rows.specs.Rows.{AreFit, image_length}
-use Rattle.leaf_rows.specs.Contents.{leaf_content}
+use Rattle.leaf_rows.specs.Contents.{leaf_content, kept_rows}
 use Rattle.checkpoint_core.specs.Stands.{chosen_of}
 use Rattle.one_table.specs.declared.record.Numbers.{Numbers}
 use Rattle.one_table.specs.declared.place.Place.{Place}
@@ -90,6 +90,12 @@ keeps_meets bytes place k content keeps reads =
       shows = subst (λ (l : List Row). Shows (k.numbers.marks.run + 1) 1 k.numbers.marks.oldest k.numbers.marks.stable (table_of k.entry) l (base (leaf_content k.numbers.marks (table_of k.entry) keeps.rows))) (sym keeps.kept)
           (opening k.numbers.marks (table_of k.entry) keeps.rows are keeps.form.numbers.stamps);
     })
+
+-- and of what content they are kept
+pub keeps_from : (bytes : List ℕ) (place : Place) (k : Kept) (content : Content) → Keeps bytes place k → Reads bytes content
+    → (rows : List Row) × (content ≡ leaf_content k.numbers.marks (table_of k.entry) rows) × (k.rows ≡ kept_rows k.numbers.marks rows)
+keeps_from bytes place k content keeps reads =
+    (keeps.rows, one_content bytes content _ reads (one_reads keeps.slot k.numbers (table_of k.entry) keeps.link keeps.rows bytes keeps.sequence keeps.serves.still), keeps.kept)
 
 pub newest_shown : (m : Machine) (run next oldest stable : ℕ) (t : Table) (rows : List Row) → Shows run next oldest stable t rows m.history → NewestRows m rows
 newest_shown m run next oldest stable t rows s = record { table = t; only = s.table; fit = s.fit; newest = λ key. heads run next oldest stable t rows m.history key s }

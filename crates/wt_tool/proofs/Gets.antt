@@ -31,9 +31,11 @@ use Rattle.wt_code.specs.Text.{text_of_refusal}
 use Rattle.wt_code.specs.declared.refusals.Invalid.TheVariants.{KeyLong}
 use Rattle.item_forms.specs.Forms.{stored_as, written_as}
 use Rattle.wt_tool.specs.Words.{plain_formats}
-use Rattle.wt_tool.specs.Points.{Device, Point, Ran, End, Through, Stopped, OutputFailed, ends, stops, prints, tells}
+use Rattle.script_run.specs.declared.script.End.{End}
+use Rattle.script_run.specs.declared.script.End.TheVariants.{Through, Stopped, OutputFailed}
+use Rattle.wt_tool.specs.Points.{Device, Point, Ran, ends, stops, prints, tells}
 use Rattle.wt_tool.specs.Openings.{formats_at}
-use Rattle.wt_tool.specs.Reads.{GetsKeys, the_get}
+use Rattle.wt_tool.specs.Reads.{GetsKeys, ReadsKeys, the_get}
 use Rattle.wt_tool.specs.Parts.{Meets, Reading}
 use Rattle.wt_tool.proofs.Did.{at, same_device, keeps_same, did, RefusedBy, refused_did, begin_did, short_get}
 use Rattle.wt_tool.specs.Answers.{get_answer, or_absent, printed_by, formats_by, key_of}
@@ -167,7 +169,7 @@ behind printed met ran = record ran { text = printed ++ ran.text; refusals = met
 pub reading : (output : Type 0) (name : List ℕ) (keys : List (List ℕ)) (c : Content) (d : Device) (out_before out_now : Option (List ℕ)) (e : Errors) (status : ℕ) (ran : Ran)
     → GetsKeys output name keys (begun_at d c) ran → Printed out_before out_now ran.end ran.text → Tells e (lines ran.refusals ++ last_line ran.end) (status_by ran) status
     → ran.input ≡ [] → ran.made ≡ [] → ran.next ≡ begun_at d c
-    → Reading output name keys (at d (start c)) out_before out_now e status
+    → Reading (ReadsKeys output name keys) (at d (start c)) out_before out_now e status
 reading output name keys c d out_before out_now e status ran gets printed told silent none there = record {
   ran = ran;
   run = inr (at d (resting c (base c) 1), same_device d, keeps_same d, inr (Opens, (OpenSession, refl, sym (begins c).0), refl), inr (begun_at d c, begin_did d c (base c) 1, gets));
@@ -285,7 +287,7 @@ module _ (output : Type 0) (name key : List ℕ) (keys all : List (List ℕ)) (d
   errs = record { before = before; now = now; faults = first; faults_now = third }
 
   abbrev Ends : Type 0
-  Ends = Reading output name all (at d (start c)) out_before out_now errs told
+  Ends = Reading (ReadsKeys output name all) (at d (start c)) out_before out_now errs told
 
   took : Printed out_before out_now Through (printed ++ [])
   took = inl (subst (λ (l : List ℕ). Took out_before out_now l) (sym (append-nil printed)) out)
@@ -319,7 +321,7 @@ pub reading_stopped : (output : Type 0) (name key : List ℕ) (keys all : List (
     → Took out_before out_now printed → Took before mid (lines met) ⊎ Rose first second → first ≤ second → second ≤ third
     → Tells (record { before = mid; now = now; faults = second; faults_now = third }) (lines (r ∷ [])) (status_of r) told → (r ≡ NotFound → told ≡ 12)
     → (r ≡ NoMemory) ⊎ (((r ≡ NotFound) × Decided (beginning c (base c) 1) 0 (the_get (beginning c (base c) 1) name key) (Refused NotFound) (beginning c (base c) 1)) ⊎ ((r ≢ NotFound) × RefusedBy (beginning c (base c) 1) (the_get (beginning c (base c) 1) name key) r (beginning c (base c) 1)))
-    → Reading output name all (at d (start c)) out_before out_now (record { before = before; now = now; faults = first; faults_now = third }) told
+    → Reading (ReadsKeys output name all) (at d (start c)) out_before out_now (record { before = before; now = now; faults = first; faults_now = third }) told
 reading_stopped output name key keys all d c r printed met ob on before mid now first second third told goes out prior low high reported twelve (inl short) =
     stopped_by output name key keys all d c r printed met ob on before mid now first second third told goes out prior low high reported
     (subst (λ (x : Refusal). GetsKeys output name (key ∷ keys) (begun_at d c) (stops x (begun_at d c))) (sym short) (last_memory output name key keys d c))

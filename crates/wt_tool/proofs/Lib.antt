@@ -2,6 +2,9 @@ mod Did
 mod Closings
 mod Creates
 mod Gets
+mod Naming
+mod Unfaulted
+mod ScriptRuns
 mod Running
 mod Sessions
 mod Writes

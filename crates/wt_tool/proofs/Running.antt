@@ -1,5 +1,5 @@
 -- What a run of a command is to the definitions.
-use Rattle.std.specs.Prelude.{◌≡◌, ◌⊎◌, ℕ, ◌+◌, ◌<◌, List, [], ◌∷◌, ◌++◌, filter, length, Bool, Option, Some, None, MatchOption, IfSome, IfErr, OnOk, Result, Ok, Err, refl}
+use Rattle.std.specs.Prelude.{◌≡◌, ◌⊎◌, ℕ, ◌+◌, ◌<◌, List, [], ◌∷◌, ◌++◌, filter, length, Option, Some, None, IfSome, IfErr, OnOk, Result, Ok, Err, refl}
 use Rattle.std.proofs.Common.{inl, inr, sym, ap, subst, ◌∙◌, arith}
 use Rattle.std.specs.List.{AllByRecursion}
 use Rattle.std.proofs.lemmas.List.{append-nil}
@@ -11,8 +11,7 @@ use Rattle.kv_model.specs.Machine.{Machine, Completed}
 use Rattle.kv_model.specs.Content.{Content, nothing, start, IsLayered}
 use Rattle.stored.specs.Stored.{Reads, content_of}
 use Rattle.wt_code.specs.declared.refusals.Refusal.{Refusal}
-use Rattle.wt_code.specs.declared.refusals.Refusal.TheVariants.{NoMemory, DiskFault, Corrupt, Invalid as Refusal_Invalid}
-use Rattle.wt_code.specs.declared.refusals.Invalid.TheVariants.{BadName}
+use Rattle.wt_code.specs.declared.refusals.Refusal.TheVariants.{NoMemory, DiskFault, Corrupt}
 use Rattle.wt_io.specs.Streams.{Gave, Took}
 use Rattle.one_table.specs.declared.opening.Kept.{Kept}
 use Rattle.one_table.specs.declared.opening.Opened.{Opened as Held}
@@ -20,18 +19,14 @@ use Rattle.one_table.specs.OneTable.{HoldsOne, IsInForm, table_of, one_stored}
 use Rattle.one_table.specs.Openings.{IsOpened as Finds, KeepsOr, InForm, OpenRefused}
 use Rattle.one_table.proofs.Opens.{damage_no_content}
 use Rattle.stored.proofs.Device.{one_content}
-use Rattle.wt_line.specs.Line.{Asked, create, write, read}
-use Rattle.wt_tool.specs.Words.{name_in}
-use Rattle.wt_tool.specs.Points.{Outside, Point, Ran, Installed, point_of, device_of, stops, last_number}
-use Rattle.wt_tool.specs.Narrow.{ClosesOne}
-use Rattle.wt_tool.specs.Openings.{RefusesOpening, MayOpen, Opens, Configured}
-use Rattle.wt_tool.specs.Creates.{MakesTable}
-use Rattle.wt_tool.specs.Writes.{WritesPairs, demand_of}
-use Rattle.wt_tool.specs.Reads.{ReadsKeys}
+use Rattle.wt_line.specs.Line.{Asked, script}
+use Rattle.script_run.specs.Scripts.{Outside, counts}
+use Rattle.wt_tool.specs.Points.{Point, Ran, Installed, point_of, device_of, stops, last_number}
+use Rattle.wt_tool.specs.Openings.{RefusesOpening, MayOpen, Opens}
 use Rattle.wt_tool.specs.Commands.{Runs, RunsOpened}
-use Rattle.wt_tool.specs.Parts.{NoDamage, Meets, Leaves, Reading, met_of, end_of, silent_run, uri_of}
-use Rattle.wt_tool.specs.Top.{Went, Telling, IsSo, Tells, IsTold, IsCut, IsOpenable, Streams, Errors, OpensToLast, Stays, counts, lines, last_line, status_of, first_status, status_at}
-use Rattle.wt_tool.proofs.Closings.{keeps_meets, start_opens}
+use Rattle.wt_tool.specs.Parts.{NoDamage, Meets, IsFrom, Leaves, Reading, Scripting, met_of, end_of, silent_run}
+use Rattle.wt_tool.specs.Top.{Went, Telling, IsSo, Tells, IsTold, IsCut, IsOpenable, Streams, Errors, OpensToLast, Stays, lines, last_line, status_of, first_status, status_at}
+use Rattle.wt_tool.proofs.Closings.{keeps_meets, keeps_from, start_opens}
 
 -- ---- the opening
 
@@ -74,6 +69,14 @@ meets bytes o content finds reads = of_kept o.kept finds
     of_kept None serves = one_content _ _ _ reads (inl (serves.still, refl))
     of_kept (Some k) keeps = keeps_meets bytes o.place k content keeps reads
 
+-- and the content is that of which it is kept
+pub comes_from : (bytes : List ℕ) (o : Held) (content : Content) → Finds bytes o → Reads bytes content → IsFrom o.kept content
+comes_from bytes o content finds reads = of_kept o.kept finds
+  where
+    of_kept : (k : Option Kept) → KeepsOr bytes o.place k → IsFrom k content
+    of_kept None serves = one_content _ _ _ reads (inl (serves.still, refl))
+    of_kept (Some k) keeps = keeps_from bytes o.place k content keeps reads
+
 -- why a device that reads is not opened
 pub refused_open : {D : Type 0} (g : Ghosts D) (old new : D) (known : Type 0) (content : Content) (r : Refusal) → known → Reads (g.seen old) content → OpenRefused (Rose (g.faults old) (g.faults new)) known (g.seen old) r
     → RefusesOpening (point_of g (start content) old) (device_of g new) r
@@ -89,25 +92,6 @@ opens_of g m old mid looked = record { later = record { faults = looked.count; m
 
 pub opens_same : {D : Type 0} (g : Ghosts D) (m : Machine) (disk : D) → Opens (point_of g m disk) (point_of g m disk)
 opens_same g m disk = record { later = record { faults = omega arith; moment = omega arith }; machine = refl; seen = refl; capacity = refl }
-
--- ---- a command on an opened device
-
-module _ (o : Outside) (q : Point) where
-  -- words that name no table
-  pub bad_name : (asked : Asked) → name_in (uri_of asked) ≡ None → RunsOpened o asked q (stops (Refusal_Invalid BadName) q)
-  bad_name (create config uri) none = subst (λ (n : Option (List ℕ)). MatchOption n (stops (Refusal_Invalid BadName) q ≡ stops (Refusal_Invalid BadName) q) (λ name. Configured config (λ formats. MakesTable name formats ClosesOne) q (stops (Refusal_Invalid BadName) q))) (sym none) refl
-  bad_name (write overwrite uri pairs) none = subst (λ (n : Option (List ℕ)). MatchOption n (stops (Refusal_Invalid BadName) q ≡ stops (Refusal_Invalid BadName) q) (λ name. WritesPairs name (demand_of overwrite) pairs q (stops (Refusal_Invalid BadName) q))) (sym none) refl
-  bad_name (read uri keys) none = subst (λ (n : Option (List ℕ)). MatchOption n (stops (Refusal_Invalid BadName) q ≡ stops (Refusal_Invalid BadName) q) (λ name. ReadsKeys o.output_failed name keys q (stops (Refusal_Invalid BadName) q))) (sym none) refl
-
-  module _ (uri name : List ℕ) (is : name_in uri ≡ Some name) where
-    pub as_create : (config : Option (List ℕ)) (ran : Ran) → Configured config (λ formats. MakesTable name formats ClosesOne) q ran → RunsOpened o (create config uri) q ran
-    as_create config ran run = subst (λ (n : Option (List ℕ)). MatchOption n (ran ≡ stops (Refusal_Invalid BadName) q) (λ name. Configured config (λ formats. MakesTable name formats ClosesOne) q ran)) (sym is) run
-
-    pub as_write : (overwrite : Bool) (pairs : List (List ℕ × List ℕ)) (ran : Ran) → WritesPairs name (demand_of overwrite) pairs q ran → RunsOpened o (write overwrite uri pairs) q ran
-    as_write overwrite pairs ran run = subst (λ (n : Option (List ℕ)). MatchOption n (ran ≡ stops (Refusal_Invalid BadName) q) (λ name. WritesPairs name (demand_of overwrite) pairs q ran)) (sym is) run
-
-    pub as_read : (keys : List (List ℕ)) (ran : Ran) → ReadsKeys o.output_failed name keys q ran → RunsOpened o (read uri keys) q ran
-    as_read keys ran run = subst (λ (n : Option (List ℕ)). MatchOption n (ran ≡ stops (Refusal_Invalid BadName) q) (λ name. ReadsKeys o.output_failed name keys q ran)) (sym is) run
 
 -- ---- what is told
 
@@ -215,15 +199,33 @@ module _ {D : Type 0} (g : Ghosts D) (old new : D) (content : Content) (layered 
   }
 
   -- a run of `read`
-  pub reading_went : (output : Type 0) (name : List ℕ) (keys : List (List ℕ)) (status : ℕ) → Opens (point_of g (start content) old) (point_of g (start content) new) → MayOpen (point_of g (start content) old)
-      → ((ran : Ran) → ReadsKeys output name keys (point_of g (start content) new) ran → RunsOpened o asked (point_of g (start content) new) ran)
+  pub reading_went : (Allowed : Point → Ran → Type 0) (status : ℕ) → Opens (point_of g (start content) old) (point_of g (start content) new) → MayOpen (point_of g (start content) old)
+      → ((ran : Ran) → Allowed (point_of g (start content) new) ran → RunsOpened o asked (point_of g (start content) new) ran)
       → ((c : List ℕ) → g.may_leave new c → Reads c content) → ((c : List ℕ) → g.left_since new (g.moment old) c → Reads c content)
-      → Reading output name keys (point_of g (start content) new) w.out_before w.out_now w.errors status → Ends status
-  reading_went output name keys status opened may as_command images since went = record {
+      → Reading Allowed (point_of g (start content) new) w.out_before w.out_now w.errors status → Ends status
+  reading_went Allowed status opened may as_command images since went = record {
     ran = went.ran;
     run = inr (point_of g (start content) new, opened, may, as_command went.ran went.run);
     there = went.there;
     taken = subst (λ (l : List ℕ). Gave w.in_before w.in_now l) (sym went.silent) taken;
+    printed = went.printed;
+    told = went.told;
+    opens = subst (λ (k : Completed). OpensToLast (g.may_leave new) k went.ran.made) (sym went.same)
+        (subst (λ (l : List Installed). OpensToLast (g.may_leave new) (start content).completed l) (sym went.none) (inl (content, ((λ c left. images c left), layered), start_opens content layered)));
+    ever = λ c left. inl (content, since c left, start_opens content layered);
+    stays = subst (λ (l : List Installed). Stays (g.left_since new) l) (sym went.none) tt;
+  }
+
+-- a run of `script`
+module _ {D : Type 0} (g : Ghosts D) (old new : D) (content : Content) (layered : IsLayered content) (o : Outside) (w : Streams) where
+  pub script_went : (status : ℕ) → Opens (point_of g (start content) old) (point_of g (start content) new) → MayOpen (point_of g (start content) old)
+      → ((c : List ℕ) → g.may_leave new c → Reads c content) → ((c : List ℕ) → g.left_since new (g.moment old) c → Reads c content)
+      → Scripting o (point_of g (start content) new) w status → Went g o script content w old new status
+  script_went status opened may images since went = record {
+    ran = went.ran;
+    run = inr (point_of g (start content) new, opened, may, went.run);
+    there = went.there;
+    taken = went.taken;
     printed = went.printed;
     told = went.told;
     opens = subst (λ (k : Completed). OpensToLast (g.may_leave new) k went.ran.made) (sym went.same)

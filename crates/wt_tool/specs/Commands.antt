@@ -1,16 +1,19 @@
 -- The run of each command. A further command adds its case here, and its relation in a file of its own.
-use Rattle.wt_line.specs.Line.{Asked, create, write, read}
-use Rattle.wt_tool.specs.Points.{Point, Ran, Outside}
+use Rattle.script_run.specs.Scripts.{Outside}
+use Rattle.wt_line.specs.Line.{Asked, create, write, read, script}
+use Rattle.wt_tool.specs.Points.{Point, Ran}
 use Rattle.wt_tool.specs.Openings.{Opened}
 use Rattle.wt_tool.specs.Creates.{RunsCreate}
 use Rattle.wt_tool.specs.Writes.{RunsWrite}
 use Rattle.wt_tool.specs.Reads.{RunsRead}
+use Rattle.wt_tool.specs.Scripts.{RunsScript}
 
 -- on the machine that the device opened to
 abbrev pub RunsOpened : Outside → Asked → Point → Ran → Type 0
 RunsOpened o (create config uri) p ran = RunsCreate config uri p ran
 RunsOpened o (write overwrite uri pairs) p ran = RunsWrite overwrite uri pairs p ran
-RunsOpened o (read uri keys) p ran = RunsRead o uri keys p ran
+RunsOpened o (read uri keys) p ran = RunsRead o.output_failed uri keys p ran
+RunsOpened o script p ran = RunsScript o p ran
 
 -- what a run of a command may give, from the point at which its device was handed in
 abbrev pub Runs : Outside → Asked → Point → Ran → Type 0

@@ -17,7 +17,9 @@ use Rattle.kv_model.specs.Rows.{key_lt}
 use Rattle.kv_model.specs.Calls.{Actor, Session, System, Call, Begin, PutKey, Commit, Create, CkptStart, CkptStep, CkptFinish, Close, Around, Answers}
 use Rattle.stored.specs.Stored.{Reads}
 use Rattle.wt_tool.specs.Writes.{demand_of}
-use Rattle.wt_tool.specs.Points.{Point, Ran, Through, InputFailed, OutputFailed, Installed, Outside, IsLater, ends, stops, prints, Calls as ThenCalls, WithSession, Closes}
+use Rattle.script_run.specs.declared.script.End.TheVariants.{Through, InputFailed, OutputFailed}
+use Rattle.script_run.specs.Scripts.{Outside}
+use Rattle.wt_tool.specs.Points.{Point, Ran, Installed, IsLater, ends, stops, prints, Calls as ThenCalls, WithSession, Closes}
 use Rattle.wt_tool.specs.Openings.{Named}
 
 -- what the words ask for
@@ -26,7 +28,6 @@ pub data AskedLater : Type 0 where
   dump : (hex reverse : Bool) (uri : List ℕ) → AskedLater
   list : AskedLater
   verify : (uri : Option (List ℕ)) → AskedLater
-  script : AskedLater
   stress : (seed calls : ℕ) → AskedLater
   workload : (workers turns : ℕ) → AskedLater
 
@@ -124,14 +125,11 @@ RunsVerify uri p ran =
     ⊎ (((offset want found : ℕ) × (ran ≡ stops (Corrupt offset want found) q) × ((c : Content) → Reads p.device.seen c → ⊥))
     ⊎ ((c : Content) × Reads p.device.seen c × IsThere uri q ran))))
 
--- ---- `script`
+-- ---- lines of a script that reach the device
 
--- a line, whose actor starts a call, makes a step of it or all that are left, or makes a whole call
+-- such a line, or a whole call of an actor
 pub data Line : Type 0 where
   Whole : (actor : Actor) (call : Call) → Line
-  Start : (actor : Actor) (call : Call) → Line
-  Step : (actor : Actor) → Line
-  Rest : (actor : Actor) → Line
   -- start, steps to the end, finish
   Ckpt : Line
   -- and, where it is done, the device is opened anew
@@ -139,34 +137,12 @@ pub data Line : Type 0 where
   -- memory is forgotten and the device opened, with so many frames
   Reopen : (frames : ℕ) → Line
 
-pub data Reply : Type 0 where
-  Started : Reply
-  More : Reply
-  Told : Answer (List ℕ) → Reply
-
--- the refusal that a reply tells, if it does
-abbrev pub refusals_in : Reply → List Refusal
-refusals_in (Told (Refused r)) = r ∷ []
-refusals_in _ = []
-
--- a line's reply before a run's own text, with what it installed
-abbrev pub replies_with : List ℕ → Reply → List Installed → Ran → Ran
-replies_with text reply made ran = record ran { text = text ++ 10 ∷ ran.text; replies = refusals_in reply ++ ran.replies; made = made ++ ran.made }
-
--- Of the engine: what it keeps between two lines, unfinished calls too, the point at which it stands, what a call rests on from one state to the next, a call that begins, and a step of one, with its answer at the last.
--- Of the script's text: what a line is, None where it is none, and how a reply is printed.
-module _ (Engine : Type 0) (point : Engine → Point) (around : Engine → Engine → Around)
-    (Begins : Engine → Actor → Call → Engine → Type 0) (Goes : Engine → Actor → Option (Answer (List ℕ)) → Engine → Type 0) (Opens : Point → ℕ → Engine → Type 0)
-    (IsLine : List ℕ → Option Line → Type 0) (reply_text : Machine → Line → Reply → List ℕ) where
+-- Of the engine: what it keeps between two lines, the point at which it stands, what a call rests on from one state to the next, and how it is opened at a point, with so many frames.
+module _ (Engine : Type 0) (point : Engine → Point) (around : Engine → Engine → Around) (Opens : Point → ℕ → Engine → Type 0) where
   -- a whole call: exactly what the engine's own call promises
   pub record Calls (s : Engine) (actor : Actor) (call : Call) (answer : Answer (List ℕ)) (t : Engine) : Type 0 where
     pub later : IsLater (point s).device (point t).device
     pub answers : Answers (around s t) (point s).machine actor call answer (point t).machine
-
-  -- steps up to the answer, so many before it
-  abbrev pub Ends : ℕ → Engine → Actor → Answer (List ℕ) → Engine → Type 0
-  Ends zero s actor answer t = Goes s actor (Some answer) t
-  Ends (suc n) s actor answer t = (mid : Engine) × Goes s actor None mid × Ends n mid actor answer t
 
   -- what a call installed that takes a checkpoint, or was installing at a fault of its gate
   abbrev pub Installs : Engine → Answer (List ℕ) → Engine → List Installed → Type 0
@@ -186,37 +162,16 @@ module _ (Engine : Type 0) (point : Engine → Point) (around : Engine → Engin
       ⊎ ((mid : Engine) × Calls s (System 0) CkptStep NoneLeft mid × Calls mid (System 0) CkptFinish answer t × Installs mid answer t made)
   Captures (suc n) s answer made t = (mid : Engine) × Calls s (System 0) CkptStep Left mid × Captures n mid answer made t
 
-  -- the reply to a line
-  abbrev pub Replies : Engine → Line → Reply → List Installed → Engine → Type 0
-  Replies s (Whole actor call) reply made t = (answer : Answer (List ℕ)) × (reply ≡ Told answer) × Calls s actor call answer t × InstallsBy call s answer t made
-  Replies s (Start actor call) reply made t = (reply ≡ Started) × Begins s actor call t × (made ≡ [])
-  Replies s (Step actor) reply made t = (made ≡ []) × (((reply ≡ More) × Goes s actor None t) ⊎ ((answer : Answer (List ℕ)) × (reply ≡ Told answer) × Goes s actor (Some answer) t))
-  Replies s (Rest actor) reply made t = (n : ℕ) × (answer : Answer (List ℕ)) × (reply ≡ Told answer) × Ends n s actor answer t × (made ≡ [])
-  Replies s Ckpt reply made t =
-      ((r : Refusal) × (reply ≡ Told (Refused r)) × Calls s (System 0) CkptStart (Refused r) t × (made ≡ []))
-      ⊎ ((n : ℕ) × (mid : Engine) × (answer : Answer (List ℕ)) × (reply ≡ Told answer) × Calls s (System 0) CkptStart Done mid × Captures n mid answer made t)
-  Replies s CloseAndOpen reply made t =
-      ((r : Refusal) × (reply ≡ Told (Refused r)) × Calls s (System 0) Close (Refused r) t × Installs s (Refused r) t made)
-      ⊎ ((mid : Engine) × (reply ≡ Told Done) × Calls s (System 0) Close Done mid × Installs s Done mid made × Opens (point mid) 64 t)
-  Replies s (Reopen frames) reply made t = (reply ≡ Told Done) × (made ≡ []) × Opens (point s) frames t
-
-  -- The lines in order, the first of them with this number. A line that is none, or an opening that is refused, ends the run; so does a stream that fails.
-  abbrev pub RunsLines : Outside → ℕ → List (List ℕ) → Engine → Ran → Type 0
-  RunsLines o at [] s ran = (o.input_ended × (ran ≡ ends Through (point s))) ⊎ (o.input_failed × (ran ≡ ends InputFailed (point s)))
-  RunsLines o at (text ∷ texts) s ran =
-      (IsLine text None × (ran ≡ stops (Refusal_Invalid (Text at)) (point s)))
-      ⊎ ((ran ≡ stops NoMemory (point s))
-      ⊎ ((line : Line) × (reply : Reply) × (made : List Installed) × (t : Engine) × (rest : Ran) × IsLine text (Some line) × Replies s line reply made t
-      × (ran ≡ replies_with (reply_text (point s).machine line reply) reply made rest)
-      × (RunsLines o (at + 1) texts t rest ⊎ ((rest ≡ ends OutputFailed (point t)) × o.output_failed))))
-
-  -- the lines of the input, with what stands behind the last of them that was run
-  abbrev pub joined : List (List ℕ) → List ℕ
-  joined texts = flat_map (λ text. text ++ 10 ∷ []) texts
-
-  abbrev pub RunsScript : Outside → Point → Ran → Type 0
-  RunsScript o p ran =
-      (texts : List (List ℕ)) × (behind : List ℕ) × (s : Engine) × (rest : Ran) × Opens p 64 s × RunsLines o 1 texts s rest × (ran ≡ takes (joined texts ++ behind) rest)
+  -- the answer to a line
+  abbrev pub Makes : Engine → Line → Answer (List ℕ) → List Installed → Engine → Type 0
+  Makes s (Whole actor call) answer made t = Calls s actor call answer t × InstallsBy call s answer t made
+  Makes s Ckpt answer made t =
+      ((r : Refusal) × (answer ≡ Refused r) × Calls s (System 0) CkptStart (Refused r) t × (made ≡ []))
+      ⊎ ((n : ℕ) × (mid : Engine) × Calls s (System 0) CkptStart Done mid × Captures n mid answer made t)
+  Makes s CloseAndOpen answer made t =
+      ((r : Refusal) × (answer ≡ Refused r) × Calls s (System 0) Close (Refused r) t × Installs s (Refused r) t made)
+      ⊎ ((mid : Engine) × (answer ≡ Done) × Calls s (System 0) Close Done mid × Installs s Done mid made × Opens (point mid) 64 t)
+  Makes s (Reopen frames) answer made t = (answer ≡ Done) × (made ≡ []) × Opens (point s) frames t
 
   -- ---- `stress`: lines that a generator draws
 
@@ -229,7 +184,7 @@ module _ (Engine : Type 0) (point : Engine → Point) (around : Engine → Engin
     abbrev pub Turns : (turns at x : ℕ) → List (Answer (List ℕ)) → Engine → Ran → Type 0
     Turns zero at x answers s ran = ran ≡ prints (summary answers (point s).machine) (ends Through (point s))
     Turns (suc n) at x answers s ran =
-        (answer : Answer (List ℕ)) × (made : List Installed) × (t : Engine) × Replies s (turn_line at (lcg_next x / 4294967296) (point s).machine) (Told answer) made t
+        (answer : Answer (List ℕ)) × (made : List Installed) × (t : Engine) × Makes s (turn_line at (lcg_next x / 4294967296) (point s).machine) answer made t
         × (((r : Refusal) × (answer ≡ Refused r) × (Counted r → ⊥) × (ran ≡ record (stops r (point t)) { made = made }))
         ⊎ ((rest : Ran) × (ran ≡ record rest { made = made ++ rest.made }) × Turns n (at + 1) (lcg_next x) (answer ∷ answers) t rest))
 

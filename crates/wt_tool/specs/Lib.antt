@@ -5,6 +5,7 @@ pub mod Openings
 pub mod Creates
 pub mod Writes
 pub mod Reads
+pub mod Scripts
 pub mod Commands
 pub mod Top
 pub mod Closes

@@ -1,5 +1,6 @@
 -- What the private functions of the commands leave.
 use Rattle.std.specs.Prelude.{◌≡◌, ℕ, ◌+◌, List, [], ◌∷◌, ◌++◌, Option, Some, None, Result, Ok, Err, ◌⊎◌, IsTrue}
+use Rattle.std.specs.Option.{option_to_list}
 use Rattle.failure.specs.Counts.{Rose}
 use Rattle.disk_model.specs.Crash.{LeavesOnly}
 use Rattle.disk_model.specs.declared.disk.Disk.{Ghosts}
@@ -9,13 +10,21 @@ use Rattle.kv_model.specs.Machine.{Machine}
 use Rattle.kv_model.specs.Content.{Content, base, nothing, start}
 use Rattle.one_table.specs.declared.opening.Kept.{Kept}
 use Rattle.one_table.specs.OneTable.{table_of}
+use Rattle.row_page.specs.Rows.{Row}
+use Rattle.leaf_rows.specs.Contents.{leaf_content, kept_rows}
 use Rattle.one_session.specs.Shows.{Shows}
+use Rattle.wt_io.specs.Streams.{Gave}
 use Rattle.wt_io.specs.declared.streams.Source.{Ghosts as SourceGhosts}
 use Rattle.wt_io.specs.declared.streams.Sink.{Ghosts as SinkGhosts}
-use Rattle.wt_line.specs.Line.{Asked, create, write, read}
-use Rattle.wt_tool.specs.Points.{Device, Point, Ran, Installed, End, Through, Stopped, point_of}
-use Rattle.wt_tool.specs.Reads.{ReadsKeys}
-use Rattle.wt_tool.specs.Top.{OpensToLast, OpensToOne, Stays, EachReads, Errors, errors_of, outside, streams_of, Printed, Tells, lines, last_line, status_by, Went}
+use Rattle.engine_world.specs.Stands.{Engine, Stands}
+use Rattle.engine_world.specs.Systems.{first_world}
+use Rattle.script_run.specs.declared.script.End.{End}
+use Rattle.script_run.specs.declared.script.End.TheVariants.{Through, Stopped}
+use Rattle.script_run.specs.Scripts.{Outside, outside}
+use Rattle.wt_line.specs.Line.{Asked}
+use Rattle.wt_tool.specs.Points.{Device, Point, Ran, Installed, point_of}
+use Rattle.wt_tool.specs.Scripts.{RunsScript, told_at}
+use Rattle.wt_tool.specs.Top.{OpensToLast, OpensToOne, Stays, EachReads, Errors, Streams, errors_of, streams_of, Printed, Tells, lines, last_line, status_at, status_by, Went}
 
 -- what was kept at the opening of this content: its numbers are the content's, and its rows show the machine
 pub record MeetsTable (content : Content) (k : Kept) : Type 0 where
@@ -28,10 +37,10 @@ abbrev pub Meets : Content → Option Kept → Type 0
 Meets content None = content ≡ nothing
 Meets content (Some k) = MeetsTable content k
 
-abbrev pub uri_of : Asked → List ℕ
-uri_of (create config uri) = uri
-uri_of (write overwrite uri pairs) = uri
-uri_of (read uri keys) = uri
+-- the content is that of a device of which this is kept
+abbrev pub IsFrom : Option Kept → Content → Type 0
+IsFrom None content = content ≡ nothing
+IsFrom (Some k) content = (rows : List Row) × (content ≡ leaf_content k.numbers.marks (table_of k.entry) rows) × (k.rows ≡ kept_rows k.numbers.marks rows)
 
 -- it tells of no damage
 abbrev pub NoDamage : Refusal → Type 0
@@ -75,9 +84,9 @@ WentFrom g s k e asked input input_now out out_now err err_now old new status =
     → Went g (outside s k input input_now out out_now) asked content (streams_of s k e input input_now out out_now err err_now) old new status
 
 -- a run of `read` that makes no call of the disk
-pub record Reading (output_failed : Type 0) (name : List ℕ) (keys : List (List ℕ)) (p : Point) (out_before out_now : Option (List ℕ)) (e : Errors) (status : ℕ) : Type 0 where
+pub record Reading (Allowed : Point → Ran → Type 0) (p : Point) (out_before out_now : Option (List ℕ)) (e : Errors) (status : ℕ) : Type 0 where
   pub ran : Ran
-  pub run : ReadsKeys output_failed name keys p ran
+  pub run : Allowed p ran
   pub printed : Printed out_before out_now ran.end ran.text
   pub told : Tells e (lines ran.refusals ++ last_line ran.end) (status_by ran) status
   pub silent : ran.input ≡ []
@@ -85,8 +94,41 @@ pub record Reading (output_failed : Type 0) (name : List ℕ) (keys : List (List
   pub there : ran.next.device ≡ p.device
   pub same : ran.next.machine.completed ≡ p.machine.completed
 
--- what `read` of these keys gives and tells, of what was kept
-abbrev pub ReadsFrom : {K E : Type 0} (k : SinkGhosts K) (e : SinkGhosts E) → Option Kept → List ℕ → List (List ℕ) → K → K → E → E → ℕ → Type 0
-ReadsFrom k e kept name keys out out_now err err_now status =
+-- what `read` gives and tells, of what was kept: what is allowed where a write of the output fails, or does not
+abbrev pub ReadsFrom : {K E : Type 0} (k : SinkGhosts K) (e : SinkGhosts E) → Option Kept → (Type 0 → Point → Ran → Type 0) → K → K → E → E → ℕ → Type 0
+ReadsFrom k e kept Allowed out out_now err err_now status =
     (content : Content) → Meets content kept → (device : Device)
-    → Reading (Rose (k.fault_count out) (k.fault_count out_now)) name keys (record { machine = start content; device = device }) (k.written out) (k.written out_now) (errors_of e err err_now) status
+    → Reading (Allowed (Rose (k.fault_count out) (k.fault_count out_now))) (record { machine = start content; device = device }) (k.written out) (k.written out_now) (errors_of e err err_now) status
+
+-- a run of `script`, which makes no call of the disk
+pub record Scripting (o : Outside) (p : Point) (w : Streams) (status : ℕ) : Type 0 where
+  pub ran : Ran
+  pub run : RunsScript o p ran
+  pub taken : Gave w.in_before w.in_now ran.input
+  pub printed : Printed w.out_before w.out_now ran.end ran.text
+  pub told : Tells w.errors (lines ran.refusals ++ last_line ran.end) (status_by ran) status
+  pub none : ran.made ≡ []
+  pub there : ran.next.device ≡ p.device
+  pub same : ran.next.machine.completed ≡ p.machine.completed
+
+-- how a script ended is told, by the first fault that it replied, and this is its status
+abbrev pub TellsEnd : Errors → End → Option Refusal → ℕ → Type 0
+TellsEnd e end met status = Tells e (lines (told_at end) ++ last_line end) (status_at end (told_at end ++ option_to_list met)) status
+
+-- what `script` gives and tells, on the machine of this content, whatever the device
+abbrev pub ScriptsAt : {S K E : Type 0} (s : SourceGhosts S) (k : SinkGhosts K) (e : SinkGhosts E) → Content → S → S → K → K → E → E → ℕ → Type 0
+ScriptsAt s k e content input input_now out out_now err err_now status =
+    (device : Device)
+    → Scripting (outside s k input input_now out out_now) (record { machine = start content; device = device }) (streams_of s k e input input_now out out_now err err_now) status
+
+-- the engine stands for the world with which the content begins
+abbrev pub Starts : Content → Engine → Type 0
+Starts content engine = Stands engine (first_world content engine)
+
+-- the same on an engine that has just started
+abbrev pub ScriptsOn : {S K E : Type 0} (s : SourceGhosts S) (k : SinkGhosts K) (e : SinkGhosts E) → Engine → S → S → K → K → E → E → ℕ → Type 0
+ScriptsOn s k e engine input input_now out out_now err err_now status = (content : Content) → Starts content engine → ScriptsAt s k e content input input_now out out_now err err_now status
+
+-- the same on what was kept
+abbrev pub ScriptsFrom : {S K E : Type 0} (s : SourceGhosts S) (k : SinkGhosts K) (e : SinkGhosts E) → Option Kept → S → S → K → K → E → E → ℕ → Type 0
+ScriptsFrom s k e kept input input_now out out_now err err_now status = (content : Content) → IsFrom kept content → ScriptsAt s k e content input input_now out out_now err err_now status

@@ -22,6 +22,8 @@ use Rattle.checkpoint_core.specs.Room.{IsFull}
 use Rattle.leaf_rows.specs.Rows.{AreFit}
 use Rattle.one_session.specs.Shows.{shown_at}
 use Rattle.one_table.specs.Closings.{block_sizes}
+use Rattle.script_run.specs.declared.script.End.{End}
+use Rattle.script_run.specs.declared.script.End.TheVariants.{Through, Stopped}
 
 -- a device at a point of a run: what a read gives, how much it may hold, how often it has failed, and its moment
 pub record Device : Type 0 where
@@ -59,13 +61,6 @@ pub record Installed : Type 0 where
   pub refused : Option Refusal
   pub at : ℕ
 
--- how a run ended: after its last call, at a refusal, or where a read of the input or a write of the output failed
-pub data End : Type 0 where
-  Through : End
-  Stopped : (refusal : Refusal) → End
-  InputFailed : End
-  OutputFailed : End
-
 -- Input is what was read, text what is printed. Refusals are told on the errors, replies stand in the text.
 pub record Ran : Type 0 where
   pub input : List ℕ
@@ -92,15 +87,6 @@ abbrev pub tells : Refusal → Ran → Ran
 tells r ran = record ran { refusals = r ∷ ran.refusals }
 
 -- ---- what lies outside
-
--- facts of a run's input and output
-pub record Outside : Type 1 where
-  -- a read of the input failed
-  pub input_failed : Type 0
-  -- the input was read to its end
-  pub input_ended : Type 0
-  -- a write of the output failed
-  pub output_failed : Type 0
 
 -- the greatest run, and the greatest number of a checkpoint
 abbrev pub last_number : ℕ

@@ -6,7 +6,8 @@ use Rattle.wt_code.specs.declared.refusals.Refusal.TheVariants.{NotFound}
 use Rattle.kv_model.specs.Machine.{Machine}
 use Rattle.kv_model.specs.Calls.{Session, Call, Begin, GetKey}
 use Rattle.item_forms.specs.Forms.{stored_as, written_as}
-use Rattle.wt_tool.specs.Points.{Point, Ran, Through, OutputFailed, Outside, ends, stops, prints, tells, Did, Calls, WithSession}
+use Rattle.script_run.specs.declared.script.End.TheVariants.{Through, OutputFailed}
+use Rattle.wt_tool.specs.Points.{Point, Ran, ends, stops, prints, tells, Did, Calls, WithSession}
 use Rattle.wt_tool.specs.Openings.{Named, formats_at}
 
 -- the get of a word, and what is printed of its value
@@ -30,5 +31,5 @@ GetsKeys output_failed name (key ∷ keys) p ran =
 abbrev pub ReadsKeys : (output_failed : Type 0) → List ℕ → List (List ℕ) → Point → Ran → Type 0
 ReadsKeys output_failed name keys p ran = WithSession (λ q. Calls (Session 0) (Begin None) (λ begun. GetsKeys output_failed name keys begun) q) p ran
 
-abbrev pub RunsRead : Outside → List ℕ → List (List ℕ) → Point → Ran → Type 0
-RunsRead o uri keys p ran = Named uri (λ name. ReadsKeys o.output_failed name keys) p ran
+abbrev pub RunsRead : (output_failed : Type 0) → List ℕ → List (List ℕ) → Point → Ran → Type 0
+RunsRead output_failed uri keys p ran = Named uri (λ name. ReadsKeys output_failed name keys) p ran

@@ -1,12 +1,12 @@
 -- What the top call promises.
-use Rattle.std.specs.Prelude.{◌≡◌, ◌⊎◌, ℕ, ◌<◌, List, [], ◌∷◌, ◌++◌, length, take, filter, Bool, true, false, Option, Some, None, IsTrue, codes}
+use Rattle.std.specs.Prelude.{◌≡◌, ◌⊎◌, ℕ, ◌<◌, List, [], ◌∷◌, ◌++◌, length, take, filter, Option, Some, None, IsTrue, codes}
 use Rattle.std.specs.List.{flat_map, AllByRecursion}
 use Rattle.failure.specs.Counts.{Rose}
 use Rattle.disk_model.specs.Crash.{Each}
 use Rattle.disk_model.specs.declared.disk.Disk.{Ghosts}
 use Rattle.wt_io.specs.declared.streams.Source.{Ghosts as SourceGhosts}
 use Rattle.wt_io.specs.declared.streams.Sink.{Ghosts as SinkGhosts}
-use Rattle.wt_io.specs.Streams.{Gave, AtEnd, Took, TookFront}
+use Rattle.wt_io.specs.Streams.{Gave, Took, TookFront}
 use Rattle.wt_code.specs.declared.refusals.Refusal.{Refusal}
 use Rattle.wt_code.specs.declared.refusals.Refusal.TheVariants.{NoMemory, DiskFault, Corrupt}
 use Rattle.wt_code.specs.Text.{text_of_refusal}
@@ -16,7 +16,10 @@ use Rattle.stored.specs.Stored.{Reads}
 use Rattle.stored.specs.Opens.{Opens}
 use Rattle.one_table.specs.Damage.{IsDamage}
 use Rattle.wt_line.specs.Line.{Asked, home_in}
-use Rattle.wt_tool.specs.Points.{Outside, Ran, Installed, End, Through, Stopped, InputFailed, OutputFailed, device_of, point_of}
+use Rattle.script_run.specs.declared.script.End.{End}
+use Rattle.script_run.specs.declared.script.End.TheVariants.{Through, Stopped, InputFailed, OutputFailed}
+use Rattle.script_run.specs.Scripts.{Outside, outside, counts}
+use Rattle.wt_tool.specs.Points.{Ran, Installed, device_of, point_of}
 use Rattle.wt_tool.specs.Commands.{Runs}
 
 -- ---- the disk
@@ -82,14 +85,6 @@ pub record Streams : Type 0 where
 abbrev pub streams_of : {S K E : Type 0} → SourceGhosts S → SinkGhosts K → SinkGhosts E → S → S → K → K → E → E → Streams
 streams_of s k e input input_now out out_now err err_now = record { in_before = s.left input; in_now = s.left input_now; out_before = k.written out; out_now = k.written out_now; errors = errors_of e err err_now }
 
--- the facts of the input and the output
-abbrev pub outside : {S K : Type 0} → SourceGhosts S → SinkGhosts K → S → S → K → K → Outside
-outside s k input input_now out out_now = record {
-  input_failed = Rose (s.fault_count input) (s.fault_count input_now);
-  input_ended = AtEnd (s.left input_now);
-  output_failed = Rose (k.fault_count out) (k.fault_count out_now);
-}
-
 -- ---- lines and statuses
 
 -- the lines for the refusals
@@ -122,12 +117,6 @@ status_at Through met = first_status met
 status_at (Stopped refusal) met = status_of refusal
 status_at InputFailed met = 5
 status_at OutputFailed met = 6
-
--- of the refusals that stand in a text, a fault of the disk and want of memory count
-abbrev pub counts : Refusal → Bool
-counts DiskFault = true
-counts NoMemory = true
-counts _ = false
 
 abbrev pub status_by : Ran → ℕ
 status_by ran = status_at ran.end (ran.refusals ++ filter counts ran.replies)

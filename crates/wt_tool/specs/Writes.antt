@@ -4,7 +4,8 @@ use Rattle.kv_model.specs.Machine.{Machine}
 use Rattle.kv_model.specs.Decisions.{Demand, Anything, Vacant}
 use Rattle.kv_model.specs.Calls.{Session, Call, Begin, PutKey, Commit}
 use Rattle.item_forms.specs.Forms.{stored_as}
-use Rattle.wt_tool.specs.Points.{Point, Ran, Through, ends, Calls, WithSession}
+use Rattle.script_run.specs.declared.script.End.TheVariants.{Through}
+use Rattle.wt_tool.specs.Points.{Point, Ran, ends, Calls, WithSession}
 use Rattle.wt_tool.specs.Narrow.{ClosesOne}
 use Rattle.wt_tool.specs.Openings.{Named, formats_at}
 

@@ -9,12 +9,12 @@ ghost use Rattle.one_table.specs.Openings.{IsOpened, Serves, Keeps};
 ghost use Rattle.wt_tool.specs.Points.{last_number};
 ghost use Rattle.wt_tool.specs.Narrow.{ClosesOne};
 ghost use Rattle.wt_tool.specs.Openings.{Configured};
-ghost use Rattle.wt_tool.specs.Creates.{MakesTable};
+ghost use Rattle.wt_tool.specs.Creates.{MakesTable, RunsCreate};
 ghost use Rattle.wt_tool.specs.Closes.{first_numbers};
 ghost use Rattle.wt_tool.specs.Parts.{LeavesFrom, NoDamage};
 
 use crate::closing::close_next;
-use crate::names::formats_asked;
+use crate::names::{formats_asked, name_of};
 use disk_model::Disk;
 use item::{Format, Formats, Item};
 use leaf_rows::{Marks, Rows};
@@ -23,6 +23,26 @@ use std::alloc::Global;
 use wt_code::{Invalid, Limit, Refusal};
 
 pub(crate) fn create<D: Disk>(
+    alloc: Global,
+    disk: &mut D,
+    opened: Opened,
+    config: Option<&str>,
+    uri: &str,
+) -> Result<(), Refusal>
+    requires form { IfSome opened.kept (λ k. IsInForm k.numbers (table_of k.entry) × (k.numbers.marks.run < last_number)) }
+    requires finds { IsTrue (D.honest disk.old) → IsOpened (D.seen disk.old) opened }
+    ensures run { LeavesFrom D.Disk (RunsCreate (option_map (λ x. x.now) config.entry) uri.now) disk.old disk.new result }
+    ensures sound { IfErr result NoDamage }
+    ensures fault { IfErr result (λ r. r ≡ Refusal.DiskFault → Rose (D.faults disk.old) (D.faults disk.new)) }
+    ensures disk { SameDisk D.Disk disk.old disk.new }
+{
+    match name_of(uri.as_bytes()) {
+        Some(name) => create_named(alloc, disk, opened, config, name),
+        None => Err(Refusal::Invalid(Invalid::BadName)),
+    }
+}
+
+fn create_named<D: Disk>(
     alloc: Global,
     disk: &mut D,
     opened: Opened,

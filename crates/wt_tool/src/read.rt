@@ -4,10 +4,11 @@ ghost use Rattle.failure.specs.Counts.{Rose, HasCause};
 ghost use Rattle.wt_io.specs.Streams.{Took, TookFront};
 ghost use Rattle.kv_model.specs.Decisions.{is_name};
 ghost use Rattle.wt_tool.specs.Answers.{get_answer, IsTextAt};
+ghost use Rattle.wt_tool.specs.Reads.{ReadsKeys, RunsRead};
 ghost use Rattle.wt_tool.specs.Parts.{ReadsFrom, NoDamage};
 ghost use Rattle.wt_tool.specs.Top.{Telling, errors_of};
 
-use crate::names::{KEY_MAX, stored_as, stored_len};
+use crate::names::{KEY_MAX, name_of, stored_as, stored_len};
 use crate::status::Status;
 use crate::telling::report;
 use crate::write::{formats_by, value_in};
@@ -22,11 +23,30 @@ pub(crate) fn read<K: Sink, E: Sink>(
     out: &mut K,
     err: &mut E,
     kept: Option<&Kept>,
+    uri: &str,
+    keys: &[&str],
+) -> u8
+    ensures run { ReadsFrom K.Sink E.Sink (option_map (λ k. k.now) kept.entry) (λ f. RunsRead f uri.now (map (λ s. s.now) keys.now)) out.old out.new err.old err.new result }
+    ensures told { Telling NoDamage (errors_of E.Sink err.old err.new) result }
+    ensures status { (result ≡ 0) ⊎ ((result ≡ 1) ⊎ ((result ≡ 6) ⊎ (result ≡ 12))) }
+    ensures output_fault { result ≡ 6 → Rose (K.fault_count out.old) (K.fault_count out.new) }
+{
+    match name_of(uri.as_bytes()) {
+        Some(name) => read_named(alloc, out, err, kept, name, keys),
+        None => report(alloc, err, &Refusal::Invalid(Invalid::BadName)),
+    }
+}
+
+fn read_named<K: Sink, E: Sink>(
+    alloc: Global,
+    out: &mut K,
+    err: &mut E,
+    kept: Option<&Kept>,
     name: &[u8],
     keys: &[&str],
 ) -> u8
     requires name { IsTrue (is_name name.now) }
-    ensures run { ReadsFrom K.Sink E.Sink (option_map (λ k. k.now) kept.entry) name.now (map (λ s. s.now) keys.now) out.old out.new err.old err.new result }
+    ensures run { ReadsFrom K.Sink E.Sink (option_map (λ k. k.now) kept.entry) (λ f. ReadsKeys f name.now (map (λ s. s.now) keys.now)) out.old out.new err.old err.new result }
     ensures told { Telling NoDamage (errors_of E.Sink err.old err.new) result }
     ensures status { (result ≡ 0) ⊎ ((result ≡ 1) ⊎ ((result ≡ 6) ⊎ (result ≡ 12))) }
     ensures output_fault { result ≡ 6 → Rose (K.fault_count out.old) (K.fault_count out.new) }

@@ -4,13 +4,13 @@ ghost use Rattle.std.specs.String.{string_bytes};
 ghost use Rattle.failure.specs.Counts.{Rose};
 ghost use Rattle.wt_io.specs.Streams.{Took};
 ghost use Rattle.wt_line.specs.Line.{command_of, meaning};
-ghost use Rattle.wt_tool.specs.Parts.{WentFrom, met_of, uri_of};
+ghost use Rattle.wt_tool.specs.Parts.{WentFrom, met_of};
 ghost use Rattle.wt_tool.specs.Top.{Promise, Tells, Telling, IsSo, IsAt, IsOpenable, IsStatus, errors_of, lines, first_status};
 
 use crate::create::create;
-use crate::names::name_of;
 use crate::opening::reach;
 use crate::read::read;
+use crate::script::script;
 use crate::status::Status;
 use crate::telling::report;
 use crate::write::write;
@@ -18,7 +18,7 @@ use disk_model::Home;
 use std::alloc::Global;
 use std::sync::Wait;
 use std::thread::Threads;
-use wt_code::{Invalid, Refusal};
+use wt_code::Refusal;
 use wt_io::{Sink, Source, write_all};
 use wt_line::{Command, LineFault, home_of, parse};
 
@@ -62,7 +62,7 @@ pub fn wt_plain<S: Source, K: Sink, E: Sink, D: Home>(
     }
 }
 
-// A run of a command, on the device at its home. No command reads the input yet.
+// A run of a command, on the device at its home.
 fn run<S: Source, K: Sink, E: Sink, D: Home>(
     alloc: Global,
     command: &Command<'_>,
@@ -79,33 +79,29 @@ fn run<S: Source, K: Sink, E: Sink, D: Home>(
     ensures home { IsAt D.Disk home.now disk.old disk.new result }
     ensures statuses { IsStatus result }
     ensures disk_fault { result ≡ 4 → Rose (D.faults disk.old) (D.faults disk.new) }
-    ensures input_fault { result ≡ 5 → ⊥ }
+    ensures input_fault { result ≡ 5 → Rose (S.fault_count input.old) (S.fault_count input.new) }
     ensures output_fault { result ≡ 6 → Rose (K.fault_count out.old) (K.fault_count out.new) }
     ensures honest { D.honest disk.new ≡ D.honest disk.old }
 {
-    let _ = input;
     let opened = match reach(alloc, disk, home) {
         Ok(opened) => opened,
         Err(refusal) => return report(alloc, err, &refusal),
     };
-    let name = match name_of(uri_of(command).as_bytes()) {
-        Some(name) => name,
-        None => return report(alloc, err, &Refusal::Invalid(Invalid::BadName)),
-    };
     match command {
-        Command::Create { config, .. } => {
-            let result = create(alloc, disk, opened, *config, name);
+        Command::Create { config, uri } => {
+            let result = create(alloc, disk, opened, *config, uri);
             told(alloc, err, &result)
         }
         Command::Write {
             overwrite,
+            uri,
             pairs,
-            ..
         } => {
-            let result = write(alloc, disk, opened, *overwrite, name, pairs);
+            let result = write(alloc, disk, opened, *overwrite, uri, pairs);
             told(alloc, err, &result)
         }
-        Command::Read { keys, .. } => read(alloc, out, err, opened.kept.as_ref(), name, keys),
+        Command::Read { uri, keys } => read(alloc, out, err, opened.kept.as_ref(), uri, keys),
+        Command::Script => script(alloc, opened, input, out, err),
     }
 }
 
@@ -117,14 +113,6 @@ fn told<E: Sink>(alloc: Global, err: &mut E, answer: &Result<(), Refusal>) -> u8
     match answer {
         Ok(()) => Status::Done as u8,
         Err(refusal) => report(alloc, err, refusal),
-    }
-}
-
-fn uri_of<'a>(command: &Command<'a>) -> &'a str
-    ensures { result.now ≡ uri_of (meaning command.now) }
-{
-    match command {
-        Command::Create { uri, .. } | Command::Write { uri, .. } | Command::Read { uri, .. } => uri,
     }
 }
 

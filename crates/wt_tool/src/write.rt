@@ -9,12 +9,12 @@ ghost use Rattle.one_table.specs.OneTable.{table_of, IsInForm};
 ghost use Rattle.one_table.specs.Openings.{IsOpened};
 ghost use Rattle.wt_line.specs.Line.{pair_texts};
 ghost use Rattle.wt_tool.specs.Points.{last_number};
-ghost use Rattle.wt_tool.specs.Writes.{WritesPairs, demand_of};
+ghost use Rattle.wt_tool.specs.Writes.{RunsWrite, WritesPairs, demand_of};
 ghost use Rattle.wt_tool.specs.Answers.{PutsIn, put_nowhere, refusal_in, put_over, rows_in, too_long, formats_by};
 ghost use Rattle.wt_tool.specs.Parts.{LeavesFrom, NoDamage};
 
 use crate::closing::close_next;
-use crate::names::{KEY_MAX, plain_formats, stored_as, stored_len};
+use crate::names::{KEY_MAX, name_of, plain_formats, stored_as, stored_len};
 use disk_model::Disk;
 use item::{Formats, Item};
 use leaf_rows::Rows;
@@ -29,6 +29,27 @@ const VALUE_MAX: u64 = 16_384; // bytes, as stored
 const ID_MAX: u64 = (1 << 62) - 1;
 
 pub(crate) fn write<D: Disk>(
+    alloc: Global,
+    disk: &mut D,
+    opened: Opened,
+    overwrite: bool,
+    uri: &str,
+    pairs: &[(&str, &str)],
+) -> Result<(), Refusal>
+    requires form { IfSome opened.kept (λ k. IsInForm k.numbers (table_of k.entry) × (k.numbers.marks.run < last_number)) }
+    requires finds { IsTrue (D.honest disk.old) → IsOpened (D.seen disk.old) opened }
+    ensures run { LeavesFrom D.Disk (RunsWrite overwrite uri.now (pair_texts pairs.now)) disk.old disk.new result }
+    ensures sound { IfErr result NoDamage }
+    ensures fault { IfErr result (λ r. r ≡ Refusal.DiskFault → Rose (D.faults disk.old) (D.faults disk.new)) }
+    ensures disk { SameDisk D.Disk disk.old disk.new }
+{
+    match name_of(uri.as_bytes()) {
+        Some(name) => write_named(alloc, disk, opened, overwrite, name, pairs),
+        None => Err(Refusal::Invalid(Invalid::BadName)),
+    }
+}
+
+fn write_named<D: Disk>(
     alloc: Global,
     disk: &mut D,
     opened: Opened,

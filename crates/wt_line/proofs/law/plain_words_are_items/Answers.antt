@@ -1,4 +1,4 @@
-use Rattle.wt_line.proofs.PlainWords.{create_plain, create_configured, overwrite_items, read_items, write_items}
+use Rattle.wt_line.proofs.PlainWords.{create_plain, create_configured, overwrite_items, read_items, script_alone, write_items}
 use Rattle.wt_line.proofs.law.plain_words_are_items.Goals as goal
 
 pub returns-clause-create : goal.returns-clause-create
@@ -15,3 +15,6 @@ returns-clause-overwrite c = overwrite_items
 
 pub returns-clause-read : goal.returns-clause-read
 returns-clause-read c = read_items
+
+pub returns-clause-script : goal.returns-clause-script
+returns-clause-script c = script_alone

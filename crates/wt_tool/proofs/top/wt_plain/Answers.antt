@@ -3,8 +3,10 @@ use Rattle.kv_model.specs.Content.{start}
 use Rattle.wt_code.specs.declared.refusals.Refusal.TheVariants.{NoMemory}
 use Rattle.wt_io.specs.StreamLemmas.{took_none}
 use Rattle.wt_line.specs.Line.{Asked, meaning}
-use Rattle.wt_tool.specs.Points.{Stopped, point_of}
-use Rattle.wt_tool.specs.Top.{Errors, IsAt, Went, errors_of, outside, streams_of, usage, lines}
+use Rattle.script_run.specs.declared.script.End.TheVariants.{Stopped}
+use Rattle.script_run.specs.Scripts.{outside}
+use Rattle.wt_tool.specs.Points.{point_of}
+use Rattle.wt_tool.specs.Top.{Errors, IsAt, Went, errors_of, streams_of, usage, lines}
 use Rattle.wt_tool.proofs.Running.{opens_same, gave_none, cut_all, told_all, stopped}
 use Rattle.wt_tool.proofs.top.wt_plain.Goals as goal
 
@@ -69,7 +71,7 @@ returns-in-Ok g c =
       home = λ asked is. subst (λ (l : List ℕ). IsAt g.D.Disk l c.args.disk c.run-status.new.disk c.run-status.result) c.home_of.ensures run.home;
       statuses = run.statuses;
       disk_fault = run.disk_fault;
-      input_fault = λ is. absurd (run.input_fault is);
+      input_fault = run.input_fault;
       output_fault = run.output_fault;
       honest = run.honest;
     }

@@ -9,7 +9,7 @@ use Rattle.wt_tool.specs.Reads.{GetsKeys}
 use Rattle.wt_tool.specs.Parts.{Meets, NoDamage}
 use Rattle.wt_tool.specs.Top.{lines, first_status}
 use Rattle.wt_tool.proofs.Gets.{begun_at, behind}
-use Rattle.wt_tool.proofs.read.read.Given as goal
+use Rattle.wt_tool.proofs.read.read_named.Given as goal
 
 abbrev pub invariant-loop-key : goal.invariant-loop-key
 invariant-loop-key g l = record {

@@ -1,0 +1,35 @@
+use Rattle.std.proofs.Common.{◌≡◌, [], List, inl, inr, refl, subst, sym}
+use Rattle.kv_model.specs.Content.{nothing}
+use Rattle.kv_model.specs.History.{Placed}
+use Rattle.kv_model.specs.Regular.{IsRegular, IsVersionOf}
+use Rattle.leaf_chains.specs.declared.slot.KeyChain.{KeyChain}
+use Rattle.catalog.specs.Known.{Known}
+use Rattle.engine.specs.Bases.{IsBaseOf}
+use Rattle.wt_tool.proofs.script.engine_on_nothing.Goals as goal
+
+no_versions : (p : Placed) → IsVersionOf nothing p → ⊥
+no_versions p (inl there) = there
+no_versions p (inr there) = there
+
+nothing_is_regular : IsRegular nothing
+nothing_is_regular = record {
+  numbers = tt;
+  names = λ t u there. absurd there;
+  cells = tt;
+  records = tt;
+  stamps = λ p there. absurd (no_versions p there);
+  fit = inl refl;
+}
+
+-- an engine that begins on nothing: no tables and no leaves
+nothing_is_base : (known : Known) (leaves : List (List KeyChain)) → known ≡ record { tables = []; next = 1 } → leaves ≡ [] → IsBaseOf nothing 1 0 0 known leaves
+nothing_is_base known leaves is none =
+    let plain : Known = record { tables = []; next = 1 } in
+    subst (λ (k : Known). IsBaseOf nothing 1 0 0 k leaves) (sym is) (subst (λ (l : List (List KeyChain)). IsBaseOf nothing 1 0 0 plain l) (sym none)
+    (record { run_is = refl; oldest_is = refl; stable_is = refl; tables_are = refl; leaves_are = λ place t there. absurd cc }))
+
+pub open-requires-clause-base : goal.open-requires-clause-base
+open-requires-clause-base c = (nothing, nothing_is_regular, nothing_is_base c.new.result c.new-2.result.items c.new.ensures c.new-2.ensures.items)
+
+pub returns : goal.returns
+returns c = c.open.ensures.stands nothing nothing_is_regular (nothing_is_base c.new.result c.new-2.result.items c.new.ensures c.new-2.ensures.items)
