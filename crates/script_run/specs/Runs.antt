@@ -19,7 +19,9 @@ use Rattle.script_run.specs.declared.one_line.Told.{Told}
 use Rattle.script_run.specs.declared.script.End.TheVariants.{Through}
 use Rattle.script_run.specs.declared.script.ScriptRun.{ScriptRun}
 use Rattle.script_run.specs.Lines.{AreLines}
-use Rattle.script_run.specs.Scripts.{Answers, Begins, Ends, Goes, Outside, Ran, Refuses, Replies, RunsLines, Script, IsLater, NoSession, actor_in, caller, counts, first_of, fresh, listed, missing, opened_more, refusals_in}
+use Rattle.wt_io.specs.declared.streams.Source.{Ghosts as SourceGhosts}
+use Rattle.wt_io.specs.declared.streams.Sink.{Ghosts as SinkGhosts}
+use Rattle.script_run.specs.Scripts.{outside, Answers, Begins, Ends, Goes, Outside, Ran, Refuses, Replies, RunsLines, Script, IsLater, NoSession, actor_in, caller, counts, first_of, fresh, listed, missing, opened_more, refusals_in}
 
 -- one of the four actors of the system, or any session
 abbrev pub IsKnown : Actor → Type 0
@@ -113,3 +115,8 @@ pub record IsRun (o : Outside) (left left' written written' : Option (List ℕ))
   pub stands : Stands e ran.last.world
   -- no line changes the checkpoint that the device has
   pub checkpoint : ran.last.world.machine.completed ≡ w.machine.completed
+
+-- the same of streams, before and after
+abbrev pub IsRunOver : {S K : Type 0} → SourceGhosts S → SinkGhosts K → S → S → K → K → World → Engine → ScriptRun → Type 0
+IsRunOver s k input input_now out out_now w e told =
+    IsRun (outside s k input input_now out out_now) (s.left input) (s.left input_now) (k.written out) (k.written out_now) w e told

@@ -3,8 +3,8 @@ ghost use Rattle.std.specs.Prelude.{◌≡◌, ◌≤◌, ◌+◌, ℕ, length, 
 ghost use Rattle.wt_io.specs.Streams.{AtEnd};
 ghost use Rattle.engine_world.specs.Stands.{Stands};
 ghost use Rattle.engine_world.specs.Worlds.{World};
-ghost use Rattle.script_run.specs.Runs.{IsRun};
-ghost use Rattle.script_run.specs.Scripts.{counts, first_of, listed, outside, plain};
+ghost use Rattle.script_run.specs.Runs.{IsRunOver};
+ghost use Rattle.script_run.specs.Scripts.{counts, first_of, listed, plain};
 ghost use Rattle.script_run.specs.Turns.{HasMoved, IsBehind, LineTurn, PrintTurn, TurnMade, met_with};
 
 use crate::lines::{Lines, NoLine};
@@ -55,7 +55,7 @@ pub fn run_script<S: Source, K: Sink>(
     input: &mut S,
     out: &mut K,
 ) -> ScriptRun
-    ensures run { (w : World) → Stands local.old w → IsRun (outside S.Source K.Sink input.old input.new out.old out.new) (S.left input.old) (S.left input.new) (K.written out.old) (K.written out.new) w local.new result }
+    ensures run { (w : World) → Stands local.old w → IsRunOver S.Source K.Sink input.old input.new out.old out.new w local.new result }
 {
     // What the actors of the system have started is known of every engine.
     local.actors();
