@@ -1,16 +1,18 @@
 -- A block of a checkpoint that is written keeps what stands.
-use Rattle.std.specs.Prelude.{◌≡◌, ◌*◌, ℕ, ◌≤◌, List, [], ◌∷◌, length, true, Option}
-use Rattle.std.proofs.Common.{sym, ◌∙◌, ap}
-use Rattle.std.proofs.lemmas.Bool.{false≢true}
+use Rattle.std.specs.Prelude.{◌≡◌, ◌*◌, ℕ, ◌≤◌, List, [], ◌∷◌, length, true, false, Option}
+use Rattle.std.proofs.Common.{inl, inr, sym, ◌∙◌, ap, arith}
+use Rattle.std.proofs.lemmas.Bool.{false≢true, cases_eq}
+use Rattle.std.proofs.lemmas.List.{get_or-set_same, get_or-set_other}
 use Rattle.disk_model.specs.Disk.{put}
 use Rattle.disk_model.specs.Crash.{Each}
 use Rattle.device_layout.specs.declared.addr.Addr.{Addr}
 use Rattle.extent_list.specs.Space.{IsSpot}
 use Rattle.block_mgr.specs.declared.cell.Cell.{Cell}
-use Rattle.block_mgr.specs.Cells.{AreUnits, cell_at, is_used, captured as captured_cells}
-use Rattle.block_mgr.specs.Blocks.{Books, Has, HasLive}
+use Rattle.block_mgr.specs.Cells.{AreUnits, cell_at, fresh, freed, is_used, kept, nothing, captured as captured_cells}
+use Rattle.block_mgr.specs.Blocks.{Books, Has, HasLive, unit_of}
 use Rattle.block_mgr.specs.Writes.{FromBase, Added}
-use Rattle.block_mgr.proofs.HasLemmas.{has_added, has_set}
+use Rattle.block_mgr.proofs.HasLemmas.{has_added, has_set, unused_nothing}
+use Rattle.block_mgr.proofs.HolderLemmas.{is_there}
 use Rattle.stored.specs.Blocks.{Block}
 use Rattle.stored.specs.Stored.{Stored}
 use Rattle.checkpoint_core.specs.Stands.{AreInUse, Stands, blocks_of}
@@ -44,3 +46,25 @@ live_captured cells u at n has = has_set (λ (c : Cell). c.is_live ≡ true) cel
 -- a block that was written is live
 pub live_added : (old new : Books) (a : Addr) → Added old new a → HasLive new.cells a.offset a.size
 live_added old new a added = (added.unit, added.offset, added.size ∙ ap (λ (c : Cell). 4096 * c.units) (sym added.put.here), ap (λ (c : Cell). c.is_live) added.put.here)
+
+-- ---- a block that was written, and is free again
+
+pub freed_back : (cells : List Cell) (old new : Books) (a : Addr) → Added old new a → 1 ≤ a.size → cells ≡ freed new.cells (unit_of a.offset) → (u : ℕ) → cell_at cells u ≡ cell_at old.cells u
+freed_back cells old new a added some is u = ap (λ (l : List Cell). cell_at l u) is ∙ elim (cases_eq u (unit_of a.offset)) [
+  | inl here ↦ ap (λ (k : ℕ). cell_at (freed new.cells (unit_of a.offset)) k) here ∙ (gone ∙ (sym added.none ∙ ap (λ (k : ℕ). cell_at old.cells k) (sym (here ∙ sym unit))))
+  | inr other ↦ elsewhere other
+]
+  where
+    unit : added.unit ≡ unit_of a.offset
+    unit = omega (arith, added.offset)
+
+    there : cell_at new.cells (unit_of a.offset) ≡ fresh added.units
+    there = ap (λ (k : ℕ). cell_at new.cells k) (sym unit) ∙ added.put.here
+
+    gone : cell_at (freed new.cells (unit_of a.offset)) (unit_of a.offset) ≡ nothing
+    gone = get_or-set_same new.cells (unit_of a.offset) (kept (record (cell_at new.cells (unit_of a.offset)) { is_live = false })) nothing
+        (is_there new.cells (unit_of a.offset) (omega (arith, some, added.size, ap (λ (c : Cell). c.units) there)))
+        ∙ unused_nothing (cell_at new.cells (unit_of a.offset)) (ap (λ (c : Cell). c.is_running) there) (ap (λ (c : Cell). c.is_last) there) (ap (λ (c : Cell). c.names) there)
+
+    elsewhere : (u ≡ unit_of a.offset → ⊥) → cell_at (freed new.cells (unit_of a.offset)) u ≡ cell_at old.cells u
+    elsewhere other = get_or-set_other new.cells (unit_of a.offset) u (kept (record (cell_at new.cells (unit_of a.offset)) { is_live = false })) nothing other ∙ added.put.others u (λ same. other (same ∙ unit))

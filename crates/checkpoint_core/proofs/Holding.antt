@@ -1,5 +1,5 @@
 -- What bytes that keep a checkpoint's blocks have.
-use Rattle.std.specs.Prelude.{◌≡◌, ℕ, ◌-◌, ◌≤◌, List, [], ◌∷◌, length, take, drop, Option, Some, None}
+use Rattle.std.specs.Prelude.{◌≡◌, ℕ, ◌-◌, ◌*◌, ◌≤◌, List, [], ◌∷◌, length, take, drop, Option, Some, None}
 use Rattle.std.specs.List.{AllByRecursion}
 use Rattle.std.proofs.Common.{sym, ◌∙◌, ap, arith}
 use Rattle.std.proofs.lemmas.List.{length-drop}
@@ -8,6 +8,7 @@ use Rattle.disk_model.specs.Crash.{Keeps}
 use Rattle.turtle.specs.Slots.{Chooses}
 use Rattle.block_mgr.specs.declared.cell.Cell.{Cell}
 use Rattle.block_mgr.specs.Blocks.{Has}
+use Rattle.block_mgr.specs.Cells.{cell_at, is_used}
 use Rattle.stored.specs.Blocks.{Block, IsAddressed, Holds, Same}
 use Rattle.stored.specs.Stored.{Stored, SameSlots, stored_blocks, IsWhole, IsOn}
 use Rattle.stored.proofs.Device.{frame_on, frame_blank}
@@ -40,12 +41,20 @@ holds_kept used seen c (b ∷ blocks) holds in_use keeps = (
   holds_kept used seen c blocks holds.1 in_use.1 keeps,
 )
 
+-- the same cells have the same blocks
+pub in_use_same : (old new : List Cell) (blocks : List Block) → ((u : ℕ) → cell_at new u ≡ cell_at old u) → AreInUse old blocks → AreInUse new blocks
+in_use_same old new [] same in_use = tt
+in_use_same old new (b ∷ blocks) same in_use = (has_same old new b.place.offset b.place.size same in_use.0, in_use_same old new blocks same in_use.1)
+  where
+    has_same : (old new : List Cell) (i n : ℕ) → ((u : ℕ) → cell_at new u ≡ cell_at old u) → Has old i n → Has new i n
+    has_same old new i n same (u, place, size, used) = (u, place, size ∙ ap (λ (c : Cell). 4096 * c.units) (sym (same u)), ap is_used (same u) ∙ used)
+
 -- ---- other slots, and all behind them as it was
 
 range_behind : (c d : List ℕ) (i n : ℕ) → drop 8192 c ≡ drop 8192 d → 8192 ≤ i → range c i n ≡ range d i n
 range_behind c d i n same behind = sym (range_drop c 8192 i n behind) ∙ ap (λ (l : List ℕ). range l (i - 8192) n) same ∙ range_drop d 8192 i n behind
 
-length_behind : (c d : List ℕ) → drop 8192 c ≡ drop 8192 d → 8192 ≤ length c → 8192 ≤ length d → length c ≡ length d
+pub length_behind : (c d : List ℕ) → drop 8192 c ≡ drop 8192 d → 8192 ≤ length c → 8192 ≤ length d → length c ≡ length d
 length_behind c d same long also = omega (arith, long, also, ap length same, length-drop 8192 c, length-drop 8192 d)
 
 holds_behind : (c d : List ℕ) (blocks : List Block) → drop 8192 c ≡ drop 8192 d → 8192 ≤ length c → 8192 ≤ length d → AllByRecursion (λ (b : Block). IsAddressed b) blocks → Holds d blocks → Holds c blocks

@@ -20,7 +20,7 @@ use Rattle.block_mgr.proofs.HasLemmas.{spot_apart, spot_keeps}
 use Rattle.stored.specs.Blocks.{Block, IsAddressed, IsAt, Holds, AreApart}
 use Rattle.stored.specs.Records.{record_image}
 use Rattle.stored.specs.Stored.{Stored, record_block, stored_blocks, IsWhole}
-use Rattle.checkpoint_core.specs.Stands.{HasStill, AreInUse, Stands, body_blocks, IsReady, placed_at}
+use Rattle.checkpoint_core.specs.Stands.{HasStill, AreInUse, Stands, body_blocks, IsReady, IsWritten, placed_at}
 use Rattle.checkpoint_core.specs.Finishes.{IsOld}
 use Rattle.checkpoint_core.proofs.Holding.{still_kept, holds_kept}
 
@@ -104,3 +104,17 @@ module _ (seen now image : List ℕ) (books : Books) (after : Space) (capacity :
 
   pub holds_now : Holds now (stored_blocks placed)
   holds_now = (record_at, holds_kept books.cells seen now (body_blocks new) ready.holds ready.in_use keeps)
+
+-- all of both is on the device then
+pub written_now : (seen now image : List ℕ) (images left : List ℕ → Type 0) (books : Books) (after : Space) (capacity : ℕ) (old : Option Stored) (new : Stored) (a : Addr) → Stands seen images books old → IsReady seen books image new → AreUnits books.cells books.space → 1 ≤ length image
+    → IsAddress (block_of image) a → Taken books.space after a.size capacity a.offset → a.offset ≤ length seen → now ≡ put seen a.offset (block_of image) → Each left (FromBase books.is_synced a.offset a.size seen images) → IsWritten now left old (placed_at new a)
+written_now seen now image images left books after capacity old new a stands ready units full is taken low written from =
+    let bytes : List ℕ = block_of image in
+    let some : 1 ≤ length bytes = block_some image full in
+    let spot : IsSpot books.space (length bytes) capacity a.offset = subst (λ (k : ℕ). IsSpot books.space k capacity a.offset) is.size taken.0 in
+    record {
+      seen_has = seen_still seen images books old stands units now bytes capacity a.offset some spot written;
+      images_have = λ d there. image_still seen images books old stands units d (length bytes) capacity a.offset some spot (subst (λ (k : ℕ). FromBase books.is_synced a.offset k seen images d) is.size (from d there));
+      whole = whole_now seen now image books after capacity new a ready units is taken low written;
+      holds = holds_now seen now image books after capacity new a ready units is taken low written;
+    }

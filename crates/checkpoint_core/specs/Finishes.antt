@@ -1,14 +1,14 @@
 -- What the finish of a checkpoint leaves.
-use Rattle.std.specs.Prelude.{◌≡◌, ◌⊎◌, ℕ, ◌+◌, ◌*◌, ◌/◌, List, Option, Result, Ok, Err, IsTrue, length}
+use Rattle.std.specs.Prelude.{◌≡◌, ◌⊎◌, ℕ, ◌+◌, ◌*◌, ◌/◌, ◌≤◌, List, Option, Result, Ok, Err, IsTrue, length}
 use Rattle.disk_model.specs.Crash.{Each, LeavesOnly}
 use Rattle.disk_model.specs.declared.disk.Disk.{Ghosts}
-use Rattle.extent_list.specs.Space.{Space, Taken, HasNoRoom}
+use Rattle.extent_list.specs.Space.{Space, Taken, HasNoRoom, end_of}
 use Rattle.wt_code.specs.declared.store_error.StoreError.{StoreError}
 use Rattle.wt_code.specs.declared.store_error.StoreError.TheVariants.{NoMemory, NoSpace, Read, Down}
 use Rattle.device_layout.specs.declared.addr.Addr.{Addr}
 use Rattle.device_layout.specs.declared.slot.Slot.{Slot}
 use Rattle.turtle.specs.Slots.{IsNext}
-use Rattle.block_mgr.specs.Cells.{captured, freed, done}
+use Rattle.block_mgr.specs.Cells.{AreUnits, cell_at, captured, freed, done}
 use Rattle.block_mgr.specs.Blocks.{Books, unit_of}
 use Rattle.block_mgr.specs.Writes.{Added}
 use Rattle.stored.specs.Stored.{Stored, IsOn}
@@ -76,6 +76,23 @@ InstallFails g old new before after (Down fault) = LeavesOnly g before after (Ha
 abbrev pub Installs : {D : Type 0} (g : Ghosts D) → Option Stored → Stored → D → D → Result (Unit {0}) StoreError → Type 0
 Installs g old new before after (Ok done) = LeavesOnly g before after (HasOne old new) × Each (g.may_leave after) (λ c. IsOn c new)
 Installs g old new before after (Err e) = InstallFails g old new before after e
+
+-- what is read once a slot was installed, or after an error that leaves the device up
+abbrev pub ReadsThen : {D : Type 0} (g : Ghosts D) → Option Stored → Stored → D → D → Result (Unit {0}) StoreError → Type 0
+ReadsThen g old new before after (Ok done) = IsOn (g.seen after) new × (length (g.seen after) ≡ length (g.seen before))
+ReadsThen g old new before after (Err (Down fault)) = Unit {0}
+ReadsThen g old new before after (Err e) = (g.seen after ≡ g.seen before) × Each (g.may_leave after) (HasStill old)
+
+-- The end of the space lies within the device. At Ok the new checkpoint is read, and after an error that leaves the device up the old one stands.
+abbrev pub ReadsAfter : {D : Type 0} (g : Ghosts D) → Books → Option Stored → Stored → D → Result Addr StoreError → Type 0
+ReadsAfter g books old new after (Ok a) = IsOn (g.seen after) (placed_at new a) × (end_of books.space ≤ length (g.seen after))
+ReadsAfter g books old new after (Err (Down fault)) = Unit {0}
+ReadsAfter g books old new after (Err e) = Stands (g.seen after) (g.may_leave after) books old × (end_of books.space ≤ length (g.seen after))
+
+-- the blocks are those from before, cell by cell
+pub record AreBack (before after : Books) : Type 0 where
+  pub cells : (u : ℕ) → cell_at after.cells u ≡ cell_at before.cells u
+  pub units : AreUnits before.cells before.space → AreUnits after.cells after.space
 
 -- The record is one of the last checkpoint's blocks, which are those that the running one had captured, and the live tree does not have it.
 abbrev pub IsLastNow : Books → Books → Addr → Type 0

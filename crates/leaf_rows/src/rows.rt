@@ -1,11 +1,12 @@
 // The rows, and what is asked of them.
 ghost use Rattle.std.specs.Prelude.{◌≡◌, ◌≤◌, ◌<◌, ◌||◌, ◌==◌, ◌++◌, nat_le, true, max, List, [], ◌∷◌, length, map, take, drop, bytes_eq, slice_index_or, vec_len, vec_capacity, IfOk, OnOk, OnErr, IsTrue, ◌↔◌, None, option_map};
-ghost use Rattle.kv_model.specs.Content.{sees_name};
+ghost use Rattle.kv_model.specs.Content.{sees_id, sees_name};
 ghost use Rattle.row_page.specs.Rows.{Row, RowFits, IsImage, Ascends, cell, key_most, is_below};
 ghost use Rattle.row_page.specs.Greatest.{name_lt, later, greatest_in, most_in};
 ghost use Rattle.row_page.specs.Views.{row_seen};
 ghost use Rattle.leaf_rows.specs.Rows.{AreFit, IsAboveLast, SplitsAt, version_at, put_row, image_length};
-ghost use Rattle.leaf_rows.specs.Contents.{is_kept_window, kept_rows};
+ghost use Rattle.std.specs.List.{list_any};
+ghost use Rattle.leaf_rows.specs.Contents.{is_kept_window, kept_rows, is_seen_window, seen_rows};
 
 use crate::Marks;
 use failure::NoMemory;
@@ -70,6 +71,14 @@ impl Rows {
         ensures { self.new ≡ kept_rows marks self.old }
     {
         keep(&mut self.rows, marks);
+    }
+
+    /// Takes out what an opening does not keep after a checkpoint that had running transactions, of
+    /// these ids: their versions too. `O(n)` in the rows, times the ids, and it takes no memory.
+    pub fn keep_seen(&mut self, marks: Marks, running: &[u64])
+        ensures { self.new ≡ seen_rows marks running.now self.old }
+    {
+        keep_seen(&mut self.rows, marks, running);
     }
 
     /// The version of a key. `O(log n)` in the number of rows.
@@ -327,4 +336,35 @@ fn is_stable(marks: &Marks, durable: u64) -> bool
     ensures { result ≡ (marks.now.stable == 0) || nat_le durable marks.now.stable }
 {
     marks.stable == 0 || durable <= marks.stable
+}
+
+fn keep_seen(rows: &mut Vec<(Item, Version<CellChange<Item>>)>, marks: Marks, running: &[u64])
+    ensures { rows.new.items ≡ seen_rows marks running.now rows.old.items }
+{
+    rows.retain(|row| is_seen(&marks, running, &row.1.window));
+}
+
+// An opening keeps the version, where these ids had not ended.
+fn is_seen(marks: &Marks, running: &[u64], window: &Window) -> bool
+    ensures { result ≡ is_seen_window marks.now running.now window.now }
+{
+    sees_among(marks, running, window.name) && is_stable(marks, window.durable)
+}
+
+fn sees_among(marks: &Marks, running: &[u64], name: Name) -> bool
+    ensures { result ≡ sees_name marks.now.run (record { min = marks.now.min; max = marks.now.max; ids = running.now }) name }
+{
+    name.run < marks.run || (name.run == marks.run && sees_id(marks, running, name.id))
+}
+
+fn sees_id(marks: &Marks, running: &[u64], id: u64) -> bool
+    ensures { result ≡ sees_id (record { min = marks.now.min; max = marks.now.max; ids = running.now }) id }
+{
+    id < marks.min || (id < marks.max && !is_listed(running, id))
+}
+
+fn is_listed(ids: &[u64], id: u64) -> bool
+    ensures { result ≡ list_any (λ n. n == id) ids.now }
+{
+    ids.iter().any(|n| *n == id)
 }

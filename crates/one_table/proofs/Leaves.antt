@@ -84,7 +84,7 @@ no_page_no_leaf bytes block link some block_is none rows leaf = none rows (page_
 whole_size : (n : ℕ) → n ≤ block_size n
 whole_size n = omega arith
 
-length_block : (x : List ℕ) → length (block_of x) ≡ block_size (length x)
+pub length_block : (x : List ℕ) → length (block_of x) ≡ block_size (length x)
 length_block x =
     let zero : ℕ = 0 in
     omega (arith, length-append x (replicate (block_size (length x) - length x) zero), length-replicate (block_size (length x) - length x) zero, whole_size (length x))

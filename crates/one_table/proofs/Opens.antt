@@ -88,7 +88,7 @@ one_is_record n t l form link = record {
   stable = form.numbers.stable;
   stamps = form.numbers.stamps;
   snapshot = record { order = form.numbers.snapshot.0; max = form.numbers.snapshot.1; few = omega arith; ids = tt };
-  next = form.numbers.next;
+  next = omega (arith, form.numbers.next);
   history = record { level = omega arith; link = nowhere_fits };
   count = omega arith;
   tables = (record { number = (form.table.number, form.below); name = table_name t form.table; root = record { level = omega arith; link = link } }, tt);
@@ -96,7 +96,7 @@ one_is_record n t l form link = record {
   once = (tt, tt);
 }
 
-range_length : (bytes : List ℕ) (at n : ℕ) → at + n ≤ length bytes → length (range bytes at n) ≡ n
+pub range_length : (bytes : List ℕ) (at n : ℕ) → at + n ≤ length bytes → length (range bytes at n) ≡ n
 range_length bytes at n within = grind (arith, common_steps)
 
 -- ---- the slot, and the record's block
@@ -107,13 +107,13 @@ slot_is bytes slot s chosen on = some_is s.slot slot (chooses_one bytes (Some s.
     some_is : (x y : Slot) → Some x ≡ Some y → x ≡ y
     some_is x y e = cc
 
-no_blank : (bytes : List ℕ) (slot : Slot) → IsChosen bytes slot → IsBlank bytes → ⊥
+pub no_blank : (bytes : List ℕ) (slot : Slot) → IsChosen bytes slot → IsBlank bytes → ⊥
 no_blank bytes slot chosen blank = none_some (chooses_one bytes None (Some slot) blank.shut chosen.chooses)
   where
     none_some : let none : Option Slot = None in none ≡ Some slot → ⊥
     none_some same = cc
 
-record_bytes : (r : Record) → 16 ≤ length (record_image r)
+pub record_bytes : (r : Record) → 16 ≤ length (record_image r)
 record_bytes r = omega (arith, length-framed 5 first_format (length r.tables) 0 (record_body r))
 
 -- the record's block spoils on no device that reads

@@ -18,18 +18,18 @@ use Rattle.one_table.specs.declared.record.Numbers.{Numbers}
 use Rattle.one_table.specs.OneTable.{one_record, one_stored}
 use Rattle.one_table.specs.Leaves.{LeafIs, blocks_at}
 
-all_front : (P : Block → Type 0) (xs ys : List Block) → AllByRecursion P (xs ++ ys) → AllByRecursion P xs
+pub all_front : (P : Block → Type 0) (xs ys : List Block) → AllByRecursion P (xs ++ ys) → AllByRecursion P xs
 all_front P [] ys all = tt
 all_front P (x ∷ xs) ys all = (all.0, all_front P xs ys all.1)
 
-all_join : (P : Block → Type 0) (xs ys : List Block) → AllByRecursion P xs → AllByRecursion P ys → AllByRecursion P (xs ++ ys)
+pub all_join : (P : Block → Type 0) (xs ys : List Block) → AllByRecursion P xs → AllByRecursion P ys → AllByRecursion P (xs ++ ys)
 all_join P [] ys all more = more
 all_join P (x ∷ xs) ys all more = (all.0, all_join P xs ys all.1 more)
 
 -- ---- from the device to its leaf
 
 -- a tree of level 0 is one leaf
-one_leaf : (link : Link) (tree : TableTree) → IsTree table_kind 0 (root_entry link) tree → (rows : List Row) × (tree ≡ record { layers = []; leaves = rows ∷ [] }) × Bears (root_entry link) rows
+pub one_leaf : (link : Link) (tree : TableTree) → IsTree table_kind 0 (root_entry link) tree → (rows : List Row) × (tree ≡ record { layers = []; leaves = rows ∷ [] }) × Bears (root_entry link) rows
 one_leaf link tree is =
     let none : tree.layers ≡ [] = nil_from_length tree.layers is.levels in
     go tree.leaves refl none (subst (λ (l : List (List (List Entry))). AllBear table_kind (bottom (root_entry link ∷ []) l) tree.leaves) none is.bear)

@@ -1,5 +1,5 @@
 -- Devices with one table of one leaf.
-use Rattle.std.specs.Prelude.{◌≡◌, ◌⊎◌, ℕ, ◌<◌, ◌≤◌, ◌^◌, IsTrue, List, [], ◌∷◌, ◌++◌, replicate, length, slice_index_or}
+use Rattle.std.specs.Prelude.{◌≡◌, ◌⊎◌, ℕ, ◌+◌, ◌<◌, ◌≤◌, ◌^◌, IsTrue, List, [], ◌∷◌, ◌++◌, replicate, length, slice_index_or}
 use Rattle.std.specs.Int.{w8, w16, w32, w64, to_le_bytes}
 use Rattle.item.specs.declared.formats.Formats.{Formats}
 use Rattle.le_codec.specs.Images.{block_of}
@@ -86,7 +86,8 @@ pub record AreNumbers (n : Numbers) : Type 0 where
   pub stable : n.marks.stable < 2 ^ 64
   pub stamps : (n.marks.stable ≡ 0) ⊎ (n.marks.oldest ≤ n.marks.stable)
   pub snapshot : (n.marks.min ≤ n.marks.max) × (n.marks.max < 2 ^ 64)
-  pub next : n.next_table < 2 ^ 32
+  -- numbers are left for as many tables as an engine may have
+  pub next : n.next_table + 1024 ≤ 2 ^ 32
 
 pub record IsTable (t : Table) : Type 0 where
   pub number : 1 ≤ t.number

@@ -14,8 +14,10 @@ use row_page::Leaf;
 use std::alloc::Global;
 use wt_code::Refusal;
 
-// The rows of the leaf that a link leads to.
-pub(crate) fn load<D: Disk>(alloc: Global, disk: &mut D, link: Link) -> Result<Rows, Refusal>
+/// The rows of the leaf that a link leads to. `Corrupt` comes only where there is none of its
+/// greatest name and durable stamp: with the offset and the sum of its address, and the sum that
+/// its block has, or the same sum twice where that is not at fault. `O(bytes)` of the leaf.
+pub fn load<D: Disk>(alloc: Global, disk: &mut D, link: Link) -> Result<Rows, Refusal>
     ensures ok { IsTrue (D.honest disk.old) → IfOk result (LeafIs (D.seen disk.old) link) }
     ensures err { IfErr result (LeafRefused (Rose (D.faults disk.old) (D.faults disk.new)) (IsTrue (D.honest disk.old)) (D.seen disk.old) link) }
     ensures looked { Looked D.Disk disk.old disk.new }
@@ -54,7 +56,8 @@ fn rows_of(alloc: Global, link: Link, block: Vec<u8>) -> Result<Rows, Refusal>
     }
 }
 
-fn is_nowhere(link: Link) -> bool
+/// Whether a link leads to one empty leaf that is not stored.
+pub fn is_nowhere(link: Link) -> bool
     ensures { IsTrue result ↔ (link ≡ nowhere) }
 {
     let is_place = link.addr.offset != 0 || link.addr.size != 0 || link.addr.sum != 0;

@@ -17,6 +17,7 @@ mod tests;
 mod writing;
 
 pub use law::a_damaged_device_reads_as_nothing;
+pub use leaf::{is_nowhere, load};
 pub use opening::{Kept, Opened, open};
 pub use place::Place;
 pub use record::{Entry, Numbers, is_table_name};

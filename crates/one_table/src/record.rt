@@ -14,6 +14,7 @@ use failure::NoMemory;
 use item::{Format, Formats, Item};
 use le_codec::{FIRST_FORMAT, header_bytes, number_4, number_8};
 use leaf_rows::Marks;
+use limits::TABLES_MAX;
 use stamp::Name;
 use std::alloc::Global;
 
@@ -21,6 +22,9 @@ const UNIT: usize = 4096; // bytes
 
 /// The greatest sequence and run: 2^62 - 1.
 pub(crate) const SEQUENCE_MAX: u64 = (1 << 62) - 1;
+
+// The greatest number of a next table behind which there are numbers for as many as there may be.
+const NEXT_TABLE_MAX: u32 = u32::MAX - (TABLES_MAX as u32 - 1);
 
 const KIND: u8 = 5;
 
@@ -290,7 +294,8 @@ fn are_numbers(numbers: Numbers) -> bool
     let marks = numbers.marks;
     let has_run = 1 <= marks.run && marks.run <= numbers.sequence;
     let has_stamps = marks.stable == 0 || marks.oldest <= marks.stable;
-    has_run && has_stamps && numbers.sequence <= SEQUENCE_MAX && marks.min <= marks.max
+    let has_room = numbers.next_table <= NEXT_TABLE_MAX;
+    has_run && has_stamps && has_room && numbers.sequence <= SEQUENCE_MAX && marks.min <= marks.max
 }
 
 fn is_entry(numbers: Numbers, entry: &TableEntry<'_>) -> bool

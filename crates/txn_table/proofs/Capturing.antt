@@ -93,7 +93,7 @@ unended-ascend t m stands = some-ascend (filter_map unended_id t.sessions) [] t.
     let state = state-some (session_of t at.0) x at.1 in
     let drawn = stands.table.drawn at.0 in let same = state.1 in let some = state.2 in (omega arith, omega arith))
 
-are-unended : (t : Table) (m : Machine) → TableStands t m → AreUnended m (unended t)
+pub are-unended : (t : Table) (m : Machine) → TableStands t m → AreUnended m (unended t)
 are-unended t m stands = record {
   each = λ id listed. elim (some-found (filter_map unended_id t.sessions) [] id listed) [
     | inl none ↦ absurd (cc)

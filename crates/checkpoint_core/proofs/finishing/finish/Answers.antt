@@ -1,21 +1,20 @@
-use Rattle.std.proofs.Common.{inl, inr, ◌≡◌, ◌∙◌, ◌≤◌, sym, ap, subst, arith, ℕ, List, length}
-use Rattle.disk_model.specs.Disk.{put}
+use Rattle.std.proofs.Common.{inl, inr, ◌≡◌, ◌∙◌, ◌≤◌, sym, ap, subst, arith, ℕ, length}
 use Rattle.disk_model.specs.Ranges.{length_put}
 use Rattle.disk_model.specs.Crash.{LeavesOnly}
 use Rattle.disk_model.proofs.Crash.{started, widened}
-use Rattle.extent_list.specs.Space.{IsSpot, Taken, HasNoRoom}
+use Rattle.extent_list.specs.Space.{Taken, HasNoRoom}
 use Rattle.le_codec.specs.Images.{block_of}
 use Rattle.device_layout.specs.declared.addr.Addr.{Addr}
 use Rattle.device_layout.specs.declared.slot.Slot.{Slot}
 use Rattle.block_mgr.specs.Cells.{done as done_cells}
-use Rattle.block_mgr.specs.Writes.{FromBase}
 use Rattle.block_mgr.proofs.WriteLemmas.{taken_low}
 use Rattle.device_layout.specs.Slots.{slot_at}
-use Rattle.checkpoint_core.specs.Stands.{IsWritten, placed_at}
+use Rattle.checkpoint_core.specs.Stands.{blocks_of, placed_at}
 use Rattle.checkpoint_core.specs.Finishes.{IsOld}
-use Rattle.checkpoint_core.proofs.Recording.{block_length, block_some, image_still, wrote_old, seen_still, whole_now, holds_now}
-use Rattle.checkpoint_core.proofs.Capturing.{live_added}
-use Rattle.checkpoint_core.proofs.Installing.{finished, not_finished, not_written}
+use Rattle.checkpoint_core.proofs.Recording.{block_length, block_some, wrote_old, written_now}
+use Rattle.checkpoint_core.proofs.Capturing.{freed_back, live_added}
+use Rattle.checkpoint_core.proofs.Holding.{in_use_same}
+use Rattle.checkpoint_core.proofs.Installing.{finished, not_finished, not_read, not_written}
 use Rattle.checkpoint_core.proofs.finishing.finish.Goals as goal
 
 named_is : (kept sequence : ℕ) (a : Addr) (slot : Slot) → kept ≡ sequence → slot ≡ slot_at sequence a → slot_at kept a ≡ slot
@@ -49,58 +48,75 @@ pub returns-in-Ok-sync_and_install-clause-finishes : goal.returns-in-Ok-sync_and
 returns-in-Ok-sync_and_install-clause-finishes g c h old new stands ready sequence next =
     let D = g.D.Disk in
     let seen = D.seen c.args.disk.now in
-    let now = D.seen c.write.new.disk in
-    let images = D.may_leave c.args.disk.now in
     let books = c.args.blocks.now in
     let image = c.args.image.now in
     let a = c.in-Ok.addr in
     let wrote = c.in-Ok.ensures in
     let units = wrote.units.0 in
     let capacity = D.capacity c.args.disk.now in
-    let bytes : List ℕ = block_of image in
-    let some : 1 ≤ length bytes = block_some image c.requires.some in
-    let written : now ≡ put seen a.offset bytes = wrote.written h in
     let low : a.offset ≤ length seen = omega (arith, (c.requires.ready h).1, taken_low books.space c.write.new.self.space a.size capacity a.offset wrote.taken) in
-    let spot : IsSpot books.space (length bytes) capacity a.offset = subst (λ (k : ℕ). IsSpot books.space k capacity a.offset) wrote.address.size wrote.taken.0 in
     let made = placed_at new a in
     let slot_is : made.slot ≡ c.new.result = named_is _ _ _ _ sequence c.new.ensures in
-    let done : IsWritten now (D.may_leave c.write.new.disk) old made = record {
-      seen_has = seen_still seen images books old stands units now bytes capacity a.offset some spot written;
-      images_have = λ d there. image_still seen images books old stands units d (length bytes) capacity a.offset some spot (subst (λ (k : ℕ). FromBase books.is_synced a.offset k seen images d) wrote.address.size (wrote.images d there));
-      whole = whole_now seen now image books c.write.new.self.space capacity new a ready units wrote.address wrote.taken low written;
-      holds = holds_now seen now image books c.write.new.self.space capacity new a ready units wrote.address wrote.taken low written;
-    } in
-    let first : LeavesOnly D c.args.disk.now c.write.new.disk (IsOld images old) = widened D _ _ _ _ c.write.ensures.leaves (wrote_old seen images books old stands units (length bytes) capacity some) in
+    let done = written_now seen (D.seen c.write.new.disk) image (D.may_leave c.args.disk.now) (D.may_leave c.write.new.disk) books c.write.new.self.space capacity old new a stands ready units c.requires.some wrote.address wrote.taken low (wrote.written h) wrote.images in
+    let first : LeavesOnly D c.args.disk.now c.write.new.disk (IsOld (D.may_leave c.args.disk.now) old) =
+    widened D _ _ _ _ c.write.ensures.leaves (wrote_old seen (D.may_leave c.args.disk.now) books old stands units (length (block_of image)) capacity (block_some image c.requires.some)) in
     finished D books.space (length image) capacity old new a c.args.disk.now c.write.new.disk c.sync_and_install.new.disk first tt (c.in-Ok-sync_and_install.ensures.leaves (c.write.ensures.disk.same ∙ h) old made done slot_is (next c.new.result (ap (λ (s : Slot). s.sequence) c.new.ensures)))
     (c.write.new.self.space, a.offset, subst (λ (k : ℕ). Taken books.space c.write.new.self.space k capacity a.offset) (wrote.address.size ∙ block_length image) wrote.taken)
 
 pub returns-in-Ok-sync_and_install-clause-last : goal.returns-in-Ok-sync_and_install-clause-last
 returns-in-Ok-sync_and_install-clause-last g c = (c.write.new.self, c.in-Ok.ensures.added, c.ckpt_done.ensures.cells ∙ ap done_cells c.hand_over.ensures.cells)
 
+pub returns-in-Ok-sync_and_install-clause-reads : goal.returns-in-Ok-sync_and_install-clause-reads
+returns-in-Ok-sync_and_install-clause-reads g c h old new stands ready sequence next =
+    let D = g.D.Disk in
+    let seen = D.seen c.args.disk.now in
+    let books = c.args.blocks.now in
+    let a = c.in-Ok.addr in
+    let wrote = c.in-Ok.ensures in
+    let capacity = D.capacity c.args.disk.now in
+    let low : a.offset ≤ length seen = omega (arith, (c.requires.ready h).1, taken_low books.space c.write.new.self.space a.size capacity a.offset wrote.taken) in
+    let made = placed_at new a in
+    let slot_is : made.slot ≡ c.new.result = named_is _ _ _ _ sequence c.new.ensures in
+    let done = written_now seen (D.seen c.write.new.disk) c.args.image.now (D.may_leave c.args.disk.now) (D.may_leave c.write.new.disk) books c.write.new.self.space capacity old new a stands ready wrote.units.0 c.requires.some wrote.address wrote.taken low (wrote.written h) wrote.images in
+    let reads = c.in-Ok-sync_and_install.ensures.reads (c.write.ensures.disk.same ∙ h) old made done slot_is (next c.new.result (ap (λ (s : Slot). s.sequence) c.new.ensures)) in
+    (reads.0, omega (arith, c.ckpt_done.ensures.end, c.hand_over.ensures.end, wrote.ready h, reads.1))
+
 pub returns-in-Err-sync_and_install-clause-finishes : goal.returns-in-Err-sync_and_install-clause-finishes
 returns-in-Err-sync_and_install-clause-finishes g c h old new stands ready sequence next =
     let D = g.D.Disk in
     let seen = D.seen c.args.disk.now in
-    let now = D.seen c.write.new.disk in
-    let images = D.may_leave c.args.disk.now in
     let books = c.args.blocks.now in
     let image = c.args.image.now in
     let a = c.in-Ok.addr in
     let wrote = c.in-Ok.ensures in
     let units = wrote.units.0 in
     let capacity = D.capacity c.args.disk.now in
-    let bytes : List ℕ = block_of image in
-    let some : 1 ≤ length bytes = block_some image c.requires.some in
-    let written : now ≡ put seen a.offset bytes = wrote.written h in
     let low : a.offset ≤ length seen = omega (arith, (c.requires.ready h).1, taken_low books.space c.write.new.self.space a.size capacity a.offset wrote.taken) in
-    let spot : IsSpot books.space (length bytes) capacity a.offset = subst (λ (k : ℕ). IsSpot books.space k capacity a.offset) wrote.address.size wrote.taken.0 in
     let made = placed_at new a in
     let slot_is : made.slot ≡ c.new.result = named_is _ _ _ _ sequence c.new.ensures in
-    let done : IsWritten now (D.may_leave c.write.new.disk) old made = record {
-      seen_has = seen_still seen images books old stands units now bytes capacity a.offset some spot written;
-      images_have = λ d there. image_still seen images books old stands units d (length bytes) capacity a.offset some spot (subst (λ (k : ℕ). FromBase books.is_synced a.offset k seen images d) wrote.address.size (wrote.images d there));
-      whole = whole_now seen now image books c.write.new.self.space capacity new a ready units wrote.address wrote.taken low written;
-      holds = holds_now seen now image books c.write.new.self.space capacity new a ready units wrote.address wrote.taken low written;
-    } in
-    let first : LeavesOnly D c.args.disk.now c.write.new.disk (IsOld images old) = widened D _ _ _ _ c.write.ensures.leaves (wrote_old seen images books old stands units (length bytes) capacity some) in
+    let done = written_now seen (D.seen c.write.new.disk) image (D.may_leave c.args.disk.now) (D.may_leave c.write.new.disk) books c.write.new.self.space capacity old new a stands ready units c.requires.some wrote.address wrote.taken low (wrote.written h) wrote.images in
+    let first : LeavesOnly D c.args.disk.now c.write.new.disk (IsOld (D.may_leave c.args.disk.now) old) =
+    widened D _ _ _ _ c.write.ensures.leaves (wrote_old seen (D.may_leave c.args.disk.now) books old stands units (length (block_of image)) capacity (block_some image c.requires.some)) in
     not_finished D books.space (length image) capacity old new a c.args.disk.now c.write.new.disk c.sync_and_install.new.disk first c.in-Err-sync_and_install.error (c.in-Err-sync_and_install.ensures.leaves (c.write.ensures.disk.same ∙ h) old made done slot_is (next c.new.result (ap (λ (s : Slot). s.sequence) c.new.ensures)))
+
+pub returns-in-Err-sync_and_install-clause-back : goal.returns-in-Err-sync_and_install-clause-back
+returns-in-Err-sync_and_install-clause-back g c = record {
+  cells = freed_back c.free.new.self.cells c.args.blocks.now c.write.new.self c.in-Ok.addr c.in-Ok.ensures.added (omega (arith, c.in-Ok.ensures.address.place.some)) c.free.ensures.cells;
+  units = λ before. c.free.ensures.units;
+}
+
+pub returns-in-Err-sync_and_install-clause-reads : goal.returns-in-Err-sync_and_install-clause-reads
+returns-in-Err-sync_and_install-clause-reads g c h old new stands ready sequence next =
+    let D = g.D.Disk in
+    let seen = D.seen c.args.disk.now in
+    let books = c.args.blocks.now in
+    let a = c.in-Ok.addr in
+    let wrote = c.in-Ok.ensures in
+    let capacity = D.capacity c.args.disk.now in
+    let low : a.offset ≤ length seen = omega (arith, (c.requires.ready h).1, taken_low books.space c.write.new.self.space a.size capacity a.offset wrote.taken) in
+    let made = placed_at new a in
+    let slot_is : made.slot ≡ c.new.result = named_is _ _ _ _ sequence c.new.ensures in
+    let done = written_now seen (D.seen c.write.new.disk) c.args.image.now (D.may_leave c.args.disk.now) (D.may_leave c.write.new.disk) books c.write.new.self.space capacity old new a stands ready wrote.units.0 c.requires.some wrote.address wrote.taken low (wrote.written h) wrote.images in
+    let back = freed_back c.free.new.self.cells books c.write.new.self a wrote.added (omega (arith, wrote.address.place.some)) c.free.ensures.cells in
+    not_read D c.free.new.self old new made c.write.new.disk c.sync_and_install.new.disk c.in-Err-sync_and_install.error (c.in-Err-sync_and_install.ensures.reads (c.write.ensures.disk.same ∙ h) old made done slot_is (next c.new.result (ap (λ (s : Slot). s.sequence) c.new.ensures)))
+    done.seen_has (in_use_same books.cells c.free.new.self.cells (blocks_of old) back stands.in_use) (omega (arith, c.free.ensures.end, wrote.ready h))

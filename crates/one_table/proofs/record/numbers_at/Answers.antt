@@ -13,4 +13,4 @@ returns c n are is =
     (number_is c.args.bytes.now text 24 n.marks.stable _ is c.number_8-4.ensures refl are.stable)
     (number_is c.args.bytes.now text 32 n.marks.min _ is c.number_8-5.ensures refl (omega (arith, are.snapshot.0, are.snapshot.1)))
     (number_is c.args.bytes.now text 40 n.marks.max _ is c.number_8-6.ensures refl are.snapshot.1)
-    (short_is c.args.bytes.now text 50 n.next_table _ is c.number_4.ensures refl are.next)
+    (short_is c.args.bytes.now text 50 n.next_table _ is c.number_4.ensures refl (omega (arith, are.next)))
