@@ -1,9 +1,9 @@
 -- An engine on what a device holds.
-use Rattle.std.proofs.Common.{◌≡◌, ◌+◌, ◌-◌, ◌^◌, ◌<◌, ℕ, zero, suc, refl, ap, sym, ◌∙◌, List, [], ◌∷◌, ◌++◌, length, replicate, subst, arith}
+use Rattle.std.proofs.Common.{◌≡◌, ◌+◌, ◌-◌, ◌^◌, ◌<◌, ◌≤◌, ℕ, zero, suc, refl, ap, sym, ◌∙◌, List, [], ◌∷◌, ◌++◌, length, replicate, subst, arith}
 use Rattle.std.specs.Prelude.{Option, Some, None, map, reverse, slice_get, slice_index_or}
 use Rattle.std.proofs.lemmas.List.{get_or_append_left, get_or-replicate, length-append, length-replicate}
 use Rattle.std.proofs.lemmas.Option.{slice_get_within}
-use Rattle.limits.specs.declared.TheConstants.{TABLES_MAX}
+use Rattle.limits.specs.declared.TheConstants.{NUMBER_MAX, TABLES_MAX}
 use Rattle.kv_model.specs.Content.{Content, base as base_of}
 use Rattle.kv_model.specs.History.{Table, line}
 use Rattle.txn_table.specs.Tabled.{fresh}
@@ -19,7 +19,9 @@ use Rattle.engine_world.specs.Stands.{Engine}
 use Rattle.engine_world.specs.Systems.{Begins, EnginesStart, LeafStarts, first_world}
 use Rattle.engine.specs.Bases.{IsBaseOf}
 use Rattle.engine.specs.Openings.{AreLaid, HasBase}
+use Rattle.engine.specs.Sizes.{LeavesFit, NamesFit, SessionsFit}
 use Rattle.engine.specs.Sound.{AreBuilt, IsSound}
+use Rattle.engine.proofs.CallSizes.{sessions-none}
 
 -- four actors without a call
 abbrev pub no_calls : List (Option SystemCall)
@@ -39,6 +41,7 @@ pub record IsOpened (run oldest stable : ℕ) (known : Known) (leaves : List (Li
   pub all_tables : AreTables known
   pub pieces : length e.pieces ≡ TABLES_MAX
   pub laid : AreLaid known.tables leaves e.pieces
+  pub fit : LeavesFit e.pieces
   pub states : e.states ≡ first_words (length known.tables) (TABLES_MAX - length known.tables)
   pub sessions : e.sessions ≡ []
   pub systems : e.systems ≡ no_calls
@@ -82,14 +85,19 @@ none-built (suc (suc (suc zero))) asked is = absurd (cc)
 none-built (suc (suc (suc (suc i)))) asked is = absurd (cc)
 
 pub opened-sound : EnginesStart → (e : Engine) (run oldest stable : ℕ) (known : Known) (leaves : List (List KeyChain)) → HasBase run oldest stable known leaves → IsOpened run oldest stable known leaves e
-    → known.next + TABLES_MAX < 2 ^ 32 + length known.tables → IsSound e
-opened-sound law e run oldest stable known leaves base o numbers = record {
+    → known.next + TABLES_MAX < 2 ^ 32 + length known.tables → run ≤ NUMBER_MAX → IsSound e
+opened-sound law e run oldest stable known leaves base o numbers most = record {
   world = (first_world base.0 e, law base.0 e base.1 (begins-on base.0 e run oldest stable known leaves base.2 o));
   built = subst (λ (calls : List (Option SystemCall)). AreBuilt calls) (sym o.systems) none-built;
   actors = ap (λ (calls : List (Option SystemCall)). length calls) o.systems;
   pieces = o.pieces;
   states = ap (λ (ws : List ℕ). length ws) o.states ∙ long;
   numbers = subst (λ (h : Hub). h.tables.next + TABLES_MAX < 2 ^ 32 + length h.tables.tables) (sym o.hub) numbers;
+  sizes = record {
+    leaves = o.fit;
+    sessions = subst SessionsFit (sym o.sessions) sessions-none;
+    names = subst (λ (h : Hub). NamesFit h.txns) (sym o.hub) (record { run = most; next = omega arith });
+  };
 } where
   long : length (first_words (length known.tables) (TABLES_MAX - length known.tables)) ≡ TABLES_MAX
   long = (let ones : List ℕ = replicate (length known.tables) 1 in let zeros : List ℕ = replicate (TABLES_MAX - length known.tables) 0 in let few = o.all_tables.few in let both = length-append ones zeros in let first = length-replicate (length known.tables) first_word in let rest = long-zeros (TABLES_MAX - length known.tables) in omega arith)

@@ -1,6 +1,6 @@
 -- The start of a checkpoint, its snapshot, and the leaves that it reads.
 use Rattle.std.proofs.Common.{◌≡◌, ◌≤◌, ◌<◌, ℕ, refl, ap, sym, ◌∙◌, Bool, true, false, List, [], ◌∷◌, length, inl, inr, subst, arith}
-use Rattle.std.specs.Prelude.{Option, Some, None, Ok, Err, MatchOption, nat_le, option_map}
+use Rattle.std.specs.Prelude.{Option, Some, None, Ok, Err, IfSome, MatchOption, nat_le, option_map}
 use Rattle.std.specs.Borrow.{Bor}
 use Rattle.std.proofs.lemmas.Bool.{false_from_ne_true, le-leb, leb-true}
 use Rattle.limits.specs.declared.TheConstants.{NUMBER_MAX}
@@ -23,6 +23,7 @@ use Rattle.txn_table.specs.TableLaws.{CallsGoOn, LowestAreTheMachines}
 use Rattle.txn_table.specs.SessionData.{is_resolving as resolves}
 use Rattle.txn_table.specs.Tabled.{Table as Txns, first_in, unended}
 use Rattle.leaf_chains.specs.declared.slot.KeyChain.{KeyChain}
+use Rattle.leaf_capture.specs.Capture.{ChainsFit}
 use Rattle.call_steps.specs.declared.frame.Frame.{Frame}
 use Rattle.engine_world.specs.Leaves.{LeafStands, frame_in}
 use Rattle.engine_world.specs.Stands.{Engine, Stands}
@@ -30,6 +31,7 @@ use Rattle.engine_world.specs.Systems.{DownsGo, with_fault}
 use Rattle.engine_world.specs.Worlds.{World}
 use Rattle.engine_world.proofs.HubMoves.{decided-down, decided-up}
 use Rattle.engine.specs.Checkpoints.{ChainsStand, MayStart}
+use Rattle.engine.specs.Sizes.{LeavesFit}
 use Rattle.engine.specs.Sound.{IsSound}
 
 -- ---- the start
@@ -103,6 +105,14 @@ leaf-given e w place t (Some c) leaf is = subst (ChainsStand w.machine t) (sym s
   same : c.now ≡ leaf.frame.chains
   same = let e : Some c.now ≡ Some leaf.frame.chains = is ∙ ap (option_map (λ (f : Frame). f.chains)) leaf.there in cc
 
+pub leaf-fits : (e : Engine) (place : ℕ) (result : Option (Bor (List KeyChain))) → LeavesFit e.pieces
+    → option_map (λ c. c.now) result ≡ option_map (λ (f : Frame). f.chains) (frame_in e.pieces place) → IfSome result (λ c. ChainsFit c.now)
+leaf-fits e place None fit is = tt
+leaf-fits e place (Some c) fit is = by (frame_in e.pieces place) refl is where
+  by : (o : Option Frame) → frame_in e.pieces place ≡ o → Some c.now ≡ option_map (λ (f : Frame). f.chains) o → ChainsFit c.now
+  by None at is = absurd (cc)
+  by (Some f) at is = subst ChainsFit (let same : f.chains ≡ c.now = cc in same) (fit place f at)
+
 -- ---- down
 
 pub down-sound : DownsGo → (e : Engine) (fault : Fault) → IsSound e → IsSound (with_fault e fault)
@@ -113,4 +123,5 @@ down-sound law e fault sound = record {
   pieces = sound.pieces;
   states = sound.states;
   numbers = sound.numbers;
+  sizes = record { leaves = sound.sizes.leaves; sessions = sound.sizes.sessions; names = sound.sizes.names };
 }

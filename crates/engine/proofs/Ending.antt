@@ -29,13 +29,13 @@ pub record IsOnWay (old now : Engine) (session : ℕ) : Type 0 where
   pub more : (w : World) → Stands old w → (n : ℕ) × (middle : World) × StepsMore n w (actor.Session session) middle × Stands now middle
 
 pub keeps-then : (old middle new : Engine) → Keeps old middle → Keeps middle new → Keeps old new
-keeps-then old middle new k l = record { systems = l.systems ∙ k.systems; pieces = l.pieces ∙ k.pieces; states = l.states ∙ k.states; tables = l.tables ∙ k.tables }
+keeps-then old middle new k l = record { systems = l.systems ∙ k.systems; pieces = l.pieces ∙ k.pieces; states = l.states ∙ k.states; tables = l.tables ∙ k.tables; sizes = λ fit. l.sizes (k.sizes fit) }
 
 pub keeps-from : {new : Engine} (e old : Engine) → e ≡ old → Keeps e new → Keeps old new
 keeps-from {new} e old same k = subst (λ x. Keeps x new) same k
 
 pub keeps-same : (e : Engine) → Keeps e e
-keeps-same e = record { systems = refl; pieces = refl; states = refl; tables = refl }
+keeps-same e = record { systems = refl; pieces = refl; states = refl; tables = refl; sizes = λ fit. fit }
 
 pub starts-way : (e : Engine) (session : ℕ) → session < length e.sessions → HasWorld e → IsOnWay e e session
 starts-way e session inside world = record { open_one = inside; world = world; kept = keeps-same e; more = λ w st. (0, w, refl, st) }

@@ -4,6 +4,10 @@ pub mod Lefts
 pub mod Ending
 pub mod Calling
 pub mod TablesKept
+pub mod LeafSizes
+pub mod CallSizes
+pub mod FrameSizes
+pub mod EngineSizes
 pub mod Systems
 pub mod SystemEvents
 pub mod Laying
@@ -13,3 +17,5 @@ pub mod Closes
 pub mod RollingBack
 pub mod Bases
 pub mod Running
+pub mod Unended
+pub mod Idle

@@ -188,4 +188,5 @@ keeps-sound old new sound world kept = record {
   pieces = kept.pieces ∙ sound.pieces;
   states = ap length kept.states ∙ sound.states;
   numbers = subst (λ (k : Known). k.next + TABLES_MAX < 2 ^ 32 + length k.tables) (sym kept.tables) sound.numbers;
+  sizes = kept.sizes sound.sizes;
 }

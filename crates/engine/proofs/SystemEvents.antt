@@ -28,6 +28,7 @@ use Rattle.engine_world.specs.Systems.{CreatesGo, SetsGo, with_table}
 use Rattle.engine_world.specs.Worlds.{World}
 use Rattle.engine.specs.Sound.{IsSound}
 use Rattle.engine.specs.Systems.{Makes}
+use Rattle.engine.proofs.LeafSizes.{filled-fits, leaves-set}
 
 -- ---- a fault comes first
 
@@ -137,6 +138,7 @@ new-sound laws e name formats known place sound well made all = record {
   pieces = length-set e.pieces place _ ∙ sound.pieces;
   states = length-set e.states place _ ∙ sound.states;
   numbers = (let room = sound.numbers in let long = ap (λ (k : Known). length k.tables) made.2 ∙ length-append e.hub.tables.tables (table_in e name formats ∷ []) in let next = ap (λ (k : Known). k.next) made.2 in omega arith);
+  sizes = record { leaves = leaves-set e.pieces place _ sound.sizes.leaves (filled-fits (table_in e name formats).number [] (λ key. tt)); sessions = sound.sizes.sessions; names = sound.sizes.names };
 } where
   then : Makes (with_table e known (table_in e name formats) place) sound.world.0 (Create name formats) answers.Done
   then = create-new laws e sound.world.0 name formats known place sound sound.world.1 well made all

@@ -11,12 +11,14 @@ use Rattle.wt_calls.specs.declared.system_call.SystemCall.{SystemCall}
 use Rattle.wt_calls.specs.Calls.{system_call_in}
 use Rattle.call_steps.specs.declared.reply.Reply.TheVariants as reply
 use Rattle.engine_world.specs.Stands.{Engine, Stands}
+use Rattle.engine_world.specs.Systems.{OpensGo, with_opened}
 use Rattle.engine_world.specs.Worlds.{World}
 use Rattle.engine.specs.declared.step.Actor.TheVariants as actor
 use Rattle.engine.specs.Runs.{AsksIn, IsBuilt, MakesIn, MayAsk, StepsOut}
 use Rattle.engine.specs.Sound.{AreBuilt, IsSound}
 use Rattle.engine.specs.Systems.{Makes}
-use Rattle.engine.specs.Whole.{MakesAt}
+use Rattle.engine.specs.Whole.{MakesAt, with_session_more}
+use Rattle.engine.proofs.EngineSizes.{opened-sizes}
 use Rattle.engine.proofs.Driving.{lent-at}
 
 asked-at : (e : Engine) (w : World) (number : ℕ) → Stands e w → slice_index_or w.systems number None ≡ option_map system_call_in (slice_index_or e.systems number None)
@@ -61,6 +63,19 @@ set-sound e number x sound new = record {
   pieces = sound.pieces;
   states = sound.states;
   numbers = sound.numbers;
+  sizes = record { leaves = sound.sizes.leaves; sessions = sound.sizes.sessions; names = sound.sizes.names };
+}
+
+-- a session more, which rests
+pub more-sound : OpensGo → (e : Engine) → IsSound e → IsSound (with_opened e)
+more-sound law e sound = record {
+  world = (with_session_more sound.world.0, law e sound.world.0 sound.world.1);
+  built = sound.built;
+  actors = sound.actors;
+  pieces = sound.pieces;
+  states = sound.states;
+  numbers = sound.numbers;
+  sizes = opened-sizes e sound.sizes;
 }
 
 -- an actor that has no call

@@ -6,6 +6,7 @@ use Rattle.call_steps.specs.FrameEvents.{FrameMade}
 use Rattle.call_steps.specs.State.{State}
 use Rattle.engine_world.specs.Worlds.{World}
 use Rattle.engine_world.specs.Stands.{Engine, Stands}
+use Rattle.engine.specs.Sizes.{StampsFitAt}
 
 -- it stands for some world
 abbrev pub HasWorld : Engine → Type 0
@@ -20,5 +21,6 @@ pub record IsFrameEvent (view : View) (session frame : ℕ) (pieces : List Frame
   pub piece : slice_get pieces frame ≡ Some p
   pub session_is : slice_get sessions session ≡ Some a
   pub made : FrameMade view p a p' a'
+  pub stamps : StampsFitAt a.stage
   pub pieces_are : pieces' ≡ slice_set pieces frame p'
   pub sessions_are : sessions' ≡ slice_set sessions session a'

@@ -1,6 +1,7 @@
 pub mod Runs
 pub mod Events
 pub mod Whole
+pub mod Sizes
 pub mod Sound
 pub mod Bases
 pub mod Systems

@@ -3,18 +3,21 @@
 // tells the engine how that went, with nobody between. A function calls the laws that its proof rests
 // on, which do nothing.
 
-ghost use Rattle.std.specs.Prelude.{◌≡◌, ℕ, None, Some, length, reverse, slice_get, option_map, IfOk, OnOk, MatchOption};
+ghost use Rattle.std.specs.Prelude.{◌≡◌, ◌<◌, ◌≤◌, ◌-◌, ◌^◌, ℕ, None, Some, length, reverse, slice_get, option_map, IfErr, IfOk, IfSome, OnOk, MatchOption};
+ghost use Rattle.limits.specs.declared.TheConstants.{SESSIONS_MAX};
 ghost use Rattle.kv_model.specs.History.{Table, tables};
 ghost use Rattle.kv_model.specs.Machine.{GoDown, after};
-ghost use Rattle.snapshot.specs.Matters.{NoneResolves, SeesCommitted};
+ghost use Rattle.snapshot.specs.Matters.{AreUnended, NoneResolves, SeesCommitted};
 ghost use Rattle.snapshot.specs.Sight.{sight_at};
 ghost use Rattle.txn_table.specs.Tabled.{unended};
+ghost use Rattle.leaf_capture.specs.Capture.{ChainsFit};
 ghost use Rattle.catalog.specs.Known.{AreTables};
 ghost use Rattle.engine_world.specs.Leaves.{frame_in};
 ghost use Rattle.engine_world.specs.Stands.{Stands};
 ghost use Rattle.engine_world.specs.Systems.{checkpointed, with_fault};
 ghost use Rattle.engine_world.specs.Worlds.{World};
-ghost use Rattle.engine.specs.Checkpoints.{ChainsStand, MayStart, marks_of};
+ghost use Rattle.engine.specs.Events.{HasWorld};
+ghost use Rattle.engine.specs.Checkpoints.{ChainsStand, IsOfStart, MarksFit, MayStart, marks_in, marks_of};
 ghost use Rattle.engine.specs.Sound.{IsSound};
 
 use crate::local::Local;
@@ -49,6 +52,9 @@ impl Local {
     pub fn may_checkpoint(&self, number: u64) -> Result<(), Refusal>
         ensures decided { (w : World) → Stands self.now w → w.machine.checkpoint ≡ None → MayStart w.machine number result }
         ensures resolves { (w : World) → Stands self.now w → OnOk result (NoneResolves w.machine) }
+        ensures number { OnOk result (number < 2 ^ 62 - 1) }
+        ensures refusals { IfErr result IsOfStart }
+        ensures world { HasWorld self.now }
     {
         self.parts.may_checkpoint(number)
     }
@@ -58,13 +64,17 @@ impl Local {
     pub fn checkpoint_snapshot(&self, alloc: Global) -> Result<Snapshot, NoMemory>
         ensures sight { IfOk result (λ s. s.sight ≡ sight_at self.now.hub.txns.run self.now.hub.txns.next (unended self.now.hub.txns)) }
         ensures sees { (w : World) → Stands self.now w → NoneResolves w.machine → IfOk result (λ s. SeesCommitted w.machine (length w.machine.history) s.sight) }
+        ensures unended { (w : World) → Stands self.now w → IfOk result (λ s. AreUnended w.machine s.sight.list) }
     {
         self.parts.checkpoint_snapshot(alloc)
     }
 
     /// What a record keeps of the machine. `O(1)`.
     pub fn marks(&self) -> EngineMarks
-        ensures { (w : World) → Stands self.now w → result ≡ marks_of w.machine }
+        ensures machine { (w : World) → Stands self.now w → result ≡ marks_of w.machine }
+        ensures hub { result ≡ marks_in self.now.hub }
+        ensures fit { MarksFit result }
+        ensures few { length (unended self.now.hub.txns) ≤ SESSIONS_MAX }
     {
         self.parts.marks()
     }
@@ -78,9 +88,11 @@ impl Local {
         self.parts.tables()
     }
 
-    /// The update chains of the leaf of the table at a place of the catalog. `O(1)`.
+    /// The update chains of the leaf of the table at a place of the catalog. Each of their updates
+    /// fits a row. `O(1)`.
     pub fn leaf(&self, place: u32) -> Option<&LeafChains>
-        ensures { (w : World) → Stands self.now w → (t : Table) → slice_get self.now.hub.tables.tables place ≡ Some t → MatchOption result ⊥ (λ c. ChainsStand w.machine t c.now) }
+        ensures fit { IfSome result (λ c. ChainsFit c.now) }
+        ensures stands { (w : World) → Stands self.now w → (t : Table) → slice_get self.now.hub.tables.tables place ≡ Some t → MatchOption result ⊥ (λ c. ChainsStand w.machine t c.now) }
     {
         self.parts.leaf(place)
     }
@@ -108,6 +120,8 @@ impl Parts {
     pub(crate) fn may_checkpoint(&self, number: u64) -> Result<(), Refusal>
         ensures decided { (w : World) → Stands self.now w → w.machine.checkpoint ≡ None → MayStart w.machine number result }
         ensures resolves { (w : World) → Stands self.now w → OnOk result (NoneResolves w.machine) }
+        ensures number { OnOk result (number < 2 ^ 62 - 1) }
+        ensures refusals { IfErr result IsOfStart }
     {
         lowest_are_the_machines();
         if let Some(fault) = self.hub.fault {
@@ -126,6 +140,7 @@ impl Parts {
     pub(crate) fn checkpoint_snapshot(&self, alloc: Global) -> Result<Snapshot, NoMemory>
         ensures sight { IfOk result (λ s. s.sight ≡ sight_at self.now.hub.txns.run self.now.hub.txns.next (unended self.now.hub.txns)) }
         ensures sees { (w : World) → Stands self.now w → NoneResolves w.machine → IfOk result (λ s. SeesCommitted w.machine (length w.machine.history) s.sight) }
+        ensures unended { (w : World) → Stands self.now w → IfOk result (λ s. AreUnended w.machine s.sight.list) }
     {
         calls_stand();
         checkpoints_see();
@@ -136,8 +151,11 @@ impl Parts {
 
     /// What a record keeps of the machine.
     pub(crate) fn marks(&self) -> EngineMarks
-        ensures { (w : World) → Stands self.now w → result ≡ marks_of w.machine }
+        ensures machine { (w : World) → Stands self.now w → result ≡ marks_of w.machine }
+        ensures hub { result ≡ marks_in self.now.hub }
+        ensures few { length (unended self.now.hub.txns) ≤ SESSIONS_MAX }
     {
+        prove!(self.hub.txns.sessions() as usize <= SESSIONS_MAX);
         EngineMarks {
             run: self.hub.txns.run(),
             next: self.hub.txns.next_id(),

@@ -12,10 +12,19 @@ use crate::local::Local;
 use crate::parts::Parts;
 use call_steps::{SessionState, Stage};
 use std::alloc::Global;
+use update_chain::chains_go_on;
 use wt_calls::SessionCall;
 use wt_code::{Busy, Refusal};
 
 impl Local {
+    /// The engine stands for some world in which no checkpoint runs. Does nothing.
+    pub fn has_world(&self)
+        ensures { (w : World) × Stands self.now w × (w.machine.checkpoint ≡ None) }
+    {
+        chains_go_on();
+        let _ = &self.parts;
+    }
+
     /// Why a close may not come now: the engine is down, or a session has a call that is not
     /// finished or whose transaction is ending, of which the lowest is told. `O(n)` in the sessions.
     pub fn may_close(&self) -> Result<(), Refusal>

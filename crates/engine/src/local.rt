@@ -1,10 +1,12 @@
 // The engine of one thread.
 
 ghost use Rattle.std.specs.Prelude.{◌≡◌, ◌⊎◌, ◌<◌, ◌≤◌, ◌+◌, ◌^◌, ℕ, length, IfOk, IfErr, OnErr, option_map};
-ghost use Rattle.limits.specs.declared.TheConstants.{SESSIONS_MAX, TABLES_MAX};
+ghost use Rattle.std.specs.List.{AllByRecursion};
+ghost use Rattle.limits.specs.declared.TheConstants.{NUMBER_MAX, SESSIONS_MAX, TABLES_MAX};
 ghost use Rattle.kv_model.specs.Content.{Content};
 ghost use Rattle.kv_model.specs.History.{named, tables};
 ghost use Rattle.kv_model.specs.Regular.{IsRegular};
+ghost use Rattle.leaf_capture.specs.Capture.{ChainsFit};
 ghost use Rattle.engine_world.specs.Stands.{Stands};
 ghost use Rattle.engine_world.specs.Systems.{first_world};
 ghost use Rattle.engine_world.specs.Worlds.{World};
@@ -45,7 +47,8 @@ impl Model for Local {
 
 impl Local {
     /// An engine on what a device holds: the run that begins, its two stamps, its tables, and the
-    /// leaf of the table at each place. It has no session. The error is want of memory.
+    /// leaf of the table at each place, whose updates each fit a row. It has no session. The error is
+    /// want of memory.
     pub fn open(
         alloc: Global,
         run: u64,
@@ -57,6 +60,8 @@ impl Local {
         requires numbers { tables.next + TABLES_MAX < 2 ^ 32 + length tables.tables }
         requires leaves { length leaves.items ≡ length tables.tables }
         requires base { HasBase run oldest stable tables leaves.items }
+        requires run { run ≤ NUMBER_MAX }
+        requires fit { AllByRecursion ChainsFit leaves.items }
         ensures stands { (c : Content) → IsRegular c → IsBaseOf c run oldest stable tables leaves.items → IfOk result (λ l. Stands l (first_world c l)) }
         ensures sessions { IfOk result (λ l. length l.sessions ≡ 0) }
     {

@@ -1,14 +1,17 @@
 // An engine on what a device holds.
 
 ghost use Rattle.std.specs.Prelude.{◌≡◌, ◌<◌, ◌≤◌, ◌+◌, ◌++◌, ◌^◌, ◌∷◌, [], None, length, replicate, IfOk, OnOk};
-ghost use Rattle.limits.specs.declared.TheConstants.{TABLES_MAX};
+ghost use Rattle.std.specs.List.{AllByRecursion};
+ghost use Rattle.limits.specs.declared.TheConstants.{NUMBER_MAX, TABLES_MAX};
 ghost use Rattle.kv_model.specs.Content.{Content};
 ghost use Rattle.kv_model.specs.Regular.{IsRegular};
+ghost use Rattle.leaf_capture.specs.Capture.{ChainsFit};
 ghost use Rattle.engine_world.specs.Leaves.{number_at};
 ghost use Rattle.engine_world.specs.Stands.{Stands};
 ghost use Rattle.engine_world.specs.Systems.{first_world};
 ghost use Rattle.engine.specs.Bases.{IsBaseOf};
 ghost use Rattle.engine.specs.Openings.{AreLaid, HasBase};
+ghost use Rattle.engine.specs.Sizes.{LeavesFit};
 ghost use Rattle.engine.specs.Sound.{IsSound};
 
 use crate::parts::Parts;
@@ -40,6 +43,8 @@ impl Parts {
         requires numbers { tables.next + TABLES_MAX < 2 ^ 32 + length tables.tables }
         requires leaves { length leaves.items ≡ length tables.tables }
         requires base { HasBase run oldest stable tables leaves.items }
+        requires run { run ≤ NUMBER_MAX }
+        requires fit { AllByRecursion ChainsFit leaves.items }
         ensures stands { (c : Content) → IsRegular c → IsBaseOf c run oldest stable tables leaves.items → IfOk result (λ p. Stands p (first_world c p)) }
         ensures sessions { IfOk result (λ p. p.sessions ≡ []) }
         ensures sound { IfOk result (λ p. IsSound p) }
@@ -70,7 +75,8 @@ impl Parts {
 
 // A frame for each table that there may be, without a leaf.
 fn empty_pieces(alloc: Global) -> Result<Vec<FramePiece>, NoMemory>
-    ensures { IfOk result (λ v. length v.items ≡ TABLES_MAX) }
+    ensures count { IfOk result (λ v. length v.items ≡ TABLES_MAX) }
+    ensures fit { IfOk result (λ v. LeavesFit v.items) }
 {
     let mut pieces = Vec::with_capacity(alloc, TABLES_MAX)?;
     for _ in 0..TABLES_MAX {
@@ -88,7 +94,8 @@ fn empty_pieces(alloc: Global) -> Result<Vec<FramePiece>, NoMemory>
 fn lay_leaves(pieces: &mut [FramePiece], tables: &Catalog, mut leaves: Vec<LeafChains>)
     requires room { length leaves.items ≤ length pieces.old }
     requires few { length pieces.old ≤ TABLES_MAX }
-    ensures { AreLaid tables.now.tables leaves.items pieces.new }
+    ensures laid { AreLaid tables.now.tables leaves.items pieces.new }
+    ensures fit { LeavesFit pieces.old → AllByRecursion ChainsFit leaves.items → LeavesFit pieces.new }
 {
     while let Some(chains) = leaves.pop() {
         let place = leaves.len();

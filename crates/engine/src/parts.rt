@@ -249,12 +249,10 @@ fn frame_step(
     requires view { IsSight (sight_of view.now) }
     ensures { IsFrameEvent view.now session frame pieces.old sessions.old pieces.new sessions.new }
 {
-    frame_event(
-        alloc,
-        &mut pieces[frame as usize],
-        view,
-        &mut sessions[session as usize],
-    );
+    let state = &mut sessions[session as usize];
+    // That the stamps of its call have 64 bits.
+    let _stage = state.stage();
+    frame_event(alloc, &mut pieces[frame as usize], view, state);
 }
 
 fn word_at(states: &[u64], frame: u32) -> u64

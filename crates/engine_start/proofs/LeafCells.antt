@@ -17,12 +17,12 @@ use Rattle.row_page.specs.Changes.{version_in}
 use Rattle.row_page.specs.Rows.{Row}
 use Rattle.stored.specs.Stored.{placed_in}
 use Rattle.leaf_rows.specs.declared.marks.Marks.{Marks}
-use Rattle.leaf_rows.specs.Contents.{is_kept_row, kept_rows}
+use Rattle.leaf_rows.specs.Contents.{is_seen_row, seen_rows}
 use Rattle.leaf_rows.specs.Rows.{AreFit}
 use Rattle.one_session.specs.Shows.{shown_at}
 use Rattle.one_session.proofs.Keyed.{of_key_rows, of_key_elsewhere, of_key_descending}
 use Rattle.engine_start.specs.declared.table_leaf.TableLeaf.{TableLeaf}
-use Rattle.engine_start.specs.Contents.{cells_in, kept_leaves, leaves_content, tables_in}
+use Rattle.engine_start.specs.Contents.{cells_in, kept_leaves, leaves_content, leaves_content_with, seen_leaves, tables_in}
 
 -- ---- what an opening keeps
 
@@ -31,45 +31,48 @@ has [] t there = absurd there
 has (u ∷ tables) t (inl same) = rw (eq-eqb u.number t.number (ap (λ (x : Table). x.number) (sym same))) refl
 has (u ∷ tables) t (inr there) = or_right (u.number == t.number) (has_table tables t.number) (has tables t there)
 
-kept_same : (m : Marks) (all : List TableLeaf) (number : ℕ) (r : Row) → has_table (tables_in all) number ≡ true
-    → is_kept_version (leaves_content m all) (record { table = number; key = r.0; version = version_in r.1 }) ≡ is_kept_row m r
-kept_same m all number r there = rw there refl
+seen_same : (m : Marks) (ids : List ℕ) (all : List TableLeaf) (number : ℕ) (r : Row) → has_table (tables_in all) number ≡ true
+    → is_kept_version (leaves_content_with m ids all) (record { table = number; key = r.0; version = version_in r.1 }) ≡ is_seen_row m ids r
+seen_same m ids all number r there = rw there refl
 
-rows_kept : (m : Marks) (all : List TableLeaf) (number : ℕ) → has_table (tables_in all) number ≡ true → (rows : List Row)
-    → filter (is_kept_version (leaves_content m all)) (placed_in number rows) ≡ placed_in number (kept_rows m rows)
-rows_kept m all number there [] = refl
-rows_kept m all number there (r ∷ rows) = elim (cases_Bool (is_kept_row m r)) [
-  | inl is ↦ rw (kept_same m all number r there ∙ is, is) (ap (λ (l : List Placed). record { table = number; key = r.0; version = version_in r.1 } ∷ l) (rows_kept m all number there rows))
-  | inr isnt ↦ rw (kept_same m all number r there ∙ isnt, isnt) (rows_kept m all number there rows)
+rows_seen : (m : Marks) (ids : List ℕ) (all : List TableLeaf) (number : ℕ) → has_table (tables_in all) number ≡ true → (rows : List Row)
+    → filter (is_kept_version (leaves_content_with m ids all)) (placed_in number rows) ≡ placed_in number (seen_rows m ids rows)
+rows_seen m ids all number there [] = refl
+rows_seen m ids all number there (r ∷ rows) = elim (cases_Bool (is_seen_row m ids r)) [
+  | inl is ↦ rw (seen_same m ids all number r there ∙ is, is) (ap (λ (l : List Placed). record { table = number; key = r.0; version = version_in r.1 } ∷ l) (rows_seen m ids all number there rows))
+  | inr isnt ↦ rw (seen_same m ids all number r there ∙ isnt, isnt) (rows_seen m ids all number there rows)
 ]
 
-cells_kept : (m : Marks) (all leaves : List TableLeaf) → ((t : Table) → Member t (tables_in leaves) → Member t (tables_in all))
-    → filter (is_kept_version (leaves_content m all)) (cells_in leaves) ≡ cells_in (kept_leaves m leaves)
-cells_kept m all [] among = refl
-cells_kept m all (l ∷ leaves) among =
-    filter-append (is_kept_version (leaves_content m all)) (placed_in l.table.number l.rows) (cells_in leaves)
-    ∙ (ap (λ (c : List Placed). c ++ filter (is_kept_version (leaves_content m all)) (cells_in leaves)) (rows_kept m all l.table.number (has (tables_in all) l.table (among l.table (inl refl))) l.rows)
-    ∙ ap (λ (c : List Placed). placed_in l.table.number (kept_rows m l.rows) ++ c) (cells_kept m all leaves (λ t there. among t (inr there))))
+cells_seen : (m : Marks) (ids : List ℕ) (all leaves : List TableLeaf) → ((t : Table) → Member t (tables_in leaves) → Member t (tables_in all))
+    → filter (is_kept_version (leaves_content_with m ids all)) (cells_in leaves) ≡ cells_in (seen_leaves m ids leaves)
+cells_seen m ids all [] among = refl
+cells_seen m ids all (l ∷ leaves) among =
+    filter-append (is_kept_version (leaves_content_with m ids all)) (placed_in l.table.number l.rows) (cells_in leaves)
+    ∙ (ap (λ (c : List Placed). c ++ filter (is_kept_version (leaves_content_with m ids all)) (cells_in leaves)) (rows_seen m ids all l.table.number (has (tables_in all) l.table (among l.table (inl refl))) l.rows)
+    ∙ ap (λ (c : List Placed). placed_in l.table.number (seen_rows m ids l.rows) ++ c) (cells_seen m ids all leaves (λ t there. among t (inr there))))
+
+seen_are : (m : Marks) (ids : List ℕ) (all : List TableLeaf) → kept (leaves_content_with m ids all) ≡ cells_in (seen_leaves m ids all)
+seen_are m ids all = append-nil (kept_cells (leaves_content_with m ids all)) ∙ cells_seen m ids all all (λ t there. there)
 
 pub kept_are : (m : Marks) (all : List TableLeaf) → kept (leaves_content m all) ≡ cells_in (kept_leaves m all)
-kept_are m all = append-nil (kept_cells (leaves_content m all)) ∙ cells_kept m all all (λ t there. there)
+kept_are m all = seen_are m [] all
 
-tables_kept : (m : Marks) (all : List TableLeaf) → tables_in (kept_leaves m all) ≡ tables_in all
-tables_kept m [] = refl
-tables_kept m (l ∷ all) = ap (λ (ts : List Table). l.table ∷ ts) (tables_kept m all)
+tables_seen : (m : Marks) (ids : List ℕ) (all : List TableLeaf) → tables_in (seen_leaves m ids all) ≡ tables_in all
+tables_seen m ids [] = refl
+tables_seen m ids (l ∷ all) = ap (λ (ts : List Table). l.table ∷ ts) (tables_seen m ids all)
 
 -- ---- the base, with what is kept alone
 
-base_of_kept : (m : Marks) (all : List TableLeaf) → base (leaves_content m all) ≡ history_of (descending table_lt (tables_in (kept_leaves m all))) (descending placed_lt (cells_in (kept_leaves m all)))
-base_of_kept m all =
-    ap (λ (c : List Placed). history_of (descending table_lt (tables_in all)) (descending placed_lt c)) (kept_are m all)
-    ∙ ap (λ (ts : List Table). history_of (descending table_lt ts) (descending placed_lt (cells_in (kept_leaves m all)))) (sym (tables_kept m all))
+base_of_seen : (m : Marks) (ids : List ℕ) (all : List TableLeaf) → base (leaves_content_with m ids all) ≡ history_of (descending table_lt (tables_in (seen_leaves m ids all))) (descending placed_lt (cells_in (seen_leaves m ids all)))
+base_of_seen m ids all =
+    ap (λ (c : List Placed). history_of (descending table_lt (tables_in all)) (descending placed_lt c)) (seen_are m ids all)
+    ∙ ap (λ (ts : List Table). history_of (descending table_lt ts) (descending placed_lt (cells_in (seen_leaves m ids all)))) (sym (tables_seen m ids all))
 
-pub same_base : (m : Marks) (all leaves : List TableLeaf) → kept_leaves m all ≡ leaves → kept_leaves m leaves ≡ leaves → base (leaves_content m leaves) ≡ base (leaves_content m all)
-same_base m all leaves are again =
-    base_of_kept m leaves
+pub same_base : (m : Marks) (ids : List ℕ) (all leaves : List TableLeaf) → seen_leaves m ids all ≡ leaves → kept_leaves m leaves ≡ leaves → base (leaves_content m leaves) ≡ base (leaves_content_with m ids all)
+same_base m ids all leaves are again =
+    base_of_seen m [] leaves
     ∙ (ap (λ (l : List TableLeaf). history_of (descending table_lt (tables_in l)) (descending placed_lt (cells_in l))) (again ∙ sym are)
-    ∙ sym (base_of_kept m all))
+    ∙ sym (base_of_seen m ids all))
 
 -- ---- the versions of a key
 

@@ -7,13 +7,17 @@ use Rattle.std.proofs.lemmas.Bool.{cases_Bool}
 use Rattle.std.proofs.lemmas.List.{append_assoc}
 use Rattle.item.specs.declared.change.Change.{Change}
 use Rattle.stamp.specs.declared.version.Version.{Version}
-use Rattle.row_page.specs.Changes.{version_in}
-use Rattle.row_page.specs.Rows.{Row, is_below, Ascends}
+use Rattle.row_page.specs.declared.change.CellChange.TheVariants.{Put, Remove}
+use Rattle.row_page.specs.Changes.{PageChange, change_in, version_in}
+use Rattle.row_page.specs.Rows.{Row, RowFits, Ascends, is_below, key_most}
 use Rattle.row_page.proofs.Ascending.{all_above, below_differs}
 use Rattle.update_chain.specs.declared.update.Update.{Update}
 use Rattle.update_chain.specs.Updates.{unmarked_update}
 use Rattle.leaf_chains.specs.declared.slot.KeyChain.{KeyChain}
 use Rattle.leaf_chains.specs.Slots.{chain_at, slot_of, with_update}
+use Rattle.leaf_chains.proofs.Changes.{same_key}
+use Rattle.leaf_capture.specs.Capture.{ChainsFit}
+use Rattle.leaf_capture.specs.Cells.{cell_change, cell_version}
 use Rattle.one_session.specs.Shows.{shown_at}
 use Rattle.engine_start.specs.Chains.{chains_in, row_chain}
 use Rattle.engine_start.proofs.Inserting.{reverse_last}
@@ -58,3 +62,24 @@ chain_of_key key (r ∷ rows) = elim (cases_Bool (bytes_eq r.0 key)) [
   | inl same ↦ rw same refl
   | inr other ↦ rw other (chain_of_key key rows)
 ]
+
+-- ---- sizes
+
+version_again : (v : Version PageChange) → cell_version (version_in v) ≡ v
+version_again v = by v.change refl where
+  by : (change : PageChange) → v.change ≡ change → cell_version (version_in v) ≡ v
+  by (Put value) is = λ i. record { window = v.window; change = (ap (λ (c : PageChange). cell_change (change_in c)) is ∙ sym is) i }
+  by Remove is = λ i. record { window = v.window; change = (ap (λ (c : PageChange). cell_change (change_in c)) is ∙ sym is) i }
+
+-- chains of rows that fit
+pub chains_fit : (rows : List Row) → AllByRecursion (λ (r : Row). RowFits [] key_most r) rows → ChainsFit (chains_in rows)
+chains_fit [] fit key = tt
+chains_fit (r ∷ rows) fit key = elim (cases_Bool (bytes_eq r.0 key)) [
+  | inl same ↦ rw same (subst (λ (v : Version PageChange). RowFits [] key_most (key, v)) (sym (version_again r.1)) (subst (λ (k : List ℕ). RowFits [] key_most (k, r.1)) (same_key r.0 key same) fit.0), tt)
+  | inr other ↦ rw other (chains_fit rows fit.1 key)
+]
+
+-- one more, behind the others
+pub all_more : {A : Type 0} (P : A → Type 0) (all : List A) (x : A) → AllByRecursion P all → P x → AllByRecursion P (all ++ x ∷ [])
+all_more P [] x fit new = (new, tt)
+all_more P (y ∷ all) x fit new = (fit.0, all_more P all x fit.1 new)

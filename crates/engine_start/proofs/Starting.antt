@@ -17,7 +17,7 @@ use Rattle.engine.specs.Bases.{IsBaseOf, LeavesKeep}
 use Rattle.engine_start.specs.declared.by_number.NumberedRows.{NumberedRows}
 use Rattle.engine_start.specs.declared.table_leaf.TableLeaf.{TableLeaf}
 use Rattle.engine_start.specs.ByNumber.{numbered, rows_lt, their_chains}
-use Rattle.engine_start.specs.Contents.{kept_leaves, leaves_content, tables_in}
+use Rattle.engine_start.specs.Contents.{kept_leaves, leaves_content, leaves_content_with, seen_leaves, tables_in}
 use Rattle.engine_start.proofs.LeafCells.{AllFit, same_base}
 use Rattle.engine_start.proofs.Placing.{fit_again, leaves_keep}
 use Rattle.engine_start.proofs.Regularity.{regular}
@@ -42,8 +42,8 @@ started m history e = record {
   systems = map (λ x. None) e.systems;
 }
 
-pub same_world : (m : Marks) (all leaves : List TableLeaf) (e : Engine) → kept_leaves m all ≡ leaves → kept_leaves m leaves ≡ leaves → first_world (leaves_content m leaves) e ≡ first_world (leaves_content m all) e
-same_world m all leaves e are again = ap (λ (history : List Entry). started m history e) (same_base m all leaves are again)
+pub same_world : (m : Marks) (ids : List ℕ) (all leaves : List TableLeaf) (e : Engine) → seen_leaves m ids all ≡ leaves → kept_leaves m leaves ≡ leaves → first_world (leaves_content m leaves) e ≡ first_world (leaves_content_with m ids all) e
+same_world m ids all leaves e are again = ap (λ (history : List Entry). started m history e) (same_base m ids all leaves are again)
 
 -- ---- what the parts of a start are
 

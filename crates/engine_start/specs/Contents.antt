@@ -1,10 +1,10 @@
 -- What a device holds whose tables have one leaf each.
-use Rattle.std.specs.Prelude.{List, [], ◌∷◌, ◌++◌, map}
+use Rattle.std.specs.Prelude.{ℕ, List, [], ◌∷◌, ◌++◌, map}
 use Rattle.kv_model.specs.History.{Table, Placed}
 use Rattle.kv_model.specs.Content.{Content}
 use Rattle.stored.specs.Stored.{placed_in}
 use Rattle.leaf_rows.specs.declared.marks.Marks.{Marks}
-use Rattle.leaf_rows.specs.Contents.{kept_rows}
+use Rattle.leaf_rows.specs.Contents.{kept_rows, seen_rows}
 use Rattle.engine_start.specs.declared.table_leaf.TableLeaf.{TableLeaf}
 
 abbrev pub tables_in : List TableLeaf → List Table
@@ -15,21 +15,32 @@ abbrev pub cells_in : List TableLeaf → List Placed
 cells_in [] = []
 cells_in (l ∷ leaves) = placed_in l.table.number l.rows ++ cells_in leaves
 
--- tables in this order, each with a leaf of these rows, and no history
-abbrev pub leaves_content : Marks → List TableLeaf → Content
-leaves_content m leaves = record {
+-- tables in this order, each with a leaf of these rows, and no history; these ids had not ended when the checkpoint started
+abbrev pub leaves_content_with : Marks → List ℕ → List TableLeaf → Content
+leaves_content_with m ids leaves = record {
   run = m.run;
   oldest = m.oldest;
   stable = m.stable;
-  snapshot = record { min = m.min; max = m.max; ids = [] };
+  snapshot = record { min = m.min; max = m.max; ids = ids };
   tables = tables_in leaves;
   cells = cells_in leaves;
   records = [];
 }
 
+-- the same, where each id had ended
+abbrev pub leaves_content : Marks → List TableLeaf → Content
+leaves_content m leaves = leaves_content_with m [] leaves
+
 abbrev pub kept_leaf : Marks → TableLeaf → TableLeaf
 kept_leaf m l = record { table = l.table; rows = kept_rows m l.rows }
 
--- with the rows that an opening keeps
+-- with the rows that an opening keeps, where each id had ended
 abbrev pub kept_leaves : Marks → List TableLeaf → List TableLeaf
 kept_leaves m leaves = map {A = TableLeaf} (kept_leaf m) leaves
+
+abbrev pub seen_leaf : Marks → List ℕ → TableLeaf → TableLeaf
+seen_leaf m ids l = record { table = l.table; rows = seen_rows m ids l.rows }
+
+-- with the rows that an opening keeps, where these ids had not ended
+abbrev pub seen_leaves : Marks → List ℕ → List TableLeaf → List TableLeaf
+seen_leaves m ids leaves = map {A = TableLeaf} (seen_leaf m ids) leaves

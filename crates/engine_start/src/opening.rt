@@ -1,13 +1,13 @@
 //! The start of an engine.
 
-ghost use Rattle.std.specs.Prelude.{◌≡◌, ◌<◌, ◌+◌, ◌-◌, ◌^◌, List, length, IfOk};
+ghost use Rattle.std.specs.Prelude.{◌≡◌, ◌<◌, ◌+◌, ◌-◌, ◌^◌, ℕ, List, length, IfOk};
 ghost use Rattle.limits.specs.declared.TheConstants.{TABLES_MAX};
 ghost use Rattle.kv_model.specs.Allowed.{StampsFit};
 ghost use Rattle.catalog.specs.Opens.{AreRecorded};
 ghost use Rattle.engine_world.specs.Stands.{Stands};
 ghost use Rattle.engine_world.specs.Systems.{first_world};
 ghost use Rattle.engine_start.specs.declared.table_leaf.TableLeaf.{TableLeaf};
-ghost use Rattle.engine_start.specs.Contents.{kept_leaves, leaves_content, tables_in};
+ghost use Rattle.engine_start.specs.Contents.{kept_leaves, leaves_content, leaves_content_with, seen_leaves, tables_in};
 
 use crate::by_number::{chains_from_last, part};
 use crate::table_leaf::TableLeaf;
@@ -34,6 +34,7 @@ pub fn start(
     requires kept { kept_leaves marks tables.items ≡ tables.items }
     ensures stands { IfOk result (λ l. Stands l (first_world (leaves_content marks tables.items) l)) }
     ensures unfiltered { (all : List TableLeaf) → kept_leaves marks all ≡ tables.items → IfOk result (λ l. Stands l (first_world (leaves_content marks all) l)) }
+    ensures seen { (ids : List ℕ) (all : List TableLeaf) → seen_leaves marks ids all ≡ tables.items → IfOk result (λ l. Stands l (first_world (leaves_content_with marks ids all) l)) }
     ensures sessions { IfOk result (λ l. length l.sessions ≡ 0) }
 {
     let parted = part(alloc, tables)?;

@@ -3,3 +3,4 @@ pub mod Gathering
 pub mod Newest
 pub mod Fitting
 pub mod Cutting
+pub mod Measuring

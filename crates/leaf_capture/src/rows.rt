@@ -64,7 +64,7 @@ fn push_captured(rows: &mut Rows, there: &KeyChain, snapshot: &Snapshot) -> Resu
 }
 
 // The newest version of a chain whose name the snapshot sees.
-fn captured<'a>(chain: &'a Chain, snapshot: &Snapshot) -> Option<&'a Version<Change>>
+pub(crate) fn captured<'a>(chain: &'a Chain, snapshot: &Snapshot) -> Option<&'a Version<Change>>
     ensures { option_map (λ v. v.now) result ≡ captured snapshot.now.sight chain.now }
 {
     for place in 0..chain.len() {

@@ -5,7 +5,7 @@ ghost use Rattle.row_page.specs.Rows.{RowFits, key_most, value_of};
 ghost use Rattle.leaf_capture.specs.Cells.{cell_change, cell_version};
 ghost use Rattle.leaf_capture.specs.Capture.{ChainsFit};
 
-use crate::{NoMemory, capture};
+use crate::{NoMemory, capture, fits_a_leaf};
 use item::{Change, Item};
 use leaf_chains::LeafChains;
 use leaf_rows::Rows;
@@ -206,6 +206,7 @@ fn each_key_has_the_newest_version_that_is_seen(rt: HostRuntime) -> Result<(), N
     let none = capture(alloc, &LeafChains::new(alloc), &snapshot)?;
     assert!(rt; none.is_empty());
     let chains = built(alloc, &WRITES)?;
+    assert!(rt; fits_a_leaf(&chains, &snapshot));
     let rows = capture(alloc, &chains, &snapshot)?;
     assert!(rt; shown(alloc, &rows, b"abcdef")?.as_slice() == b"y1u2t4-2..o9".as_slice());
     Ok(())

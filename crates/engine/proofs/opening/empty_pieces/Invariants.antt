@@ -1,5 +1,9 @@
 use Rattle.std.proofs.Common.{◌≡◌, length}
+use Rattle.engine.specs.Sizes.{LeavesFit}
 use Rattle.engine.proofs.opening.empty_pieces.Given as goal
 
 abbrev pub invariant-loop : goal.invariant-loop
-invariant-loop l = length l.pieces.items ≡ l.counter
+invariant-loop l = record {
+  count : length l.pieces.items ≡ l.counter;
+  fit : LeavesFit l.pieces.items;
+}

@@ -4,6 +4,9 @@ use Rattle.std.proofs.lemmas.List.{length-set, length-append}
 use Rattle.kv_model.specs.History.{Table}
 use Rattle.leaf_chains.specs.declared.slot.KeyChain.{KeyChain}
 use Rattle.call_steps.specs.declared.frame.FramePiece.{FramePiece}
+use Rattle.std.specs.List.{AllByRecursion}
+use Rattle.leaf_capture.specs.Capture.{ChainsFit}
+use Rattle.engine.proofs.LeafSizes.{filled-fits, last-fits, leaves-set}
 use Rattle.engine.proofs.Laying.{LeftOf, laid_piece, one-laid}
 use Rattle.engine.proofs.opening.lay_leaves.Goals as goal
 
@@ -13,6 +16,8 @@ loop-chains-preserved-in-Some c = record {
   rest = subst (λ (p : FramePiece). LeftOf known c.args.leaves.items c.pop.new.self.items (slice_set c.loop-chains.pieces c.len-place.result p)) (sym (ap (λ (n : ℕ). numbered n) c.number_at.ensures))
       (subst (λ (n : ℕ). LeftOf known c.args.leaves.items c.pop.new.self.items (slice_set c.loop-chains.pieces n (laid_piece known n c.in-Some.chains))) (sym len-is)
       (one-laid known c.args.leaves.items c.pop.new.self.items c.in-Some.chains c.loop-chains.pieces inside (subst (λ (l : List (List KeyChain)). LeftOf known c.args.leaves.items l c.loop-chains.pieces) c.in-Some.ensures.items c.loop-chains.invariant.rest)));
+  fit = λ was all. let before = c.loop-chains.invariant.fit was all in let split = last-fits c.pop.new.self.items c.in-Some.chains (subst (AllByRecursion ChainsFit) c.in-Some.ensures.items before.1) in
+      (leaves-set c.loop-chains.pieces c.len-place.result piece before.0 (filled-fits c.number_at.result c.in-Some.chains split.1), split.0);
 } where
   len-is : c.len-place.result ≡ length c.pop.new.self.items
   len-is = (let held = c.pop.new.self.ok.0 in let told = c.len-place.ensures in omega arith)
@@ -35,6 +40,8 @@ loop-chains-preserved c = record {
   rest = subst (λ (p : FramePiece). LeftOf known c.args.leaves.items c.pop.new.self.items (slice_set c.loop-chains.pieces c.len-place.result p)) (sym (ap (λ (n : ℕ). numbered n) c.number_at.ensures))
       (subst (λ (n : ℕ). LeftOf known c.args.leaves.items c.pop.new.self.items (slice_set c.loop-chains.pieces n (laid_piece known n c.in-Some.chains))) (sym len-is)
       (one-laid known c.args.leaves.items c.pop.new.self.items c.in-Some.chains c.loop-chains.pieces inside (subst (λ (l : List (List KeyChain)). LeftOf known c.args.leaves.items l c.loop-chains.pieces) c.in-Some.ensures.items c.loop-chains.invariant.rest)));
+  fit = λ was all. let before = c.loop-chains.invariant.fit was all in let split = last-fits c.pop.new.self.items c.in-Some.chains (subst (AllByRecursion ChainsFit) c.in-Some.ensures.items before.1) in
+      (leaves-set c.loop-chains.pieces c.len-place.result piece before.0 (filled-fits c.number_at.result c.in-Some.chains split.1), split.0);
 } where
   len-is : c.len-place.result ≡ length c.pop.new.self.items
   len-is = (let held = c.pop.new.self.ok.0 in let told = c.len-place.ensures in omega arith)

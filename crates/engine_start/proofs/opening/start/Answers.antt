@@ -1,4 +1,4 @@
-use Rattle.std.proofs.Common.{◌≡◌, List, length, map, max, reverse, ap, sym, subst, ◌∙◌, arith}
+use Rattle.std.proofs.Common.{◌≡◌, ℕ, List, [], length, map, max, reverse, ap, sym, subst, ◌∙◌, arith}
 use Rattle.std.specs.Prelude.{IfOk}
 use Rattle.std.proofs.lemmas.Result.{IfOk-weaker}
 use Rattle.kv_model.specs.Content.{descending, table_lt}
@@ -7,8 +7,9 @@ use Rattle.engine_world.specs.Stands.{Engine, Stands}
 use Rattle.engine_world.specs.Systems.{first_world}
 use Rattle.engine_world.specs.Worlds.{World}
 use Rattle.engine_start.specs.declared.by_number.NumberedRows.{NumberedRows}
+use Rattle.engine_start.specs.declared.table_leaf.TableLeaf.{TableLeaf}
 use Rattle.engine_start.specs.ByNumber.{their_chains}
-use Rattle.engine_start.specs.Contents.{leaves_content}
+use Rattle.engine_start.specs.Contents.{leaves_content, leaves_content_with, seen_leaves}
 use Rattle.engine_start.proofs.Placing.{count_chains, count_known}
 use Rattle.engine_start.proofs.Starting.{is_base, is_regular, same_world}
 use Rattle.engine_start.proofs.opening.start.Goals as goal
@@ -49,9 +50,16 @@ stands c =
 pub returns-clause-stands : goal.returns-clause-stands
 returns-clause-stands c = stands c
 
-pub returns-clause-unfiltered : goal.returns-clause-unfiltered
-returns-clause-unfiltered c = λ all kept. IfOk-weaker c.open-2.result
+-- and for that of each content of which these rows are seen
+stands_for : (c : goal.After-open-2) (ids : List ℕ) (all : List TableLeaf) → seen_leaves c.args.marks ids all ≡ c.args.tables.items → IfOk c.open-2.result (λ (l : Engine). Stands l (first_world (leaves_content_with c.args.marks ids all) l))
+stands_for c ids all seen = IfOk-weaker c.open-2.result
     (λ (l : Engine). Stands l (first_world (leaves_content c.args.marks c.args.tables.items) l))
-    (λ (l : Engine). Stands l (first_world (leaves_content c.args.marks all) l))
-    (λ l held. subst (λ (w : World). Stands l w) (same_world c.args.marks all c.args.tables.items l kept c.requires.kept) held)
+    (λ (l : Engine). Stands l (first_world (leaves_content_with c.args.marks ids all) l))
+    (λ l held. subst (λ (w : World). Stands l w) (same_world c.args.marks ids all c.args.tables.items l seen c.requires.kept) held)
     (stands c)
+
+pub returns-clause-unfiltered : goal.returns-clause-unfiltered
+returns-clause-unfiltered c = λ all kept. stands_for c [] all kept
+
+pub returns-clause-seen : goal.returns-clause-seen
+returns-clause-seen c = stands_for c

@@ -17,6 +17,8 @@ use Rattle.engine.proofs.Ending.{keeps-from}
 use Rattle.engine.specs.Events.{HasWorld, IsFrameEvent}
 use Rattle.engine.proofs.Driving.{frame-step}
 use Rattle.engine.proofs.Stepping.{FrameLaws, IsReady, is-ready}
+use Rattle.engine.specs.Sizes.{SizesFit}
+use Rattle.engine.proofs.FrameSizes.{frame-sizes}
 use Rattle.engine.proofs.parts.Parts.go_on_frame.Goals as goal
 
 pub returns-then-frame-len : goal.returns-then-frame-len
@@ -71,7 +73,16 @@ returns-in-Some c = record {
       (subst (λ ss. Leads (record e { pieces = c.frame_step.new.pieces; sessions = ss }) w c.args.session reply.More) (sym sessions-are)
       (frame-step laws e c.args.session c.args.frame c.in-Some.view c.frame_step.new.pieces c.frame_step.new.sessions made
       (λ a there. c.requires.next a (subst (λ (x : Engine). slice_get x.sessions c.args.session ≡ Some a) c.self.view_is there)) is-view w (subst (λ (x : Engine). Stands x w) (sym c.self.view_is) st)));
-  kept = keeps-from e c.args.self.now c.self.view_is (record { systems = refl; pieces = ap length pieces-are ∙ (c.frame_step.auto.pieces ∙ ap length c.as_mut_slice.ensures.value); states = refl; tables = refl });
+  kept = keeps-from e c.args.self.now c.self.view_is (record {
+    systems = refl;
+    pieces = ap length pieces-are ∙ (c.frame_step.auto.pieces ∙ ap length c.as_mut_slice.ensures.value);
+    states = refl;
+    tables = refl;
+    sizes = λ fit.
+        subst (λ ps. SizesFit (record e { pieces = ps; sessions = (with_items c.self.inside.sessions c.frame_step.new.sessions).items })) (sym pieces-are)
+        (subst (λ ss. SizesFit (record e { pieces = c.frame_step.new.pieces; sessions = ss })) (sym sessions-are)
+        (frame-sizes e world.0 c.in-Some.view c.args.session c.args.frame c.frame_step.new.pieces c.frame_step.new.sessions world.1 made is-view fit));
+  });
 } where
   pieces-are : (with_items c.self.inside.pieces c.frame_step.new.pieces).items ≡ c.frame_step.new.pieces
   pieces-are = with_items_is c.self.inside.pieces c.frame_step.new.pieces (c.frame_step.auto.pieces ∙ c.as_mut_slice.ensures.len)
@@ -88,6 +99,9 @@ returns-in-Some c = record {
   made : IsFrameEvent c.in-Some.view c.args.session c.args.frame e.pieces e.sessions c.frame_step.new.pieces c.frame_step.new.sessions
   made = subst (λ (ps : List FramePiece). IsFrameEvent c.in-Some.view c.args.session c.args.frame ps e.sessions c.frame_step.new.pieces c.frame_step.new.sessions) c.as_mut_slice.ensures.value
       (subst (λ (ss : List State). IsFrameEvent c.in-Some.view c.args.session c.args.frame c.as_mut_slice.result.now ss c.frame_step.new.pieces c.frame_step.new.sessions) c.as_mut_slice-in-Some.ensures.value c.frame_step.ensures)
+
+  world : HasWorld e
+  world = subst HasWorld (sym c.self.view_is) c.requires.world
 
   is-view : IsViewOf e.hub c.args.session c.in-Some.view
   is-view = record { own = c.in-Some.ensures.own; read = c.in-Some.ensures.read; sight = c.in-Some.ensures.sight }

@@ -9,6 +9,7 @@ use Rattle.engine.proofs.TablesKept.{hub-keeps}
 use Rattle.engine.specs.Events.{HasWorld}
 use Rattle.engine.proofs.Driving.{hub-step, lent-at, seated-at}
 use Rattle.engine.proofs.Stepping.{HubLaws}
+use Rattle.engine.proofs.EngineSizes.{hub-sizes}
 use Rattle.engine.proofs.parts.Parts.go_on_hub.Goals as goal
 
 pub hub_event-requires : goal.hub_event-requires
@@ -25,7 +26,7 @@ hub_event-requires c = seated-at e c.args.session c.index_mut.result.now (subst 
 pub returns : goal.returns
 returns c = record {
   step = λ w st. hub-step laws e c.args.session c.index_mut.result.now c.hub_event.new.state c.hub_event.new.hub c.hub_event.result at on c.hub_event.ensures w (subst (λ (x : Engine). Stands x w) (sym c.self.view_is) st);
-  kept = keeps-from e c.args.self.now c.self.view_is (record { systems = refl; pieces = refl; states = refl; tables = ap (λ (m : Made). m.1.0.tables) c.hub_event.ensures ∙ hub-keeps e.hub c.args.session c.index_mut.result.now });
+  kept = keeps-from e c.args.self.now c.self.view_is (record { systems = refl; pieces = refl; states = refl; tables = ap (λ (m : Made). m.1.0.tables) c.hub_event.ensures ∙ hub-keeps e.hub c.args.session c.index_mut.result.now; sizes = hub-sizes e c.args.session c.index_mut.result.now c.hub_event.new.state c.hub_event.new.hub c.hub_event.result at c.hub_event.ensures });
 } where
   e : Engine
   e = record { hub = c.self.inside.hub; pieces = c.self.inside.pieces.items; states = c.self.inside.states.items; hazards = c.self.inside.hazards.items; sessions = c.self.inside.sessions.items; systems = c.self.inside.systems.items }

@@ -7,6 +7,7 @@ use Rattle.txn_table.specs.Tabled.{Table}
 use Rattle.call_steps.specs.declared.frame.FramePiece.{FramePiece}
 use Rattle.engine_world.specs.Stands.{Engine}
 use Rattle.engine.specs.Openings.{AreLaid}
+use Rattle.engine.specs.Sizes.{LeavesFit}
 use Rattle.engine.proofs.Beginning.{IsOpened, begins-on, opened-sound}
 use Rattle.engine.proofs.parts.Parts.new.Goals as goal
 
@@ -29,15 +30,16 @@ returns-clause-stands c = λ content regular base. c.engines_start.ensures conte
   opened = record {
     hub = ap (λ (ts : Table). record { txns = ts; stamps = record { oldest = c.args.oldest; stable = c.args.stable }; tables = c.args.tables; fault = None }) c.in_ok-txns.ensures;
     all_tables = c.len-count.ensures.tables;
-    pieces = ap (λ (ps : List FramePiece). length ps) pieces-are ∙ (c.lay_leaves.auto.pieces ∙ (ap (λ (ps : List FramePiece). length ps) c.as_mut_slice.ensures.value ∙ c.in_ok-pieces.ensures));
-    laid = subst (λ (ps : List FramePiece). AreLaid c.args.tables.tables c.args.leaves.items ps) (sym pieces-are) c.lay_leaves.ensures;
+    pieces = ap (λ (ps : List FramePiece). length ps) pieces-are ∙ (c.lay_leaves.auto.pieces ∙ (ap (λ (ps : List FramePiece). length ps) c.as_mut_slice.ensures.value ∙ c.in_ok-pieces.ensures.count));
+    laid = subst (λ (ps : List FramePiece). AreLaid c.args.tables.tables c.args.leaves.items ps) (sym pieces-are) c.lay_leaves.ensures.laid;
+    fit = subst LeavesFit (sym pieces-are) (c.lay_leaves.ensures.fit (subst LeavesFit (sym c.as_mut_slice.ensures.value) c.in_ok-pieces.ensures.fit) c.requires.fit);
     states = c.in_ok-states.ensures ∙ ap (λ (n : ℕ). replicate n 1 ++ replicate (TABLES_MAX - n) 0) c.len-count.ensures.count;
     sessions = c.new-2.ensures.items;
     systems = c.in_ok-systems.ensures;
   }
 
 pub returns-clause-sound : goal.returns-clause-sound
-returns-clause-sound c = opened-sound c.engines_start.ensures e c.args.run c.args.oldest c.args.stable c.args.tables c.args.leaves.items c.requires.base opened c.requires.numbers where
+returns-clause-sound c = opened-sound c.engines_start.ensures e c.args.run c.args.oldest c.args.stable c.args.tables c.args.leaves.items c.requires.base opened c.requires.numbers c.requires.run where
   e : Engine
   e = record {
     hub = record { txns = c.in_ok-txns.txns; stamps = record { oldest = c.args.oldest; stable = c.args.stable }; tables = c.args.tables; fault = None };
@@ -55,8 +57,9 @@ returns-clause-sound c = opened-sound c.engines_start.ensures e c.args.run c.arg
   opened = record {
     hub = ap (λ (ts : Table). record { txns = ts; stamps = record { oldest = c.args.oldest; stable = c.args.stable }; tables = c.args.tables; fault = None }) c.in_ok-txns.ensures;
     all_tables = c.len-count.ensures.tables;
-    pieces = ap (λ (ps : List FramePiece). length ps) pieces-are ∙ (c.lay_leaves.auto.pieces ∙ (ap (λ (ps : List FramePiece). length ps) c.as_mut_slice.ensures.value ∙ c.in_ok-pieces.ensures));
-    laid = subst (λ (ps : List FramePiece). AreLaid c.args.tables.tables c.args.leaves.items ps) (sym pieces-are) c.lay_leaves.ensures;
+    pieces = ap (λ (ps : List FramePiece). length ps) pieces-are ∙ (c.lay_leaves.auto.pieces ∙ (ap (λ (ps : List FramePiece). length ps) c.as_mut_slice.ensures.value ∙ c.in_ok-pieces.ensures.count));
+    laid = subst (λ (ps : List FramePiece). AreLaid c.args.tables.tables c.args.leaves.items ps) (sym pieces-are) c.lay_leaves.ensures.laid;
+    fit = subst LeavesFit (sym pieces-are) (c.lay_leaves.ensures.fit (subst LeavesFit (sym c.as_mut_slice.ensures.value) c.in_ok-pieces.ensures.fit) c.requires.fit);
     states = c.in_ok-states.ensures ∙ ap (λ (n : ℕ). replicate n 1 ++ replicate (TABLES_MAX - n) 0) c.len-count.ensures.count;
     sessions = c.new-2.ensures.items;
     systems = c.in_ok-systems.ensures;

@@ -1,0 +1,14 @@
+use Rattle.std.proofs.Common.{◌≡◌, ◌+◌, ◌≤◌, length}
+use Rattle.row_page.specs.Rows.{cells}
+use Rattle.leaf_capture.specs.Gathered.{rows_of}
+use Rattle.leaf_capture.proofs.Gathering.{slots_at}
+use Rattle.leaf_capture.proofs.fits.fits_a_leaf.Given as goal
+
+abbrev pub invariant-loop-slot : goal.invariant-loop-slot
+invariant-loop-slot l = record {
+  is : l.size + length (cells (rows_of l.snapshot.sight (slots_at l.chains l.walk))) ≡ 16 + length (cells (rows_of l.snapshot.sight (slots_at l.chains l.initial.walk)));
+  small : l.size ≤ 32768;
+}
+
+abbrev pub decreases-loop-slot : goal.decreases-loop-slot
+decreases-loop-slot l = length l.walk
