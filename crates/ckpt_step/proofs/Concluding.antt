@@ -1,0 +1,45 @@
+-- What a checkpoint answers, from how it went.
+use Rattle.std.specs.Prelude.{◌≡◌, Option, Result, Ok, Err, IfErr, OnOk, refl}
+use Rattle.std.proofs.Common.{inl, inr, sym, subst}
+use Rattle.failure.specs.Counts.{Rose}
+use Rattle.disk_model.specs.declared.disk.Disk.{Ghosts}
+use Rattle.wt_code.specs.declared.refusals.Refusal.{Refusal}
+use Rattle.wt_code.specs.declared.store_error.StoreError.TheVariants.{NoMemory, NoSpace, Read, Down}
+use Rattle.stored.specs.Stored.{Stored}
+use Rattle.engine_world.specs.Stands.{Engine, Stands}
+use Rattle.engine_world.specs.Systems.{checkpointed}
+use Rattle.engine_world.specs.Worlds.{World}
+use Rattle.engine.specs.Checkpoints.{MayStart}
+use Rattle.ckpt_step.specs.declared.ground.Ground.{Ground}
+use Rattle.ckpt_step.specs.declared.leaf_error.LeafError.{LeafError}
+use Rattle.ckpt_step.specs.declared.leaf_error.LeafError.TheVariants.{Over, Store}
+use Rattle.ckpt_step.specs.Grounds.{number_of}
+use Rattle.ckpt_step.specs.Halves.{IsOfDisk}
+use Rattle.ckpt_step.specs.Runs.{Concludes, Wrote}
+use Rattle.ckpt_step.specs.Sizes.{IsOver}
+use Rattle.ckpt_step.specs.Takes.{Takes}
+
+module _ {D : Type 0} (g : Ghosts D) (old : Option Stored) (w : World) (stand stand' : Ground) (e e' : Engine) (before after : D) (may : MayStart w.machine (number_of old) (Ok tt)) (fit : IsOver w.machine → ⊥) where
+  -- once it was written, or was not
+  pub concluded : (outcome : Result (Unit {0}) LeafError) (answer : Result (Unit {0}) Refusal) → Wrote g old w.machine e.hub.tables.tables stand stand' before after outcome → IfErr outcome (λ x. IsOfDisk x → Rose (g.faults before) (g.faults after)) → Concludes e e' outcome answer
+      → (answer ≡ Ok tt → Stands e' (record w { machine = checkpointed w.machine })) → Takes g old w stand stand' e e' before after answer
+  concluded (Ok done) answer wrote failed (is, same) stands = subst (λ (r : Result (Unit {0}) Refusal). Takes g old w stand stand' e e' before after r) (sym is) (record {
+    new = wrote.new;
+    is = wrote.is;
+    leaves = wrote.left;
+    each = wrote.each;
+    on = wrote.on;
+    had_room = wrote.had_room;
+    fit = fit;
+    may = may;
+    same = same;
+    stands = stands is;
+  })
+  concluded (Err Over) answer wrote failed (is, same) stands = subst (λ (r : Result (Unit {0}) Refusal). Takes g old w stand stand' e e' before after r) (sym is) (inl (record { why = inr (inr (may, inl (refl, wrote.over refl))); leaves = wrote.kept tt; on = wrote.on tt; same = same }))
+  concluded (Err (Store NoMemory)) answer wrote failed (is, same) stands = subst (λ (r : Result (Unit {0}) Refusal). Takes g old w stand stand' e e' before after r) (sym is) (inl (record { why = inr (inl refl); leaves = wrote.kept tt; on = wrote.on tt; same = same }))
+  concluded (Err (Store NoSpace)) answer wrote failed (is, same) stands = subst (λ (r : Result (Unit {0}) Refusal). Takes g old w stand stand' e e' before after r) (sym is) (inl (record { why = inr (inr (may, inr (fit, inl (refl, wrote.full refl)))); leaves = wrote.kept tt; on = wrote.on tt; same = same }))
+  concluded (Err (Store Read)) answer wrote failed (is, same) stands = subst (λ (r : Result (Unit {0}) Refusal). Takes g old w stand stand' e e' before after r) (sym is) (inl (record { why = inr (inr (may, inr (fit, inr (refl, failed tt)))); leaves = wrote.kept tt; on = wrote.on tt; same = same }))
+  concluded (Err (Store (Down fault))) answer wrote failed (is, same) stands = subst (λ (r : Result (Unit {0}) Refusal). Takes g old w stand stand' e e' before after r) (sym is) (inr (record { is = refl; may = may; fit = fit; rose = failed tt; fault = fault; down = same; leaves = wrote.left }))
+
+pub on_ok_of : {A : Type 0} (r : Result (Unit {0}) Refusal) → OnOk r A → r ≡ Ok tt → A
+on_ok_of {A} r is same = subst (λ (x : Result (Unit {0}) Refusal). OnOk x A) same is

@@ -1,0 +1,63 @@
+-- From a ground to a checkpoint that runs, and back.
+use Rattle.std.specs.Prelude.{◌≡◌, ℕ, ◌≤◌, IsTrue, true, false, List, [], length, reverse, Option, None, Some, refl, slice_get}
+use Rattle.std.proofs.Common.{sym, ◌∙◌, ap, subst, arith}
+use Rattle.std.proofs.lemmas.List.{reverse-reverse}
+use Rattle.extent_list.specs.Space.{Space, end_of}
+use Rattle.block_mgr.specs.declared.cell.Cell.{Cell}
+use Rattle.block_mgr.specs.Blocks.{Books}
+use Rattle.block_mgr.specs.Cells.{AreUnits, cell_at}
+use Rattle.block_mgr.specs.Open.{found_cell}
+use Rattle.device_layout.specs.declared.link.Link.{Link}
+use Rattle.kv_model.specs.History.{Table}
+use Rattle.catalog.specs.Known.{NumbersAscend}
+use Rattle.stored.specs.Stored.{Stored}
+use Rattle.checkpoint_core.specs.Stands.{Stands, blocks_of, chosen_of}
+use Rattle.checkpoint_core.proofs.Holding.{in_use_same, still_long}
+use Rattle.one_table.proofs.Writes.{stands_begun}
+use Rattle.ckpt_step.specs.declared.ground.Ground.{Ground}
+use Rattle.ckpt_step.specs.Grounds.{AreRoots, StandsOn, found_in, number_of}
+use Rattle.ckpt_step.specs.Halves.{AreOldLeaves, Half}
+use Rattle.ckpt_step.specs.Runs.{Runs}
+use Rattle.ckpt_step.proofs.PastLeaves.{are_old_leaves}
+
+module _ (seen : List ℕ) (images : List ℕ → Type 0) (known : List Table) (next : ℕ) (ascend : NumbersAscend 1 known next) (g : Ground) (old : Option Stored) (on : StandsOn seen images known g old) where
+  pub past_leaves : AreOldLeaves old g.leaves.items
+  past_leaves = are_old_leaves seen images g.place.blocks known next g.leaves.items old ascend on.stands on.roots on.cells on.units
+
+  -- a checkpoint runs that has captured nothing yet
+  pub half_start : (books : Books) → books.cells ≡ g.place.blocks.cells → books.space ≡ g.place.blocks.space → books.is_synced ≡ g.place.blocks.is_synced → books.is_held ≡ true → Half seen images books old g.leaves.items [] []
+  half_start books cells space synced held = record {
+    stands = stands_begun seen images g.place.blocks books old cells synced on.stands;
+    cells = λ u. ap (λ (l : List Cell). cell_at l u) cells ∙ on.cells u;
+    units = subst (λ (s : Space). AreUnits books.cells s) (sym space) (subst (λ (l : List Cell). AreUnits l g.place.blocks.space) (sym cells) on.units);
+    held = held;
+    long = on.long;
+    within = omega (arith, ap end_of space, on.within);
+    there = tt;
+    in_use = tt;
+    apart = tt;
+    was_are = past_leaves;
+    own = λ place link is. absurd (cc);
+  }
+
+  -- it was given up
+  pub old_ground : (later : List ℕ) (left : List ℕ → Type 0) (links : List Link) (books : Books) (after : Ground) → Runs later left books old g.leaves.items links → ((u : ℕ) → cell_at after.place.blocks.cells u ≡ found_cell (found_in old) u) → AreUnits after.place.blocks.cells after.place.blocks.space → end_of after.place.blocks.space ≡ end_of books.space
+      → after.place.blocks.is_synced ≡ books.is_synced → after.place.blocks.is_held ≡ false → after.place.slot ≡ g.place.slot → after.number ≡ g.number → after.leaves.items ≡ g.leaves.items → StandsOn later left known after old
+  old_ground later left links books after runs cells units end synced idle slot number leaves = record {
+    stands = record {
+      seen_has = runs.stands.seen_has;
+      images_have = λ is. runs.stands.images_have (sym synced ∙ is);
+      in_use = in_use_same g.place.blocks.cells after.place.blocks.cells (blocks_of old) (λ u. cells u ∙ sym (on.cells u)) on.stands.in_use;
+    };
+    number = number ∙ on.number;
+    slot = slot ∙ on.slot;
+    cells = cells;
+    units = units;
+    idle = idle;
+    long = still_long old later runs.stands.seen_has;
+    within = omega (arith, end, runs.within);
+    roots = subst (λ (l : List Link). AreRoots known l old) (sym leaves) on.roots;
+  }
+
+pub known_is : (known made : List Table) → reverse known ≡ made → reverse made ≡ known
+known_is known made is = sym (ap (λ (l : List Table). reverse l) is) ∙ reverse-reverse known

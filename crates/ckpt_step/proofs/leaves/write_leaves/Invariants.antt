@@ -1,0 +1,22 @@
+use Rattle.std.proofs.Common.{◌≡◌, ◌≤◌, IsTrue, [], Option, length, true}
+use Rattle.disk_model.specs.Crash.{SameDisk}
+use Rattle.extent_list.specs.Space.{end_of}
+use Rattle.snapshot.specs.Matters.{NoneResolves, SeesCommitted}
+use Rattle.stored.specs.Stored.{Stored}
+use Rattle.engine_world.specs.Stands.{Stands}
+use Rattle.engine_world.specs.Worlds.{World}
+use Rattle.ckpt_step.specs.Goings.{Going}
+use Rattle.ckpt_step.specs.Grounds.{AreRoots}
+use Rattle.ckpt_step.specs.Halves.{Half}
+use Rattle.ckpt_step.proofs.leaves.write_leaves.Given as goal
+
+abbrev pub invariant-loop-place : goal.invariant-loop-place
+invariant-loop-place g l = record {
+  held : l.blocks.is_held ≡ true;
+  disk : SameDisk g.D.Disk l.fn.disk l.disk;
+  ready : IsTrue (g.D.Disk.honest l.disk) → end_of l.blocks.space ≤ length (g.D.Disk.seen l.disk);
+  count : length l.links.items ≡ l.place;
+  going : IsTrue (g.D.Disk.honest l.fn.disk) → (w : World) → Stands l.engine w → NoneResolves w.machine → SeesCommitted w.machine (length w.machine.history) l.snapshot.sight → (old : Option Stored)
+      → Half (g.D.Disk.seen l.fn.disk) (g.D.Disk.may_leave l.fn.disk) l.fn.blocks old l.was [] [] → AreRoots l.engine.hub.tables.tables l.was old
+      → Going g.D.Disk old l.was w.machine l.engine.hub.tables.tables l.fn.blocks l.blocks l.links.items l.place l.fn.disk l.disk;
+}

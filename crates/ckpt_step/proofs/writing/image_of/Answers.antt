@@ -1,0 +1,8 @@
+use Rattle.std.proofs.Common.{◌≡◌, ◌≤◌, ap, List, ℕ, length, Result, Ok, Err, IfOk, arith}
+use Rattle.stored.specs.Records.{record_image}
+use Rattle.one_table.proofs.Opens.{record_bytes}
+use Rattle.ckpt_step.proofs.Putting.{if_ok_map}
+use Rattle.ckpt_step.proofs.writing.image_of.Goals as goal
+
+pub returns-clause-some : goal.returns-clause-some
+returns-clause-some c = if_ok_map c.encode.result c.encode.ensures.image (λ v is. omega (arith, ap length is, record_bytes c.in_ok-record.record))

@@ -1,0 +1,61 @@
+-- On what the next checkpoint stands.
+use Rattle.std.specs.Prelude.{◌≡◌, ℕ, ◌≤◌, ◌==◌, false, List, [], ◌∷◌, length, Option, Some, None, slice_get, if◌then◌else◌}
+use Rattle.extent_list.specs.Space.{end_of}
+use Rattle.block_mgr.specs.declared.found.Found.{Found}
+use Rattle.block_mgr.specs.Cells.{AreUnits, cell_at}
+use Rattle.block_mgr.specs.Open.{found_cell}
+use Rattle.device_layout.specs.declared.link.Link.{Link}
+use Rattle.kv_model.specs.Holds.{Member}
+use Rattle.kv_model.specs.History.{Table}
+use Rattle.stored.specs.Links.{nowhere}
+use Rattle.stored.specs.Records.{TableRoot, Record}
+use Rattle.stored.specs.Stored.{Stored}
+use Rattle.checkpoint_core.specs.Stands.{Stands, chosen_of}
+use Rattle.recover_open.specs.Damage.{blocks_found}
+use Rattle.recover_open.specs.Flat.{IsFlat}
+use Rattle.ckpt_step.specs.declared.ground.Ground.{Ground}
+
+-- the number of a checkpoint, 0 where there is none
+abbrev pub number_of : Option Stored → ℕ
+number_of None = 0
+number_of (Some s) = s.kept.sequence
+
+-- where the leaf of the table of this number stands; nowhere where the checkpoint has no such table
+abbrev pub link_of : List TableRoot → ℕ → Link
+link_of [] number = nowhere
+link_of (r ∷ later) number = if r.table.number == number then r.root.link else link_of later number
+
+abbrev pub link_in : Option Stored → Table → Link
+link_in None t = nowhere
+link_in (Some s) t = link_of s.kept.tables t.number
+
+-- the blocks that an opening finds
+abbrev pub found_in : Option Stored → List Found
+found_in None = []
+found_in (Some s) = blocks_found s.slot s.kept.tables
+
+abbrev pub leaf_root : Table → Link → TableRoot
+leaf_root t link = record { table = t; root = record { level = 0; link = link } }
+
+-- the checkpoint has the first of these tables, as many as there are links, each with its leaf there
+pub record HasRoots (known : List Table) (links : List Link) (r : Record) : Type 0 where
+  pub flat : IsFlat r
+  pub few : length links ≤ length known
+  pub count : length r.tables ≡ length links
+  pub roots : (place : ℕ) (t : Table) (link : Link) → slice_get known place ≡ Some t → slice_get links place ≡ Some link → Member (leaf_root t link) r.tables
+
+abbrev pub AreRoots : List Table → List Link → Option Stored → Type 0
+AreRoots known links None = links ≡ []
+AreRoots known links (Some s) = HasRoots known links s.kept
+
+-- The device has this checkpoint, or none, and the ground is that of it: its number, its slot, its blocks and no others in use, and by place the leaves of the engine's tables that it has.
+pub record StandsOn (seen : List ℕ) (images : List ℕ → Type 0) (known : List Table) (g : Ground) (old : Option Stored) : Type 0 where
+  pub stands : Stands seen images g.place.blocks old
+  pub number : g.number ≡ number_of old
+  pub slot : g.place.slot ≡ chosen_of old
+  pub cells : (u : ℕ) → cell_at g.place.blocks.cells u ≡ found_cell (found_in old) u
+  pub units : AreUnits g.place.blocks.cells g.place.blocks.space
+  pub idle : g.place.blocks.is_held ≡ false
+  pub long : 8192 ≤ length seen
+  pub within : end_of g.place.blocks.space ≤ length seen
+  pub roots : AreRoots known g.leaves.items old

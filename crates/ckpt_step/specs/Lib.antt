@@ -1,0 +1,12 @@
+pub mod Checkpoints
+pub mod Grounds
+pub mod Sizes
+pub mod Takes
+pub mod Laws
+pub mod Halves
+pub mod Records
+pub mod Plain
+pub mod Runs
+pub mod Frees
+pub mod Ones
+pub mod Goings

@@ -1,0 +1,28 @@
+//! A checkpoint in one event, of an engine whose tables have one leaf each.
+//!
+//! Stands for the last completed checkpoint of the engine's device (`Ground`): its blocks, its
+//! number, and where its leaves stand. Promises that a checkpoint keeps of each table the newest
+//! version of each key, that at each moment the device has the checkpoint before or the new one,
+//! whole, and that what is refused gives back what it wrote; and that the new one opens as the
+//! checkpoint that the machine takes (`checkpoints_open`). Leaves to the caller to open the device,
+//! and when a checkpoint may come.
+#![tactic(auto)]
+
+mod books;
+mod fitting;
+mod ground;
+mod laws;
+mod leaf;
+mod leaf_error;
+mod leaves;
+mod links;
+mod record;
+mod roots;
+mod taking;
+#[cfg(test)]
+mod tests;
+mod writing;
+
+pub use ground::Ground;
+pub use laws::{checkpoints_open, plain_stays};
+pub use taking::checkpoint;

@@ -1,0 +1,89 @@
+// A checkpoint in one event.
+ghost use Rattle.std.specs.Prelude.{◌≡◌, ◌≤◌, ◌+◌, Option, length, None, IfErr, OnOk, IsTrue};
+ghost use Rattle.failure.specs.Counts.{Rose};
+ghost use Rattle.disk_model.specs.Crash.{SameDisk};
+ghost use Rattle.stored.specs.Stored.{Stored};
+ghost use Rattle.engine_world.specs.Stands.{Stands};
+ghost use Rattle.engine_world.specs.Worlds.{World};
+ghost use Rattle.ckpt_step.specs.Grounds.{StandsOn};
+ghost use Rattle.engine_world.specs.Systems.{checkpointed};
+ghost use Rattle.snapshot.specs.Matters.{NoneResolves};
+ghost use Rattle.ckpt_step.specs.Runs.{Concludes};
+ghost use Rattle.ckpt_step.specs.Takes.{Takes, IsOfCheckpoint};
+
+use crate::fitting::fit_leaves;
+use crate::ground::Ground;
+use crate::leaf_error::LeafError;
+use crate::writing::write;
+use disk_model::Disk;
+use engine::Local;
+use std::alloc::Global;
+use wt_code::{Limit, Refusal, StoreError};
+
+/// A checkpoint in one event: of each table the leaf with the newest versions that are committed,
+/// the record, a sync, and the slot that names it. A leaf that has the rows which the checkpoint
+/// before has of it keeps its block.
+///
+/// After `Ok` it is the last completed one. Refused where the engine is down, a prepared
+/// transaction is being resolved or there were too many checkpoints; `75 limit image` where the rows
+/// of a table pass one leaf; `28 no space` where a block has no place: what was written is given
+/// back. A failed read leaves the engine up; a failed write or sync takes it down, and the device has
+/// the checkpoint before or, where the gate of the slot was being opened, the new one.
+///
+/// `O(rows)`, each leaf captured once and its block written once, or read once where it may be
+/// the same.
+pub fn checkpoint<D: Disk>(
+    alloc: Global,
+    disk: &mut D,
+    ground: &mut Ground,
+    engine: &mut Local,
+) -> Result<(), Refusal>
+    requires run { engine.old.hub.txns.run ≤ ground.old.number + 1 }
+    requires leaves { length ground.old.leaves.items ≤ length engine.old.hub.tables.tables }
+    requires ready { IsTrue (D.honest disk.old) → (old : Option Stored) × StandsOn (D.seen disk.old) (D.may_leave disk.old) engine.old.hub.tables.tables ground.old old }
+    ensures takes { IsTrue (D.honest disk.old) → (w : World) → Stands engine.old w → w.machine.checkpoint ≡ None → (old : Option Stored) → StandsOn (D.seen disk.old) (D.may_leave disk.old) engine.old.hub.tables.tables ground.old old
+        → Takes D.Disk old w ground.old ground.new engine.old engine.new disk.old disk.new result }
+    ensures refusals { IfErr result IsOfCheckpoint }
+    ensures fault { IfErr result (λ r. r ≡ Refusal.DiskFault → Rose (D.faults disk.old) (D.faults disk.new)) }
+    ensures run { ground.old.number ≤ ground.new.number }
+    ensures leaves { length ground.new.leaves.items ≤ length engine.old.hub.tables.tables }
+    ensures sessions { length engine.new.sessions ≡ length engine.old.sessions }
+    ensures hub { (engine.new.hub.tables ≡ engine.old.hub.tables) × (engine.new.hub.txns ≡ engine.old.hub.txns) }
+    ensures disk { SameDisk D.Disk disk.old disk.new }
+{
+    match engine.may_checkpoint(ground.number) {
+        Ok(()) => {}
+        Err(refusal) => return Err(refusal),
+    }
+    let Ok(snapshot) = engine.checkpoint_snapshot(alloc) else {
+        return Err(Refusal::NoMemory);
+    };
+    if !fit_leaves(engine, &snapshot) {
+        return Err(Refusal::Limit(Limit::Image));
+    }
+    let outcome = write(alloc, disk, ground, engine, &snapshot);
+    conclude(engine, outcome)
+}
+
+// The engine is told how the checkpoint went, and the answer tells it too.
+fn conclude(engine: &mut Local, outcome: Result<(), LeafError>) -> Result<(), Refusal>
+    ensures concludes { Concludes engine.old engine.new outcome result }
+    ensures stands { (w : World) → Stands engine.old w → w.machine.checkpoint ≡ None → NoneResolves w.machine → OnOk result (Stands engine.new (record w { machine = checkpointed w.machine })) }
+    ensures refusals { IfErr result IsOfCheckpoint }
+    ensures sessions { length engine.new.sessions ≡ length engine.old.sessions }
+    ensures hub { (engine.new.hub.tables ≡ engine.old.hub.tables) × (engine.new.hub.txns ≡ engine.old.hub.txns) }
+{
+    match outcome {
+        Ok(()) => {
+            engine.checkpointed();
+            Ok(())
+        }
+        Err(LeafError::Over) => Err(Refusal::Limit(Limit::Image)),
+        Err(LeafError::Store(error)) => {
+            if let StoreError::Down(fault) = error {
+                engine.go_down(fault);
+            }
+            Err(Refusal::from(error))
+        }
+    }
+}

@@ -1,0 +1,5 @@
+pub mod WithLeaves
+pub mod Places
+pub mod Founds
+pub mod Closings
+pub mod Nothing

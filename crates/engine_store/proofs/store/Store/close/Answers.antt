@@ -1,0 +1,49 @@
+use Rattle.std.proofs.Common.{◌∙◌, ap, length, subst, sym, List, arith}
+use Rattle.kv_model.specs.History.{Table}
+use Rattle.catalog.specs.Known.{Known}
+use Rattle.txn_table.specs.Tabled.{Table as Txns}
+use Rattle.ckpt_step.specs.Grounds.{StandsOn}
+use Rattle.engine_store.specs.Closes.{rolled}
+use Rattle.engine_store.proofs.Closings.{as_before, closes_last, may_roll, stays_rolled}
+use Rattle.engine_store.proofs.store.Store.close.Goals as goal
+
+pub checkpoint-requires-clause-run : goal.checkpoint-requires-clause-run
+checkpoint-requires-clause-run g c =
+    let same = as_before c.args.self.now.engine c.roll_back_all.new.self c.may_close.result c.in-Ok.field-0 c.may_close.ensures c.in-Ok.is c.roll_back_all.ensures.rolled_back c.has_world.ensures in
+    omega (arith, same.run, c.requires.ready.run)
+
+pub checkpoint-requires-clause-leaves : goal.checkpoint-requires-clause-leaves
+checkpoint-requires-clause-leaves g c =
+    let same = as_before c.args.self.now.engine c.roll_back_all.new.self c.may_close.result c.in-Ok.field-0 c.may_close.ensures c.in-Ok.is c.roll_back_all.ensures.rolled_back c.has_world.ensures in
+    omega (arith, ap (λ (l : List Table). length l) same.tables_are, c.requires.ready.leaves)
+
+pub checkpoint-requires-clause-ready : goal.checkpoint-requires-clause-ready
+checkpoint-requires-clause-ready g c = λ h.
+    let D = g.D.Disk in
+    let same = as_before c.args.self.now.engine c.roll_back_all.new.self c.may_close.result c.in-Ok.field-0 c.may_close.ensures c.in-Ok.is c.roll_back_all.ensures.rolled_back c.has_world.ensures in
+    let on = c.requires.on h in
+    (on.0, subst (λ (l : List Table). StandsOn (D.seen c.args.disk.now) (D.may_leave c.args.disk.now) l c.args.self.now.ground on.0) (sym same.tables_are) on.1)
+
+pub returns-clause-closes : goal.returns-clause-closes
+returns-clause-closes g c = λ h w st free old on.
+    let D = g.D.Disk in
+    let before = c.args.self.now in
+    let middle = c.roll_back_all.new.self in
+    let same = as_before before.engine middle c.may_close.result c.in-Ok.field-0 c.may_close.ensures c.in-Ok.is c.roll_back_all.ensures.rolled_back (w, st, free) in
+    let may = may_roll before.engine c.may_close.result c.in-Ok.field-0 c.may_close.ensures c.in-Ok.is w st free in
+    let stands = c.roll_back_all.ensures.rolled_back w st may in
+    closes_last D old w before (record { engine = c.checkpoint.new.engine; ground = c.checkpoint.new.ground }) c.args.disk.now c.checkpoint.new.disk c.checkpoint.result
+    (record {
+      may = may;
+      middle = middle;
+      stands = stands;
+      takes = c.checkpoint.ensures.takes h (rolled w) stands ((stays_rolled w.machine).checkpoint ∙ free) old (subst (λ (l : List Table). StandsOn (D.seen c.args.disk.now) (D.may_leave c.args.disk.now) l before.ground old) (sym same.tables_are) on);
+    })
+
+pub returns-clause-ready : goal.returns-clause-ready
+returns-clause-ready g c =
+    let same = as_before c.args.self.now.engine c.roll_back_all.new.self c.may_close.result c.in-Ok.field-0 c.may_close.ensures c.in-Ok.is c.roll_back_all.ensures.rolled_back c.has_world.ensures in
+    record {
+      run = omega (arith, ap (λ (t : Txns). t.run) c.checkpoint.ensures.hub.1, same.run, c.requires.ready.run, c.checkpoint.ensures.run);
+      leaves = omega (arith, ap (λ (k : Known). length k.tables) c.checkpoint.ensures.hub.0, c.checkpoint.ensures.leaves);
+    }

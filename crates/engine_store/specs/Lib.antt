@@ -1,0 +1,5 @@
+pub mod Opened
+pub mod Closes
+pub mod ByPlace
+pub mod Tables
+pub mod Found

@@ -1,0 +1,18 @@
+//! An engine and its device, in one hand.
+//!
+//! Stands for an engine, and for the last completed checkpoint of its device. Promises that an
+//! opening makes an engine that stands for the machine which what the device holds begins with, and
+//! that a close rolls back each transaction and takes a checkpoint (`ckpt_step`). The calls go to
+//! the engine itself. Leaves to the caller to attach the disk.
+#![tactic(auto)]
+
+mod by_place;
+mod kept;
+mod opening;
+mod store;
+mod tables;
+#[cfg(test)]
+mod tests;
+
+pub use opening::open_on;
+pub use store::Store;
