@@ -1,127 +1,175 @@
--- What the checkpoint at the end of a command is to the definitions.
-use Rattle.std.specs.Prelude.{Bool, false, nat_le, IsTrue}
-use Rattle.std.proofs.lemmas.Bool.{false≢true, cases_lt, cases_Bool, leb-true}
-use Rattle.std.proofs.Common.{◌≡◌, ◌⊎◌, ℕ, ◌+◌, ◌<◌, ◌≤◌, List, [], ◌∷◌, length, Option, Some, None, Result, Ok, Err, refl, sym, ap, subst, ◌∙◌, inl, inr, arith}
+-- What the close at the end of a command is to the definitions.
+use Rattle.std.specs.Prelude.{Bool, true, false, nat_le, ◌||◌, if◌then◌else◌, slice_index_or, option_map}
+use Rattle.std.proofs.lemmas.Bool.{false≢true, cases_lt, cases_Bool, leb-true, le-leb}
+use Rattle.std.proofs.lemmas.List.{get_or_past}
+use Rattle.std.proofs.lemmas.Option.{slice_get_cases}
+use Rattle.std.proofs.Math.ListN.{get_or-map}
+use Rattle.std.proofs.Common.{◌≡◌, ◌⊎◌, ℕ, suc, ◌+◌, ◌<◌, ◌≤◌, List, [], ◌∷◌, ◌++◌, Option, Some, None, Result, Ok, Err, refl, sym, ap, subst, ◌∙◌, inl, inr, arith}
 use Rattle.failure.specs.Counts.{Rose}
-use Rattle.failure.specs.declared.Fault.TheVariants.{Sync}
+use Rattle.failure.specs.declared.Fault.{Fault}
 use Rattle.disk_model.specs.Crash.{Each, LeavesOnly}
 use Rattle.disk_model.proofs.Crash.{widened}
 use Rattle.disk_model.specs.declared.disk.Disk.{Ghosts}
 use Rattle.device_layout.specs.declared.slot.Slot.{Slot}
-use Rattle.turtle.specs.Slots.{IsNext}
-use Rattle.kv_model.specs.AgreementLaws.{head_of}
-use Rattle.kv_model.specs.History.{Table, line, cut}
-use Rattle.kv_model.specs.Machine.{Machine, Completed, Event, CheckpointStart, CheckpointFinish, GoDown}
-use Rattle.kv_model.specs.Outside.{Storing, Stored, NoPlace, ReadFailed, WriteFailed, Unfinished}
-use Rattle.kv_model.specs.Decisions.{Outcome, Done as IsDone, Refused as NotDone}
-use Rattle.kv_model.specs.Closing.{close_busy, close_decision, rolling_back, last_checkpoint, last_stored, after_all}
-use Rattle.kv_model.specs.Told.{Tells}
-use Rattle.kv_model.specs.Calls.{IsTaken, rolled_back}
-use Rattle.kv_model.specs.Content.{Content, base, start, IsLayered, OpensAs}
-use Rattle.row_page.specs.Rows.{Row}
-use Rattle.device_layout.specs.declared.link.Link.{Link}
-use Rattle.device_layout.specs.Slots.{addr_in}
-use Rattle.stored.specs.Stored.{Reads, IsOn}
-use Rattle.stored.specs.Opens.{Opens}
-use Rattle.stored.proofs.Device.{one_content, one_choice}
-use Rattle.leaf_rows.specs.Rows.{AreFit, image_length}
-use Rattle.leaf_rows.specs.Contents.{leaf_content, kept_rows}
-use Rattle.checkpoint_core.specs.Stands.{chosen_of}
-use Rattle.one_table.specs.declared.record.Numbers.{Numbers}
-use Rattle.one_table.specs.declared.place.Place.{Place}
-use Rattle.one_table.specs.declared.opening.Kept.{Kept}
-use Rattle.one_table.specs.OneTable.{one_stored, table_of}
-use Rattle.one_table.specs.Openings.{Keeps}
-use Rattle.one_table.specs.Closings.{Installs, IsFullFor, IsCloseRefusal, ReadsOld, ReadsEither, content_was, block_sizes, IsOfClose}
-use Rattle.one_table.proofs.Writes.{new_reads}
-use Rattle.one_session.specs.Shows.{Shows}
-use Rattle.one_session.proofs.Leaves.{opening, closing}
-use Rattle.one_session.proofs.Telling.{heads, ones}
+use Rattle.turtle.proofs.Choice.{chooses_one}
 use Rattle.wt_code.specs.declared.answers.Answer.{Answer}
 use Rattle.wt_code.specs.declared.answers.Answer.TheVariants.{Done, Refused}
+use Rattle.wt_code.specs.declared.refusals.Busy.{Busy}
+use Rattle.wt_code.specs.declared.refusals.Busy.TheVariants as who
 use Rattle.wt_code.specs.declared.refusals.Refusal.{Refusal}
-use Rattle.wt_code.specs.declared.refusals.Refusal.TheVariants.{NoMemory, NoSpace, DiskFault, Limit as Refusal_Limit}
+use Rattle.wt_code.specs.declared.refusals.Refusal.TheVariants as told
+use Rattle.wt_code.specs.declared.refusals.Refusal.TheVariants.{NoMemory, NoSpace, DiskFault, Corrupt, Limit as Refusal_Limit}
 use Rattle.wt_code.specs.declared.refusals.Limit.TheVariants.{Checkpoints, Image}
-use Rattle.wt_tool.specs.Points.{Point, Ran, Installed, IsLater, DidClose, IsNumberOf, NewestRows, MayTakeAt, around, device_of, point_of, stops, closed, last_number}
-use Rattle.wt_tool.specs.Narrow.{IsOver, ClosesOne}
-use Rattle.wt_tool.specs.Closes.{next_numbers, HasCheckpoint, Closes}
-use Rattle.wt_tool.specs.Top.{OpensToOne, Pending}
-use Rattle.wt_tool.specs.Parts.{MeetsTable, Leaves, silent_run, NoDamage}
+use Rattle.kv_model.specs.Machine.{Machine, Completed, Checkpoint, Transaction, Phase, Running, Failed, Prepared, Resolving, Leaving, Event, CheckpointStart, CheckpointFinish, GoDown, of_some, after, transaction_of}
+use Rattle.kv_model.specs.Outside.{Storing, Stored as StoredWhole, NoPlace, ReadFailed, WriteFailed, Unfinished}
+use Rattle.kv_model.specs.Decisions.{Outcome, Done as IsDone, Refused as NotDone, StartCall, checked, decision, first_session, is_resolving, is_there, unless_found}
+use Rattle.kv_model.specs.Closing.{close_busy, close_decision, close_refused, closing, first_held, is_ending, is_held, last_checkpoint, last_stored, rolling_back, after_all}
+use Rattle.kv_model.specs.Told.{Tells}
+use Rattle.kv_model.specs.Calls.{rolled_back}
+use Rattle.kv_model.specs.Content.{Content, start, IsLayered, OpensAs}
+use Rattle.kv_model.specs.Reads.{IsEnding}
+use Rattle.kv_model.specs.Valid.{Valid}
+use Rattle.kv_model.proofs.Closes.{close-ends}
+use Rattle.stored.specs.Stored.{Stored, Reads, IsOn, content_of}
+use Rattle.stored.specs.Opens.{Opens}
+use Rattle.stored.proofs.Device.{one_choice}
+use Rattle.checkpoint_core.specs.Stands.{HasStill}
+use Rattle.checkpoint_core.specs.Finishes.{IsOld, IsEither}
+use Rattle.one_table.specs.Closings.{content_was}
+use Rattle.engine_world.specs.Stands.{Engine, Stands}
+use Rattle.engine_world.specs.Worlds.{World, Resting}
+use Rattle.engine_world.proofs.HubMoves.{decided-up}
+use Rattle.engine_world.proofs.Rollbacks.{up-living}
+use Rattle.engine.specs.Checkpoints.{MayStart, started_as}
+use Rattle.engine.specs.Closes.{busy_in, close_told, is_under_way, unfinished_in}
+use Rattle.engine.proofs.Closes.{resting-ends}
+use Rattle.ckpt_step.specs.Checkpoints.{IsCheckpointOf}
+use Rattle.ckpt_step.specs.Grounds.{number_of}
+use Rattle.ckpt_step.specs.Laws.{CheckpointsOpen}
+use Rattle.ckpt_step.specs.Plain.{GoesPlain, RollsBackPlain}
+use Rattle.ckpt_step.specs.Sizes.{IsOver}
+use Rattle.ckpt_step.specs.Takes.{Takes, WhyNot, IsOfCheckpoint}
+use Rattle.engine_store.specs.declared.store.Store.{Store}
+use Rattle.engine_store.specs.Closes.{rolled, Closes as StoreCloses}
+use Rattle.wt_tool.specs.Points.{Point, Installed, IsLater, DidClose, IsNumberOf, MayTakeAt, device_of, point_of, stops, closed, last_number}
+use Rattle.wt_tool.specs.Narrow.{ClosesOne}
+use Rattle.wt_tool.specs.Top.{EachReads, OpensToOne, Pending}
+use Rattle.wt_tool.specs.Parts.{IsQuiet, IsPlainOn, LeavesAt, NoDamage}
 
--- the content of a device with one table
-pub one_reads : (slot : Slot) (n : Numbers) (t : Table) (link : Link) (rows : List Row) (c : List ℕ) → n.sequence ≡ slot.sequence → IsOn c (one_stored slot n t link rows) → Reads c (leaf_content n.marks t rows)
-one_reads slot n t link rows c same on =
-    new_reads n t link rows (addr_in slot) c (subst (λ k. IsOn c (one_stored (record slot { sequence = k }) n t link rows)) (sym same) on)
+-- ---- the content of what a device has
 
--- ---- where a checkpoint follows
-
-pub follows : (bytes : List ℕ) (place : Place) (n : Numbers) (t : Table) (next : ℕ) (there : HasCheckpoint bytes place n t) (numbers : Numbers) → numbers ≡ next_numbers n next → (slot : Slot) → slot.sequence ≡ numbers.sequence
-    → IsNext (chosen_of (Some (one_stored there.slot n t there.link there.rows))) slot
-follows bytes place n t next there numbers are slot is = is ∙ (ap (λ (m : Numbers). m.sequence) are ∙ ap (λ k. k + 1) there.sequence)
-
-pub content_there : (bytes : List ℕ) (place : Place) (n : Numbers) (t : Table) (there : HasCheckpoint bytes place n t) (content : Content) → Reads bytes content → content_was (Some (one_stored there.slot n t there.link there.rows)) ≡ content
-content_there bytes place n t there content reads = one_content bytes _ content (inr (one_stored there.slot n t there.link there.rows, there.serves.still, refl)) reads
-
--- a test of a length that fails
-pub not_fit : (b : Bool) (n most : ℕ) → (IsTrue b → n ≤ most) × (n ≤ most → IsTrue b) → b ≡ false → most < n
-not_fit b n most test is = elim (cases_lt most n) [
-  | inl less ↦ less
-  | inr le ↦ absurd (false≢true (sym is ∙ test.1 le))
-]
-
-module _ {D : Type 0} (g : Ghosts D) (fault full : Type 0) (old new : D) (result : Result (Unit {0}) Refusal) (t : Table) (rows : List Row) where
-  pub installs_as : (was content : Content) (m numbers : Numbers) → was ≡ content → m ≡ numbers → Installs g fault full was (leaf_content m.marks t rows) old new result
-      → Installs g fault full content (leaf_content numbers.marks t rows) old new result
-  installs_as was content m numbers same are installs =
-      subst (λ (k : Content). Installs g fault full k (leaf_content numbers.marks t rows) old new result) same
-      (subst (λ (k : Numbers). Installs g fault full was (leaf_content k.marks t rows) old new result) are installs)
-
--- ---- what rows that were kept are
-
-pub keeps_meets : (bytes : List ℕ) (place : Place) (k : Kept) (content : Content) → Keeps bytes place k → Reads bytes content → MeetsTable content k
-keeps_meets bytes place k content keeps reads =
-    let is : content ≡ leaf_content k.numbers.marks (table_of k.entry) keeps.rows = one_content bytes content _ reads (one_reads keeps.slot k.numbers (table_of k.entry) keeps.link keeps.rows bytes keeps.sequence keeps.serves.still) in
-    let rows = keeps.serves.still.whole.trees.0.bear.0.leaf in
-    let are : AreFit keeps.rows = record { fit = rows.fit; ascend = rows.ascend } in
-    subst (λ (c : Content). MeetsTable c k) (sym is) (record {
-      run = refl;
-      oldest = refl;
-      stable = refl;
-      shows = subst (λ (l : List Row). Shows (k.numbers.marks.run + 1) 1 k.numbers.marks.oldest k.numbers.marks.stable (table_of k.entry) l (base (leaf_content k.numbers.marks (table_of k.entry) keeps.rows))) (sym keeps.kept)
-          (opening k.numbers.marks (table_of k.entry) keeps.rows are keeps.form.numbers.stamps);
-    })
-
--- and of what content they are kept
-pub keeps_from : (bytes : List ℕ) (place : Place) (k : Kept) (content : Content) → Keeps bytes place k → Reads bytes content
-    → (rows : List Row) × (content ≡ leaf_content k.numbers.marks (table_of k.entry) rows) × (k.rows ≡ kept_rows k.numbers.marks rows)
-keeps_from bytes place k content keeps reads =
-    (keeps.rows, one_content bytes content _ reads (one_reads keeps.slot k.numbers (table_of k.entry) keeps.link keeps.rows bytes keeps.sequence keeps.serves.still), keeps.kept)
-
-pub newest_shown : (m : Machine) (run next oldest stable : ℕ) (t : Table) (rows : List Row) → Shows run next oldest stable t rows m.history → NewestRows m rows
-newest_shown m run next oldest stable t rows s = record { table = t; only = s.table; fit = s.fit; newest = λ key. heads run next oldest stable t rows m.history key s }
-
--- rows that are the newest of one machine are one
-newest_one : (m : Machine) (rows others : List Row) → NewestRows m rows → NewestRows m others → rows ≡ others
-newest_one m rows others a b =
-    let tables_same : (a.table ∷ []) ≡ (b.table ∷ []) = sym a.only ∙ b.only in
-    let same : a.table ≡ b.table = cc in
-    ones rows others a.fit b.fit (λ key. sym (a.newest key) ∙ ap (λ (t : Table). head_of (line m.history t.number key)) same ∙ b.newest key)
-
--- ---- Close
+pub still_reads : (old : Option Stored) (c : List ℕ) → HasStill old c → Reads c (content_was old)
+still_reads None c blank = inl (blank, refl)
+still_reads (Some s) c on = inr (s, on, refl)
 
 -- what was opened opens as the checkpoint that it was read from
 pub start_opens : (content : Content) → IsLayered content → OpensAs content (start content).completed
 start_opens content layered = record { layered = layered; oldest = refl; stable = refl; agrees = record { same_tables = refl; cores = λ t k. refl } }
 
-abbrev pub nobody : Unfinished
+-- ---- the number
+
+numbered : (bytes : List ℕ) (old : Option Stored) → HasStill old bytes → IsNumberOf bytes (number_of old)
+numbered bytes None blank = inl (blank, refl)
+numbered bytes (Some s) on = inr (s.slot, on.chosen, sym on.whole.sequence)
+
+most_number : (bytes : List ℕ) (old : Option Stored) → HasStill old bytes → last_number ≤ number_of old → number_of old ≡ last_number
+most_number bytes None blank last = absurd (omega (arith, last))
+most_number bytes (Some s) on last = omega (arith, last, on.whole.is_record.sequence)
+
+not_last : (bytes : List ℕ) (old : Option Stored) → HasStill old bytes → number_of old < last_number → IsNumberOf bytes last_number → ⊥
+not_last bytes old has less (inl (blank, none)) = absurd (omega (arith, none))
+not_last bytes None has less (inr (slot, chosen, last)) = let e : None ≡ Some slot = chooses_one bytes None (Some slot) has.shut chosen in absurd (cc)
+not_last bytes (Some s) has less (inr (slot, chosen, last)) =
+    let one : slot ≡ s.slot = one_choice bytes slot s.slot chosen has.chosen in
+    absurd (omega (arith, less, last, has.whole.sequence, ap (λ (x : Slot). x.sequence) one))
+
+-- ---- who is in the way of a close
+
+abbrev nobody : Unfinished
 nobody = record { eviction = None; calls = [] }
 
--- a machine whose Close finds nobody in its way and no transaction
+-- no session of a quiet engine that is up is held
+session_free : (e : Engine) (w : World) → Stands e w → IsQuiet w → w.machine.fault ≡ None → (session : ℕ) → is_held (unfinished_in w).calls session (transaction_of w.machine session) ≡ false
+session_free e w stands quiet up session = ap (λ (b : Bool). b || of_some false (λ (t : Transaction). is_ending t.phase) (transaction_of w.machine session)) rests ∙ by_there (transaction_of w.machine session) refl
+  where
+    rests : slice_index_or (unfinished_in w).calls session false ≡ false
+    rests = get_or-map is_under_way w.sessions session Resting ∙ ap is_under_way (quiet.sessions session)
+
+    living : (t : Transaction) → transaction_of w.machine session ≡ Some t → (q : Phase) → t.phase ≡ q → IsEnding q → ⊥
+    living t there q is ending = elim (slice_get_cases e.sessions session).1 [
+      | inl (a, within, at, same) ↦ up-living w.machine session t q up (resting-ends e w session a stands at (quiet.sessions session)) there is ending
+      | inr (past, none) ↦ let none : None ≡ Some t = sym (get_or_past w.machine.sessions session None (omega (arith, past, stands.count))) ∙ there in absurd (cc)
+    ]
+
+    by_phase : (t : Transaction) → transaction_of w.machine session ≡ Some t → (q : Phase) → t.phase ≡ q → is_ending q ≡ false
+    by_phase t there Running is = refl
+    by_phase t there Failed is = refl
+    by_phase t there (Prepared stamp) is = refl
+    by_phase t there Resolving is = absurd (living t there Resolving is tt)
+    by_phase t there Leaving is = absurd (living t there Leaving is tt)
+
+    by_there : (o : Option Transaction) → transaction_of w.machine session ≡ o → of_some false (λ (t : Transaction). is_ending t.phase) o ≡ false
+    by_there None none = refl
+    by_there (Some t) there = by_phase t there t.phase refl
+
+none_held : (calls : List Bool) (at : ℕ) (ts : List (Option Transaction)) → ((i : ℕ) → is_held calls (at + i) (slice_index_or ts i None) ≡ false) → first_held calls at ts ≡ None
+none_held calls at [] free = refl
+none_held calls at (t ∷ ts) free =
+    let n : at + 0 ≡ at = omega arith in
+    let here : is_held calls at t ≡ false = subst (λ (k : ℕ). is_held calls k t ≡ false) n (free 0) in
+    ap (λ (b : Bool). if b then Some at else first_held calls (at + 1) ts) here
+    ∙ none_held calls (at + 1) ts (λ i. let m : at + suc i ≡ (at + 1) + i = omega arith in subst (λ (k : ℕ). is_held calls k (slice_index_or ts i None) ≡ false) m (free (suc i)))
+
+-- a session with no call is held no more than with one
+held_less : (calls : List Bool) (session : ℕ) (t : Option Transaction) → is_held calls session t ≡ false → is_held [] session t ≡ false
+held_less calls session t free = by_call (slice_index_or calls session false) free
+  where
+    by_call : (b : Bool) → (b || of_some false (λ (t : Transaction). is_ending t.phase) t) ≡ false → of_some false (λ (t : Transaction). is_ending t.phase) t ≡ false
+    by_call true is = absurd (cc)
+    by_call false is = is
+
+-- no checkpoint runs, and nobody is held
+free_close : (m : Machine) (calls : List Bool) → m.checkpoint ≡ None → first_held calls 0 m.sessions ≡ None → close_busy m (record { eviction = None; calls = calls }) ≡ None
+free_close m calls idle none =
+    ap (λ (c : Option Checkpoint). if is_there c then Some who.Checkpoint else option_map who.Resolving (first_held calls 0 m.sessions)) idle
+    ∙ ap (option_map who.Resolving) none
+
+-- a machine that is up and that no one keeps from its close
 pub record IsIdle (m : Machine) : Type 0 where
   pub up : m.fault ≡ None
   pub free : close_busy m nobody ≡ None
-  pub quiet : rolling_back 0 m.sessions ≡ []
-  pub decides : (number : ℕ) (storing : Storing) → close_decision m nobody number storing ≡ last_checkpoint number storing
+
+pub quiet_busy : (e : Engine) (w : World) → Stands e w → IsQuiet w → w.machine.fault ≡ None → w.machine.checkpoint ≡ None → busy_in w ≡ None
+quiet_busy e w stands quiet up idle = free_close w.machine (unfinished_in w).calls idle (none_held (unfinished_in w).calls 0 w.machine.sessions (λ i. let n : i ≡ 0 + i = omega arith in
+    subst (λ (k : ℕ). is_held (unfinished_in w).calls k (transaction_of w.machine i) ≡ false) n (session_free e w stands quiet up i)))
+
+pub quiet_idle : (e : Engine) (w : World) → Stands e w → IsQuiet w → w.machine.fault ≡ None → w.machine.checkpoint ≡ None → IsIdle w.machine
+quiet_idle e w stands quiet up idle = record {
+  up = up;
+  free = free_close w.machine [] idle (none_held [] 0 w.machine.sessions (λ i. let n : i ≡ 0 + i = omega arith in
+      subst (λ (k : ℕ). is_held [] k (transaction_of w.machine i) ≡ false) n (held_less (unfinished_in w).calls i (transaction_of w.machine i) (session_free e w stands quiet up i))));
+}
+
+-- ---- what is decided
+
+after_append : (m : Machine) (events later : List Event) → after_all m (events ++ later) ≡ after_all (after_all m events) later
+after_append m [] later = refl
+after_append m (event ∷ events) later = after_append (after m event) events later
+
+module _ (m : Machine) (is : IsIdle m) where
+  decides : (number : ℕ) (storing : Storing) → close_decision m nobody number storing ≡ closing m (last_checkpoint number storing)
+  decides number storing =
+      ap (of_some (of_some (closing m (last_checkpoint number storing)) (λ (busy : Busy). close_refused (told.Busy busy)) (close_busy m nobody)) (λ (fault : Fault). close_refused (told.Panic fault))) is.up
+      ∙ ap (of_some (closing m (last_checkpoint number storing)) (λ (busy : Busy). close_refused (told.Busy busy))) is.free
+
+  rolls_first : (events : List Event) → after_all m (rolling_back 0 m.sessions ++ events) ≡ after_all (rolled_back m) events
+  rolls_first events = after_append m (rolling_back 0 m.sessions) events
+
+  -- no transaction is left
+  none_left : (session : ℕ) → transaction_of (rolled_back m) session ≡ None
+  none_left session =
+      subst (λ (x : Machine). transaction_of x session ≡ None) (rolls_first [])
+      (subst (λ (d : Outcome × List Event). transaction_of (after_all m d.1) session ≡ None) (decides 0 NoPlace) (close-ends m nobody 0 NoPlace is.up is.free session))
 
 -- below the last number a checkpoint is as the device takes it
 below_last : (number : ℕ) (storing : Storing) → number < last_number → last_checkpoint number storing ≡ last_stored storing
@@ -130,199 +178,268 @@ below_last number storing less = elim (cases_Bool (nat_le last_number number)) [
   | inr low ↦ rw low refl
 ]
 
--- the machine after its own checkpoint
-abbrev pub closed_from : Machine → Machine
-closed_from m = after_all m (CheckpointStart ∷ CheckpointFinish ∷ [])
+-- ---- where a checkpoint may start
 
-module _ {D : Type 0} (g : Ghosts D) (old new : D) (counts : g.moment old ≤ g.moment new → (c : List ℕ) → g.may_leave new c → g.left_since new (g.moment old) c) (now : (c : List ℕ) → g.left_since new (g.moment new) c → g.may_leave new c) (content : Content) (layered : IsLayered content) where
-  abbrev pub KeptAll : Type 0
-  KeptAll = LeavesOnly g old new (λ c. Reads c content)
+no_session : (test : Transaction → Bool) (at : ℕ) (ts : List (Option Transaction)) → ((i : ℕ) → slice_index_or ts i None ≡ None) → first_session test at ts ≡ None
+no_session test at [] none = refl
+no_session test at (None ∷ ts) none = no_session test (at + 1) ts (λ i. none (suc i))
+no_session test at (Some t ∷ ts) none = let e : Some t ≡ None = none 0 in absurd (cc)
 
-  abbrev first : Completed
-  first = (start content).completed
+abbrev start_by : Bool → Outcome × Event
+start_by last = checked ((last, Refusal_Limit Checkpoints) ∷ []) (IsDone, CheckpointStart)
 
-  old_opens : (c : List ℕ) → Reads c content → Opens c first
-  old_opens c reads = (content, reads, start_opens content layered)
+-- a machine without transactions counts its checkpoints, and no more
+starts_by : (m : Machine) (number : ℕ) → m.fault ≡ None → m.checkpoint ≡ None → ((session : ℕ) → transaction_of m session ≡ None) → decision m 0 (StartCall number) ≡ start_by (nat_le last_number number)
+starts_by m number up idle none =
+    decided-up m 0 (StartCall number) up
+    ∙ (ap (λ (c : Option Checkpoint). checked ((is_there c, told.Busy who.Checkpoint) ∷ []) (unless_found (first_session (λ t. is_resolving t.phase) 0 m.sessions) who.Resolving (start_by (nat_le last_number number)))) idle
+    ∙ ap (λ (o : Option ℕ). unless_found o who.Resolving (start_by (nat_le last_number number))) (no_session (λ t. is_resolving t.phase) 0 m.sessions none))
+
+module _ (m : Machine) (number : ℕ) (up : m.fault ≡ None) (idle : m.checkpoint ≡ None) (none : (session : ℕ) → transaction_of m session ≡ None) where
+  barred_last : (r : Refusal) → MayStart m number (Err r) → (r ≡ Refusal_Limit Checkpoints) × (last_number ≤ number)
+  barred_last r barred = elim (cases_Bool (nat_le last_number number)) [
+    | inl high ↦ let e : start_by true ≡ started_as (Err r) = sym (starts_by m number up idle none ∙ ap start_by high) ∙ barred in (sym (refusal_is e), leb-true last_number number high)
+    | inr low ↦ let e : start_by false ≡ started_as (Err r) = sym (starts_by m number up idle none ∙ ap start_by low) ∙ barred in absurd (done_not e)
+  ]
+    where
+      refusal_is : start_by true ≡ started_as (Err r) → Refusal_Limit Checkpoints ≡ r
+      refusal_is e = let f : NotDone (Refusal_Limit Checkpoints) ≡ NotDone r = ap (λ (d : Outcome × Event). d.0) e in cc
+
+      done_not : start_by false ≡ started_as (Err r) → ⊥
+      done_not e = let f : IsDone ≡ NotDone r = ap (λ (d : Outcome × Event). d.0) e in cc
+
+  started_below : MayStart m number (Ok tt) → number < last_number
+  started_below may = elim (cases_Bool (nat_le last_number number)) [
+    | inl high ↦ let e : start_by true ≡ started_as (Ok tt) = sym (starts_by m number up idle none ∙ ap start_by high) ∙ may in absurd (last_not e)
+    | inr low ↦ elim (cases_lt number last_number) [
+      | inl less ↦ less
+      | inr le ↦ absurd (false≢true (sym low ∙ le-leb last_number number le))
+    ]
+  ]
+    where
+      last_not : start_by true ≡ started_as (Ok tt) → ⊥
+      last_not e = let f : NotDone (Refusal_Limit Checkpoints) ≡ IsDone = ap (λ (d : Outcome × Event). d.0) e in cc
+
+-- ---- the close
+
+module _ {D : Type 0} (g : Ghosts D) (before after : D) (counts : g.moment before ≤ g.moment after → (c : List ℕ) → g.may_leave after c → g.left_since after (g.moment before) c) (now : (c : List ℕ) → g.left_since after (g.moment after) c → g.may_leave after c)
+    (old : Option Stored) (each : EachReads (g.may_leave before) (content_was old)) (seen : HasStill old (g.seen before)) (count : g.faults before ≤ g.faults after)
+    (m : Machine) (is : IsIdle m) (first : m.completed ≡ (start (content_was old)).completed) (goes : GoesPlain m (rolled_back m)) (valid : Valid (rolled_back m)) (law : CheckpointsOpen) where
+  abbrev was : Content
+  was = content_was old
+
+  abbrev LeavesSo : Result (Unit {0}) Refusal → Type 0
+  LeavesSo result = LeavesAt g ClosesOne m before after result
+
+  abbrev p : Point
+  p = point_of g m before
+
+  abbrev q : Machine → Point
+  q next = point_of g next after
+
+  is_later : g.moment before ≤ g.moment after → IsLater (device_of g before) (device_of g after)
+  is_later le = record { faults = count; moment = le }
+
+  abbrev KeptAll : Type 0
+  KeptAll = LeavesOnly g before after (IsOld (g.may_leave before) old)
+
+  old_reads : (c : List ℕ) → IsOld (g.may_leave before) old c → Reads c was
+  old_reads c (inl image) = each.0 c image
+  old_reads c (inr still) = still_reads old c still
+
+  old_opens : (c : List ℕ) → IsOld (g.may_leave before) old c → Opens c m.completed
+  old_opens c kept = (was, old_reads c kept, subst (λ (k : Completed). OpensAs was k) (sym first) (start_opens was each.1))
 
   -- nothing was installed
-  pub untouched : (Allowed : Point → Ran → Type 0) (result : Result (Unit {0}) Refusal) (next : Machine) → next.completed ≡ first → Allowed (point_of g (start content) old) (silent_run result [] (point_of g next new)) → KeptAll → Leaves g Allowed content old new result
-  untouched Allowed result next same run kept = record {
+  untouched : (r : Refusal) (next : Machine) → next.completed ≡ m.completed → ClosesOne p (stops r (q next)) → KeptAll → LeavesSo (Err r)
+  untouched r next same run kept = record {
     made = [];
     next = next;
     run = run;
-    opens = inl (content, ((λ c left. kept.each c (counts kept.later c left)), layered), subst (λ (k : Completed). OpensAs content k) (sym same) (start_opens content layered));
-    ever = widened g old new _ _ kept (λ c reads. inl (old_opens c reads));
+    opens = inl (was, ((λ c left. old_reads c (kept.each c (counts kept.later c left))), each.1), subst (λ (k : Completed). OpensAs was k) (sym (same ∙ first)) (start_opens was each.1));
+    ever = widened g before after _ _ kept (λ c left. inl (old_opens c left));
     stays = tt;
   }
 
-  -- Close of a machine whose rows these are
-  module _ (Allowed : Point → Ran → Type 0) (mid : Machine) (idle : IsIdle mid) (same : mid.completed ≡ first) (count : g.faults old ≤ g.faults new) (reads : Each (g.may_leave old) (λ c. Reads c content))
-      (embed : (ran : Ran) → ClosesOne (point_of g mid old) ran → Allowed (point_of g (start content) old) ran) (rows : List Row) (newest : NewestRows mid rows) where
-    rolled : rolled_back mid ≡ mid
-    rolled = ap (after_all mid) idle.quiet
+  -- what a close answers, by how the device took its checkpoint
+  answered : g.moment before ≤ g.moment after → (storing : Storing) (outcome : Outcome) (events : List Event) (answer : Answer (List ℕ)) → MayTakeAt (device_of g before) (device_of g after) (rolled_back m) storing
+      → last_checkpoint (number_of old) storing ≡ (outcome, events) → Tells outcome answer → DidClose p answer (q (after_all (rolled_back m) events))
+  answered le storing outcome events answer took last tells = record {
+    later = is_later le;
+    answers = inr (
+      number_of old,
+      storing,
+      outcome,
+      rolling_back 0 m.sessions ++ events,
+      numbered (g.seen before) old seen,
+      inl took,
+      decides m is (number_of old) storing ∙ ap (closing m) last,
+      tells,
+      sym (rolls_first m is events),
+    );
+  }
 
-    abbrev p : Point
-    p = point_of g mid old
+  -- the last number was taken
+  last_taken : g.moment before ≤ g.moment after → number_of old ≡ last_number → DidClose p (Refused (Refusal_Limit Checkpoints)) (q (rolled_back m))
+  last_taken le last = record {
+    later = is_later le;
+    answers = inr (
+      last_number,
+      StoredWhole,
+      NotDone (Refusal_Limit Checkpoints),
+      rolling_back 0 m.sessions ++ [],
+      subst (λ (k : ℕ). IsNumberOf (g.seen before) k) last (numbered (g.seen before) old seen),
+      inr (λ other. decides m is last_number other ∙ sym (decides m is last_number StoredWhole)),
+      decides m is last_number StoredWhole,
+      refl,
+      sym (rolls_first m is []),
+    );
+  }
 
-    abbrev q : Machine → Point
-    q m = point_of g m new
+  short : g.moment before ≤ g.moment after → DidClose p (Refused NoMemory) (q (rolled_back m))
+  short le = record { later = is_later le; answers = inl (record { is = refl; up = is.up; idle = is.free; left = refl }) }
 
-    is_later : g.moment old ≤ g.moment new → IsLater (device_of g old) (device_of g new)
-    is_later le = record { faults = count; moment = le }
+  up_rolled : (rolled_back m).fault ≡ None
+  up_rolled = goes.fault ∙ is.up
 
-    abbrev TakenSo : ℕ → Storing → Type 0
-    TakenSo number storing = IsTaken (around (device_of g old) (device_of g new)) (rolled_back mid) (close_decision mid nobody number) storing
+  less_of : MayStart (rolled_back m) (number_of old) (Ok tt) → number_of old < last_number
+  less_of may = started_below (rolled_back m) (number_of old) up_rolled goes.plain.idle (none_left m is) may
 
-    taken : (number : ℕ) (storing : Storing) → MayTakeAt (device_of g old) (device_of g new) mid storing → TakenSo number storing
-    taken number storing may = inl (subst (λ (m : Machine). MayTakeAt (device_of g old) (device_of g new) m storing) (sym rolled) may)
+  -- a refusal that leaves the engine up
+  refused_by : (r : Refusal) → KeptAll → WhyNot (Rose (g.faults before) (g.faults after)) (g.seen before) (g.capacity before) (rolled_back m) (number_of old) r → LeavesSo (Err r)
+  refused_by r kept (inl barred) =
+      let last = barred_last (rolled_back m) (number_of old) up_rolled goes.plain.idle (none_left m is) r barred in
+      let same = most_number (g.seen before) old seen last.1 in
+      subst (λ (x : Refusal). LeavesSo (Err x)) (sym last.0)
+      (untouched (Refusal_Limit Checkpoints) (rolled_back m) goes.completed
+      (inr (inr (inr (subst (λ (k : ℕ). IsNumberOf (g.seen before) k) same (numbered (g.seen before) old seen)), inr (Refusal_Limit Checkpoints, q (rolled_back m), last_taken kept.later same, inl refl))))
+      kept)
+  refused_by r kept (inr (inl none)) =
+      subst (λ (x : Refusal). LeavesSo (Err x)) (sym none)
+      (untouched NoMemory (rolled_back m) goes.completed (inr (inl (q (rolled_back m), short kept.later, refl))) kept)
+  refused_by r kept (inr (inr (may, inl (told_image, over)))) =
+      subst (λ (x : Refusal). LeavesSo (Err x)) (sym told_image)
+      (untouched (Refusal_Limit Image) (rolled_back m) goes.completed
+      (inl (q (rolled_back m), is_later kept.later, refl, over, not_last (g.seen before) old seen (less_of may), refl))
+      kept)
+  refused_by r kept (inr (inr (may, inr (fit, inl (told_space, full))))) =
+      subst (λ (x : Refusal). LeavesSo (Err x)) (sym told_space)
+      (untouched NoSpace (rolled_back m) goes.completed
+      (inr (inr (inl fit, inr (NoSpace, q (rolled_back m), answered kept.later NoPlace (NotDone NoSpace) [] (Refused NoSpace) full (below_last (number_of old) NoPlace (less_of may)) refl, inl refl))))
+      kept)
+  refused_by r kept (inr (inr (may, inr (fit, inr (told_disk, rose))))) =
+      subst (λ (x : Refusal). LeavesSo (Err x)) (sym told_disk)
+      (untouched DiskFault (rolled_back m) goes.completed
+      (inr (inr (inl fit, inr (DiskFault, q (rolled_back m), answered kept.later ReadFailed (NotDone DiskFault) [] (Refused DiskFault) rose (below_last (number_of old) ReadFailed (less_of may)) refl, inl refl))))
+      kept)
 
-    -- what Close answers, by the number and how the device took it
-    answered : g.moment old ≤ g.moment new → (number : ℕ) (storing : Storing) (outcome : Outcome) (events : List Event) (answer : Answer (List ℕ)) → IsNumberOf (g.seen old) number → TakenSo number storing
-        → last_checkpoint number storing ≡ (outcome, events) → Tells outcome answer → DidClose p answer (q (after_all mid events))
-    answered le number storing outcome events answer numbered took is tells =
-        record { later = is_later le; answers = inr (number, storing, outcome, events, numbered, took, idle.decides number storing ∙ is, tells, refl) }
+  -- ---- where a checkpoint was installed, or was being installed
 
-    short : g.moment old ≤ g.moment new → DidClose p (Refused NoMemory) (q mid)
-    short le = record { later = is_later le; answers = inl (record { is = refl; up = idle.up; idle = idle.free; left = sym rolled }) }
+  module _ (new : Stored) (checkpoint : IsCheckpointOf (rolled_back m) (number_of old) new) where
+    new_opens : (c : List ℕ) → IsOn c new → OpensAs (content_of new) (closed m)
+    new_opens c on = law (rolled_back m) (number_of old) new valid on.whole.is_record goes.plain.suffice checkpoint
 
-    -- no further checkpoint has a number
-    pub ran_last : IsNumberOf (g.seen old) last_number → KeptAll → Leaves g Allowed content old new (Err (Refusal_Limit Checkpoints))
-    ran_last last kept =
-        untouched Allowed (Err (Refusal_Limit Checkpoints)) mid same
-        (embed (stops (Refusal_Limit Checkpoints) (q mid)) (inr (
-          inr last,
-          inr (
-            Refusal_Limit Checkpoints,
-            q mid,
-            answered kept.later last_number Stored (NotDone (Refusal_Limit Checkpoints)) [] (Refused (Refusal_Limit Checkpoints)) last (inr (λ other. idle.decides last_number other ∙ sym (idle.decides last_number Stored))) refl refl,
-            inl refl,
-          ),
-        ))) kept
+    opens_new : (c : List ℕ) → IsOn c new → Opens c (closed m)
+    opens_new c on = (content_of new, inr (new, on, refl), new_opens c on)
 
-    -- the rows pass one leaf
-    pub ran_over : 32768 < image_length rows → (IsNumberOf (g.seen old) last_number → ⊥) → KeptAll → Leaves g Allowed content old new (Err (Refusal_Limit Image))
-    ran_over long not_last kept =
-        untouched Allowed (Err (Refusal_Limit Image)) mid same
-        (embed (stops (Refusal_Limit Image) (q mid)) (inl (q mid, is_later kept.later, sym rolled, (rows, newest, long), not_last, refl))) kept
+    abbrev own : Option Refusal → Installed
+    own refused = record { checkpoint = closed m; refused = refused; at = g.moment after }
 
-    module _ (number : ℕ) (numbered : IsNumberOf (g.seen old) number) (less : number < last_number) (fits : image_length rows ≤ 32768) (next : Content) (opened : OpensAs next (closed_from mid).completed) where
-      not_over : IsOver mid → ⊥
-      not_over (others, theirs, long) = let one = newest_one mid rows others newest theirs in absurd (omega (arith, fits, subst (λ (l : List Row). 32768 < image_length l) (sym one) long))
+    one : (refused : Option Refusal) (c : List ℕ) → IsEither (g.may_leave before) old new c → OpensToOne m.completed (own refused ∷ []) c
+    one refused c (inl kept) = inl (old_opens c kept)
+    one refused c (inr on) = inr (closed m, inl refl, opens_new c on)
 
-      still : (c : List ℕ) → ReadsOld (g.may_leave old) content c → Reads c content
-      still c (inl image) = reads c image
-      still c (inr kept) = kept
+    pub done : LeavesOnly g before after (IsEither (g.may_leave before) old new) → Each (g.may_leave after) (λ c. IsOn c new) → IsOn (g.seen after) new → MayTakeAt (device_of g before) (device_of g after) (rolled_back m) StoredWhole
+        → (IsOver (rolled_back m) → ⊥) → number_of old < last_number → LeavesSo (Ok tt)
+    done left images on took fit less = record {
+      made = own None ∷ [];
+      next = after_all (rolled_back m) (CheckpointStart ∷ CheckpointFinish ∷ []);
+      run = inr (inr (
+        inl fit,
+        inl (
+          q (after_all (rolled_back m) (CheckpointStart ∷ CheckpointFinish ∷ [])),
+          answered left.later StoredWhole IsDone (CheckpointStart ∷ CheckpointFinish ∷ []) Done took (below_last (number_of old) StoredWhole less) refl,
+          refl,
+        ),
+      ));
+      opens = inl (content_of new, ((λ c image. inr (new, images c image, refl)), (new_opens (g.seen after) on).layered), new_opens (g.seen after) on);
+      ever = widened g before after _ _ left (one None);
+      stays = ((λ told c since. inl (opens_new c (images c (now c since)))), tt);
+    }
 
-      own_is : (closed_from mid).completed ≡ closed mid
-      own_is = ap (λ (m : Machine). (closed_from m).completed) (sym rolled)
+    -- a fault at the gate
+    at_gate : (fault : Fault) → Rose (g.faults before) (g.faults after) → (IsOver (rolled_back m) → ⊥) → number_of old < last_number → LeavesOnly g before after (IsEither (g.may_leave before) old new) → LeavesSo (Err DiskFault)
+    at_gate fault rose fit less left = record {
+      made = own (Some DiskFault) ∷ [];
+      next = after_all (rolled_back m) (GoDown fault ∷ []);
+      run = inr (inr (
+        inl fit,
+        inr (
+          DiskFault,
+          q (after_all (rolled_back m) (GoDown fault ∷ [])),
+          answered left.later (WriteFailed fault) (NotDone DiskFault) (GoDown fault ∷ []) (Refused DiskFault) rose (below_last (number_of old) (WriteFailed fault) less) refl,
+          inr (refl, (fault, refl), refl),
+        ),
+      ));
+      opens = inr (closed m, inl (refl, refl, tt), λ c image. opens c (left.each c (counts left.later c image)));
+      ever = widened g before after _ _ left (one (Some DiskFault));
+      stays = ((λ done c since. absurd (not_none done)), tt);
+    }
+      where
+        not_none : let gone : Option Refusal = Some DiskFault in gone ≡ None → ⊥
+        not_none gone = cc
 
-      news : (c : List ℕ) → Reads c next → Opens c (closed mid)
-      news c held = (next, held, subst (λ (k : Completed). OpensAs next k) own_is opened)
+        opens : (c : List ℕ) → IsEither (g.may_leave before) old new c → Opens c (rolled_back m).completed ⊎ ((k : Completed) × Pending (own (Some DiskFault) ∷ []) k × Opens c k)
+        opens c (inl kept) = inl (subst (λ (k : Completed). Opens c k) (sym goes.completed) (old_opens c kept))
+        opens c (inr on) = inr (closed m, inl (refl, refl, tt), opens_new c on)
 
-      abbrev own : Option Refusal → Installed
-      own refused = record { checkpoint = closed mid; refused = refused; at = g.moment new }
+  -- a fault before the gate
+  fallen_old : (fault : Fault) → Rose (g.faults before) (g.faults after) → (IsOver (rolled_back m) → ⊥) → number_of old < last_number → KeptAll → LeavesSo (Err DiskFault)
+  fallen_old fault rose fit less kept =
+      untouched DiskFault (after_all (rolled_back m) (GoDown fault ∷ [])) goes.completed
+      (inr (inr (
+        inl fit,
+        inr (
+          DiskFault,
+          q (after_all (rolled_back m) (GoDown fault ∷ [])),
+          answered kept.later (WriteFailed fault) (NotDone DiskFault) (GoDown fault ∷ []) (Refused DiskFault) rose (below_last (number_of old) (WriteFailed fault) less) refl,
+          inl refl,
+        ),
+      )))
+      kept
 
-      one : (refused : Option Refusal) (c : List ℕ) → ReadsEither (g.may_leave old) content next c → OpensToOne first (own refused ∷ []) c
-      one refused c (inl kept) = inl (old_opens c (still c kept))
-      one refused c (inr held) = inr (closed mid, inl refl, news c held)
+-- what a close takes, of a machine that rolled its transactions back
+module _ {D : Type 0} (g : Ghosts D) (before after : D) (counts : g.moment before ≤ g.moment after → (c : List ℕ) → g.may_leave after c → g.left_since after (g.moment before) c) (now : (c : List ℕ) → g.left_since after (g.moment after) c → g.may_leave after c)
+    (old : Option Stored) (each : EachReads (g.may_leave before) (content_was old)) (seen : HasStill old (g.seen before)) (count : g.faults before ≤ g.faults after) (law : CheckpointsOpen) (rolls : RollsBackPlain) (s s' : Store) (w : World) (on : IsPlainOn (content_was old) s.engine w) where
+  is_idle : IsIdle w.machine
+  is_idle = quiet_idle s.engine w on.stands on.quiet on.up on.plain.idle
 
-      refused_by : (r : Refusal) → g.moment old ≤ g.moment new → IsCloseRefusal (Rose (g.faults old) (g.faults new)) (IsFullFor (g.seen old) (g.capacity old) rows) r → DidClose p (Refused r) (q mid)
-      refused_by r le (inl none) = subst (λ (x : Refusal). DidClose p (Refused x) (q mid)) (sym none) (short le)
-      refused_by r le (inr (inl (is, full))) =
-          subst (λ (x : Refusal). DidClose p (Refused x) (q mid)) (sym is)
-          (answered le number NoPlace (NotDone NoSpace) [] (Refused NoSpace) numbered (taken number NoPlace (block_sizes rows, (rows, newest, refl), full)) (below_last number NoPlace less) refl)
-      refused_by r le (inr (inr (is, rose))) =
-          subst (λ (x : Refusal). DidClose p (Refused x) (q mid)) (sym is)
-          (answered le number ReadFailed (NotDone DiskFault) [] (Refused DiskFault) numbered (taken number ReadFailed rose) (below_last number ReadFailed less) refl)
+  goes_plain : GoesPlain w.machine (rolled_back w.machine)
+  goes_plain = rolls w.machine on.stands.valid on.plain
 
-      -- a fault at the gate
-      at_gate : Rose (g.faults old) (g.faults new) → LeavesOnly g old new (ReadsEither (g.may_leave old) content next) → Leaves g Allowed content old new (Err DiskFault)
-      at_gate rose run = record {
-        made = own (Some DiskFault) ∷ [];
-        next = after_all mid (GoDown Sync ∷ []);
-        run = embed (silent_run (Err DiskFault) (own (Some DiskFault) ∷ []) (q (after_all mid (GoDown Sync ∷ [])))) (inr (
-          inl not_over,
-          inr (
-            DiskFault,
-            q (after_all mid (GoDown Sync ∷ [])),
-            answered run.later number (WriteFailed Sync) (NotDone DiskFault) (GoDown Sync ∷ []) (Refused DiskFault) numbered (taken number (WriteFailed Sync) rose) (below_last number (WriteFailed Sync) less) refl,
-            inr (refl, (Sync, refl), refl),
-          ),
-        ));
-        opens = inr (closed mid, inl (refl, refl, tt), λ c left. opens c (run.each c (counts run.later c left)));
-        ever = widened g old new _ _ run (one (Some DiskFault));
-        stays = ((λ is c left. absurd (not_none is)), tt);
-      }
-        where
-          not_none : let gone : Option Refusal = Some DiskFault in gone ≡ None → ⊥
-          not_none gone = cc
+  module _ (middle : Engine) (stands : Stands middle (rolled w)) where
+    less : MayStart (rolled_back w.machine) (number_of old) (Ok tt) → number_of old < last_number
+    less may = less_of g before after counts now old each seen count w.machine is_idle on.completed goes_plain stands.valid law may
 
-          opens : (c : List ℕ) → ReadsEither (g.may_leave old) content next c → Opens c mid.completed ⊎ ((k : Completed) × Pending (own (Some DiskFault) ∷ []) k × Opens c k)
-          opens c (inl kept) = inl (subst (λ (k : Completed). Opens c k) (sym same) (old_opens c (still c kept)))
-          opens c (inr held) = inr (closed mid, inl (refl, refl, tt), news c held)
+    by_takes : (result : Result (Unit {0}) Refusal) → Takes g old (rolled w) s.ground s'.ground middle s'.engine before after result → LeavesAt g ClosesOne w.machine before after result
+    by_takes (Ok end) t = done g before after counts now old each seen count w.machine is_idle on.completed goes_plain stands.valid law t.new t.is t.leaves t.each t.on.stands.seen_has t.had_room t.fit (less t.may)
+    by_takes (Err r) (inl not) = refused_by g before after counts now old each seen count w.machine is_idle on.completed goes_plain stands.valid law r not.leaves not.why
+    by_takes (Err r) (inr f) = subst (λ (x : Refusal). LeavesAt g ClosesOne w.machine before after (Err x)) (sym f.is) (elim f.leaves [
+      | inl kept ↦ fallen_old g before after counts now old each seen count w.machine is_idle on.completed goes_plain stands.valid law f.fault f.rose f.fit (less f.may) kept
+      | inr (new, checkpoint, left) ↦ at_gate g before after counts now old each seen count w.machine is_idle on.completed goes_plain stands.valid law new checkpoint f.fault f.rose f.fit (less f.may) left
+    ])
 
-      pub ran_close : (result : Result (Unit {0}) Refusal) → Installs g (Rose (g.faults old) (g.faults new)) (IsFullFor (g.seen old) (g.capacity old) rows) content next old new result → Leaves g Allowed content old new result
-      ran_close (Ok end) (run, each, room) = record {
-        made = own None ∷ [];
-        next = closed_from mid;
-        run = embed (silent_run (Ok end) (own None ∷ []) (q (closed_from mid))) (inr (
-          inl not_over,
-          inl (
-            q (closed_from mid),
-            answered run.later number Stored IsDone (CheckpointStart ∷ CheckpointFinish ∷ []) Done numbered (taken number Stored (block_sizes rows, (rows, newest, refl), room)) (below_last number Stored less) refl,
-            refl,
-          ),
-        ));
-        opens = inl (next, ((λ c left. each c left), opened.layered), opened);
-        ever = widened g old new _ _ run (one None);
-        stays = ((λ done c left. inl (news c (each c (now c left)))), tt);
-      }
-      ran_close (Err r) (why, inl run) =
-          let kept : KeptAll = widened g old new _ _ run still in
-          untouched Allowed (Err r) mid same (embed (stops r (q mid)) (inr (inl not_over, inr (r, q mid, refused_by r kept.later why, inl refl)))) kept
-      ran_close (Err r) (why, inr (is, failed, run)) = subst (λ (x : Refusal). Leaves g Allowed content old new (Err x)) (sym is) (at_gate failed run)
+  not_kept : (r : Refusal) → close_told w.machine.fault (busy_in w) ≡ Err r → ⊥
+  not_kept r why =
+      let e : close_told None None ≡ Err r = sym (ap (λ (f : Option Fault). close_told f (busy_in w)) on.up ∙ ap (close_told None) (quiet_busy s.engine w on.stands on.quiet on.up on.plain.idle)) ∙ why in
+      cc
 
--- what a checkpoint of the machine's rows opens as
-pub news_of : (m : Machine) (n : Numbers) (next : ℕ) (t : Table) (rows : List Row) → Shows (n.marks.run + 1) next n.marks.oldest n.marks.stable t rows m.history → m.oldest ≡ n.marks.oldest → m.stable ≡ n.marks.stable
-    → OpensAs (leaf_content (next_numbers n next).marks t rows) (closed_from m).completed
-news_of m n next t rows s oldest stable =
-    subst (λ k. OpensAs (leaf_content (next_numbers n next).marks t rows) (record { content = cut m.history (length m.history) m.stable; oldest = k; stable = m.stable })) (sym oldest)
-    (subst (λ k. OpensAs (leaf_content (next_numbers n next).marks t rows) (record { content = cut m.history (length m.history) k; oldest = n.marks.oldest; stable = k })) (sym stable)
-    (closing (n.marks.run + 1) next n.marks.oldest n.marks.stable t rows m.history s))
-
-module _ {D : Type 0} (g : Ghosts D) (old new : D) (counts : g.moment old ≤ g.moment new → (c : List ℕ) → g.may_leave new c → g.left_since new (g.moment old) c) (now : (c : List ℕ) → g.left_since new (g.moment new) c → g.may_leave new c) (content : Content) (layered : IsLayered content)
-    (Allowed : Point → Ran → Type 0) (mid : Machine) (idle : IsIdle mid) (same : mid.completed ≡ (start content).completed) (count : g.faults old ≤ g.faults new) (reads : Each (g.may_leave old) (λ c. Reads c content))
-    (embed : (ran : Ran) → ClosesOne (point_of g mid old) ran → Allowed (point_of g (start content) old) ran)
-    (place : Place) (n : Numbers) (t : Table) (there : HasCheckpoint (g.seen old) place n t) (next : ℕ) (rows : List Row)
-    (s : Shows (n.marks.run + 1) next n.marks.oldest n.marks.stable t rows mid.history) (oldest : mid.oldest ≡ n.marks.oldest) (stable : mid.stable ≡ n.marks.stable) where
-  newest : NewestRows mid rows
-  newest = newest_shown mid (n.marks.run + 1) next n.marks.oldest n.marks.stable t rows s
-
-  numbered : IsNumberOf (g.seen old) n.sequence
-  numbered = inr (there.slot, there.serves.still.chosen, sym there.sequence)
-
-  -- the number of the chosen slot
-  not_last : n.sequence < last_number → IsNumberOf (g.seen old) last_number → ⊥
-  not_last less (inl (blank, none)) = absurd (omega (arith, none))
-  not_last less (inr (slot, chosen, last)) =
-      let one : slot ≡ there.slot = one_choice (g.seen old) slot there.slot chosen there.serves.still.chosen in
-      absurd (omega (arith, less, there.sequence, last, ap (λ (x : Slot). x.sequence) one))
-
-  -- the next checkpoint of the table, at the end of a run
-  pub ran_closes : (result : Result (Unit {0}) Refusal) → Closes g (Rose (g.faults old) (g.faults new)) (IsFullFor (g.seen old) (g.capacity old) rows) n t rows next content old new result
-      → Leaves g Allowed content old new result
-  ran_closes result (inl (is, last, kept)) =
-      subst (λ (r : Result (Unit {0}) Refusal). Leaves g Allowed content old new r) (sym is)
-      (ran_last g old new counts now content layered Allowed mid idle same count reads embed rows newest (subst (λ k. IsNumberOf (g.seen old) k) last numbered) (widened g old new _ _ kept reads))
-  ran_closes result (inr (inl (is, less, long, kept))) =
-      subst (λ (r : Result (Unit {0}) Refusal). Leaves g Allowed content old new r) (sym is)
-      (ran_over g old new counts now content layered Allowed mid idle same count reads embed rows newest long (not_last less) (widened g old new _ _ kept reads))
-  ran_closes result (inr (inr (less, fits, installs))) =
-      ran_close g old new counts now content layered Allowed mid idle same count reads embed rows newest n.sequence numbered less fits
-      (leaf_content (next_numbers n next).marks t rows) (news_of mid n next t rows s oldest stable) result installs
+  pub ran_close : (result : Result (Unit {0}) Refusal) → StoreCloses g old w s s' before after result → LeavesAt g ClosesOne w.machine before after result
+  ran_close (Ok end) last = by_takes last.middle last.stands (Ok end) last.takes
+  ran_close (Err r) (inl kept) = absurd (not_kept r kept.why)
+  ran_close (Err r) (inr last) = by_takes last.middle last.stands (Err r) last.takes
 
 -- a close tells of no damage
-pub close_sound : (r : Refusal) → IsOfClose r → NoDamage r
-close_sound r (inl is) = subst NoDamage (sym is) tt
-close_sound r (inr (inl is)) = subst NoDamage (sym is) tt
-close_sound r (inr (inr is)) = subst NoDamage (sym is) tt
+pub close_sound : (r : Refusal) → IsOfCheckpoint r → NoDamage r
+close_sound (Corrupt at want found) is = absurd is
+close_sound _ is = tt

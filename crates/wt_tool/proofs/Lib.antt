@@ -1,10 +1,11 @@
-mod Did
+mod Called
 mod Closings
-mod Creates
 mod Gets
+mod Going
+mod Leading
+mod Leaving
 mod Naming
+mod Putting
 mod Unfaulted
 mod ScriptRuns
 mod Running
-mod Sessions
-mod Writes

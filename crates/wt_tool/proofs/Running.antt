@@ -1,5 +1,5 @@
 -- What a run of a command is to the definitions.
-use Rattle.std.specs.Prelude.{◌≡◌, ◌⊎◌, ℕ, ◌+◌, ◌<◌, List, [], ◌∷◌, ◌++◌, filter, length, Option, Some, None, IfSome, IfErr, OnOk, Result, Ok, Err, refl}
+use Rattle.std.specs.Prelude.{◌≡◌, ◌⊎◌, ℕ, ◌+◌, ◌<◌, List, [], ◌∷◌, ◌++◌, filter, length, Option, Some, None, IfErr, IfOk, OnOk, Result, Ok, Err, refl}
 use Rattle.std.proofs.Common.{inl, inr, sym, ap, subst, ◌∙◌, arith}
 use Rattle.std.specs.List.{AllByRecursion}
 use Rattle.std.proofs.lemmas.List.{append-nil}
@@ -8,83 +8,99 @@ use Rattle.disk_model.specs.Crash.{LeavesOnly, Looked}
 use Rattle.disk_model.specs.declared.disk.Disk.{Ghosts}
 use Rattle.disk_model.proofs.Crash.{joined, widened}
 use Rattle.kv_model.specs.Machine.{Machine, Completed}
-use Rattle.kv_model.specs.Content.{Content, nothing, start, IsLayered}
-use Rattle.stored.specs.Stored.{Reads, content_of}
+use Rattle.kv_model.specs.Content.{Content, start, IsLayered}
+use Rattle.stored.specs.Stored.{Stored, Reads, IsOn, IsBlank}
 use Rattle.wt_code.specs.declared.refusals.Refusal.{Refusal}
 use Rattle.wt_code.specs.declared.refusals.Refusal.TheVariants.{NoMemory, DiskFault, Corrupt}
 use Rattle.wt_io.specs.Streams.{Gave, Took}
-use Rattle.one_table.specs.declared.opening.Kept.{Kept}
-use Rattle.one_table.specs.declared.opening.Opened.{Opened as Held}
-use Rattle.one_table.specs.OneTable.{HoldsOne, IsInForm, table_of, one_stored}
-use Rattle.one_table.specs.Openings.{IsOpened as Finds, KeepsOr, InForm, OpenRefused}
-use Rattle.one_table.proofs.Opens.{damage_no_content}
-use Rattle.stored.proofs.Device.{one_content}
+use Rattle.device_layout.specs.declared.link.Link.{Link}
+use Rattle.turtle.proofs.Choice.{chooses_one}
+use Rattle.kv_model.specs.History.{Table}
+use Rattle.checkpoint_core.specs.Stands.{HasStill}
+use Rattle.one_table.specs.Closings.{content_was}
+use Rattle.recover_open.specs.Flat.{IsFlat}
+use Rattle.recover_open.proofs.Devices.{damage_no_content}
+use Rattle.recover_open.proofs.Steps.{refused_further}
+use Rattle.ckpt_step.specs.Grounds.{AreRoots}
+use Rattle.engine_store.specs.declared.store.Store.{Store}
+use Rattle.engine_store.specs.Opened.{HasNumbers, IsOpened, OpenRefused}
+use Rattle.stored.proofs.Device.{one_content, one_stored}
 use Rattle.wt_line.specs.Line.{Asked, script}
 use Rattle.script_run.specs.Scripts.{Outside, counts}
 use Rattle.wt_tool.specs.Points.{Point, Ran, Installed, point_of, device_of, stops, last_number}
 use Rattle.wt_tool.specs.Openings.{RefusesOpening, MayOpen, Opens}
 use Rattle.wt_tool.specs.Commands.{Runs, RunsOpened}
-use Rattle.wt_tool.specs.Parts.{NoDamage, Meets, IsFrom, Leaves, Reading, Scripting, met_of, end_of, silent_run}
+use Rattle.wt_tool.specs.Parts.{NoDamage, IsOpenedOn, Starts, Leaves, Reading, Scripting, met_of, end_of, silent_run}
 use Rattle.wt_tool.specs.Top.{Went, Telling, IsSo, Tells, IsTold, IsCut, IsOpenable, Streams, Errors, OpensToLast, Stays, lines, last_line, status_of, first_status, status_at}
-use Rattle.wt_tool.proofs.Closings.{keeps_meets, keeps_from, start_opens}
+use Rattle.wt_tool.specs.Narrow.{IsWide}
+use Rattle.wt_tool.proofs.Closings.{still_reads, start_opens}
 
 -- ---- the opening
 
--- a device that an opening finds something on is one of those that are read
-pub holds_one : (bytes : List ℕ) (o : Held) → Finds bytes o → HoldsOne bytes
-holds_one bytes o finds = of_kept o.kept finds
-  where
-    of_kept : (k : Option Kept) → KeepsOr bytes o.place k → HoldsOne bytes
-    of_kept None serves = inl serves.still
-    of_kept (Some k) keeps = inr (keeps.slot, k.numbers, table_of k.entry, keeps.link, keeps.rows, keeps.form, keeps.serves.still)
+-- the checkpoint that is on the device is the one that was opened
+one_still : (bytes : List ℕ) (old : Option Stored) (s : Stored) → HasStill old bytes → IsOn bytes s → old ≡ Some s
+one_still bytes None s blank on = let e : None ≡ Some s.slot = chooses_one bytes None (Some s.slot) blank.shut on.chosen in absurd (cc)
+one_still bytes (Some t) s there on = ap (λ (x : Stored). Some x) (one_stored bytes t s there on)
 
--- another run may follow the content's
-pub run_below : (bytes : List ℕ) (o : Held) (content : Content) → Finds bytes o → Reads bytes content → content.run < last_number
-run_below bytes o content finds reads = of_kept o.kept finds
-  where
-    of_kept : (k : Option Kept) → KeepsOr bytes o.place k → content.run < last_number
-    of_kept None serves = subst (λ (x : Content). x.run < last_number) (sym (one_content _ _ _ reads (inl (serves.still, refl)))) (omega (arith))
-    of_kept (Some k) keeps =
-        subst (λ (x : Content). x.run < last_number) (sym (one_content _ _ _ reads (inr (one_stored keeps.slot k.numbers (table_of k.entry) keeps.link keeps.rows, keeps.serves.still, refl)))) keeps.run
+run_below : (old : Option Stored) → HasNumbers old → (content_was old).run < last_number
+run_below None numbers = omega (arith)
+run_below (Some s) numbers = numbers.0
 
--- and it reads
-pub finds_reads : (bytes : List ℕ) (o : Held) → Finds bytes o → IsOpenable bytes
-finds_reads bytes o finds = of_kept o.kept finds
-  where
-    of_kept : (k : Option Kept) → KeepsOr bytes o.place k → IsOpenable bytes
-    of_kept None serves = (nothing, inl (serves.still, refl))
-    of_kept (Some k) keeps = (content_of (one_stored keeps.slot k.numbers (table_of k.entry) keeps.link keeps.rows), inr (one_stored keeps.slot k.numbers (table_of k.entry) keeps.link keeps.rows, keeps.serves.still, refl))
+flat_still : (known : List Table) (links : List Link) (s : Stored) → AreRoots known links (Some s) → IsFlat s.kept
+flat_still known links s roots = roots.flat
 
-pub may_open : {D : Type 0} (g : Ghosts D) (disk : D) (o : Held) (content : Content) → Finds (g.seen disk) o → Reads (g.seen disk) content → MayOpen (point_of g (start content) disk)
-may_open g disk o content finds reads = record {
-  narrow = λ wide. wide (holds_one (g.seen disk) o finds);
-  run = λ same. omega (arith, run_below (g.seen disk) o content finds reads, same);
-}
+-- of a store that was opened on a disk which was looked at
+module _ {D : Type 0} (g : Ghosts D) (old mid : D) (s : Store) (looked : Looked g old mid) (opened : IsOpenedOn g mid s) where
+  still_there : HasStill opened.old (g.seen old)
+  still_there = subst (λ (l : List ℕ). HasStill opened.old l) looked.content opened.on.stands.seen_has
 
--- what was kept shows the machine of the content's opening
-pub meets : (bytes : List ℕ) (o : Held) (content : Content) → Finds bytes o → Reads bytes content → Meets content o.kept
-meets bytes o content finds reads = of_kept o.kept finds
-  where
-    of_kept : (k : Option Kept) → KeepsOr bytes o.place k → Meets content k
-    of_kept None serves = one_content _ _ _ reads (inl (serves.still, refl))
-    of_kept (Some k) keeps = keeps_meets bytes o.place k content keeps reads
+  one_there : (t : Stored) → IsOn (g.seen old) t → opened.old ≡ Some t
+  one_there t on = one_still (g.seen old) opened.old t still_there on
 
--- and the content is that of which it is kept
-pub comes_from : (bytes : List ℕ) (o : Held) (content : Content) → Finds bytes o → Reads bytes content → IsFrom o.kept content
-comes_from bytes o content finds reads = of_kept o.kept finds
-  where
-    of_kept : (k : Option Kept) → KeepsOr bytes o.place k → IsFrom k content
-    of_kept None serves = one_content _ _ _ reads (inl (serves.still, refl))
-    of_kept (Some k) keeps = keeps_from bytes o.place k content keeps reads
+  pub opened_reads : IsOpenable (g.seen old)
+  opened_reads = (content_was opened.old, still_reads opened.old (g.seen old) still_there)
+
+  module _ (content : Content) (reads : Reads (g.seen old) content) where
+    was : content ≡ content_was opened.old
+    was = one_content (g.seen old) content (content_was opened.old) reads (still_reads opened.old (g.seen old) still_there)
+
+    pub may_open : MayOpen (point_of g (start content) old)
+    may_open = record {
+      narrow = λ wide. wide.2 (flat_still s.engine.hub.tables.tables s.ground.leaves.items wide.0 (subst (λ (o : Option Stored). AreRoots s.engine.hub.tables.tables s.ground.leaves.items o) (one_there wide.0 wide.1) opened.on.roots));
+      numbers = λ used. absurd (omega (arith, used.2, (subst (λ (o : Option Stored). HasNumbers o) (one_there used.0 used.1) opened.numbers).1));
+      run = λ same. omega (arith, same, subst (λ (c : Content). c.run < last_number) (sym was) (run_below opened.old opened.numbers));
+    }
+
+    -- the engine starts on the content
+    pub starts_on : Starts content s.engine
+    starts_on = subst (λ (c : Content). Starts c s.engine) (sym was) opened.starts
+
+pub ok_map : {T E : Type 0} {P Q : T → Type 0} (r : Result T E) → IfOk r P → ((x : T) → P x → Q x) → IfOk r Q
+ok_map (Ok x) is more = more x is
+ok_map (Err e) is more = tt
+
+pub opened_on : {D : Type 0} (g : Ghosts D) (disk : D) (s : Store) → IsOpened (g.seen disk) (g.may_leave disk) s → IsOpenedOn g disk s
+opened_on g disk s opened = record { old = opened.old; numbers = opened.numbers; on = opened.on; starts = opened.world }
+
+-- a refusal of an opening that began later
+pub open_further : (fault later : Type 0) (h k : Type 0) (bytes : List ℕ) (r : Refusal) → OpenRefused later k bytes r → (later → fault) → (h → k) → OpenRefused fault h bytes r
+open_further fault later h k bytes r (inl why) more known = inl (refused_further fault later h k bytes r why more known)
+open_further fault later h k bytes r (inr (is, why)) more known = inr (is, λ x. why (known x))
+
+-- a device that reads as something is blank or has a checkpoint
+wide_of : (bytes : List ℕ) (content : Content) → Reads bytes content → ((s : Stored) → IsOn bytes s → IsFlat s.kept → ⊥) → (IsBlank bytes → ⊥) → IsWide bytes
+wide_of bytes content (inl (blank, is)) none shut = absurd (shut blank)
+wide_of bytes content (inr (s, on, is)) none shut = (s, on, none s on)
 
 -- why a device that reads is not opened
 pub refused_open : {D : Type 0} (g : Ghosts D) (old new : D) (known : Type 0) (content : Content) (r : Refusal) → known → Reads (g.seen old) content → OpenRefused (Rose (g.faults old) (g.faults new)) known (g.seen old) r
     → RefusesOpening (point_of g (start content) old) (device_of g new) r
-refused_open g old new known content r k reads (inl failed) = inl failed
-refused_open g old new known content r k reads (inr (inl none)) = inr (inl none)
-refused_open g old new known content r k reads (inr (inr (inl (is, why)))) = inr (inr (inl (is, why k)))
-refused_open g old new known content r k reads (inr (inr (inr (inl (is, why))))) = inr (inr (inr (is, ap (λ n. n + 1) (why k content reads))))
-refused_open g old new known content r k reads (inr (inr (inr (inr (at, want, found, is, why))))) = absurd (damage_no_content (g.seen old) at want found content (why k) reads)
+refused_open g old new known content r k reads (inl (inl failed)) = inl failed
+refused_open g old new known content r k reads (inl (inr (inl none))) = inr (inl none)
+refused_open g old new known content r k reads (inl (inr (inr (inl (is, why))))) = inr (inr (inr (inr (is, ap (λ n. n + 1) (why k content reads)))))
+refused_open g old new known content r k reads (inl (inr (inr (inr (inl (is, why, shut)))))) = inr (inr (inl (is, wide_of (g.seen old) content reads (why k) (shut k))))
+refused_open g old new known content r k reads (inl (inr (inr (inr (inr (at, want, found, is, why)))))) = absurd (damage_no_content (g.seen old) at want found content (why k) reads)
+refused_open g old new known content r k reads (inr (is, why)) = inr (inr (inr (inl (is, why k))))
 
 -- a disk that was only looked at
 pub opens_of : {D : Type 0} (g : Ghosts D) (m : Machine) (old mid : D) → Looked g old mid → Opens (point_of g m old) (point_of g m mid)
@@ -135,11 +151,12 @@ told_so honest bytes e status t = record { refusals = t.refusals; each = each t.
 
 -- damage that an opening tells is there
 pub opening_so : (fault known : Type 0) (bytes : List ℕ) (r : Refusal) → OpenRefused fault known bytes r → IsSo known bytes r
-opening_so fault known bytes r (inl (is, failed)) = subst (IsSo known bytes) (sym is) tt
-opening_so fault known bytes r (inr (inl is)) = subst (IsSo known bytes) (sym is) tt
-opening_so fault known bytes r (inr (inr (inl (is, why)))) = subst (IsSo known bytes) (sym is) tt
-opening_so fault known bytes r (inr (inr (inr (inl (is, why))))) = subst (IsSo known bytes) (sym is) tt
-opening_so fault known bytes r (inr (inr (inr (inr (at, want, found, is, why))))) = subst (IsSo known bytes) (sym is) why
+opening_so fault known bytes r (inl (inl (is, failed))) = subst (IsSo known bytes) (sym is) tt
+opening_so fault known bytes r (inl (inr (inl is))) = subst (IsSo known bytes) (sym is) tt
+opening_so fault known bytes r (inl (inr (inr (inl (is, why))))) = subst (IsSo known bytes) (sym is) tt
+opening_so fault known bytes r (inl (inr (inr (inr (inl (is, why, shut)))))) = subst (IsSo known bytes) (sym is) tt
+opening_so fault known bytes r (inl (inr (inr (inr (inr (at, want, found, is, why)))))) = subst (IsSo known bytes) (sym is) why
+opening_so fault known bytes r (inr (is, why)) = subst (IsSo known bytes) (sym is) tt
 
 pub status_some : (r : Refusal) (status : ℕ) → (status ≡ status_of r) ⊎ (status ≡ 12) → status ≡ 0 → ⊥
 status_some r status (inr twelve) none = omega (arith, twelve, none)
@@ -233,7 +250,3 @@ module _ {D : Type 0} (g : Ghosts D) (old new : D) (content : Content) (layered 
     ever = λ c left. inl (content, since c left, start_opens content layered);
     stays = subst (λ (l : List Installed). Stays (g.left_since new) l) (sym went.none) tt;
   }
-
-pub kept_form : (o : Option Kept) → InForm o → IfSome o (λ k. IsInForm k.numbers (table_of k.entry) × (k.numbers.marks.run < last_number))
-kept_form None is = tt
-kept_form (Some k) is = (is.form, is.run)

@@ -11,12 +11,7 @@ use Rattle.wt_code.specs.declared.refusals.Refusal.{Refusal}
 use Rattle.wt_code.specs.declared.refusals.Refusal.TheVariants.{DiskFault, NoMemory, Invalid as Refusal_Invalid}
 use Rattle.wt_code.specs.declared.refusals.Invalid.TheVariants.{Text}
 use Rattle.wt_io.specs.Streams.{Gave, Took}
-use Rattle.kv_model.specs.Content.{Content, nothing}
 use Rattle.kv_model.specs.Machine.{Machine}
-use Rattle.leaf_rows.specs.Contents.{leaf_content}
-use Rattle.one_table.specs.declared.opening.Kept.{Kept}
-use Rattle.one_table.specs.OneTable.{table_of}
-use Rattle.one_table.specs.Openings.{InForm}
 use Rattle.wt_calls.specs.declared.call.Call.{Call}
 use Rattle.wt_calls.specs.declared.call.Call.TheVariants as call
 use Rattle.wt_calls.specs.declared.system_call.SystemCall.TheVariants as system
@@ -37,7 +32,7 @@ use Rattle.script_run.specs.Scripts.{Script, Outside, Ran as LinesRan, RunsLines
 use Rattle.script_run.specs.Runs.{IsRun}
 use Rattle.wt_tool.specs.Points.{Device, Point}
 use Rattle.wt_tool.specs.Scripts.{opened_world, told_at, ran_by}
-use Rattle.wt_tool.specs.Parts.{IsFrom, Scripting, TellsEnd, NoDamage}
+use Rattle.wt_tool.specs.Parts.{Scripting, TellsEnd, NoDamage}
 use Rattle.wt_tool.specs.Top.{Streams, Errors, Telling, Tells, lines, last_line, status_of, status_at, first_status}
 use Rattle.wt_tool.proofs.Unfaulted.{IsOther, IsQuiet, IsToldQuiet, IsCalm, IsBuiltCall, start_calm, go_on_calm, out_calm, answer_calm, opened_calm}
 
@@ -237,22 +232,6 @@ scripted o m d w e told status run tells = record {
   same = run.checkpoint;
 }
 
--- no engine was made for want of memory
-pub unstarted : (o : Outside) (m : Machine) (d : Device) (w : Streams) (status : ℕ) → Gave w.in_before w.in_now [] → Took w.out_before w.out_now [] → Tells w.errors (lines (NoMemory ∷ [])) 12 status
-    → Scripting o (record { machine = m; device = d }) w status
-unstarted o m d w status gave took tells =
-    let made : LinesRan = ends (Stopped NoMemory) (fresh (opened_world m)) in
-    record {
-      ran = ran_by d [] made;
-      run = record { given = []; texts = []; behind = []; ended = false; at_end = λ is. absurd cc; lines = refl; made = made; runs = inr (inr refl); whole = λ is. refl; is = refl };
-      taken = gave;
-      printed = inl took;
-      told = subst (λ (l : List ℕ). Tells w.errors l 12 status) (sym (append-nil (lines (NoMemory ∷ [])))) tells;
-      none = refl;
-      there = refl;
-      same = refl;
-    }
-
 -- four actors that have started nothing
 pub four_rest : {A B : Type 0} (xs : List A) → length xs ≡ 4 → let none : Option B = None in map (λ (x : A). none) xs ≡ none ∷ none ∷ none ∷ none ∷ []
 four_rest [] is = absurd (omega (arith, is))
@@ -261,11 +240,6 @@ four_rest (a ∷ b ∷ []) is = absurd (omega (arith, is))
 four_rest (a ∷ b ∷ c ∷ []) is = absurd (omega (arith, is))
 four_rest (a ∷ b ∷ c ∷ d ∷ []) is = refl
 four_rest (a ∷ b ∷ c ∷ d ∷ e ∷ xs) is = absurd (omega (arith, is))
-
--- what was opened is kept of some content
-pub started : (k : Option Kept) → InForm k → (content : Content) × IsFrom k content
-started None form = (nothing, refl)
-started (Some k) form = (leaf_content k.numbers.marks (table_of k.entry) k.rows, (k.rows, refl, sym form.kept))
 
 -- no device
 pub nowhere : Device

@@ -8,7 +8,6 @@ pub mod Reads
 pub mod Scripts
 pub mod Commands
 pub mod Top
-pub mod Closes
-pub mod Answers
 pub mod Parts
+pub mod Led
 pub mod Later

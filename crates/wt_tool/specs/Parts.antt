@@ -1,5 +1,5 @@
 -- What the private functions of the commands leave.
-use Rattle.std.specs.Prelude.{◌≡◌, ℕ, ◌+◌, List, [], ◌∷◌, ◌++◌, Option, Some, None, Result, Ok, Err, ◌⊎◌, IsTrue}
+use Rattle.std.specs.Prelude.{◌≡◌, ◌≢◌, ℕ, List, [], ◌∷◌, ◌++◌, Option, None, slice_index_or, Result, Ok, Err, ◌⊎◌, IsTrue}
 use Rattle.std.specs.Option.{option_to_list}
 use Rattle.failure.specs.Counts.{Rose}
 use Rattle.disk_model.specs.Crash.{LeavesOnly}
@@ -7,12 +7,7 @@ use Rattle.disk_model.specs.declared.disk.Disk.{Ghosts}
 use Rattle.wt_code.specs.declared.refusals.Refusal.{Refusal}
 use Rattle.wt_code.specs.declared.refusals.Refusal.TheVariants.{Corrupt, DiskFault, NoMemory}
 use Rattle.kv_model.specs.Machine.{Machine}
-use Rattle.kv_model.specs.Content.{Content, base, nothing, start}
-use Rattle.one_table.specs.declared.opening.Kept.{Kept}
-use Rattle.one_table.specs.OneTable.{table_of}
-use Rattle.row_page.specs.Rows.{Row}
-use Rattle.leaf_rows.specs.Contents.{leaf_content, kept_rows}
-use Rattle.one_session.specs.Shows.{Shows}
+use Rattle.kv_model.specs.Content.{Content, start}
 use Rattle.wt_io.specs.Streams.{Gave}
 use Rattle.wt_io.specs.declared.streams.Source.{Ghosts as SourceGhosts}
 use Rattle.wt_io.specs.declared.streams.Sink.{Ghosts as SinkGhosts}
@@ -21,26 +16,18 @@ use Rattle.engine_world.specs.Systems.{first_world}
 use Rattle.script_run.specs.declared.script.End.{End}
 use Rattle.script_run.specs.declared.script.End.TheVariants.{Through, Stopped}
 use Rattle.script_run.specs.Scripts.{Outside, outside}
+use Rattle.engine_world.specs.Worlds.{World, Resting, doing_of}
+use Rattle.stored.specs.Stored.{Stored}
+use Rattle.one_table.specs.Closings.{content_was}
+use Rattle.ckpt_step.specs.Grounds.{StandsOn}
+use Rattle.ckpt_step.specs.Plain.{IsPlain}
+use Rattle.engine_store.specs.declared.store.Store.{Store}
+use Rattle.engine_store.specs.Opened.{HasNumbers}
 use Rattle.wt_line.specs.Line.{Asked}
-use Rattle.wt_tool.specs.Points.{Device, Point, Ran, Installed, point_of}
+use Rattle.wt_tool.specs.Points.{Device, Point, Ran, Installed, point_of, stops}
+use Rattle.wt_tool.specs.Narrow.{ClosesOne}
 use Rattle.wt_tool.specs.Scripts.{RunsScript, told_at}
 use Rattle.wt_tool.specs.Top.{OpensToLast, OpensToOne, Stays, EachReads, Errors, Streams, errors_of, streams_of, Printed, Tells, lines, last_line, status_at, status_by, Went}
-
--- what was kept at the opening of this content: its numbers are the content's, and its rows show the machine
-pub record MeetsTable (content : Content) (k : Kept) : Type 0 where
-  pub run : content.run ≡ k.numbers.marks.run
-  pub oldest : content.oldest ≡ k.numbers.marks.oldest
-  pub stable : content.stable ≡ k.numbers.marks.stable
-  pub shows : Shows (content.run + 1) 1 content.oldest content.stable (table_of k.entry) k.rows (base content)
-
-abbrev pub Meets : Content → Option Kept → Type 0
-Meets content None = content ≡ nothing
-Meets content (Some k) = MeetsTable content k
-
--- the content is that of a device of which this is kept
-abbrev pub IsFrom : Option Kept → Content → Type 0
-IsFrom None content = content ≡ nothing
-IsFrom (Some k) content = (rows : List Row) × (content ≡ leaf_content k.numbers.marks (table_of k.entry) rows) × (k.rows ≡ kept_rows k.numbers.marks rows)
 
 -- it tells of no damage
 abbrev pub NoDamage : Refusal → Type 0
@@ -64,14 +51,18 @@ end_of (Err r) = Stopped r
 abbrev pub silent_run : Result (Unit {0}) Refusal → List Installed → Point → Ran
 silent_run result made next = record { input = []; text = []; refusals = met_of result; replies = []; made = made; next = next; end = end_of result }
 
--- such a run that the definitions allow, and the device that it left, at each moment and in each image
-pub record Leaves {D : Type 0} (g : Ghosts D) (Allowed : Point → Ran → Type 0) (content : Content) (old new : D) (result : Result (Unit {0}) Refusal) : Type 0 where
+-- such a run from this machine on that the definitions allow, and the device that it left, at each moment and in each image
+pub record LeavesAt {D : Type 0} (g : Ghosts D) (Allowed : Point → Ran → Type 0) (m : Machine) (old new : D) (result : Result (Unit {0}) Refusal) : Type 0 where
   pub made : List Installed
   pub next : Machine
-  pub run : Allowed (point_of g (start content) old) (silent_run result made (point_of g next new))
+  pub run : Allowed (point_of g m old) (silent_run result made (point_of g next new))
   pub opens : OpensToLast (g.may_leave new) next.completed made
-  pub ever : LeavesOnly g old new (OpensToOne (start content).completed made)
+  pub ever : LeavesOnly g old new (OpensToOne m.completed made)
   pub stays : Stays (g.left_since new) made
+
+-- the same of the machine that an opening makes
+abbrev pub Leaves : {D : Type 0} (g : Ghosts D) → (Point → Ran → Type 0) → Content → D → D → Result (Unit {0}) Refusal → Type 0
+Leaves g Allowed content old new result = LeavesAt g Allowed (start content) old new result
 
 -- from an honest disk each of whose images reads with one content, such a run
 abbrev pub LeavesFrom : {D : Type 0} (g : Ghosts D) → (Point → Ran → Type 0) → D → D → Result (Unit {0}) Refusal → Type 0
@@ -94,10 +85,48 @@ pub record Reading (Allowed : Point → Ran → Type 0) (p : Point) (out_before 
   pub there : ran.next.device ≡ p.device
   pub same : ran.next.machine.completed ≡ p.machine.completed
 
--- what `read` gives and tells, of what was kept: what is allowed where a write of the output fails, or does not
-abbrev pub ReadsFrom : {K E : Type 0} (k : SinkGhosts K) (e : SinkGhosts E) → Option Kept → (Type 0 → Point → Ran → Type 0) → K → K → E → E → ℕ → Type 0
-ReadsFrom k e kept Allowed out out_now err err_now status =
-    (content : Content) → Meets content kept → (device : Device)
+-- the engine stands for the world with which the content begins
+abbrev pub Starts : Content → Engine → Type 0
+Starts content engine = Stands engine (first_world content engine)
+
+-- an engine that has just started, on some content, whatever the disk
+abbrev pub HasStarted : Engine → Type 0
+HasStarted engine = (content : Content) × Starts content engine
+
+-- what the disk holds is what the store was opened on
+pub record IsOpenedOn {D : Type 0} (g : Ghosts D) (disk : D) (s : Store) : Type 0 where
+  pub old : Option Stored
+  pub numbers : HasNumbers old
+  pub on : StandsOn (g.seen disk) (g.may_leave disk) s.engine.hub.tables.tables s.ground old
+  pub starts : Starts (content_was old) s.engine
+
+-- ---- quiet engines
+
+-- each session rests, and no actor has started a call
+pub record IsQuiet (w : World) : Type 0 where
+  pub sessions : (session : ℕ) → doing_of w session ≡ Resting
+  pub systems : (number : ℕ) → slice_index_or w.systems number None ≡ None
+
+-- an engine stands for a quiet world in which no commit had a stamp, whose checkpoint is that with which the content began
+pub record IsPlainOn (content : Content) (e : Engine) (w : World) : Type 0 where
+  pub stands : Stands e w
+  pub quiet : IsQuiet w
+  pub plain : IsPlain w.machine
+  pub completed : w.machine.completed ≡ (start content).completed
+  pub up : w.machine.fault ≡ None
+
+abbrev pub at : Device → Machine → Point
+at d m = record { machine = m; device = d }
+
+-- Calls lead from one world to a later one, with the run from the first on: what is run from the later one on is put behind them, or a refusal ends it there. No refusal tells of damage or of the disk.
+abbrev pub Makes : Content → (Point → Ran → Type 0) → World → Engine → Result (Unit {0}) Refusal → Type 0
+Makes content Run w e (Ok done) = (later : World) × IsPlainOn content e later × ((d : Device) (ran : Ran) → ClosesOne (at d later.machine) ran → Run (at d w.machine) ran)
+Makes content Run w e (Err r) = (later : World) × IsPlainOn content e later × NoDamage r × (r ≢ DiskFault) × ((d : Device) → Run (at d w.machine) (stops r (at d later.machine)))
+
+-- what `read` gives and tells, on an engine that has just started: what is allowed where a write of the output fails, or does not
+abbrev pub ReadsOn : {K E : Type 0} (k : SinkGhosts K) (e : SinkGhosts E) → Engine → (Type 0 → Point → Ran → Type 0) → K → K → E → E → ℕ → Type 0
+ReadsOn k e engine Allowed out out_now err err_now status =
+    (content : Content) → Starts content engine → (device : Device)
     → Reading (Allowed (Rose (k.fault_count out) (k.fault_count out_now))) (record { machine = start content; device = device }) (k.written out) (k.written out_now) (errors_of e err err_now) status
 
 -- a run of `script`, which makes no call of the disk
@@ -121,14 +150,6 @@ ScriptsAt s k e content input input_now out out_now err err_now status =
     (device : Device)
     → Scripting (outside s k input input_now out out_now) (record { machine = start content; device = device }) (streams_of s k e input input_now out out_now err err_now) status
 
--- the engine stands for the world with which the content begins
-abbrev pub Starts : Content → Engine → Type 0
-Starts content engine = Stands engine (first_world content engine)
-
 -- the same on an engine that has just started
 abbrev pub ScriptsOn : {S K E : Type 0} (s : SourceGhosts S) (k : SinkGhosts K) (e : SinkGhosts E) → Engine → S → S → K → K → E → E → ℕ → Type 0
 ScriptsOn s k e engine input input_now out out_now err err_now status = (content : Content) → Starts content engine → ScriptsAt s k e content input input_now out out_now err err_now status
-
--- the same on what was kept
-abbrev pub ScriptsFrom : {S K E : Type 0} (s : SourceGhosts S) (k : SinkGhosts K) (e : SinkGhosts E) → Option Kept → S → S → K → K → E → E → ℕ → Type 0
-ScriptsFrom s k e kept input input_now out out_now err err_now status = (content : Content) → IsFrom kept content → ScriptsAt s k e content input input_now out out_now err err_now status

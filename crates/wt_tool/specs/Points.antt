@@ -6,22 +6,16 @@ use Rattle.wt_code.specs.declared.answers.Answer.{Answer}
 use Rattle.wt_code.specs.declared.answers.Answer.TheVariants.{Done, Refused}
 use Rattle.wt_code.specs.declared.refusals.Refusal.{Refusal}
 use Rattle.wt_code.specs.declared.refusals.Refusal.TheVariants.{DiskFault}
-use Rattle.kv_model.specs.AgreementLaws.{head_of}
-use Rattle.kv_model.specs.History.{Table, line, tables}
 use Rattle.failure.specs.declared.Fault.{Fault}
 use Rattle.kv_model.specs.Machine.{Machine, Completed, CheckpointStart, CheckpointFinish}
 use Rattle.kv_model.specs.Outside.{Storing, Stored, NoPlace, ReadFailed, Damaged, WriteFailed}
 use Rattle.kv_model.specs.Closing.{after_all}
 use Rattle.kv_model.specs.Calls.{Actor, System, Call, Close as CloseCall, Around, Answers, OpensSession, rolled_back}
-use Rattle.row_page.specs.Rows.{Row}
 use Rattle.device_layout.specs.declared.slot.Slot.{Slot}
 use Rattle.turtle.specs.Slots.{Chooses}
 use Rattle.stored.specs.Stored.{Stored as OnDevice, IsBlank}
 use Rattle.checkpoint_core.specs.Stands.{HasStill}
-use Rattle.checkpoint_core.specs.Room.{IsFull}
-use Rattle.leaf_rows.specs.Rows.{AreFit}
-use Rattle.one_session.specs.Shows.{shown_at}
-use Rattle.one_table.specs.Closings.{block_sizes}
+use Rattle.ckpt_step.specs.Sizes.{HasRoomFor, IsFullFor}
 use Rattle.script_run.specs.declared.script.End.{End}
 use Rattle.script_run.specs.declared.script.End.TheVariants.{Through, Stopped}
 
@@ -96,21 +90,10 @@ last_number = 2 ^ 62 - 1
 abbrev pub IsNumberOf : List ℕ → ℕ → Type 0
 IsNumberOf bytes n = (IsBlank bytes × (n ≡ 0)) ⊎ ((slot : Slot) × Chooses bytes (Some slot) × (slot.sequence ≡ n))
 
--- the rows have the newest version of each key of the one table
-pub record NewestRows (m : Machine) (rows : List Row) : Type 0 where
-  pub table : Table
-  pub only : tables m.history ≡ table ∷ []
-  pub fit : AreFit rows
-  pub newest : (key : List ℕ) → head_of (line m.history table.number key) ≡ shown_at key rows
-
--- The sizes of the blocks that a checkpoint of this machine writes, in their order. While a table has one leaf the machine tells them.
-abbrev pub AreSizes : Machine → List ℕ → Type 0
-AreSizes m sizes = (rows : List Row) × NewestRows m rows × (sizes ≡ block_sizes rows)
-
 -- how a device takes the blocks of a checkpoint: each has a place, or one of them finds none
 abbrev pub MayTakeAt : Device → Device → Machine → Storing → Type 0
-MayTakeAt old new m Stored = (sizes : List ℕ) × AreSizes m sizes × (IsFull old.seen old.capacity sizes → ⊥)
-MayTakeAt old new m NoPlace = (sizes : List ℕ) × AreSizes m sizes × IsFull old.seen old.capacity sizes
+MayTakeAt old new m Stored = HasRoomFor old.seen old.capacity m
+MayTakeAt old new m NoPlace = IsFullFor old.seen old.capacity m
 MayTakeAt old new m ReadFailed = Rose old.faults new.faults
 MayTakeAt old new m (Damaged offset want found) = ⊥
 MayTakeAt old new m (WriteFailed fault) = Rose old.faults new.faults

@@ -14,7 +14,7 @@ use Rattle.kv_model.specs.Machine.{Completed}
 use Rattle.kv_model.specs.Content.{Content, start, IsLayered, OpensAs}
 use Rattle.stored.specs.Stored.{Reads}
 use Rattle.stored.specs.Opens.{Opens}
-use Rattle.one_table.specs.Damage.{IsDamage}
+use Rattle.recover_open.specs.Damage.{IsDamage}
 use Rattle.wt_line.specs.Line.{Asked, home_in}
 use Rattle.script_run.specs.declared.script.End.{End}
 use Rattle.script_run.specs.declared.script.End.TheVariants.{Through, Stopped, InputFailed, OutputFailed}

@@ -2,9 +2,10 @@
 //!
 //! Promises, on the call that the program makes, that a run is one that the machine's definitions
 //! allow, that the disk it hands back opens to the last completed checkpoint, and that a status
-//! tells its cause. Leaves the real file and the real streams to the program. Today a device holds
-//! one table of one leaf; what else a device holds is refused as `75 limit tables`. A script runs on
-//! an engine that starts on the device's checkpoint, and writes nothing to the device.
+//! tells its cause. Leaves the real file and the real streams to the program. Each command runs on an
+//! engine that starts on the device's checkpoint. Today each table has one leaf: a device with a
+//! larger tree or with a history is refused as `75 limit image`, and so is a close whose rows pass a
+//! leaf. A script writes nothing to the device.
 #![tactic(auto)]
 
 mod closing;
@@ -13,6 +14,7 @@ mod names;
 mod opening;
 mod read;
 mod script;
+mod sessions;
 mod status;
 mod telling;
 #[cfg(test)]

@@ -10,9 +10,6 @@ use item::{Format, Formats, Item};
 use one_table::is_table_name;
 use std::alloc::Global;
 
-/// The length of the longest key, in bytes as stored.
-pub(crate) const KEY_MAX: u64 = 1024;
-
 // Items that are stored as they are.
 pub(crate) fn plain_formats() -> Formats
     ensures { result ≡ plain_formats }
@@ -91,16 +88,16 @@ fn after_scheme(uri: &[u8]) -> &[u8]
     }
 }
 
-// How many bytes the item of a word has.
-pub(crate) fn stored_len(format: Format, word: &str) -> u64
-    ensures { result ≡ length (stored_as format word.now) }
-{
-    item_forms::stored_len(format, word.as_bytes())
-}
-
 // The item of a word. The error is want of memory.
 pub(crate) fn stored_as(alloc: Global, format: Format, word: &str) -> Result<Item, NoMemory>
     ensures { IfOk result (λ item. item ≡ stored_as format word.now) }
 {
     item_forms::stored_as(alloc, format, word.as_bytes())
+}
+
+// An item of these bytes. The error is want of memory.
+pub(crate) fn item_of(alloc: Global, bytes: &[u8]) -> Result<Item, NoMemory>
+    ensures { IfOk result (λ item. item ≡ bytes.now) }
+{
+    Ok(Item::new(Vec::from_slice(alloc, bytes)?))
 }

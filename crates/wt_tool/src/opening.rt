@@ -1,25 +1,26 @@
-// How a command comes to its device.
+// How a command comes to its engine.
 ghost use Rattle.std.specs.Prelude.{◌≡◌, ◌⊎◌, Some, IfOk, IfErr, IsTrue};
 ghost use Rattle.disk_model.specs.Crash.{Looked};
-ghost use Rattle.one_table.specs.Openings.{IsOpened, InForm, RefusesOpen};
-ghost use Rattle.wt_tool.specs.Parts.{IsOfAttach};
+ghost use Rattle.engine_store.specs.Opened.{IsReady, RefusesOpen};
+ghost use Rattle.wt_tool.specs.Parts.{HasStarted, IsOfAttach, IsOpenedOn};
 
 use disk_model::{Home, Unattached};
-use one_table::{Opened, open};
+use engine_store::{Store, open_on};
 use std::alloc::Global;
 use wt_code::Refusal;
 
-// Attaches the disk, and finds what it holds. It changes nothing.
-pub(crate) fn reach<D: Home>(alloc: Global, disk: &mut D, home: &str) -> Result<Opened, Refusal>
-    ensures ok { IsTrue (D.honest disk.old) → IfOk result (IsOpened (D.seen disk.old)) }
-    ensures form { IfOk result (λ o. InForm o.kept) }
+// Attaches the disk, and makes an engine on what it holds. It changes nothing.
+pub(crate) fn reach<D: Home>(alloc: Global, disk: &mut D, home: &str) -> Result<Store, Refusal>
+    ensures ok { IsTrue (D.honest disk.old) → IfOk result (IsOpenedOn D.Disk disk.new) }
+    ensures ready { IfOk result IsReady }
+    ensures started { IfOk result (λ s. HasStarted s.engine) }
     ensures err { IfErr result (RefusesOpen D.Disk (IsTrue (D.honest disk.old)) disk.old disk.new) }
-    ensures told { IfOk result (λ o. D.home disk.new ≡ Some home.now) }
+    ensures told { IfOk result (λ s. D.home disk.new ≡ Some home.now) }
     ensures untold { (D.home disk.new ≡ Some home.now) ⊎ ((D.home disk.new ≡ D.home disk.old) × IfErr result IsOfAttach) }
     ensures looked { Looked D.Disk disk.old disk.new }
 {
     match disk.attach(alloc, home) {
-        Ok(()) => open(alloc, disk),
+        Ok(()) => open_on(alloc, disk),
         Err(Unattached::Failed) => Err(Refusal::DiskFault),
         Err(Unattached::NoMemory) => Err(Refusal::NoMemory),
     }

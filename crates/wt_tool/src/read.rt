@@ -1,38 +1,46 @@
 // `read`: each key's value is printed.
-ghost use Rattle.std.specs.Prelude.{◌≡◌, ◌⊎◌, ◌↔◌, ◌++◌, ◌∷◌, [], ℕ, List, Some, None, Err, length, map, option_map, IsTrue, IfOk, IfErr, OnOk, OnErr};
+ghost use Rattle.std.specs.Prelude.{◌≡◌, ◌⊎◌, ◌↔◌, ◌++◌, ◌∷◌, ◌<◌, [], length, map, IsTrue, OnOk, OnErr};
 ghost use Rattle.failure.specs.Counts.{Rose, HasCause};
 ghost use Rattle.wt_io.specs.Streams.{Took, TookFront};
 ghost use Rattle.kv_model.specs.Decisions.{is_name};
-ghost use Rattle.wt_tool.specs.Answers.{get_answer, IsTextAt};
-ghost use Rattle.wt_tool.specs.Reads.{ReadsKeys, RunsRead};
-ghost use Rattle.wt_tool.specs.Parts.{ReadsFrom, NoDamage};
+ghost use Rattle.engine_world.specs.Stands.{Stands};
+ghost use Rattle.engine_world.specs.Worlds.{World};
+ghost use Rattle.wt_tool.specs.Openings.{formats_at};
+ghost use Rattle.wt_tool.specs.Reads.{RunsRead, ReadsKeys, the_get};
+ghost use Rattle.wt_tool.specs.Parts.{HasStarted, IsQuiet, ReadsOn, NoDamage};
+ghost use Rattle.wt_tool.specs.Led.{BegunBy, GotBy, IsSteady, Leads};
 ghost use Rattle.wt_tool.specs.Top.{Telling, errors_of};
 
-use crate::names::{KEY_MAX, name_of, stored_as, stored_len};
+use crate::names::{item_of, name_of, stored_as};
+use crate::sessions::{call, formats_for, open};
 use crate::status::Status;
 use crate::telling::report;
-use crate::write::{formats_by, value_in};
+use ckpt_step::plain_stays;
+use engine::Local;
+use item::{Formats, Item};
 use item_forms::written_as;
-use one_table::Kept;
 use std::alloc::Global;
-use wt_code::{Invalid, Refusal};
+use wt_calls::{Call, SessionCall};
+use wt_code::{Answer, Invalid, Refusal};
 use wt_io::{Failed, Sink, write_all};
 
 pub(crate) fn read<K: Sink, E: Sink>(
     alloc: Global,
     out: &mut K,
     err: &mut E,
-    kept: Option<&Kept>,
+    engine: Local,
     uri: &str,
     keys: &[&str],
 ) -> u8
-    ensures run { ReadsFrom K.Sink E.Sink (option_map (λ k. k.now) kept.entry) (λ f. RunsRead f uri.now (map (λ s. s.now) keys.now)) out.old out.new err.old err.new result }
+    requires started { HasStarted engine }
+    ensures run { ReadsOn K.Sink E.Sink engine (λ f. RunsRead f uri.now (map (λ s. s.now) keys.now)) out.old out.new err.old err.new result }
     ensures told { Telling NoDamage (errors_of E.Sink err.old err.new) result }
     ensures status { (result ≡ 0) ⊎ ((result ≡ 1) ⊎ ((result ≡ 6) ⊎ (result ≡ 12))) }
     ensures output_fault { result ≡ 6 → Rose (K.fault_count out.old) (K.fault_count out.new) }
 {
+    let mut engine = engine;
     match name_of(uri.as_bytes()) {
-        Some(name) => read_named(alloc, out, err, kept, name, keys),
+        Some(name) => read_named(alloc, out, err, &mut engine, name, keys),
         None => report(alloc, err, &Refusal::Invalid(Invalid::BadName)),
     }
 }
@@ -41,21 +49,27 @@ fn read_named<K: Sink, E: Sink>(
     alloc: Global,
     out: &mut K,
     err: &mut E,
-    kept: Option<&Kept>,
+    engine: &mut Local,
     name: &[u8],
     keys: &[&str],
 ) -> u8
     requires name { IsTrue (is_name name.now) }
-    ensures run { ReadsFrom K.Sink E.Sink (option_map (λ k. k.now) kept.entry) (λ f. ReadsKeys f name.now (map (λ s. s.now) keys.now)) out.old out.new err.old err.new result }
+    requires started { HasStarted engine.old }
+    ensures run { ReadsOn K.Sink E.Sink engine.old (λ f. ReadsKeys f name.now (map (λ s. s.now) keys.now)) out.old out.new err.old err.new result }
     ensures told { Telling NoDamage (errors_of E.Sink err.old err.new) result }
     ensures status { (result ≡ 0) ⊎ ((result ≡ 1) ⊎ ((result ≡ 6) ⊎ (result ≡ 12))) }
     ensures output_fault { result ≡ 6 → Rose (K.fault_count out.old) (K.fault_count out.new) }
 {
+    match begin(alloc, engine) {
+        Ok(()) => {}
+        Err(refusal) => return report(alloc, err, &refusal),
+    }
+    let formats = formats_for(engine, name);
     let mut status = Status::Done as u8;
     for key in keys {
-        match get(alloc, kept, name, key) {
-            Ok(text) => {
-                if print(out, text).is_err() {
+        match get(alloc, engine, name, formats, key) {
+            Ok(value) => {
+                if print(out, written_as(formats.value, value.as_bytes())).is_err() {
                     let _ = write_all(err, b"output fault\n");
                     return Status::OutputFault as u8;
                 }
@@ -72,63 +86,47 @@ fn read_named<K: Sink, E: Sink>(
     status
 }
 
+// A session is opened, and its transaction begins.
+fn begin(alloc: Global, engine: &mut Local) -> Result<(), Refusal>
+    requires started { HasStarted engine.old }
+    ensures led { (w : World) → Stands engine.old w → IsQuiet w → (later : World) × Leads engine.old engine.new w later × BegunBy w.machine later.machine result }
+    ensures there { OnOk result (0 < length engine.new.sessions) }
+{
+    match open(alloc, engine) {
+        Ok(()) => call(alloc, engine, SessionCall::Begin(None)),
+        Err(refusal) => Err(refusal),
+    }
+}
+
+// The value of the key of a word.
+fn get(
+    alloc: Global,
+    engine: &mut Local,
+    name: &[u8],
+    formats: Formats,
+    key: &str,
+) -> Result<Item, Refusal>
+    requires there { 0 < length engine.old.sessions }
+    ensures got { (w : World) → Stands engine.old w → IsQuiet w → formats ≡ formats_at w.machine name.now → (later : World) × Leads engine.old engine.new w later × IsSteady name.now w later × GotBy (the_get w.machine name.now key.now) w.machine later.machine result }
+    ensures there { length engine.new.sessions ≡ length engine.old.sessions }
+{
+    plain_stays();
+    let (Ok(table), Ok(key)) = (item_of(alloc, name), stored_as(alloc, formats.key, key)) else {
+        return Err(Refusal::NoMemory);
+    };
+    match engine.call(alloc, Call::Session(0, SessionCall::Get { table, key })) {
+        Answer::Value(value) => Ok(value),
+        Answer::Refused(refusal) => Err(refusal),
+        _ => Err(Refusal::NoMemory),
+    }
+}
+
 fn is_absence(refusal: &Refusal) -> bool
     ensures { IsTrue result ↔ (refusal.now ≡ Refusal.NotFound) }
 {
     match refusal {
         Refusal::NotFound => true,
         _ => false,
-    }
-}
-
-// What is printed of the value at a key. The error is why there is none, or want of memory.
-fn get<'a>(
-    alloc: Global,
-    kept: Option<&'a Kept>,
-    name: &[u8],
-    key: &str,
-) -> Result<&'a [u8], Refusal>
-    ensures ok { IfOk result (λ text. IsTextAt (option_map (λ k. k.now) kept.entry) name.now key.now text.now) }
-    ensures err { IfErr result (λ r. (r ≡ Refusal.NoMemory) ⊎ (get_answer (option_map (λ k. k.now) kept.entry) name.now key.now ≡ Err r)) }
-    ensures sound { IfErr result NoDamage }
-{
-    match kept {
-        None => Err(nowhere(key.len() as u64)),
-        Some(kept) => get_in(alloc, kept, name, key),
-    }
-}
-
-// The refusal of a get where there is no table.
-fn nowhere(len: u64) -> Refusal
-    ensures why { (word : List ℕ) → length word ≡ len → get_answer None [] word ≡ Err result }
-    ensures sound { NoDamage result }
-{
-    if len > KEY_MAX {
-        Refusal::Invalid(Invalid::KeyLong { len })
-    } else {
-        Refusal::NoTable
-    }
-}
-
-fn get_in<'a>(alloc: Global, kept: &'a Kept, name: &[u8], key: &str) -> Result<&'a [u8], Refusal>
-    ensures ok { IfOk result (λ text. IsTextAt (Some kept.now) name.now key.now text.now) }
-    ensures err { IfErr result (λ r. (r ≡ Refusal.NoMemory) ⊎ (get_answer (Some kept.now) name.now key.now ≡ Err r)) }
-    ensures sound { IfErr result NoDamage }
-{
-    let format = formats_by(&kept.entry, name).key;
-    let len = stored_len(format, key);
-    if len > KEY_MAX {
-        return Err(Refusal::Invalid(Invalid::KeyLong { len }));
-    }
-    if kept.entry.name.as_bytes() != name {
-        return Err(Refusal::NoTable);
-    }
-    let Ok(key) = stored_as(alloc, format, key) else {
-        return Err(Refusal::NoMemory);
-    };
-    match value_in(kept.rows.version(key.as_bytes())) {
-        Some(value) => Ok(written_as(kept.entry.formats.value, value)),
-        None => Err(Refusal::NotFound),
     }
 }
 

@@ -5,6 +5,7 @@ mod crashes;
 mod damage;
 mod faults;
 mod formats;
+mod openings;
 mod scripts;
 mod slots;
 mod stories;
@@ -61,6 +62,15 @@ fn zeros(rt: &impl Abort, alloc: Global, len: usize, capacity: u64) -> MemDisk {
 // What a read of all of the disk gives.
 fn bytes_of(rt: &impl Abort, alloc: Global, disk: &MemDisk) -> Vec<u8> {
     Vec::from_slice(alloc, disk.bytes()).expect(rt, "there is memory")
+}
+
+// The bytes with another one in a place.
+fn with_byte(rt: &impl Abort, content: Vec<u8>, at: usize, old: u8, new: u8) -> Vec<u8> {
+    let mut content = content;
+    assert!(rt; at < content.len());
+    assert_eq!(rt; content[at], old, "at {at}");
+    content[at] = new;
+    content
 }
 
 fn new_device(rt: &impl Abort, alloc: Global) -> MemDisk {

@@ -83,13 +83,13 @@ fn run<S: Source, K: Sink, E: Sink, D: Home>(
     ensures output_fault { result ≡ 6 → Rose (K.fault_count out.old) (K.fault_count out.new) }
     ensures honest { D.honest disk.new ≡ D.honest disk.old }
 {
-    let opened = match reach(alloc, disk, home) {
-        Ok(opened) => opened,
+    let store = match reach(alloc, disk, home) {
+        Ok(store) => store,
         Err(refusal) => return report(alloc, err, &refusal),
     };
     match command {
         Command::Create { config, uri } => {
-            let result = create(alloc, disk, opened, *config, uri);
+            let result = create(alloc, disk, store, *config, uri);
             told(alloc, err, &result)
         }
         Command::Write {
@@ -97,11 +97,11 @@ fn run<S: Source, K: Sink, E: Sink, D: Home>(
             uri,
             pairs,
         } => {
-            let result = write(alloc, disk, opened, *overwrite, uri, pairs);
+            let result = write(alloc, disk, store, *overwrite, uri, pairs);
             told(alloc, err, &result)
         }
-        Command::Read { uri, keys } => read(alloc, out, err, opened.kept.as_ref(), uri, keys),
-        Command::Script => script(alloc, opened, input, out, err),
+        Command::Read { uri, keys } => read(alloc, out, err, store.engine, uri, keys),
+        Command::Script => script(alloc, store.engine, input, out, err),
     }
 }
 

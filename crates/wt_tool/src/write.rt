@@ -1,260 +1,179 @@
 // `write`: each pair is put in a transaction of its own, and then a checkpoint taken.
-ghost use Rattle.std.specs.Prelude.{◌≡◌, ◌⊎◌, ◌≤◌, ◌<◌, ◌↔◌, ◌^◌, ℕ, List, Some, None, length, option_map, IsTrue, IfOk, IfErr, IfSome, OnOk};
+ghost use Rattle.std.specs.Prelude.{◌≡◌, ◌<◌, ◌∷◌, ℕ, List, None, length, IfOk, IfErr, IsTrue};
 ghost use Rattle.failure.specs.Counts.{Rose};
 ghost use Rattle.disk_model.specs.Crash.{SameDisk};
-ghost use Rattle.kv_model.specs.Decisions.{is_name};
-ghost use Rattle.one_session.specs.Shows.{value_in};
-ghost use Rattle.one_session.specs.ShowsLaws.{durable_in};
-ghost use Rattle.one_table.specs.OneTable.{table_of, IsInForm};
-ghost use Rattle.one_table.specs.Openings.{IsOpened};
+ghost use Rattle.kv_model.specs.Content.{Content};
+ghost use Rattle.kv_model.specs.Calls.{Commit};
+ghost use Rattle.wt_calls.specs.Calls.{demand_in, session_call_in};
+ghost use Rattle.engine_world.specs.Stands.{Stands};
+ghost use Rattle.engine_world.specs.Worlds.{World};
+ghost use Rattle.engine_store.specs.Opened.{IsReady};
 ghost use Rattle.wt_line.specs.Line.{pair_texts};
-ghost use Rattle.wt_tool.specs.Points.{last_number};
-ghost use Rattle.wt_tool.specs.Writes.{RunsWrite, WritesPairs, demand_of};
-ghost use Rattle.wt_tool.specs.Answers.{PutsIn, put_nowhere, refusal_in, put_over, rows_in, too_long, formats_by};
-ghost use Rattle.wt_tool.specs.Parts.{LeavesFrom, NoDamage};
+ghost use Rattle.wt_tool.specs.Points.{WithSession};
+ghost use Rattle.wt_tool.specs.Writes.{RunsWrite, PutsPairs, demand_of, the_put};
+ghost use Rattle.wt_tool.specs.Parts.{HasStarted, IsOpenedOn, IsPlainOn, IsQuiet, LeavesFrom, Makes, NoDamage};
+ghost use Rattle.wt_tool.specs.Led.{DoneBy, Grows, IsMild, IsWord, Leads, LedBy, PutsBegun};
 
-use crate::closing::close_next;
-use crate::names::{KEY_MAX, name_of, plain_formats, stored_as, stored_len};
+use crate::closing::close;
+use crate::names::{item_of, name_of, stored_as};
+use crate::sessions::{call, formats_for, open};
+use ckpt_step::plain_stays;
 use disk_model::Disk;
-use item::{Formats, Item};
-use leaf_rows::Rows;
-use one_table::{Entry, Kept, Opened};
-use row_page::CellChange;
-use stamp::{Name, Version, Window};
+use engine::Local;
+use engine_store::Store;
 use std::alloc::Global;
-use wt_code::{Invalid, Limit, Refusal};
-
-const VALUE_MAX: u64 = 16_384; // bytes, as stored
-
-const ID_MAX: u64 = (1 << 62) - 1;
+use wt_calls::{Demand, SessionCall};
+use wt_code::{Invalid, Refusal};
 
 pub(crate) fn write<D: Disk>(
     alloc: Global,
     disk: &mut D,
-    opened: Opened,
+    store: Store,
     overwrite: bool,
     uri: &str,
     pairs: &[(&str, &str)],
 ) -> Result<(), Refusal>
-    requires form { IfSome opened.kept (λ k. IsInForm k.numbers (table_of k.entry) × (k.numbers.marks.run < last_number)) }
-    requires finds { IsTrue (D.honest disk.old) → IsOpened (D.seen disk.old) opened }
+    requires ready { IsReady store }
+    requires started { HasStarted store.engine }
+    requires on { IsTrue (D.honest disk.old) → IsOpenedOn D.Disk disk.old store }
     ensures run { LeavesFrom D.Disk (RunsWrite overwrite uri.now (pair_texts pairs.now)) disk.old disk.new result }
     ensures sound { IfErr result NoDamage }
     ensures fault { IfErr result (λ r. r ≡ Refusal.DiskFault → Rose (D.faults disk.old) (D.faults disk.new)) }
     ensures disk { SameDisk D.Disk disk.old disk.new }
 {
-    match name_of(uri.as_bytes()) {
-        Some(name) => write_named(alloc, disk, opened, overwrite, name, pairs),
-        None => Err(Refusal::Invalid(Invalid::BadName)),
+    plain_stays();
+    let mut store = store;
+    let Some(name) = name_of(uri.as_bytes()) else {
+        return Err(Refusal::Invalid(Invalid::BadName));
+    };
+    if pairs.is_empty() {
+        return Ok(());
+    }
+    match put_all(alloc, &mut store.engine, overwrite, name, pairs) {
+        Ok(()) => close(alloc, disk, &mut store),
+        Err(refusal) => Err(refusal),
     }
 }
 
-fn write_named<D: Disk>(
+// Puts the pairs in their order, by a session of their own. It stops at the first refusal.
+fn put_all(
     alloc: Global,
-    disk: &mut D,
-    opened: Opened,
+    engine: &mut Local,
     overwrite: bool,
     name: &[u8],
     pairs: &[(&str, &str)],
 ) -> Result<(), Refusal>
-    requires name { IsTrue (is_name name.now) }
-    requires form { IfSome opened.kept (λ k. IsInForm k.numbers (table_of k.entry) × (k.numbers.marks.run < last_number)) }
-    requires finds { IsTrue (D.honest disk.old) → IsOpened (D.seen disk.old) opened }
-    ensures run { LeavesFrom D.Disk (WritesPairs name.now (demand_of overwrite) (pair_texts pairs.now)) disk.old disk.new result }
-    ensures sound { IfErr result NoDamage }
-    ensures fault { IfErr result (λ r. r ≡ Refusal.DiskFault → Rose (D.faults disk.old) (D.faults disk.new)) }
-    ensures disk { SameDisk D.Disk disk.old disk.new }
+    requires started { HasStarted engine.old }
+    ensures makes { (content : Content) (w : World) → IsPlainOn content engine.old w → Makes content (WithSession (PutsPairs name.now (demand_of overwrite) (pair_texts pairs.now))) w engine.new result }
+    ensures mild { IfErr result IsMild }
+    ensures grows { Grows engine.old engine.new }
 {
-    if pairs.is_empty() {
-        return Ok(());
+    match open(alloc, engine) {
+        Ok(()) => {}
+        Err(refusal) => return Err(refusal),
     }
-    let Opened { mut place, kept } = opened;
-    match kept {
-        None => put_nowhere(pairs),
-        Some(mut kept) => match put_all(alloc, &mut kept, overwrite, name, pairs) {
-            Ok(next) => close_next(alloc, disk, &mut place, &kept, next),
-            Err(refusal) => Err(refusal),
-        },
-    }
-}
-
-// The refusal of the first pair, where there is no table.
-fn put_nowhere(pairs: &[(&str, &str)]) -> Result<(), Refusal>
-    ensures ok { OnOk result (put_nowhere (pair_texts pairs.now) ≡ None) }
-    ensures err { IfErr result (λ r. put_nowhere (pair_texts pairs.now) ≡ Some r) }
-    ensures sound { IfErr result NoDamage }
-{
-    match pairs {
-        [] => Ok(()),
-        [(key, value), ..] => match too_long(key.len() as u64, value.len() as u64) {
-            Some(refusal) => Err(refusal),
-            None => Err(Refusal::NoTable),
-        },
-    }
-}
-
-// Why a key and a value of these lengths, as stored, are none of any table.
-fn too_long(key: u64, value: u64) -> Option<Refusal>
-    ensures why { (k v : List ℕ) → length k ≡ key → length v ≡ value → result ≡ too_long k v }
-    ensures sound { IfSome result NoDamage }
-{
-    if key > KEY_MAX {
-        Some(Refusal::Invalid(Invalid::KeyLong { len: key }))
-    } else if value > VALUE_MAX {
-        Some(Refusal::Invalid(Invalid::ValueLong { len: value }))
-    } else {
-        None
-    }
-}
-
-// Puts the pairs in their order, and gives the next id. It stops at the first refusal.
-fn put_all(
-    alloc: Global,
-    kept: &mut Kept,
-    overwrite: bool,
-    name: &[u8],
-    pairs: &[(&str, &str)],
-) -> Result<u64, Refusal>
-    requires run { kept.old.numbers.marks.run < last_number }
-    ensures puts { PutsIn kept.old name.now overwrite (pair_texts pairs.now) result kept.new.rows }
-    ensures next { IfOk result (λ n. (1 ≤ n) × (n ≤ 2 ^ 62)) }
-    ensures sound { IfErr result NoDamage }
-    ensures numbers { kept.new.numbers ≡ kept.old.numbers }
-    ensures entry { kept.new.entry ≡ kept.old.entry }
-{
-    let mut id = 1;
     for (key, value) in pairs {
-        match put_one(alloc, kept, id, overwrite, name, key, value) {
+        match put_one(alloc, engine, overwrite, name, key, value) {
             Ok(()) => {}
             Err(refusal) => return Err(refusal),
         }
-        id += 1;
     }
-    Ok(id)
+    Ok(())
 }
 
-// Puts one pair, by the transaction of this id. A refusal leaves the rows as they were.
+// Puts one pair, in a transaction.
 fn put_one(
     alloc: Global,
-    kept: &mut Kept,
-    id: u64,
+    engine: &mut Local,
     overwrite: bool,
     name: &[u8],
     key: &str,
     value: &str,
 ) -> Result<(), Refusal>
-    requires run { kept.old.numbers.marks.run < last_number }
-    requires some { 1 ≤ id }
-    ensures ok { OnOk result ((refusal_in kept.old id name.now overwrite (key.now, value.now) ≡ None) × (kept.new.rows ≡ rows_in kept.old id name.now (key.now, value.now))) }
-    ensures err { IfErr result (λ r. ((r ≡ Refusal.NoMemory) ⊎ (refusal_in kept.old id name.now overwrite (key.now, value.now) ≡ Some r)) × (kept.new.rows ≡ kept.old.rows)) }
-    ensures id { OnOk result (id < 2 ^ 62) }
-    ensures sound { IfErr result NoDamage }
-    ensures numbers { kept.new.numbers ≡ kept.old.numbers }
-    ensures entry { kept.new.entry ≡ kept.old.entry }
+    requires there { 0 < length engine.old.sessions }
+    ensures led { (w : World) → Stands engine.old w → IsQuiet w → (pairs : List (List ℕ × List ℕ))
+        → LedBy (PutsPairs name.now (demand_of overwrite) ((key.now, value.now) ∷ pairs)) (PutsPairs name.now (demand_of overwrite) pairs) engine.old engine.new w result }
+    ensures there { length engine.new.sessions ≡ length engine.old.sessions }
 {
-    let formats = formats_by(&kept.entry, name);
-    let key_len = stored_len(formats.key, key);
-    let value_len = stored_len(formats.value, value);
-    match too_long(key_len, value_len) {
-        Some(refusal) => return Err(refusal),
-        None => {}
-    }
-    if kept.entry.name.as_bytes() != name {
-        return Err(Refusal::NoTable);
-    }
-    let Ok(key) = stored_as(alloc, formats.key, key) else {
-        return Err(Refusal::NoMemory);
-    };
-    match put_over(
-        &kept.rows,
-        kept.numbers.marks.oldest,
-        id,
-        overwrite,
-        key.as_bytes(),
-    ) {
-        Some(refusal) => return Err(refusal),
-        None => {}
-    }
-    let Ok(value) = stored_as(alloc, formats.value, value) else {
-        return Err(Refusal::NoMemory);
-    };
-    let change = CellChange::Put(value);
-    match kept
-        .rows
-        .put(key, version(kept.numbers.marks.run + 1, id, change))
-    {
-        Ok(()) => Ok(()),
-        Err(_) => Err(Refusal::NoMemory),
+    match call(alloc, engine, SessionCall::Begin(None)) {
+        Ok(()) => put_begun(alloc, engine, overwrite, name, key, value),
+        Err(refusal) => Err(refusal),
     }
 }
 
-fn version(run: u64, id: u64, change: CellChange<Item>) -> Version<CellChange<Item>>
-    ensures { result ≡ record { window = record { name = record { run = run; id = id }; commit = 0; durable = 0 }; change = change } }
+// Puts one pair, and commits.
+fn put_begun(
+    alloc: Global,
+    engine: &mut Local,
+    overwrite: bool,
+    name: &[u8],
+    key: &str,
+    value: &str,
+) -> Result<(), Refusal>
+    requires there { 0 < length engine.old.sessions }
+    ensures led { (w : World) → Stands engine.old w → IsQuiet w → (pairs : List (List ℕ × List ℕ))
+        → LedBy (PutsBegun name.now (demand_of overwrite) (key.now, value.now) pairs) (PutsPairs name.now (demand_of overwrite) pairs) engine.old engine.new w result }
+    ensures there { length engine.new.sessions ≡ length engine.old.sessions }
 {
-    Version {
-        window: Window {
-            name: Name { run, id },
-            commit: 0,
-            durable: 0,
-        },
-        change,
+    let put = match put_of(alloc, engine, overwrite, name, key, value) {
+        Ok(put) => put,
+        Err(refusal) => return Err(refusal),
+    };
+    match call(alloc, engine, put) {
+        Ok(()) => commit(alloc, engine),
+        Err(refusal) => Err(refusal),
     }
 }
 
-// The formats of the table, where it has the name.
-pub(crate) fn formats_by(entry: &Entry, name: &[u8]) -> Formats
-    ensures { result ≡ formats_by entry.now name.now }
+// Commits the transaction of the session.
+fn commit(alloc: Global, engine: &mut Local) -> Result<(), Refusal>
+    requires there { 0 < length engine.old.sessions }
+    ensures led { (w : World) → Stands engine.old w → IsQuiet w → (later : World) × Leads engine.old engine.new w later × DoneBy (Commit None None) w.machine later.machine result }
+    ensures there { length engine.new.sessions ≡ length engine.old.sessions }
 {
-    if entry.name.as_bytes() == name {
-        entry.formats
+    let commit = SessionCall::Commit {
+        commit: None,
+        durable: None,
+    };
+    call(alloc, engine, commit)
+}
+
+// The put of a pair of words. The error is want of memory.
+fn put_of(
+    alloc: Global,
+    engine: &Local,
+    overwrite: bool,
+    name: &[u8],
+    key: &str,
+    value: &str,
+) -> Result<SessionCall, Refusal>
+    ensures put { (w : World) → Stands engine.now w → IfOk result (λ call. session_call_in call ≡ the_put w.machine name.now (demand_of overwrite) (key.now, value.now)) }
+    ensures word { IfOk result (λ call. IsWord (session_call_in call)) }
+    ensures short { IfErr result (λ r. r ≡ Refusal.NoMemory) }
+{
+    let formats = formats_for(engine, name);
+    let (Ok(table), Ok(key), Ok(value)) = (
+        item_of(alloc, name),
+        stored_as(alloc, formats.key, key),
+        stored_as(alloc, formats.value, value),
+    ) else {
+        return Err(Refusal::NoMemory);
+    };
+    Ok(SessionCall::Put {
+        table,
+        key,
+        value,
+        demand: demand_for(overwrite),
+    })
+}
+
+// What a put asks of its key: without -o, that it has no value.
+fn demand_for(overwrite: bool) -> Demand
+    ensures { demand_in result ≡ demand_of overwrite }
+{
+    if overwrite {
+        Demand::Anything
     } else {
-        plain_formats()
-    }
-}
-
-// Why a put of a key over what the rows have there is refused, or its commit.
-fn put_over(rows: &Rows, oldest: u64, id: u64, overwrite: bool, key: &[u8]) -> Option<Refusal>
-    ensures why { result ≡ put_over oldest id (demand_of overwrite) key.now rows.now }
-    ensures sound { IfSome result NoDamage }
-{
-    if id > ID_MAX {
-        return Some(Refusal::Limit(Limit::Ids));
-    }
-    let version = rows.version(key);
-    if !overwrite && has_value(version) {
-        return Some(Refusal::DuplicateKey);
-    }
-    let prev = durable_in(version);
-    if prev > oldest {
-        return Some(Refusal::Invalid(Invalid::NoStampAfterStamp { prev }));
-    }
-    None
-}
-
-fn has_value(version: Option<&Version<CellChange<Item>>>) -> bool
-    ensures { IsTrue result ↔ ((value : List ℕ) × (value_in (option_map (λ v. v.now) version.entry) ≡ Some value)) }
-{
-    value_in(version).is_some()
-}
-
-// The value of a version, where it has one.
-pub(crate) fn value_in<'a>(version: Option<&'a Version<CellChange<Item>>>) -> Option<&'a [u8]>
-    ensures { option_map (λ s. s.now) result ≡ value_in (option_map (λ v. v.now) version.entry) }
-{
-    match version {
-        Some(version) => match &version.change {
-            CellChange::Put(value) => Some(value.as_bytes()),
-            CellChange::Remove => None,
-        },
-        None => None,
-    }
-}
-
-fn durable_in(version: Option<&Version<CellChange<Item>>>) -> u64
-    ensures { result ≡ durable_in (option_map (λ v. v.now) version.entry) }
-{
-    match version {
-        Some(version) => version.window.durable,
-        None => 0,
+        Demand::Vacant
     }
 }

@@ -1,5 +1,5 @@
 // The bytes of a device, whole units of them, after each command that writes.
-use super::{created, runs};
+use super::{created, new_device, runs};
 use std::process::Abort;
 
 // Slot A after the first command: sequence 1, a record of 4,096 bytes at 8,192, sum 39,222.
@@ -68,6 +68,22 @@ const TWO_ROWS: &[u8; 102] = b"\x01\x01\x02\0\x66\0\0\0\0\0\0\0\0\0\0\0\
     \0\0\0\0\0\0\0\0\0\0\0\0\0\0\0\0\
     b\x002\0";
 
+// The record of run 2 after `a`, of texts, and `B`, of plain items, were made: the next table has the
+// number 3, and the two stand in the order of their names.
+const TWO_TABLES: &[u8; 209] = b"\x05\x01\x02\0\xd1\0\0\0\0\0\0\0\0\0\0\0\
+    \x02\0\0\0\0\0\0\0\x02\0\0\0\0\0\0\0\
+    \0\0\0\0\0\0\0\0\0\0\0\0\0\0\0\0\
+    \x01\0\0\0\0\0\0\0\x01\0\0\0\0\0\0\0\
+    \0\0\x03\0\0\0\
+    \0\
+    \0\0\0\0\0\0\0\0\0\0\0\0\0\0\0\0\0\0\0\0\0\0\0\0\0\0\0\0\0\0\0\0\0\0\0\0\0\0\0\0\
+    \x02\0\0\0uu\0\x01\
+    \0\0\0\0\0\0\0\0\0\0\0\0\0\0\0\0\0\0\0\0\0\0\0\0\0\0\0\0\0\0\0\0\0\0\0\0\0\0\0\0\
+    B\
+    \x01\0\0\0SS\0\x01\
+    \0\0\0\0\0\0\0\0\0\0\0\0\0\0\0\0\0\0\0\0\0\0\0\0\0\0\0\0\0\0\0\0\0\0\0\0\0\0\0\0\
+    a";
+
 // The unit at an offset has these bytes, and zeros behind them.
 fn unit_is(rt: &impl Abort, bytes: &[u8], at: usize, used: &[u8]) {
     assert!(rt; bytes.len() >= 4096);
@@ -121,4 +137,17 @@ fn each_command_that_writes_leaves_these_bytes(rt: HostRuntime) {
     let bytes = disk.bytes();
     assert_eq!(rt; bytes.len(), 20480);
     unit_is(&rt, bytes, 12288, TWO_ROWS.as_slice());
+}
+
+#[test]
+fn a_record_has_its_tables_in_the_order_of_their_names(rt: HostRuntime) {
+    let alloc = rt.alloc();
+    let rows = [
+        ("create|-c|key_format=S,value_format=S|a", 0, "", ""),
+        ("create|B", 0, "", ""),
+    ];
+    let disk = runs(&rt, alloc, new_device(&rt, alloc), &rows);
+    let bytes = disk.bytes();
+    assert_eq!(rt; bytes.len(), 16384);
+    unit_is(&rt, bytes, 12288, TWO_TABLES.as_slice());
 }

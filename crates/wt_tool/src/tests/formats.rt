@@ -1,5 +1,5 @@
 // How keys and values of each format are stored and printed.
-use super::{ROOM, bytes_of, disk_of, new_device, runs};
+use super::{ROOM, bytes_of, disk_of, new_device, runs, with_byte};
 use std::process::Abort;
 
 const NOT_FOUND: &str = "-31803 not found\n";
@@ -8,15 +8,6 @@ const NOT_FOUND: &str = "-31803 not found\n";
 fn leaf_is(rt: &impl Abort, bytes: &[u8], image: &[u8]) {
     assert!(rt; bytes.len() >= 12288);
     assert!(rt; bytes[12288..].starts_with(image));
-}
-
-// The bytes with another one in a place.
-fn with_byte(rt: &impl Abort, content: Vec<u8>, at: usize, old: u8, new: u8) -> Vec<u8> {
-    let mut content = content;
-    assert!(rt; at < content.len());
-    assert_eq!(rt; content[at], old, "at {at}");
-    content[at] = new;
-    content
 }
 
 #[test]

@@ -9,8 +9,6 @@ use std::alloc::Global;
 use std::ops::Range;
 use std::process::Abort;
 
-const TABLES: &str = "75 limit tables\n";
-
 const SLOT_A: &str = "-31802 corrupt at 0 want 0 found 0\n";
 
 const SLOT_B: &str = "-31802 corrupt at 4096 want 0 found 0\n";
@@ -18,6 +16,8 @@ const SLOT_B: &str = "-31802 corrupt at 4096 want 0 found 0\n";
 const NOT_FOUND: &str = "-31803 not found\n";
 
 const RECORD: &str = "-31802 corrupt at 16384 want 57988 found 57988\n";
+
+const RECORD_BEFORE: &str = "-31802 corrupt at 8192 want 39222 found 39222\n";
 
 // The bytes of the device, with these bits turned in one of them.
 fn changed(rt: &impl Abort, alloc: Global, device: &MemDisk, at: usize, flips: u8) -> Vec<u8> {
@@ -90,10 +90,10 @@ fn a_slot_out_of_form_or_at_odds_is_refused(rt: HostRuntime) {
         (12, 13, [0x01].as_slice(), SLOT_A),
         (4108, 4109, [0x02, 0x03].as_slice(), SLOT_B),
         (12, 13, [0x03].as_slice(), SLOT_B),
-        (12, 19, [0x04, 0x20, 0x80].as_slice(), TABLES),
-        (4108, 4115, [0x04, 0x20, 0x80].as_slice(), TABLES),
-        (19, 20, [0x20].as_slice(), TABLES),
-        (4115, 4116, [0x20].as_slice(), TABLES),
+        (12, 19, [0x04, 0x20, 0x80].as_slice(), RECORD_BEFORE),
+        (4108, 4115, [0x04, 0x20, 0x80].as_slice(), RECORD),
+        (19, 20, [0x20].as_slice(), RECORD_BEFORE),
+        (4115, 4116, [0x20].as_slice(), RECORD),
         (
             4124,
             4128,

@@ -140,6 +140,61 @@ const ROWS: &[Story<'static>] = &[
     },
 ];
 
+// Tables beside each other.
+const TABLES: &[Story<'static>] = &[
+    Story {
+        shows: "two tables keep their rows through three runs",
+        start: Start::New(ROOM),
+        rows: &[
+            ("create|-c|key_format=S,value_format=S|t", 0, "", ""),
+            ("create|u", 0, "", ""),
+            ("write|t|a|1", 0, "", ""),
+            ("write|u|b|2", 0, "", ""),
+            ("read|t|a", 0, "", "1\n"),
+            ("read|u|b", 0, "", "2\n"),
+            ("read|u|a", 1, NOT_FOUND, ""),
+            ("write|-o|t|a|3", 0, "", ""),
+            ("read|t|a|b", 1, NOT_FOUND, "3\n"),
+            ("read|u|b", 0, "", "2\n"),
+        ],
+        len: 28672,
+    },
+    Story {
+        shows: "a table without rows stays beside one with rows",
+        start: Start::Created(ROOM),
+        rows: &[
+            ("create|u", 0, "", ""),
+            ("write|u|b|2", 0, "", ""),
+            ("read|t|b", 1, NOT_FOUND, ""),
+            ("write|u|c|3", 0, "", ""),
+            ("read|t|c", 1, NOT_FOUND, ""),
+            ("read|u|b|c", 0, "", "2\n3\n"),
+            ("create|t", 1, "17 exists\n", ""),
+            ("write|t|a|1", 0, "", ""),
+            ("read|t|a", 0, "", "1\n"),
+        ],
+        len: 24576,
+    },
+    Story {
+        shows: "names are told apart by each of their bytes",
+        start: Start::New(ROOM),
+        rows: &[
+            ("create|a.b", 0, "", ""),
+            ("create|B", 0, "", ""),
+            ("create|a", 0, "", ""),
+            ("write|a|k|1", 0, "", ""),
+            ("write|a.b|k|2", 0, "", ""),
+            ("write|B|k|3", 0, "", ""),
+            ("read|a|k", 0, "", "1\n"),
+            ("read|table:a.b|k", 0, "", "2\n"),
+            ("read|B|k", 0, "", "3\n"),
+            ("read|b|k", 1, "2 no table\n", ""),
+            ("read|A|k", 1, "2 no table\n", ""),
+        ],
+        len: 28672,
+    },
+];
+
 // Words, names and configurations.
 const WORDS: &[Story<'static>] = &[
     Story {
@@ -190,7 +245,7 @@ const WORDS: &[Story<'static>] = &[
         len: 20480,
     },
     Story {
-        shows: "a table is made once, and is the only one",
+        shows: "a table is made once, and another beside it",
         start: Start::New(ROOM),
         rows: &[
             ("create|-c|key_format=S,value_format=S|table:t", 0, "", ""),
@@ -203,7 +258,9 @@ const WORDS: &[Story<'static>] = &[
                 "17 exists\n",
                 "",
             ),
-            ("create|u", 1, "75 limit tables\n", ""),
+            ("create|u", 0, "", ""),
+            ("create|u", 0, "", ""),
+            ("create|t", 1, "17 exists\n", ""),
         ],
         len: 16384,
     },
@@ -430,6 +487,11 @@ fn are_so(rt: &impl Abort, alloc: Global, stories: &[Story<'_>]) {
 #[test]
 fn rows_are_read_as_they_were_written(rt: HostRuntime) {
     are_so(&rt, rt.alloc(), ROWS);
+}
+
+#[test]
+fn tables_stand_beside_each_other(rt: HostRuntime) {
+    are_so(&rt, rt.alloc(), TABLES);
 }
 
 #[test]

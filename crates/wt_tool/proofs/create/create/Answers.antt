@@ -1,22 +1,61 @@
 use Rattle.std.specs.Option.{option_map}
-use Rattle.std.proofs.Common.{◌≡◌, Some, None, List, ℕ, Bor, subst}
-use Rattle.disk_model.proofs.Crash.{started}
-use Rattle.wt_tool.specs.Words.{name_in}
+use Rattle.std.proofs.Common.{◌≡◌, Some, None, Ok, Err, List, ℕ, Bor, refl, sym, subst, ◌∙◌, Option}
+use Rattle.item.specs.declared.Formats.{Formats}
+use Rattle.wt_code.specs.declared.refusals.Refusal.TheVariants.{Invalid as Refusal_Invalid}
+use Rattle.wt_code.specs.declared.refusals.Invalid.TheVariants.{BadName, BadConfig}
+use Rattle.kv_model.specs.Content.{start}
+use Rattle.engine_store.specs.declared.store.Store.{Store}
+use Rattle.wt_tool.specs.Words.{name_in, formats_asked}
+use Rattle.wt_tool.specs.Points.{Point, Ran, point_of}
 use Rattle.wt_tool.specs.Narrow.{ClosesOne}
 use Rattle.wt_tool.specs.Openings.{Configured}
-use Rattle.wt_tool.specs.Creates.{MakesTable}
-use Rattle.wt_tool.proofs.Naming.{leaves_named, leaves_unnamed}
+use Rattle.wt_tool.specs.Creates.{MakesTable, RunsCreate}
+use Rattle.wt_tool.proofs.Naming.{named_goes, named_none, configured_goes, configured_none}
+use Rattle.wt_tool.proofs.Leaving.{leaves_as, untouched, refused_before, closed_after, on_more, ready_more}
 use Rattle.wt_tool.proofs.create.create.Goals as goal
 
-pub returns-in-Some-clause-run : goal.returns-in-Some-clause-run
-returns-in-Some-clause-run g c h content each =
-    leaves_named c.args.uri.now (λ name. Configured (option_map {T = Bor (List ℕ)} {U = List ℕ} (λ x. x.now) c.args.config) (λ formats. MakesTable name formats ClosesOne)) g.D.Disk c.args.disk.now c.create_named.new.disk content c.create_named.result c.in-Some.name.now
-    (subst (λ (l : List ℕ). name_in l ≡ Some c.in-Some.name.now) c.as_bytes.ensures.value c.in-Some.ensures.name)
-    (c.create_named.ensures.run h content each)
+abbrev words : Option (Bor (List ℕ)) → Option (List ℕ)
+words config = option_map {T = Bor (List ℕ)} {U = List ℕ} (λ x. x.now) config
 
-pub returns-in-None-clause-run : goal.returns-in-None-clause-run
-returns-in-None-clause-run g c h content each =
-    let D = g.D.Disk in
-    leaves_unnamed c.args.uri.now (λ name. Configured (option_map {T = Bor (List ℕ)} {U = List ℕ} (λ x. x.now) c.args.config) (λ formats. MakesTable name formats ClosesOne)) D c.args.disk.now (λ later d left. g.met.D.Disk.counts_now _ _ d later left) (λ d left. g.met.D.Disk.only_now _ d left) content each.1
-    (subst (λ (l : List ℕ). name_in l ≡ None) c.as_bytes.ensures.value c.in-None.ensures.name)
-    (started D _ _ (λ d left. each.0 d (g.met.D.Disk.only_now _ d left)))
+abbrev Made : Option (List ℕ) → List ℕ → Point → Ran → Type 0
+Made config name p ran = Configured config (λ formats. MakesTable name formats ClosesOne) p ran
+
+-- the run of the calls is that of the command
+whole : (config : Option (List ℕ)) (uri name : List ℕ) (formats : Formats) → name_in uri ≡ Some name → formats_asked config ≡ Some formats → (p : Point) (ran : Ran) → MakesTable name formats ClosesOne p ran → RunsCreate config uri p ran
+whole config uri name formats named asked p ran run = named_goes uri (Made config) name named p ran (configured_goes config (λ f. MakesTable name f ClosesOne) formats asked p ran run)
+
+pub close-requires-clause-ready : goal.close-requires-clause-ready
+close-requires-clause-ready g c = ready_more c.args.store (record c.args.store { engine = c.make_table.new.engine }) c.in-Ok.ensures.grows refl c.requires.ready
+
+pub close-requires-clause-on : goal.close-requires-clause-on
+close-requires-clause-on g c h =
+    let on = c.requires.on h in
+    (on.old, on_more (g.D.Disk.seen c.args.disk.now) (g.D.Disk.may_leave c.args.disk.now) c.args.store (record c.args.store { engine = c.make_table.new.engine }) on.old c.in-Ok.ensures.grows refl on.on)
+
+pub returns-in_default-clause-run : goal.returns-in_default-clause-run
+returns-in_default-clause-run g c h content each =
+    untouched g.D.Disk content (RunsCreate (words c.args.config) c.args.uri.now) c.args.disk.now (Err (Refusal_Invalid BadName)) (start content) (λ d left. g.met.D.Disk.only_now _ d left) each refl
+    (named_none c.args.uri.now (Made (words c.args.config)) (subst (λ (l : List ℕ). name_in l ≡ None) c.as_bytes.ensures.value c.in_default.ensures.name) (point_of g.D.Disk (start content) c.args.disk.now))
+
+pub returns-in_default-formats_asked-clause-run : goal.returns-in_default-formats_asked-clause-run
+returns-in_default-formats_asked-clause-run g c h content each =
+    let p = point_of g.D.Disk (start content) c.args.disk.now in
+    untouched g.D.Disk content (RunsCreate (words c.args.config) c.args.uri.now) c.args.disk.now (Err (Refusal_Invalid BadConfig)) (start content) (λ d left. g.met.D.Disk.only_now _ d left) each refl
+    (named_goes c.args.uri.now (Made (words c.args.config)) c.in-Some.name.now (subst (λ (l : List ℕ). name_in l ≡ Some c.in-Some.name.now) c.as_bytes.ensures.value c.in-Some.ensures.name) p _
+    (configured_none (words c.args.config) (λ f. MakesTable c.in-Some.name.now f ClosesOne) (sym c.formats_asked.ensures ∙ c.in_default-formats_asked.is) p))
+
+pub returns-in-Ok-clause-run : goal.returns-in-Ok-clause-run
+returns-in-Ok-clause-run g c h content each =
+    let on = c.requires.on h in
+    leaves_as g.D.Disk (MakesTable c.in-Some.name.now c.in-Some-formats_asked.formats ClosesOne) (RunsCreate (words c.args.config) c.args.uri.now) (start content) c.args.disk.now c.close.new.disk c.close.result
+    (whole (words c.args.config) c.args.uri.now c.in-Some.name.now c.in-Some-formats_asked.formats (subst (λ (l : List ℕ). name_in l ≡ Some c.in-Some.name.now) c.as_bytes.ensures.value c.in-Some.ensures.name) (sym c.formats_asked.ensures ∙ c.in-Some-formats_asked.is))
+    (closed_after g.D.Disk c.args.disk.now c.args.store on c.plain_stays.ensures.starts (MakesTable c.in-Some.name.now c.in-Some-formats_asked.formats ClosesOne) content each (each.0 _ (g.met.D.Disk.reads_an_image _ h))
+    (record c.args.store { engine = c.make_table.new.engine }) c.close.new.disk c.close.result c.in-Ok.ensures.grows refl c.in-Ok.ensures.makes (c.close.ensures.run h))
+
+pub returns-clause-run : goal.returns-clause-run
+returns-clause-run g c h content each =
+    let on = c.requires.on h in
+    leaves_as g.D.Disk (MakesTable c.in-Some.name.now c.in-Some-formats_asked.formats ClosesOne) (RunsCreate (words c.args.config) c.args.uri.now) (start content) c.args.disk.now c.args.disk.now (Err c.in-Err.refusal)
+    (whole (words c.args.config) c.args.uri.now c.in-Some.name.now c.in-Some-formats_asked.formats (subst (λ (l : List ℕ). name_in l ≡ Some c.in-Some.name.now) c.as_bytes.ensures.value c.in-Some.ensures.name) (sym c.formats_asked.ensures ∙ c.in-Some-formats_asked.is))
+    (refused_before g.D.Disk c.args.disk.now c.args.store on c.plain_stays.ensures.starts (MakesTable c.in-Some.name.now c.in-Some-formats_asked.formats ClosesOne) content each (each.0 _ (g.met.D.Disk.reads_an_image _ h))
+    c.make_table.new.engine c.in-Err.refusal (λ d left. g.met.D.Disk.only_now _ d left) c.in-Err.ensures.makes)

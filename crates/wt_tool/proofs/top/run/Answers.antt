@@ -1,4 +1,4 @@
-use Rattle.std.proofs.Common.{refl, inl, inr, ◌≡◌, sym, ◌∙◌, subst, List, ℕ, map, Option, Result, Err}
+use Rattle.std.proofs.Common.{refl, inl, inr, ◌≡◌, sym, ◌∙◌, subst, List, ℕ, map, Result, Err}
 use Rattle.std.specs.Prelude.{IfErr}
 use Rattle.std.specs.Option.{option_map}
 use Rattle.std.specs.Borrow.{Bor}
@@ -8,7 +8,6 @@ use Rattle.kv_model.specs.Content.{start}
 use Rattle.wt_io.specs.StreamLemmas.{took_none}
 use Rattle.wt_line.specs.declared.command.Command.{Command}
 use Rattle.wt_line.specs.Line.{meaning, pair_texts, write, read}
-use Rattle.one_table.specs.declared.opening.Kept.{Kept}
 use Rattle.one_table.proofs.Opens.{err_map}
 use Rattle.script_run.specs.Scripts.{Outside, outside}
 use Rattle.wt_tool.specs.Points.{Point, point_of}
@@ -16,9 +15,8 @@ use Rattle.wt_tool.specs.Creates.{RunsCreate}
 use Rattle.wt_tool.specs.Writes.{RunsWrite}
 use Rattle.wt_tool.specs.Reads.{RunsRead}
 use Rattle.wt_tool.specs.Commands.{RunsOpened}
-use Rattle.wt_tool.specs.Parts.{Meets}
 use Rattle.wt_tool.specs.Top.{Streams, Went, streams_of}
-use Rattle.wt_tool.proofs.Running.{refused_open, may_open, finds_reads, opens_of, meets, comes_from, gave_none, telling, no_damage_so, told_so, opening_so, status_some, untold_at, stopped, left_by_calls, reading_went, script_went, kept_form}
+use Rattle.wt_tool.proofs.Running.{refused_open, may_open, opened_reads, starts_on, opens_of, gave_none, telling, no_damage_so, told_so, opening_so, status_some, untold_at, stopped, left_by_calls, reading_went, script_went}
 use Rattle.wt_tool.proofs.top.run.Goals as goal
 
 if_err : {T E : Type 0} (P : E → Type 0) (r : Result T E) (e : E) → r ≡ Err e → IfErr r P → P e
@@ -52,12 +50,6 @@ returns-in-Err-clause-home g c = elim c.reach.ensures.untold [
 
 -- ---- the commands
 
-pub create-result-requires-clause-form : goal.create-result-requires-clause-form
-create-result-requires-clause-form g c = kept_form _ c.in-Ok.ensures.form
-
-pub write-result-requires-clause-form : goal.write-result-requires-clause-form
-write-result-requires-clause-form g c = kept_form _ c.in-Ok.ensures.form
-
 pub returns-in-Create-clause-run : goal.returns-in-Create-clause-run
 returns-in-Create-clause-run g c h content each =
     let D = g.D.Disk in
@@ -69,7 +61,7 @@ returns-in-Create-clause-run g c h content each =
     let q : Point = point_of D (start content) c.reach.new.disk in
     let config = option_map {T = Bor (List ℕ)} {U = List ℕ} (λ x. x.now) c.in-Create.config in
     left_by_calls D c.args.disk.now c.create-result.new.disk content each.1 o (meaning c.args.command.now) w (gave_none _) c.reach.new.disk (RunsCreate config c.in-Create.uri.now) c.create-result.result c.told.result
-    (opens_of D (start content) c.args.disk.now c.reach.new.disk looked) (may_open D c.args.disk.now c.in-Ok.opened content (c.in-Ok.ensures.ok h) reads) first
+    (opens_of D (start content) c.args.disk.now c.reach.new.disk looked) (may_open D c.args.disk.now c.reach.new.disk c.in-Ok.store looked (c.in-Ok.ensures.ok h) content reads) first
     (λ ran run. subst (λ (a : Command). RunsOpened o (meaning a) q ran) (sym c.in-Create.is) run)
     (c.create-result.ensures.run (looked.same ∙ h) content ((λ d left. each.0 d (looked.images d left)), each.1))
     (took_none _) c.told.ensures.told
@@ -87,7 +79,7 @@ returns-in-Write-clause-run g c h content each =
     let first = looked_only D _ _ _ looked (λ d left. each.0 d (g.met.D.Disk.only_now _ d left)) in
     let q : Point = point_of D (start content) c.reach.new.disk in
     left_by_calls D c.args.disk.now c.write-result.new.disk content each.1 o (meaning c.args.command.now) w (gave_none _) c.reach.new.disk (RunsWrite c.in-Write.overwrite c.in-Write.uri.now (pair_texts c.deref.result.now)) c.write-result.result c.told-in-Write.result
-    (opens_of D (start content) c.args.disk.now c.reach.new.disk looked) (may_open D c.args.disk.now c.in-Ok.opened content (c.in-Ok.ensures.ok h) reads) first
+    (opens_of D (start content) c.args.disk.now c.reach.new.disk looked) (may_open D c.args.disk.now c.reach.new.disk c.in-Ok.store looked (c.in-Ok.ensures.ok h) content reads) first
     (λ ran run. subst (λ (a : Command). RunsOpened o (meaning a) q ran) (sym c.in-Write.is)
     (subst (λ (l : List (Bor (List ℕ) × Bor (List ℕ))). RunsOpened o (write c.in-Write.overwrite c.in-Write.uri.now (pair_texts l)) q ran) c.deref.ensures.value run))
     (c.write-result.ensures.run (looked.same ∙ h) content ((λ d left. each.0 d (looked.images d left)), each.1))
@@ -107,26 +99,26 @@ returns-in-Read-clause-run g c h content each =
     let q : Point = point_of D (start content) c.reach.new.disk in
     let keys = map (λ (s : Bor (List ℕ)). s.now) c.deref-in-Read.result.now in
     reading_went D c.args.disk.now c.reach.new.disk content each.1 o (meaning c.args.command.now) w (gave_none _) (RunsRead (Rose (g.K.Sink.fault_count c.args.out.now) (g.K.Sink.fault_count c.read.new.out)) c.in-Read.uri.now keys) c.read.result
-    (opens_of D (start content) c.args.disk.now c.reach.new.disk looked) (may_open D c.args.disk.now c.in-Ok.opened content (c.in-Ok.ensures.ok h) reads)
+    (opens_of D (start content) c.args.disk.now c.reach.new.disk looked) (may_open D c.args.disk.now c.reach.new.disk c.in-Ok.store looked (c.in-Ok.ensures.ok h) content reads)
     (λ ran run. subst (λ (a : Command). RunsOpened o (meaning a) q ran) (sym c.in-Read.is)
     (subst (λ (l : List (Bor (List ℕ))). RunsOpened o (read c.in-Read.uri.now (map (λ (s : Bor (List ℕ)). s.now) l)) q ran) c.deref-in-Read.ensures.value run))
     (λ d left. each.0 d (looked.images d left)) first.each
-    (c.read.ensures.run content (subst (λ (k : Option Kept). Meets content k) (sym c.as_ref.ensures.value) (meets (D.seen c.args.disk.now) c.in-Ok.opened content (c.in-Ok.ensures.ok h) reads)) q.device)
+    (c.read.ensures.run content (starts_on D c.args.disk.now c.reach.new.disk c.in-Ok.store looked (c.in-Ok.ensures.ok h) content reads) q.device)
 
 pub returns-in-Read-clause-told : goal.returns-in-Read-clause-told
 returns-in-Read-clause-told g c = told_so _ _ _ c.read.result c.read.ensures.told
 
 pub returns-in-Read-clause-silent : goal.returns-in-Read-clause-silent
-returns-in-Read-clause-silent g c h = inr (finds_reads _ c.in-Ok.opened (c.in-Ok.ensures.ok h))
+returns-in-Read-clause-silent g c h = inr (opened_reads g.D.Disk c.args.disk.now c.reach.new.disk c.in-Ok.store c.reach.ensures.looked (c.in-Ok.ensures.ok h))
 
 pub returns-in-Create-clause-opened : goal.returns-in-Create-clause-opened
-returns-in-Create-clause-opened g c h none = finds_reads _ c.in-Ok.opened (c.in-Ok.ensures.ok h)
+returns-in-Create-clause-opened g c h none = opened_reads g.D.Disk c.args.disk.now c.reach.new.disk c.in-Ok.store c.reach.ensures.looked (c.in-Ok.ensures.ok h)
 
 pub returns-in-Write-clause-opened : goal.returns-in-Write-clause-opened
-returns-in-Write-clause-opened g c h none = finds_reads _ c.in-Ok.opened (c.in-Ok.ensures.ok h)
+returns-in-Write-clause-opened g c h none = opened_reads g.D.Disk c.args.disk.now c.reach.new.disk c.in-Ok.store c.reach.ensures.looked (c.in-Ok.ensures.ok h)
 
 pub returns-in-Read-clause-opened : goal.returns-in-Read-clause-opened
-returns-in-Read-clause-opened g c h none = finds_reads _ c.in-Ok.opened (c.in-Ok.ensures.ok h)
+returns-in-Read-clause-opened g c h none = opened_reads g.D.Disk c.args.disk.now c.reach.new.disk c.in-Ok.store c.reach.ensures.looked (c.in-Ok.ensures.ok h)
 
 pub returns-in-Script-clause-run : goal.returns-in-Script-clause-run
 returns-in-Script-clause-run g c h content each =
@@ -139,15 +131,15 @@ returns-in-Script-clause-run g c h content each =
     let q : Point = point_of D (start content) c.reach.new.disk in
     subst (λ (a : Command). Went D o (meaning a) content w c.args.disk.now c.reach.new.disk c.script.result) (sym c.in-Script.is)
     (script_went D c.args.disk.now c.reach.new.disk content each.1 o w c.script.result
-    (opens_of D (start content) c.args.disk.now c.reach.new.disk looked) (may_open D c.args.disk.now c.in-Ok.opened content (c.in-Ok.ensures.ok h) reads)
+    (opens_of D (start content) c.args.disk.now c.reach.new.disk looked) (may_open D c.args.disk.now c.reach.new.disk c.in-Ok.store looked (c.in-Ok.ensures.ok h) content reads)
     (λ d left. each.0 d (looked.images d left)) first.each
-    (c.script.ensures.run content (comes_from (D.seen c.args.disk.now) c.in-Ok.opened content (c.in-Ok.ensures.ok h) reads) q.device))
+    (c.script.ensures.run content (starts_on D c.args.disk.now c.reach.new.disk c.in-Ok.store looked (c.in-Ok.ensures.ok h) content reads) q.device))
 
 pub returns-in-Script-clause-told : goal.returns-in-Script-clause-told
 returns-in-Script-clause-told g c = told_so _ _ _ c.script.result c.script.ensures.told
 
 pub returns-in-Script-clause-silent : goal.returns-in-Script-clause-silent
-returns-in-Script-clause-silent g c h = inr (finds_reads _ c.in-Ok.opened (c.in-Ok.ensures.ok h))
+returns-in-Script-clause-silent g c h = inr (opened_reads g.D.Disk c.args.disk.now c.reach.new.disk c.in-Ok.store c.reach.ensures.looked (c.in-Ok.ensures.ok h))
 
 pub returns-in-Script-clause-opened : goal.returns-in-Script-clause-opened
-returns-in-Script-clause-opened g c h none = finds_reads _ c.in-Ok.opened (c.in-Ok.ensures.ok h)
+returns-in-Script-clause-opened g c h none = opened_reads g.D.Disk c.args.disk.now c.reach.new.disk c.in-Ok.store c.reach.ensures.looked (c.in-Ok.ensures.ok h)

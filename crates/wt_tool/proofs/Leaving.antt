@@ -1,0 +1,153 @@
+-- What a command leaves of its device, by what its calls and its close did.
+use Rattle.std.specs.Prelude.{◌≡◌, ◌≢◌, ◌≤◌, ◌<◌, ◌+◌, ℕ, zero, suc, List, [], ◌∷◌, ◌++◌, length, Option, Some, None, Result, Ok, Err, IsTrue, slice_get}
+use Rattle.std.proofs.Common.{inl, inr, refl, sym, ap, subst, ◌∙◌, length-append, arith}
+use Rattle.disk_model.specs.Crash.{LeavesOnly}
+use Rattle.disk_model.specs.declared.disk.Disk.{Ghosts}
+use Rattle.disk_model.proofs.Crash.{started, widened}
+use Rattle.device_layout.specs.declared.link.Link.{Link}
+use Rattle.wt_code.specs.declared.refusals.Refusal.{Refusal}
+use Rattle.kv_model.specs.Content.{Content, start, OpensAs}
+use Rattle.kv_model.specs.History.{Table}
+use Rattle.kv_model.specs.Machine.{Machine, Completed}
+use Rattle.stored.specs.Stored.{Stored, Reads}
+use Rattle.stored.proofs.Device.{one_content}
+use Rattle.checkpoint_core.specs.Stands.{HasStill}
+use Rattle.one_table.specs.Closings.{content_was}
+use Rattle.engine_world.specs.Stands.{Engine}
+use Rattle.engine_world.specs.Systems.{first_world}
+use Rattle.engine_world.specs.Worlds.{World}
+use Rattle.ckpt_step.specs.Grounds.{AreRoots, HasRoots, StandsOn}
+use Rattle.ckpt_step.specs.Plain.{IsPlain, IsFlatStill, StartsPlain}
+use Rattle.engine_store.specs.declared.store.Store.{Store}
+use Rattle.engine_store.specs.Opened.{IsReady}
+use Rattle.wt_tool.specs.Points.{Device, Point, Ran, device_of, point_of}
+use Rattle.wt_tool.specs.Narrow.{ClosesOne}
+use Rattle.wt_tool.specs.Top.{EachReads, OpensToOne}
+use Rattle.wt_tool.specs.Parts.{IsOpenedOn, IsPlainOn, LeavesAt, LeavesFrom, Makes, at, silent_run}
+use Rattle.wt_tool.specs.Led.{Grows}
+use Rattle.wt_tool.proofs.Closings.{start_opens, still_reads}
+use Rattle.wt_tool.proofs.Leading.{first_quiet}
+
+-- ---- an engine that was opened on the device
+
+flat_roots : (known : List Table) (links : List Link) (old : Option Stored) → AreRoots known links old → IsFlatStill old
+flat_roots known links None roots = tt
+flat_roots known links (Some s) roots = roots.flat
+
+pub opened_plain : {D : Type 0} (g : Ghosts D) (disk : D) (s : Store) (law : StartsPlain) (on : IsOpenedOn g disk s) → IsPlainOn (content_was on.old) s.engine (first_world (content_was on.old) s.engine)
+opened_plain g disk s law on = record {
+  stands = on.starts;
+  quiet = first_quiet (content_was on.old) s.engine;
+  plain = law (g.seen disk) on.old on.on.stands.seen_has (flat_roots s.engine.hub.tables.tables s.ground.leaves.items on.old on.on.roots);
+  completed = refl;
+  up = refl;
+}
+
+-- the device has one content
+pub opened_reads : {D : Type 0} (g : Ghosts D) (disk : D) (s : Store) (on : IsOpenedOn g disk s) (content : Content) → Reads (g.seen disk) content → content_was on.old ≡ content
+opened_reads g disk s on content reads = one_content (g.seen disk) (content_was on.old) content (still_reads on.old (g.seen disk) on.on.stands.seen_has) reads
+
+-- ---- tables that are more
+
+get_more : {A : Type 0} (xs ys : List A) (place : ℕ) (x : A) → place < length xs → slice_get (xs ++ ys) place ≡ Some x → slice_get xs place ≡ Some x
+get_more [] ys place x within there = absurd (omega (arith, within))
+get_more (a ∷ xs) ys zero x within there = there
+get_more (a ∷ xs) ys (suc place) x within there = get_more xs ys place x (omega (arith, within)) there
+
+has_place : {A : Type 0} (xs : List A) (place : ℕ) (x : A) → slice_get xs place ≡ Some x → place < length xs
+has_place [] place x there = absurd cc
+has_place (a ∷ xs) zero x there = omega arith
+has_place (a ∷ xs) (suc place) x there = let less : place < length xs = has_place xs place x there in omega (arith, less)
+
+roots_more : (known more : List Table) (links : List Link) (old : Option Stored) → AreRoots known links old → AreRoots (known ++ more) links old
+roots_more known more links None roots = roots
+roots_more known more links (Some s) roots = record {
+  flat = roots.flat;
+  few = omega (arith, roots.few, length-append known more);
+  count = roots.count;
+  roots = λ place t link there leads. roots.roots place t link (get_more known more place t (omega (arith, has_place links place link leads, roots.few)) there) leads;
+}
+
+-- the ground of an engine is that of one which has more tables
+pub on_more : (seen : List ℕ) (images : List ℕ → Type 0) (s t : Store) (old : Option Stored) → Grows s.engine t.engine → t.ground ≡ s.ground → StandsOn seen images s.engine.hub.tables.tables s.ground old → StandsOn seen images t.engine.hub.tables.tables t.ground old
+on_more seen images s t old grows same on =
+    let more : StandsOn seen images t.engine.hub.tables.tables s.ground old = record {
+      stands = on.stands;
+      number = on.number;
+      slot = on.slot;
+      cells = on.cells;
+      units = on.units;
+      idle = on.idle;
+      long = on.long;
+      within = on.within;
+      roots = subst (λ (l : List Table). AreRoots l s.ground.leaves.items old) (sym grows.tables) (roots_more s.engine.hub.tables.tables grows.more s.ground.leaves.items old on.roots);
+    } in
+    subst (λ k. StandsOn seen images t.engine.hub.tables.tables k old) (sym same) more
+
+pub ready_more : (s t : Store) → Grows s.engine t.engine → t.ground ≡ s.ground → IsReady s → IsReady t
+ready_more s t grows same ready = record {
+  run = subst (λ k. t.engine.hub.txns.run ≤ k.number + 1) (sym same) (subst (λ (n : ℕ). n ≤ s.ground.number + 1) (sym grows.run) ready.run);
+  leaves = subst (λ k. length k.leaves.items ≤ length t.engine.hub.tables.tables) (sym same) (omega (arith, ready.leaves, ap length grows.tables, length-append s.engine.hub.tables.tables grows.more));
+}
+
+-- ---- what is left
+
+module _ {D : Type 0} (g : Ghosts D) (content : Content) (Run : Point → Ran → Type 0) where
+  -- nothing was written
+  pub untouched : (old : D) (result : Result (Unit {0}) Refusal) (next : Machine) → ((c : List ℕ) → g.left_since old (g.moment old) c → g.may_leave old c) → EachReads (g.may_leave old) content → next.completed ≡ (start content).completed
+      → Run (point_of g (start content) old) (silent_run result [] (point_of g next old)) → LeavesAt g Run (start content) old old result
+  untouched old result next now each same run = record {
+    made = [];
+    next = next;
+    run = run;
+    opens = inl (content, each, subst (λ (k : Completed). OpensAs content k) (sym same) (start_opens content each.1));
+    ever = widened g old old _ _ (started g old (λ c. Reads c content) (λ c left. each.0 c (now c left))) (λ c reads. inl (content, reads, start_opens content each.1));
+    stays = tt;
+  }
+
+  -- a close behind calls
+  pub closed_behind : (old new : D) (result : Result (Unit {0}) Refusal) (later : Machine) → later.completed ≡ (start content).completed → ((d : Device) (ran : Ran) → ClosesOne (at d later) ran → Run (at d (start content)) ran) → LeavesAt g ClosesOne later old new result → LeavesAt g Run (start content) old new result
+  closed_behind old new result later same goes l = record {
+    made = l.made;
+    next = l.next;
+    run = goes (device_of g old) (silent_run result l.made (point_of g l.next new)) l.run;
+    opens = l.opens;
+    ever = subst (λ (k : Completed). LeavesOnly g old new (OpensToOne k l.made)) same l.ever;
+    stays = l.stays;
+  }
+
+-- a run that is also another
+pub leaves_as : {D : Type 0} (g : Ghosts D) (Run Other : Point → Ran → Type 0) (m : Machine) (old new : D) (result : Result (Unit {0}) Refusal) → ((p : Point) (ran : Ran) → Run p ran → Other p ran) → LeavesAt g Run m old new result → LeavesAt g Other m old new result
+leaves_as g Run Other m old new result more l = record { made = l.made; next = l.next; run = more _ _ l.run; opens = l.opens; ever = l.ever; stays = l.stays }
+
+-- ---- whole commands
+
+module _ {D : Type 0} (g : Ghosts D) (old : D) (s : Store) (on : IsOpenedOn g old s) (law : StartsPlain) (Run : Point → Ran → Type 0) (content : Content) (each : EachReads (g.may_leave old) content) (seen : Reads (g.seen old) content) where
+  abbrev MadeOn : Content → Engine → Result (Unit {0}) Refusal → Type 0
+  MadeOn c e result = Makes c Run (first_world c s.engine) e result
+
+  abbrev MadeAll : Engine → Result (Unit {0}) Refusal → Type 0
+  MadeAll e result = (c : Content) (w : World) → IsPlainOn c s.engine w → Makes c Run w e result
+
+  same : content_was on.old ≡ content
+  same = opened_reads g old s on content seen
+
+  made : (e : Engine) (result : Result (Unit {0}) Refusal) → MadeAll e result → MadeOn (content_was on.old) e result
+  made e result makes = makes (content_was on.old) (first_world (content_was on.old) s.engine) (opened_plain g old s law on)
+
+  -- a refusal before the close
+  pub refused_before : (e : Engine) (r : Refusal) → ((c : List ℕ) → g.left_since old (g.moment old) c → g.may_leave old c) → MadeAll e (Err r) → LeavesAt g Run (start content) old old (Err r)
+  refused_before e r now makes =
+      let m = made e (Err r) makes in
+      subst (λ (c : Content). LeavesAt g Run (start c) old old (Err r)) same
+      (untouched g (content_was on.old) Run old (Err r) m.0.machine now (subst (λ (c : Content). EachReads (g.may_leave old) c) (sym same) each) m.1.completed (m.4 (device_of g old)))
+
+  -- and the close
+  pub closed_after : (t : Store) (new : D) (result : Result (Unit {0}) Refusal) → Grows s.engine t.engine → t.ground ≡ s.ground → MadeAll t.engine (Ok tt)
+      → ((o : Option Stored) → StandsOn (g.seen old) (g.may_leave old) t.engine.hub.tables.tables t.ground o → EachReads (g.may_leave old) (content_was o) → (w : World) → IsPlainOn (content_was o) t.engine w → LeavesAt g ClosesOne w.machine old new result)
+      → LeavesAt g Run (start content) old new result
+  closed_after t new result grows ground makes closes =
+      let m = made t.engine (Ok tt) makes in
+      subst (λ (c : Content). LeavesAt g Run (start c) old new result) same
+      (closed_behind g (content_was on.old) Run old new result m.0.machine m.1.completed m.2
+      (closes on.old (on_more (g.seen old) (g.may_leave old) s t on.old grows ground on.on) (subst (λ (c : Content). EachReads (g.may_leave old) c) (sym same) each) m.0 m.1))
