@@ -12,9 +12,9 @@ use Rattle.kv_model.specs.Content.{inserted, descending}
 use Rattle.row_page.specs.Changes.{PageChange, version_in}
 use Rattle.row_page.specs.Rows.{Row, is_below, Ascends}
 use Rattle.stored.specs.Stored.{placed_in}
-use Rattle.leaf_rows.specs.Rows.{version_at, put_row}
+use Rattle.leaf_rows.specs.Rows.{version_at}
 use Rattle.one_session.specs.Shows.{shown_at}
-use Rattle.row_page.proofs.Ascending.{keys_part, below_differs, above_differs, all_above, below_trans}
+use Rattle.row_page.proofs.Ascending.{keys_part, above_differs, all_above, below_trans}
 
 pub key_self : (key : List ℕ) → bytes_eq key key ≡ true
 key_self key = (bytes_eq-Decides key key).1 refl
@@ -27,29 +27,6 @@ same_key x y e = (bytes_eq-Decides x y).0 e
 pub none_above : (key : List ℕ) (rows : List Row) → AllByRecursion (λ (r : Row). is_below key r.0 ≡ true) rows → version_at key rows ≡ None
 none_above key [] all = refl
 none_above key (r ∷ rows) all = rw (above_differs r.0 key all.0) (none_above key rows all.1)
-
-pub put_finds : (key : List ℕ) (v : Version PageChange) (rows : List Row) → version_at key (put_row key v rows) ≡ Some v
-put_finds key v [] = rw (key_self key) refl
-put_finds key v (r ∷ rows) = elim (cases_Bool (is_below r.0 key)) [
-  | inl is ↦ rw (is, below_differs r.0 key is) (put_finds key v rows)
-  | inr isnt ↦ elim (cases_Bool (bytes_eq r.0 key)) [
-    | inl same ↦ rw (isnt, same, key_self key) refl
-    | inr other ↦ rw (isnt, other, key_self key) refl
-  ]
-]
-
-pub put_passes : (key other : List ℕ) (v : Version PageChange) (rows : List Row) → bytes_eq key other ≡ false → version_at other (put_row key v rows) ≡ version_at other rows
-put_passes key other v [] differs = rw differs refl
-put_passes key other v (r ∷ rows) differs = elim (cases_Bool (is_below r.0 key)) [
-  | inl is ↦ rw is (elim (cases_Bool (bytes_eq r.0 other)) [
-    | inl here ↦ rw here refl
-    | inr later ↦ rw later (put_passes key other v rows differs)
-  ])
-  | inr isnt ↦ elim (cases_Bool (bytes_eq r.0 key)) [
-    | inl same ↦ rw (isnt, same, differs, subst (λ (k : List ℕ). bytes_eq k other ≡ false) (sym (same_key r.0 key same)) differs) refl
-    | inr apart ↦ rw (isnt, apart, differs) refl
-  ]
-]
 
 -- rows that ascend and are found alike are the same
 pub alike : (before prior : Option (List ℕ)) (rows others : List Row) → Ascends before rows → Ascends prior others → ((key : List ℕ) → version_at key rows ≡ version_at key others) → rows ≡ others

@@ -1,5 +1,2 @@
 pub mod Keyed
 pub mod Telling
-pub mod Putting
-pub mod Leaves
-pub mod Answering

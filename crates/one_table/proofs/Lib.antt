@@ -1,7 +1,5 @@
-pub mod Spelling
 pub mod Leaves
 pub mod Shapes
 pub mod Books
 pub mod Opens
 pub mod Writes
-pub mod CloseRefusals

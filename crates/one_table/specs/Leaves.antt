@@ -1,4 +1,4 @@
--- The leaf of a device with one table of one leaf.
+-- The leaf of a table on a device.
 use Rattle.std.specs.Prelude.{ℕ, List, [], ◌∷◌, map}
 use Rattle.std.specs.List.{AllByRecursion}
 use Rattle.device_layout.specs.declared.link.Link.{Link}

@@ -4,7 +4,7 @@ use Rattle.std.specs.List.{list_all}
 use Rattle.std.proofs.lemmas.Bool.{and_parts, leb-true}
 use Rattle.limits.specs.declared.TheConstants.{TABLE_NAME_MAX}
 use Rattle.kv_model.specs.Decisions.{is_name, is_name_byte}
-use Rattle.one_table.proofs.record.is_table_name.Goals as goal
+use Rattle.one_table.proofs.table_name.is_table_name.Goals as goal
 
 -- a name is short
 name_short : (name : List ℕ) (b : Bool) → b ≡ is_name name → IsTrue b → length name ≤ 128
