@@ -3,8 +3,9 @@
 // tells the engine how that went, with nobody between. A function calls the laws that its proof rests
 // on, which do nothing.
 
-ghost use Rattle.std.specs.Prelude.{◌≡◌, ◌<◌, ◌≤◌, ◌-◌, ◌^◌, ℕ, None, Some, length, reverse, slice_get, option_map, IfErr, IfOk, IfSome, OnOk, MatchOption};
+ghost use Rattle.std.specs.Prelude.{◌≡◌, ◌<◌, ◌≤◌, ◌-◌, ◌^◌, ℕ, None, Some, Err, length, reverse, slice_get, option_map, IfErr, IfOk, IfSome, OnOk, MatchOption};
 ghost use Rattle.limits.specs.declared.TheConstants.{SESSIONS_MAX};
+ghost use Rattle.failure.specs.declared.Fault.{Fault as AFault};
 ghost use Rattle.kv_model.specs.History.{Table, tables};
 ghost use Rattle.kv_model.specs.Machine.{GoDown, after};
 ghost use Rattle.snapshot.specs.Matters.{AreUnended, NoneResolves, SeesCommitted};
@@ -51,6 +52,8 @@ impl Local {
     /// none. `O(n)` in the sessions.
     pub fn may_checkpoint(&self, number: u64) -> Result<(), Refusal>
         ensures decided { (w : World) → Stands self.now w → w.machine.checkpoint ≡ None → MayStart w.machine number result }
+        ensures down { (fault : AFault) → self.now.hub.fault ≡ Some fault → result ≡ Err (Refusal.Panic fault) }
+        ensures up { OnOk result (self.now.hub.fault ≡ None) }
         ensures resolves { (w : World) → Stands self.now w → OnOk result (NoneResolves w.machine) }
         ensures number { OnOk result (number < 2 ^ 62 - 1) }
         ensures refusals { IfErr result IsOfStart }
@@ -119,6 +122,8 @@ impl Parts {
     /// Why a checkpoint may not start now.
     pub(crate) fn may_checkpoint(&self, number: u64) -> Result<(), Refusal>
         ensures decided { (w : World) → Stands self.now w → w.machine.checkpoint ≡ None → MayStart w.machine number result }
+        ensures down { (fault : AFault) → self.now.hub.fault ≡ Some fault → result ≡ Err (Refusal.Panic fault) }
+        ensures up { OnOk result (self.now.hub.fault ≡ None) }
         ensures resolves { (w : World) → Stands self.now w → OnOk result (NoneResolves w.machine) }
         ensures number { OnOk result (number < 2 ^ 62 - 1) }
         ensures refusals { IfErr result IsOfStart }

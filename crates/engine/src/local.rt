@@ -1,9 +1,10 @@
 // The engine of one thread.
 
-ghost use Rattle.std.specs.Prelude.{◌≡◌, ◌⊎◌, ◌<◌, ◌≤◌, ◌+◌, ◌^◌, ℕ, length, IfOk, IfErr, OnErr, option_map};
+ghost use Rattle.std.specs.Prelude.{◌≡◌, ◌⊎◌, ◌<◌, ◌≤◌, ◌+◌, ◌^◌, ℕ, None, length, slice_index_or, IfOk, IfErr, OnErr, option_map};
 ghost use Rattle.std.specs.List.{AllByRecursion};
 ghost use Rattle.limits.specs.declared.TheConstants.{NUMBER_MAX, SESSIONS_MAX, TABLES_MAX};
 ghost use Rattle.kv_model.specs.Content.{Content};
+ghost use Rattle.kv_model.specs.Decisions.{is_there};
 ghost use Rattle.kv_model.specs.History.{named, tables};
 ghost use Rattle.kv_model.specs.Regular.{IsRegular};
 ghost use Rattle.leaf_capture.specs.Capture.{ChainsFit};
@@ -84,6 +85,13 @@ impl Local {
     {
         let _ = &self.parts;
         4
+    }
+
+    /// Whether an actor of the system has a call that is not finished. `O(1)`.
+    pub fn has_started(&self, number: u32) -> bool
+        ensures { (w : World) → Stands self.now w → result ≡ is_there (slice_index_or w.systems number None) }
+    {
+        self.parts.has_started(number)
     }
 
     /// The formats of the table of this name. `O(log n)` in the tables.

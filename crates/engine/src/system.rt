@@ -1,8 +1,9 @@
 // What an engine does beside the steps of sessions: sessions are opened, and calls of the system are
 // made, each by one event. A function calls the laws that its proof rests on, which do nothing.
 
-ghost use Rattle.std.specs.Prelude.{◌≡◌, ◌⊎◌, ◌<◌, ◌≤◌, ◌+◌, [], Some, length, slice_set, option_map, IfOk, IfErr, OnErr};
+ghost use Rattle.std.specs.Prelude.{◌≡◌, ◌⊎◌, ◌<◌, ◌≤◌, ◌+◌, [], None, Some, length, slice_index_or, slice_set, option_map, IfOk, IfErr, OnErr};
 ghost use Rattle.kv_model.specs.Calls.{Create, Set};
+ghost use Rattle.kv_model.specs.Decisions.{is_there};
 ghost use Rattle.kv_model.specs.History.{named, tables};
 ghost use Rattle.wt_calls.specs.Calls.{system_call_in};
 ghost use Rattle.call_steps.specs.Tables.{first_word};
@@ -33,6 +34,16 @@ impl Parts {
         ensures { result ≡ length self.now.sessions }
     {
         self.hub.txns.sessions()
+    }
+
+    /// Whether an actor of the system has a call that is not finished.
+    pub(crate) fn has_started(&self, number: u32) -> bool
+        ensures { (w : World) → Stands self.now w → result ≡ is_there (slice_index_or w.systems number None) }
+    {
+        match self.systems.get(number as usize) {
+            None => false,
+            Some(call) => call.is_some(),
+        }
     }
 
     /// The formats of the table of this name. `O(log n)` in the tables.

@@ -1,14 +1,11 @@
 -- What a device that holds captured rows opens as.
 use Rattle.std.specs.Prelude.{◌≡◌, ℕ, true, List, [], length, None}
 use Rattle.std.specs.Option.{option_to_list}
-use Rattle.item.specs.declared.Change.{Change}
-use Rattle.stamp.specs.declared.Version.{Version}
 use Rattle.row_page.specs.Rows.{Row}
 use Rattle.stored.specs.Stored.{placed_in}
 use Rattle.kv_model.specs.AgreementLaws.{head_of}
 use Rattle.kv_model.specs.Content.{Content, base}
-use Rattle.kv_model.specs.Holds.{Member}
-use Rattle.kv_model.specs.History.{line, of_key, core, cut, has_table, is_stable}
+use Rattle.kv_model.specs.History.{line, of_key, core, cut, has_table}
 use Rattle.kv_model.specs.Machine.{Machine}
 use Rattle.kv_model.specs.Valid.{Valid}
 use Rattle.snapshot.specs.Matters.{SeesCommitted}
@@ -28,9 +25,8 @@ pub record HoldsRows (stable table : ℕ) (key : List ℕ) (s : Sight) (rows : L
   pub cells : of_key table key c.cells ≡ of_key table key (placed_in table rows)
   pub records : of_key table key c.records ≡ []
 
--- what stands of a key is durable at stable, and no read from oldest on reaches more than the newest
+-- no read from oldest on reaches more of a key than its newest version
 pub record NewestSuffices (m : Machine) (table : ℕ) (key : List ℕ) : Type 0 where
-  pub durable : (v : Version Change) → Member v (line m.history table key) → is_stable m.stable v ≡ true
   pub reached : core m.oldest (line m.history table key) ≡ option_to_list (head_of (line m.history table key))
 
 -- Of the key an opening keeps what a checkpoint of the whole history cuts: from oldest on they agree.

@@ -1,4 +1,4 @@
-use Rattle.std.proofs.Common.{◌≡◌, ◌+◌, ◌≤◌, ◌∙◌, [], ◌++◌, length, Option, sym, subst, arith}
+use Rattle.std.proofs.Common.{◌≡◌, ◌+◌, [], ◌++◌, length, Option, sym, subst, arith}
 use Rattle.item.specs.declared.Change.{Change}
 use Rattle.stamp.specs.declared.Version.{Version}
 use Rattle.row_page.specs.Rows.{RowFits, cells, key_most}

@@ -1,4 +1,4 @@
-use Rattle.std.proofs.Common.{◌≡◌, ◌∙◌, sym}
+use Rattle.std.proofs.Common.{sym}
 use Rattle.leaf_capture.proofs.Measuring.{slot_fits}
 use Rattle.leaf_capture.proofs.fits.slot_len.Goals as goal
 
