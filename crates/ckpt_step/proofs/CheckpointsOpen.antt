@@ -1,9 +1,9 @@
 -- What a device opens as that has a checkpoint of a machine.
-use Rattle.std.proofs.Common.{◌≡◌, ◌∙◌, ℕ, Bool, true, false, ◌&&◌, List, [], ◌∷◌, ◌++◌, length, map, reverse, Option, Some, None, refl, ap, sym, subst, inl, inr, ◌⊎◌, arith}
+use Rattle.std.proofs.Common.{◌≡◌, ◌∙◌, ℕ, Bool, true, false, List, [], ◌∷◌, ◌++◌, length, map, reverse, Option, Some, None, refl, ap, sym, subst, inl, inr, ◌⊎◌, arith}
 use Rattle.std.specs.Prelude.{◌≢◌, ◌==◌, nat_lt, filter}
 use Rattle.std.specs.Option.{option_to_list}
 use Rattle.std.specs.List.{AllByRecursion}
-use Rattle.std.proofs.lemmas.Bool.{cases_Bool, and_from, both_ways, eqb-true, lt-ltb, ltb-true, or_cases, or_left, or_right}
+use Rattle.std.proofs.lemmas.Bool.{cases_Bool, both_ways, eqb-true, lt-ltb, ltb-true, or_cases, or_left, or_right}
 use Rattle.std.proofs.lemmas.Bool.Decides.{nat_tests}
 use Rattle.std.proofs.lemmas.List.{append-nil, reverse-reverse}
 use Rattle.item.specs.declared.Change.{Change}
@@ -19,7 +19,7 @@ use Rattle.kv_model.specs.Ordered.{IsOrderly}
 use Rattle.kv_model.specs.Regular.{AllApart, SameNumber}
 use Rattle.kv_model.specs.Valid.{Valid}
 use Rattle.kv_model.proofs.ContentKeys.{of-key-into}
-use Rattle.kv_model.proofs.Finishing.{filter-all, first-start, line-base, line-committed, line-cut, tables-base}
+use Rattle.kv_model.proofs.Finishing.{first-start, line-base, line-committed, line-cut, tables-base}
 use Rattle.kv_model.proofs.FinishedKeys.{line-table}
 use Rattle.kv_model.proofs.Opening.{at-placed}
 use Rattle.kv_model.proofs.Sorting.{Lt, Sorts, descending-descends, descending-member, member-descending}
@@ -30,11 +30,11 @@ use Rattle.catalog.specs.Known.{by_name}
 use Rattle.catalog.proofs.InOrder.{order_keeps}
 use Rattle.catalog.proofs.Turning.{turn_one}
 use Rattle.one_session.proofs.Keyed.{of_key_descending, of_key_elsewhere, of_key_rows}
-use Rattle.one_session.proofs.Telling.{core_one}
+use Rattle.leaf_capture.proofs.Sifting.{cut_core, keys_sifted, one_stable, passes, stable_one}
 use Rattle.recover_open.specs.Flat.{flat_stored, leaf_tree}
 use Rattle.ckpt_step.specs.Checkpoints.{AreLeavesOf, IsRecordOf}
 use Rattle.ckpt_step.specs.Laws.{AllNewestSuffice, CheckpointsOpen}
-use Rattle.ckpt_step.proofs.KeysPlaced.{both_keys, keys_kept, none_away, once_away}
+use Rattle.ckpt_step.proofs.KeysPlaced.{both_keys, none_away, once_away}
 
 -- ---- the tables of a machine descend
 
@@ -187,37 +187,39 @@ module _ (m : Machine) (number : ℕ) (slot : Slot) (r : Record) (leaves : List 
   base_line : (table : ℕ) (key : List ℕ) (shown : Option (Version Change)) → of_key table key (kept c) ≡ option_to_list shown → line (base c) table key ≡ option_to_list shown
   base_line table key shown is = line-base (descending table_lt c.tables) (descending placed_lt (kept c)) table key ∙ of_key_descending placed_lt table key (kept c) shown is
 
-  cut_line : (table : ℕ) (key : List ℕ) → line (cut m.history (length m.history) m.stable) table key ≡ line m.history table key
-  cut_line table key = line-cut m.history (length m.history) m.stable table key
-      ∙ (ap (λ (l : List Entry). filter (is_stable m.stable) (line l table key)) (first-start [] m.history)
-      ∙ filter-all (is_stable m.stable) (line m.history table key) (suffice table key).durable)
+  cut_line : (table : ℕ) (key : List ℕ) → line (cut m.history (length m.history) m.stable) table key ≡ filter (is_stable m.stable) (line m.history table key)
+  cut_line table key = line-cut m.history (length m.history) m.stable table key ∙ ap (λ (l : List Entry). filter (is_stable m.stable) (line l table key)) (first-start [] m.history)
 
   -- what stands is committed, which the snapshot sees
   seen : (table : ℕ) (key : List ℕ) (v : Version Change) → Member v (line m.history table key) → sees_name r.run r.snapshot v.window.name ≡ true
   seen table key v there = let done = line-committed m.history table key v there in names.sees.sees v.window.name (inl done) ∙ done
 
-  kept_here : (table : ℕ) (key : List ℕ) → has_table c.tables table ≡ true → of_key table key c.cells ≡ option_to_list (head_of (line m.history table key)) → (p : Placed) → Member p c.cells → is_at table key p ≡ true → is_kept_version c p ≡ true
+  -- what is durable at stable is kept
+  kept_here : (table : ℕ) (key : List ℕ) → has_table c.tables table ≡ true → of_key table key c.cells ≡ option_to_list (head_of (line m.history table key)) → (p : Placed) → Member p c.cells → is_at table key p ≡ true
+      → is_kept_version c p ≡ is_stable m.stable p.version
   kept_here table key known cells p there at =
       let stands = head_member p.version (line m.history table key) (of_some p.version (head_of (line m.history table key)) (subst (λ (l : List (Version Change)). Member p.version l) cells (of-key-into table key c.cells p there at))) in
-      and_from (has_table c.tables p.table) (sees_name c.run c.snapshot p.version.window.name && is_stable c.stable p.version)
+      passes (has_table c.tables p.table) (sees_name c.run c.snapshot p.version.window.name) (is_stable c.stable p.version)
       (subst (λ (k : ℕ). has_table c.tables k ≡ true) (sym (at-placed table key p at).0) known)
-      (and_from (sees_name c.run c.snapshot p.version.window.name) (is_stable c.stable p.version)
       (seen table key p.version stands)
-      (subst (λ (k : ℕ). is_stable k p.version ≡ true) (sym names.stable) ((suffice table key).durable p.version stands)))
+      ∙ ap (λ (k : ℕ). is_stable k p.version) names.stable
 
   kept_is : kept c ≡ kept_cells c
   kept_is = append-nil (kept_cells c)
 
-  line_here : (table : ℕ) (key : List ℕ) → has_table c.tables table ≡ true → line (base c) table key ≡ option_to_list (head_of (line m.history table key))
+  line_here : (table : ℕ) (key : List ℕ) → has_table c.tables table ≡ true → line (base c) table key ≡ option_to_list (stable_one m.stable (head_of (line m.history table key)))
   line_here table key known =
+      let newest = head_of (line m.history table key) in
       let cells = cells_here m table key r.tables leaves once rows known in
-      base_line table key (head_of (line m.history table key)) (ap (of_key table key) kept_is ∙ (keys_kept (is_kept_version c) table key c.cells (kept_here table key known cells) ∙ cells))
+      base_line table key (stable_one m.stable newest) (ap (of_key table key) kept_is
+      ∙ (keys_sifted (is_kept_version c) (is_stable m.stable) table key c.cells (kept_here table key known cells) ∙ (ap (filter (is_stable m.stable)) cells ∙ one_stable m.stable newest)))
 
   line_away : (table : ℕ) (key : List ℕ) → has_table c.tables table ≡ false → line (base c) table key ≡ []
   line_away table key away =
       let none = none_away table key r.tables (map leaf_tree leaves) away in
       base_line table key None (ap (of_key table key) kept_is
-      ∙ (keys_kept (is_kept_version c) table key c.cells (λ p there at. absurd (subst (λ (vs : List (Version Change)). Member p.version vs) none (of-key-into table key c.cells p there at))) ∙ none))
+      ∙ (keys_sifted (is_kept_version c) (is_stable m.stable) table key c.cells (λ p there at. absurd (subst (λ (vs : List (Version Change)). Member p.version vs) none (of-key-into table key c.cells p there at)))
+      ∙ ap (filter (is_stable m.stable)) none))
 
   -- where no table has the number, nothing stands
   stands_none : (table : ℕ) (key : List ℕ) → has_table c.tables table ≡ false → line m.history table key ≡ []
@@ -226,8 +228,8 @@ module _ (m : Machine) (number : ℕ) (slot : Slot) (r : Record) (leaves : List 
 
   cores_agree : (table : ℕ) (key : List ℕ) → core m.oldest (line (base c) table key) ≡ core m.oldest (line (cut m.history (length m.history) m.stable) table key)
   cores_agree table key = elim (cases_Bool (has_table c.tables table)) [
-    | inl known ↦ ap (core m.oldest) (line_here table key known) ∙ (core_one m.oldest (head_of (line m.history table key)) ∙ sym (ap (core m.oldest) (cut_line table key) ∙ (suffice table key).reached))
-    | inr away ↦ ap (core m.oldest) (line_away table key away ∙ sym (cut_line table key ∙ stands_none table key away))
+    | inl known ↦ ap (core m.oldest) (line_here table key known) ∙ (cut_core m.oldest m.stable (line m.history table key) valid.stamps (suffice table key).reached ∙ sym (ap (core m.oldest) (cut_line table key)))
+    | inr away ↦ ap (core m.oldest) (line_away table key away ∙ sym (cut_line table key ∙ ap (filter (is_stable m.stable)) (stands_none table key away)))
   ]
 
   cut_tables : tables (cut m.history (length m.history) m.stable) ≡ tables m.history

@@ -1,19 +1,20 @@
 -- What a checkpoint answers, from how it went.
-use Rattle.std.specs.Prelude.{◌≡◌, Option, Result, Ok, Err, IfErr, OnOk, refl}
-use Rattle.std.proofs.Common.{inl, inr, sym, subst}
+use Rattle.std.specs.Prelude.{◌≡◌, ◌⊎◌, Option, Some, None, Result, Ok, Err, IfErr, OnOk, refl}
+use Rattle.std.proofs.Common.{◌∙◌, ap, inl, inr, sym, subst}
 use Rattle.failure.specs.Counts.{Rose}
+use Rattle.failure.specs.declared.Fault.{Fault}
 use Rattle.disk_model.specs.declared.disk.Disk.{Ghosts}
 use Rattle.wt_code.specs.declared.refusals.Refusal.{Refusal}
 use Rattle.wt_code.specs.declared.store_error.StoreError.TheVariants.{NoMemory, NoSpace, Read, Down}
 use Rattle.stored.specs.Stored.{Stored}
 use Rattle.engine_world.specs.Stands.{Engine, Stands}
-use Rattle.engine_world.specs.Systems.{checkpointed}
+use Rattle.engine_world.specs.Systems.{checkpointed, with_fault}
 use Rattle.engine_world.specs.Worlds.{World}
 use Rattle.engine.specs.Checkpoints.{MayStart}
 use Rattle.ckpt_step.specs.declared.ground.Ground.{Ground}
 use Rattle.ckpt_step.specs.declared.leaf_error.LeafError.{LeafError}
 use Rattle.ckpt_step.specs.declared.leaf_error.LeafError.TheVariants.{Over, Store}
-use Rattle.ckpt_step.specs.Grounds.{number_of}
+use Rattle.ckpt_step.specs.Grounds.{IsSteady, StandsOn, number_of}
 use Rattle.ckpt_step.specs.Halves.{IsOfDisk}
 use Rattle.ckpt_step.specs.Runs.{Concludes, Wrote}
 use Rattle.ckpt_step.specs.Sizes.{IsOver}
@@ -30,6 +31,7 @@ module _ {D : Type 0} (g : Ghosts D) (old : Option Stored) (w : World) (stand st
     each = wrote.each;
     on = wrote.on;
     had_room = wrote.had_room;
+    kept = wrote.kept;
     fit = fit;
     may = may;
     same = same;
@@ -40,6 +42,28 @@ module _ {D : Type 0} (g : Ghosts D) (old : Option Stored) (w : World) (stand st
   concluded (Err (Store NoSpace)) answer wrote failed (is, same) stands = subst (λ (r : Result (Unit {0}) Refusal). Takes g old w stand stand' e e' before after r) (sym is) (inl (record { why = inr (inr (may, inr (fit, inl (refl, wrote.full refl)))); leaves = wrote.kept tt; on = wrote.on tt; same = same }))
   concluded (Err (Store Read)) answer wrote failed (is, same) stands = subst (λ (r : Result (Unit {0}) Refusal). Takes g old w stand stand' e e' before after r) (sym is) (inl (record { why = inr (inr (may, inr (fit, inr (refl, failed tt)))); leaves = wrote.kept tt; on = wrote.on tt; same = same }))
   concluded (Err (Store (Down fault))) answer wrote failed (is, same) stands = subst (λ (r : Result (Unit {0}) Refusal). Takes g old w stand stand' e e' before after r) (sym is) (inr (record { is = refl; may = may; fit = fit; rose = failed tt; fault = fault; down = same; leaves = wrote.left }))
+
+module _ {D : Type 0} (g : Ghosts D) (old : Option Stored) (w : World) (stand stand' : Ground) (e e' : Engine) (before after : D) where
+  on_tables : (x : Engine) → x ≡ e → (o : Option Stored) × StandsOn (g.seen after) (g.may_leave after) e.hub.tables.tables stand' o → (o : Option Stored) × StandsOn (g.seen after) (g.may_leave after) x.hub.tables.tables stand' o
+  on_tables x same on = subst (λ (y : Engine). (o : Option Stored) × StandsOn (g.seen after) (g.may_leave after) y.hub.tables.tables stand' o) (sym same) on
+
+  -- with the engine up, the ground is that of the checkpoint that the device has
+  pub steady_after : (outcome : Result (Unit {0}) LeafError) (answer : Result (Unit {0}) Refusal) → Wrote g old w.machine e.hub.tables.tables stand stand' before after outcome → Concludes e e' outcome answer → IsSteady g e' stand' after
+  steady_after (Ok done) answer wrote (is, same) up = on_tables e' same (Some wrote.new, wrote.on)
+  steady_after (Err Over) answer wrote (is, same) up = on_tables e' same (old, wrote.on tt)
+  steady_after (Err (Store NoMemory)) answer wrote (is, same) up = on_tables e' same (old, wrote.on tt)
+  steady_after (Err (Store NoSpace)) answer wrote (is, same) up = on_tables e' same (old, wrote.on tt)
+  steady_after (Err (Store Read)) answer wrote (is, same) up = on_tables e' same (old, wrote.on tt)
+  steady_after (Err (Store (Down fault))) answer wrote (is, same) up = let down : None ≡ Some fault = sym up ∙ ap (λ (x : Engine). x.hub.fault) same in absurd cc
+
+-- the engine is as it was, or down
+pub engine_after : (e e' : Engine) (outcome : Result (Unit {0}) LeafError) (answer : Result (Unit {0}) Refusal) → Concludes e e' outcome answer → (e' ≡ e) ⊎ ((fault : Fault) × (e' ≡ with_fault e fault))
+engine_after e e' (Ok done) answer (is, same) = inl same
+engine_after e e' (Err Over) answer (is, same) = inl same
+engine_after e e' (Err (Store NoMemory)) answer (is, same) = inl same
+engine_after e e' (Err (Store NoSpace)) answer (is, same) = inl same
+engine_after e e' (Err (Store Read)) answer (is, same) = inl same
+engine_after e e' (Err (Store (Down fault))) answer (is, same) = inr (fault, same)
 
 pub on_ok_of : {A : Type 0} (r : Result (Unit {0}) Refusal) → OnOk r A → r ≡ Ok tt → A
 on_ok_of {A} r is same = subst (λ (x : Result (Unit {0}) Refusal). OnOk x A) same is

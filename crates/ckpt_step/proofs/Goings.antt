@@ -38,12 +38,13 @@ use Rattle.ckpt_step.specs.declared.leaf_error.LeafError.{LeafError}
 use Rattle.ckpt_step.specs.Checkpoints.{AreLeavesOf, IsLeafOf}
 use Rattle.ckpt_step.specs.Goings.{Going, NotOneMore, OneMore}
 use Rattle.ckpt_step.specs.Grounds.{AreRoots, found_in, link_in}
-use Rattle.ckpt_step.specs.Halves.{AllWritten, AreLeavesAt, AreOwn, Half, IsOldLeaf, IsOwn, SomeWritten, blocks_at_all, half_cell, leaf_cell, with_last, with_link}
+use Rattle.ckpt_step.specs.Halves.{AllWritten, AreLeavesAt, AreOwn, Half, IsOldLeaf, IsOwn, KeepSame, SomeWritten, blocks_at_all, half_cell, leaf_cell, with_last, with_link}
 use Rattle.ckpt_step.specs.Ones.{IsOne, MayWrite, StandsThere}
 use Rattle.ckpt_step.specs.Sizes.{LeavesLack, Places, PlacesLeaves, TableWrites, WritesLeaf}
 use Rattle.ckpt_step.proofs.Frees.{which}
 use Rattle.ckpt_step.proofs.News.{live_used, unnamed_with}
 use Rattle.ckpt_step.proofs.OldLeaves.{all_of, known_link}
+use Rattle.ckpt_step.proofs.OneLeaf.{leaf_one}
 use Rattle.ckpt_step.proofs.Settles.{IsPast, captured_far, captured_here, captured_over, found_past, last_far, last_over, leaf_is_some}
 
 -- ---- lists
@@ -222,6 +223,7 @@ module _ {D : Type 0} (g : Ghosts D) (old : Option Stored) (was : List Link) (m 
     rows = λ rest are. are;
     placed = λ last places. places;
     lacks = λ lacks. lacks;
+    same = λ p u x others known_at none. absurd cc;
     keeps = keeps_refl (Has books0.cells) (g.seen start);
     used = λ at n has. has;
     live = λ at n has. has;
@@ -384,6 +386,22 @@ module _ {D : Type 0} (g : Ghosts D) (old : Option Stored) (was : List Link) (m 
         writes : TableWrites (g.seen start) (g.capacity start) old m t one.size
         writes = table_writes rows one.size one.leaf (writes_of rows link one.size one.is)
 
+        same_here : (others : List Row) → others ≡ rows → others ≢ [] → LeafIs (g.seen start) (was_at place) others → IsOne (g.seen mid) books (was_at place) rows link one.size → link ≡ was_at place
+        same_here others are some leaf (inl (none, nowhere_is, size)) = absurd (some (are ∙ none))
+        same_here others are some leaf (inr (full, inl (own, size, there))) = own
+        same_here others are some leaf (inr (full, inr (size, none, placed))) = absurd (none (forward rows full (subst (λ (l : List Row). LeafIs (g.seen start) (was_at place) l) are leaf)))
+
+        same_more : KeepSame (g.seen start) old m known (links ++ link ∷ [])
+        same_more p u x others known_at is leaf some there = elim (append-finds links link x p is) [
+          | inl before ↦ going.same p u x others known_at before leaf some there
+          | inr (last, equal) ↦ (
+              let here : p ≡ place = last ∙ going.count in
+              let this : t ≡ u = some_same (sym at ∙ (ap (λ (k : ℕ). slice_get known k) (sym here) ∙ known_at)) in
+              let mine : IsLeafOf m t others = subst (λ (z : Table). IsLeafOf m z others) (sym this) leaf in
+              let stood : LeafIs (g.seen start) (was_at place) others = subst (λ (l : Link). LeafIs (g.seen start) l others) (ap (λ (z : Table). link_in old z) (sym this) ∙ own_link) there in
+              sym equal ∙ (same_here others (leaf_one m t others rows mine one.leaf) some stood one.is ∙ (sym own_link ∙ ap (λ (z : Table). link_in old z) this)))
+        ]
+
         longer : length (links ++ link ∷ []) ≡ suc place
         longer = omega (arith, length-append links (link ∷ []), going.count)
 
@@ -397,6 +415,7 @@ module _ {D : Type 0} (g : Ghosts D) (old : Option Stored) (was : List Link) (m 
           rows = λ rest are. subst (λ (l : List (List Row)). AreLeavesOf m known l) (sym (append_assoc going.leaves (rows ∷ []) rest)) (going.rows (rows ∷ rest) (subst (λ (l : List Table). AreLeavesOf m l (rows ∷ rest)) (sym (drop_at known place t at)) (one.leaf, are)));
           placed = λ last later. going.placed last (subst (λ (l : List Table). PlacesLeaves (g.seen start) (g.capacity start) old m books.space l last) (sym (drop_at known place t at)) (one.size, books'.space, writes, places, later));
           lacks = λ later. going.lacks (subst (λ (l : List Table). LeavesLack (g.seen start) (g.capacity start) old m books.space l) (sym (drop_at known place t at)) (one.size, writes, inr (books'.space, places, later)));
+          same = same_more;
           keeps = keeps_trans (Has books0.cells) (g.seen start) (g.seen mid) (g.seen end) going.keeps (keeps_fewer (Has books.cells) (Has books0.cells) (g.seen mid) (g.seen end) going.used one.captures.keeps);
           used = λ i n has. one.captures.used i n (going.used i n has);
           live = λ i n has. one.captures.live i n (going.live i n has);
@@ -413,4 +432,5 @@ module _ {D : Type 0} (g : Ghosts D) (old : Option Stored) (was : List Link) (m 
     rows = subst (λ (l : List (List Row)). AreLeavesOf m known l) (append-nil going.leaves) (going.rows [] (subst (λ (l : List Table). AreLeavesOf m l []) (sym (drop_none known place all)) tt));
     left = going.left;
     placed = going.placed books.space (subst (λ (l : List Table). PlacesLeaves (g.seen start) (g.capacity start) old m books.space l books.space) (sym (drop_none known place all)) refl);
+    same = going.same;
   }

@@ -1,11 +1,10 @@
 -- The versions of a key among those placed, and among the rows of tables.
-use Rattle.std.proofs.Common.{◌≡◌, ◌∙◌, ℕ, Bool, true, false, List, [], ◌∷◌, ◌++◌, refl, ap, inl, inr}
-use Rattle.std.specs.Prelude.{◌≢◌, ◌==◌, filter}
+use Rattle.std.proofs.Common.{◌≡◌, ◌∙◌, ℕ, false, List, [], ◌∷◌, ◌++◌, refl, ap, inl, inr}
+use Rattle.std.specs.Prelude.{◌≢◌, ◌==◌}
 use Rattle.std.specs.List.{AllByRecursion}
 use Rattle.std.proofs.lemmas.Bool.{cases_Bool, both_ways, eqb-true, or_left}
 use Rattle.item.specs.declared.Change.{Change}
 use Rattle.stamp.specs.declared.Version.{Version}
-use Rattle.kv_model.specs.Holds.{Member}
 use Rattle.kv_model.specs.History.{Placed, has_table, is_at, of_key}
 use Rattle.stored.specs.Records.{TableRoot}
 use Rattle.stored.specs.Stored.{cells_in, placed_in, tables_of}
@@ -18,17 +17,6 @@ both_keys table key [] ys = refl
 both_keys table key (x ∷ xs) ys = elim (cases_Bool (is_at table key x)) [
   | inl here ↦ rw here (ap (λ (l : List (Version Change)). x.version ∷ l) (both_keys table key xs ys))
   | inr away ↦ rw away (both_keys table key xs ys)
-]
-
--- a filter that keeps those of the key
-pub keys_kept : (f : Placed → Bool) (table : ℕ) (key : List ℕ) (l : List Placed) → ((p : Placed) → Member p l → is_at table key p ≡ true → f p ≡ true) → of_key table key (filter f l) ≡ of_key table key l
-keys_kept f table key [] all = refl
-keys_kept f table key (x ∷ l) all = elim (cases_Bool (is_at table key x)) [
-  | inl here ↦ rw (all x (inl refl) here, here) (ap (λ (vs : List (Version Change)). x.version ∷ vs) (keys_kept f table key l (λ p there. all p (inr there))))
-  | inr away ↦ elim (cases_Bool (f x)) [
-    | inl is ↦ rw (is, away) (keys_kept f table key l (λ p there. all p (inr there)))
-    | inr isnt ↦ rw (isnt, away) (keys_kept f table key l (λ p there. all p (inr there)))
-  ]
 ]
 
 -- of a number that no table has there is none

@@ -1,7 +1,12 @@
 pub mod KeysPlaced
 pub mod CheckpointsOpen
 pub mod PlainEvents
+pub mod Quiet
+pub mod WholeCalls
+pub mod StepCalls
 pub mod PlainCalls
+pub mod CalmWorlds
+pub mod Ordinary
 pub mod PlainStarts
 pub mod OneLeaf
 pub mod ByPlace
@@ -18,6 +23,7 @@ pub mod Standing
 pub mod Past
 pub mod PastLeaves
 pub mod Starting
+pub mod SameLeaves
 pub mod Concluding
 pub mod OrderedByName
 pub mod Goings

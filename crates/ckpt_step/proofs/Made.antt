@@ -1,11 +1,9 @@
 -- The checkpoint that is made of leaves by place.
 use Rattle.std.specs.Prelude.{◌≡◌, ℕ, List, [], ◌∷◌, ◌++◌, length, map, refl}
 use Rattle.std.specs.List.{AllByRecursion, flat_map}
-use Rattle.std.proofs.Common.{inl, inr, sym, ◌∙◌, ap, subst, arith}
-use Rattle.std.proofs.lemmas.Bool.{cases_Bool}
+use Rattle.std.proofs.Common.{sym, ◌∙◌, ap, subst, arith}
 use Rattle.std.proofs.lemmas.List.{append-nil}
 use Rattle.std.proofs.lemmas.Simd.{map-map}
-use Rattle.block_mgr.specs.declared.cell.Cell.{Cell}
 use Rattle.block_mgr.specs.Blocks.{Books, Has}
 use Rattle.device_layout.specs.declared.addr.Addr.{Addr}
 use Rattle.device_layout.specs.declared.link.Link.{Link}
@@ -15,7 +13,6 @@ use Rattle.row_page.specs.Rows.{Row}
 use Rattle.catalog.specs.Known.{NumbersAscend, by_name}
 use Rattle.stored.specs.Blocks.{Block, IsAddressed, IsAt, Apart}
 use Rattle.stored.specs.Tree.{IsTree}
-use Rattle.stored.specs.TableTree.{table_kind, TableTree, root_entry}
 use Rattle.stored.specs.HistoryTree.{history_kind, HistoryTree, history_root_entry}
 use Rattle.stored.specs.Links.{nowhere}
 use Rattle.stored.specs.Records.{TableRoot, Root, Record, IsRecord, record_image}

@@ -1,44 +1,34 @@
 -- The leaves and the room of the checkpoint before.
-use Rattle.std.specs.Prelude.{◌≡◌, ◌≢◌, ◌⊎◌, ℕ, ◌+◌, ◌-◌, ◌*◌, ◌/◌, ◌<◌, ◌≤◌, ◌==◌, true, false, zero, suc, max, List, [], ◌∷◌, ◌++◌, length, map, take, Option, Some, None, refl, fold, slice_get, slice_index_or}
+use Rattle.std.specs.Prelude.{◌≡◌, ℕ, ◌+◌, ◌-◌, ◌/◌, ◌<◌, ◌≤◌, zero, suc, List, [], ◌∷◌, ◌++◌, length, map, take, Option, Some, None, refl}
 use Rattle.std.specs.List.{AllByRecursion, flat_map}
 use Rattle.std.proofs.Common.{inl, inr, sym, ◌∙◌, ap, subst, arith}
-use Rattle.std.proofs.lemmas.Bool.{cases_Bool, cases_eq, eq-eqb, eqb-true, false≢true}
 use Rattle.std.proofs.lemmas.List.{take_all}
-use Rattle.std.proofs.lemmas.Option.{slice_get_within, slice_get-get_or}
 use Rattle.extent_list.specs.Space.{Space, IsFree, end_of as space_end}
 use Rattle.extent_list.proofs.SpaceLemmas.{free_before_end}
 use Rattle.block_mgr.specs.declared.cell.Cell.{Cell}
 use Rattle.block_mgr.specs.declared.found.Found.{Found}
 use Rattle.block_mgr.specs.Blocks.{Books, Has}
-use Rattle.block_mgr.specs.Cells.{AreUnits, cell_at, is_used, nothing}
-use Rattle.block_mgr.specs.Open.{found_at, found_cell, with_found}
+use Rattle.block_mgr.specs.Cells.{AreUnits, cell_at}
+use Rattle.block_mgr.specs.Open.{found_at, found_cell}
 use Rattle.block_mgr.proofs.HasLemmas.{used_some}
-use Rattle.block_mgr.proofs.OpenLemmas.{from_one, here, elsewhere}
+use Rattle.block_mgr.proofs.OpenLemmas.{from_one, here}
 use Rattle.device_layout.specs.declared.addr.Addr.{Addr}
 use Rattle.device_layout.specs.declared.link.Link.{Link}
-use Rattle.device_layout.specs.declared.slot.Slot.{Slot}
-use Rattle.kv_model.specs.Holds.{Member}
 use Rattle.kv_model.specs.History.{Table}
-use Rattle.catalog.specs.Known.{NumbersAscend}
 use Rattle.row_page.specs.Rows.{Row}
-use Rattle.stored.specs.Blocks.{Block, IsAddressed, Holds, Apart, AreApart}
-use Rattle.stored.specs.Links.{nowhere}
-use Rattle.stored.specs.Records.{TableRoot, Record}
+use Rattle.stored.specs.Blocks.{Block, IsAddressed, Holds}
+use Rattle.stored.specs.Records.{TableRoot}
 use Rattle.stored.specs.Tree.{IsTree, tree_blocks}
 use Rattle.stored.specs.TableTree.{table_kind, TableTree, root_entry}
-use Rattle.stored.specs.Stored.{Stored, AreTrees, IsOn, history_blocks, record_block, stored_blocks, tables_blocks}
+use Rattle.stored.specs.Stored.{Stored, AreTrees, IsOn, history_blocks, record_block, tables_blocks}
 use Rattle.checkpoint_core.specs.Stands.{AreInUse, HasStill, Stands, blocks_of}
 use Rattle.checkpoint_core.specs.Room.{InBlocks, end_of}
-use Rattle.one_table.specs.Damage.{record_found}
-use Rattle.one_table.specs.Leaves.{LeafIs, blocks_at}
-use Rattle.one_table.proofs.Leaves.{block_at, leaf_bytes, stored_block}
-use Rattle.one_table.proofs.Opens.{record_bytes}
+use Rattle.one_table.specs.Leaves.{blocks_at}
 use Rattle.one_table.proofs.Shapes.{one_leaf}
 use Rattle.recover_open.specs.Damage.{blocks_found, leaf_found_of}
 use Rattle.recover_open.specs.Flat.{AreLeaves, IsFlat, leaf_tree}
 use Rattle.recover_open.proofs.Places.{Matches, tables_match}
-use Rattle.ckpt_step.specs.Grounds.{AreRoots, HasRoots, found_in, leaf_root}
-use Rattle.ckpt_step.specs.Halves.{AreOldLeaves, IsOldLeaf, leaf_cell, record_cell}
+use Rattle.ckpt_step.specs.Grounds.{AreRoots, found_in}
 use Rattle.ckpt_step.specs.Sizes.{IsFreeSpace}
 use Rattle.ckpt_step.proofs.OrderedByName.{all_back, all_front}
 

@@ -1,6 +1,6 @@
 -- The links of the checkpoint before lead to its leaves.
-use Rattle.std.specs.Prelude.{◌≡◌, ◌≢◌, ◌⊎◌, ℕ, ◌+◌, ◌*◌, ◌/◌, ◌<◌, ◌≤◌, ◌==◌, true, false, zero, suc, List, [], ◌∷◌, ◌++◌, length, map, Option, Some, None, refl, fold, slice_get}
-use Rattle.std.specs.List.{AllByRecursion, flat_map}
+use Rattle.std.specs.Prelude.{◌≡◌, ◌≢◌, ◌⊎◌, ℕ, ◌+◌, ◌*◌, ◌<◌, ◌≤◌, true, false, zero, suc, List, [], ◌∷◌, ◌++◌, length, map, Option, Some, None, refl, slice_get}
+use Rattle.std.specs.List.{AllByRecursion}
 use Rattle.std.proofs.Common.{inl, inr, sym, ◌∙◌, ap, subst, arith}
 use Rattle.std.proofs.lemmas.Bool.{cases_eq, eq-eqb, false≢true}
 use Rattle.std.proofs.lemmas.Option.{slice_get_within}
@@ -11,7 +11,6 @@ use Rattle.block_mgr.specs.Open.{found_cell, with_found}
 use Rattle.block_mgr.proofs.HasLemmas.{used_some}
 use Rattle.block_mgr.proofs.OpenLemmas.{here, elsewhere}
 use Rattle.device_layout.specs.declared.link.Link.{Link}
-use Rattle.device_layout.specs.declared.slot.Slot.{Slot}
 use Rattle.kv_model.specs.Holds.{Member}
 use Rattle.kv_model.specs.History.{Table}
 use Rattle.catalog.specs.Known.{NumbersAscend}
@@ -20,18 +19,17 @@ use Rattle.stored.specs.Blocks.{Block, Apart, AreApart}
 use Rattle.stored.specs.Links.{nowhere}
 use Rattle.stored.specs.Records.{TableRoot}
 use Rattle.stored.specs.TableTree.{TableTree}
-use Rattle.stored.specs.Stored.{Stored, history_blocks, record_block, stored_blocks, tables_blocks}
+use Rattle.stored.specs.Stored.{Stored, history_blocks, stored_blocks, tables_blocks}
 use Rattle.checkpoint_core.specs.Stands.{Stands}
 use Rattle.one_table.specs.Damage.{record_found}
 use Rattle.one_table.specs.Leaves.{LeafIs, blocks_at}
 use Rattle.one_table.proofs.Leaves.{block_at, stored_block}
-use Rattle.recover_open.specs.Damage.{leaf_found_of}
 use Rattle.recover_open.specs.Flat.{AreLeaves, leaf_tree}
 use Rattle.ckpt_step.specs.Grounds.{AreRoots, HasRoots, found_in, leaf_root}
 use Rattle.ckpt_step.specs.Halves.{AreOldLeaves, IsOldLeaf, leaf_cell, record_cell}
 use Rattle.ckpt_step.proofs.OrderedByName.{all_map}
 use Rattle.ckpt_step.proofs.Past.{LeavesOf, leaves_on}
-use Rattle.ckpt_step.proofs.Settling.{Found1, Hits, found_leaves, link_of_root, not_hit}
+use Rattle.ckpt_step.proofs.Settling.{Found1, found_leaves, link_of_root, not_hit}
 use Rattle.ckpt_step.proofs.Standing.{map_member, member_map}
 
 -- ---- members of lists

@@ -1,19 +1,22 @@
 -- What an event without a stamp leaves of a plain machine.
 use Rattle.std.proofs.Common.{◌≡◌, ◌∙◌, ◌+◌, ℕ, true, List, [], ◌∷◌, ◌++◌, map, Option, Some, None, refl, ap, sym, subst, inl, inr, arith}
-use Rattle.std.specs.Prelude.{◌==◌, filter, nat_le}
+use Rattle.std.specs.Prelude.{◌≤◌, filter, max, nat_le}
 use Rattle.std.specs.Option.{option_to_list}
-use Rattle.std.proofs.lemmas.Bool.{cases_Bool, le-leb, or_right}
+use Rattle.std.proofs.Math.Nat.{le-max_left}
+use Rattle.std.proofs.lemmas.Bool.{cases_Bool, le-leb, leb-true}
 use Rattle.item.specs.declared.Change.{Change}
 use Rattle.stamp.specs.declared.Name.{Name}
 use Rattle.stamp.specs.declared.Version.{Version}
 use Rattle.kv_model.specs.AgreementLaws.{head_of}
 use Rattle.kv_model.specs.Closing.{after_all, rolling_back}
 use Rattle.kv_model.specs.Holds.{Member}
-use Rattle.kv_model.specs.History.{Entry, Commit, Resolve, Undo, Write, core, is_by, is_stable, line, version_of, writes_at}
-use Rattle.kv_model.specs.Machine.{Machine, Transaction, Phase, Running, Failed, Prepared, Resolving, Leaving, Event, OpenSession, BeginAt, DrawId, AcceptWrite, RefuseWrite, PrepareAt, CommitAt, StartLeaving, EndTransaction, PlaceCursor, CreateTable, SetStamps, RollbackToStable, CheckpointStart, CheckpointFinish, CheckpointDrop, GoDown, Nothing, after, appended, decided, left, name_of, of_some, stamped, transaction_of}
-use Rattle.kv_model.proofs.Finishing.{member-append}
+use Rattle.kv_model.specs.History.{Entry, Commit, Prepare, Resolve, Undo, Write, core, is_by, line, version_of, writes_at}
+use Rattle.kv_model.specs.Machine.{Machine, Transaction, Phase, Running, Failed, Prepared, Resolving, Leaving, Event, OpenSession, BeginAt, DrawId, AcceptWrite, RefuseWrite, PrepareAt, CommitAt, StartLeaving, EndTransaction, PlaceCursor, CreateTable, SetStamps, RollbackToStable, CheckpointStart, CheckpointFinish, CheckpointDrop, GoDown, Nothing, after, appended, decided, left, name_of, of_some, prepared, stamped, transaction_of}
 use Rattle.kv_model.proofs.Ordering.{line-writes}
+use Rattle.one_session.proofs.Telling.{core_one}
 use Rattle.leaf_capture.specs.CutLaws.{NewestSuffices}
+use Rattle.leaf_capture.proofs.Sifting.{alone}
+use Rattle.ckpt_step.specs.Calm.{IsUnstampedEvent}
 use Rattle.ckpt_step.specs.Plain.{GoesPlain, IsPlain, RollsBackPlain}
 
 -- ---- versions without stamps above a line
@@ -37,30 +40,32 @@ lines_stay history older same table key = record { front = []; is = same table k
 low : (stamp durable : ℕ) → durable ≡ 0 → nat_le durable stamp ≡ true
 low stamp durable none = le-leb durable stamp (omega (arith, none))
 
-stable_front : (stable : ℕ) (front l : List (Version Change)) → AreUnstamped front → ((v : Version Change) → Member v l → is_stable stable v ≡ true) → (v : Version Change) → Member v (front ++ l) → is_stable stable v ≡ true
-stable_front stable front l unstamped all v there = elim (member-append v front l there) [
-  | inl at ↦ or_right (stable == 0) (is_by stable v) (low stable v.window.durable (unstamped v at))
-  | inr at ↦ all v at
-]
-
 core_front : (oldest : ℕ) (front l : List (Version Change)) → AreUnstamped front → core oldest l ≡ option_to_list (head_of l) → core oldest (front ++ l) ≡ option_to_list (head_of (front ++ l))
 core_front oldest [] l unstamped reached = reached
 core_front oldest (v ∷ front) l unstamped reached = let by : is_by oldest v ≡ true = low oldest v.window.durable (unstamped v (inl refl)) in rw by refl
+
+-- where no read from oldest on reaches more than the newest, none from a later stamp on does
+core_later : (oldest later : ℕ) (l : List (Version Change)) → oldest ≤ later → core oldest l ≡ option_to_list (head_of l) → core later l ≡ option_to_list (head_of l)
+core_later oldest later [] le reached = refl
+core_later oldest later (v ∷ older) le reached = elim (cases_Bool (is_by oldest v)) [
+  | inl by ↦ (let still : is_by later v ≡ true = le-leb v.window.durable later (let at = leb-true v.window.durable oldest by in omega (arith, le, at)) in rw still refl)
+  | inr late ↦ subst (λ (l : List (Version Change)). core later (v ∷ l) ≡ v ∷ []) (sym (alone oldest v older late reached)) (core_one later (Some v))
+]
 
 -- ---- what stays plain
 
 -- what the rest of the machine is after such an event
 abbrev Stays : Machine → Machine → Type 0
-Stays m next = (next.oldest ≡ m.oldest) × (next.stable ≡ m.stable) × (next.checkpoint ≡ m.checkpoint) × (next.completed ≡ m.completed) × (next.fault ≡ m.fault)
+Stays m next = (next.oldest ≡ m.oldest) × (next.checkpoint ≡ m.checkpoint) × (next.completed ≡ m.completed) × (next.fault ≡ m.fault)
 
 as_it_was : (m : Machine) → Stays m m
-as_it_was m = (refl, refl, refl, refl, refl)
+as_it_was m = (refl, refl, refl, refl)
 
 goes : (m next : Machine) → Stays m next → LinesGrow next.history m.history → IsPlain m → GoesPlain m next
 goes m next stays lines plain = record {
-  plain = record { idle = stays.2 ∙ plain.idle; suffice = suffices };
-  completed = stays.3;
-  fault = stays.4;
+  plain = record { idle = stays.1 ∙ plain.idle; suffice = suffices };
+  completed = stays.2;
+  fault = stays.3;
 } where
   suffices : (table : ℕ) (key : List ℕ) → NewestSuffices next table key
   suffices table key =
@@ -68,7 +73,6 @@ goes m next stays lines plain = record {
       let old = line m.history table key in
       let s = plain.suffice table key in
       record {
-        durable = λ v there. subst (λ (n : ℕ). is_stable n v ≡ true) (sym stays.1) (stable_front m.stable g.front old g.unstamped s.durable v (subst (λ (l : List (Version Change)). Member v l) g.is there));
         reached =
             ap (λ (n : ℕ). core n (line next.history table key)) stays.0
             ∙ (ap (core m.oldest) g.is ∙ (core_front m.oldest g.front old g.unstamped s.reached ∙ sym (ap (λ (l : List (Version Change)). option_to_list (head_of l)) g.is)));
@@ -83,6 +87,14 @@ stays_so m plain = record { plain = plain; completed = refl; fault = refl }
 
 pub goes_on : (m middle next : Machine) → GoesPlain m middle → GoesPlain middle next → GoesPlain m next
 goes_on m middle next one two = record { plain = two.plain; completed = two.completed ∙ one.completed; fault = two.fault ∙ one.fault }
+
+-- the stamps are raised
+raises : (m : Machine) (oldest stable : ℕ) → IsPlain m → GoesPlain m (after m (SetStamps oldest stable))
+raises m oldest stable plain = record {
+  plain = record { idle = plain.idle; suffice = λ table key. record { reached = core_later m.oldest (max m.oldest oldest) (line m.history table key) (le-max_left m.oldest oldest) (plain.suffice table key).reached } };
+  completed = refl;
+  fault = refl;
+}
 
 -- ---- commits
 
@@ -112,7 +124,12 @@ resolve_grows name (w ∷ writes) history = λ table key. record {
   unstamped = unstamped_writes name table key (w ∷ writes);
 }
 
--- what was prepared does not stand
+-- what is prepared does not stand
+prepare_grows : (name : Name) (stamp : ℕ) (writes : List Write) (history : List Entry) → LinesGrow (appended writes (Prepare name stamp) history) history
+prepare_grows name stamp [] history = lines_stay history history (λ table key. refl)
+prepare_grows name stamp (w ∷ writes) history = lines_stay (Prepare name stamp ∷ history) history (λ table key. refl)
+
+-- so where it was
 undo_grows : (name : Name) (writes : List Write) (history : List Entry) → LinesGrow (appended writes (Undo name) history) history
 undo_grows name [] history = lines_stay history history (λ table key. refl)
 undo_grows name (w ∷ writes) history = lines_stay (Undo name ∷ history) history (λ table key. refl)
@@ -131,19 +148,11 @@ left_goes (Prepared stamp) m session t plain = goes m (left (Prepared stamp) m s
 left_goes Resolving m session t plain = stays_so m plain
 left_goes Leaving m session t plain = same m (left Leaving m session t) (as_it_was m) refl plain
 
--- ---- events
+prepared_goes : (m : Machine) (session stamp : ℕ) (o : Option Transaction) → IsPlain m → GoesPlain m (of_some m (prepared m session stamp) o)
+prepared_goes m session stamp None plain = stays_so m plain
+prepared_goes m session stamp (Some t) plain = goes m (prepared m session stamp t) (as_it_was m) (prepare_grows (name_of m t) stamp t.writes m.history) plain
 
--- neither a stamp nor a checkpoint, and the machine stays up
-abbrev pub IsQuiet : Event → Type 0
-IsQuiet (PrepareAt session stamp) = ⊥
-IsQuiet (CommitAt session commit durable) = (commit ≡ 0) × (durable ≡ 0)
-IsQuiet (SetStamps oldest stable) = ⊥
-IsQuiet RollbackToStable = ⊥
-IsQuiet CheckpointStart = ⊥
-IsQuiet CheckpointFinish = ⊥
-IsQuiet CheckpointDrop = ⊥
-IsQuiet (GoDown fault) = ⊥
-IsQuiet _ = Unit {0}
+-- ---- events
 
 commit_goes : (m : Machine) (session : ℕ) (o : Option Transaction) → IsPlain m → GoesPlain m (of_some m (λ (t : Transaction). decided t.phase m session 0 0 t) o)
 commit_goes m session None plain = stays_so m plain
@@ -153,13 +162,13 @@ leave_goes : (m : Machine) (session : ℕ) (o : Option Transaction) → IsPlain 
 leave_goes m session None plain = stays_so m plain
 leave_goes m session (Some t) plain = left_goes t.phase m session t plain
 
-pub after_goes : (m : Machine) (event : Event) → IsQuiet event → IsPlain m → GoesPlain m (after m event)
+pub after_goes : (m : Machine) (event : Event) → IsUnstampedEvent event → IsPlain m → GoesPlain m (after m event)
 after_goes m OpenSession quiet plain = same m (after m OpenSession) (as_it_was m) refl plain
 after_goes m (BeginAt session read) quiet plain = same m (after m (BeginAt session read)) (as_it_was m) refl plain
 after_goes m (DrawId session) quiet plain = same m (after m (DrawId session)) (as_it_was m) refl plain
 after_goes m (AcceptWrite session table key change) quiet plain = same m (after m (AcceptWrite session table key change)) (as_it_was m) refl plain
 after_goes m (RefuseWrite session) quiet plain = same m (after m (RefuseWrite session)) (as_it_was m) refl plain
-after_goes m (PrepareAt session stamp) quiet plain = absurd quiet
+after_goes m (PrepareAt session stamp) quiet plain = prepared_goes m session stamp (transaction_of m session) plain
 after_goes m (CommitAt session commit durable) quiet plain =
     subst (λ (c : ℕ). GoesPlain m (after m (CommitAt session c durable))) (sym quiet.0)
     (subst (λ (d : ℕ). GoesPlain m (after m (CommitAt session 0 d))) (sym quiet.1) (commit_goes m session (transaction_of m session) plain))
@@ -167,7 +176,7 @@ after_goes m (StartLeaving session) quiet plain = leave_goes m session (transact
 after_goes m (EndTransaction session) quiet plain = same m (after m (EndTransaction session)) (as_it_was m) refl plain
 after_goes m (PlaceCursor session cursor position) quiet plain = same m (after m (PlaceCursor session cursor position)) (as_it_was m) refl plain
 after_goes m (CreateTable table) quiet plain = goes m (after m (CreateTable table)) (as_it_was m) (lines_stay (after m (CreateTable table)).history m.history (λ number key. refl)) plain
-after_goes m (SetStamps oldest stable) quiet plain = absurd quiet
+after_goes m (SetStamps oldest stable) quiet plain = raises m oldest stable plain
 after_goes m RollbackToStable quiet plain = absurd quiet
 after_goes m CheckpointStart quiet plain = absurd quiet
 after_goes m CheckpointFinish quiet plain = absurd quiet
@@ -177,7 +186,7 @@ after_goes m Nothing quiet plain = stays_so m plain
 
 -- ---- a close that rolls back
 
-rolls : (m : Machine) (at : ℕ) (sessions : List (Option Transaction)) → IsPlain m → GoesPlain m (after_all m (rolling_back at sessions))
+pub rolls : (m : Machine) (at : ℕ) (sessions : List (Option Transaction)) → IsPlain m → GoesPlain m (after_all m (rolling_back at sessions))
 rolls m at [] plain = stays_so m plain
 rolls m at (None ∷ later) plain = rolls m (at + 1) later plain
 rolls m at (Some t ∷ later) plain =

@@ -1,20 +1,17 @@
 -- An opening of a device whose tables have one leaf each makes a plain machine.
-use Rattle.std.proofs.Common.{◌≡◌, ◌∙◌, arith, ℕ, Bool, true, ◌&&◌, List, [], ◌∷◌, ◌++◌, length, map, Option, Some, None, refl, ap, sym, subst, inl, inr}
+use Rattle.std.proofs.Common.{◌≡◌, ◌∙◌, arith, ℕ, Bool, ◌&&◌, List, [], ◌∷◌, ◌++◌, length, map, Option, Some, None, refl, ap, sym, subst, inl, inr}
 use Rattle.std.specs.Prelude.{◌≢◌, ◌==◌, filter, not}
 use Rattle.std.specs.Option.{option_to_list}
 use Rattle.std.specs.List.{AllByRecursion, list_any}
-use Rattle.std.proofs.lemmas.Bool.{cases_Bool, and_parts, eqb-true}
+use Rattle.std.proofs.lemmas.Bool.{cases_Bool, eqb-true}
 use Rattle.std.proofs.lemmas.List.{append-nil}
 use Rattle.item.specs.declared.Change.{Change}
 use Rattle.stamp.specs.declared.Version.{Version}
 use Rattle.row_page.specs.Rows.{AreRows, Row}
 use Rattle.kv_model.specs.AgreementLaws.{head_of}
-use Rattle.kv_model.specs.Content.{Content, base, descending, is_again, is_kept_version, kept, kept_cells, nothing, placed_lt, sees_name, start, table_lt}
-use Rattle.kv_model.specs.Holds.{Member}
-use Rattle.kv_model.specs.History.{Placed, core, has_table, is_at, is_stable, line, of_key}
+use Rattle.kv_model.specs.Content.{Content, base, descending, is_again, is_kept_version, kept, kept_cells, nothing, placed_lt, start, table_lt}
+use Rattle.kv_model.specs.History.{Placed, core, is_at, line, of_key}
 use Rattle.kv_model.proofs.Finishing.{line-base}
-use Rattle.kv_model.proofs.Opening.{kept-from, of-key-from}
-use Rattle.kv_model.proofs.Sorting.{member-descending}
 use Rattle.stored.specs.Links.{nowhere}
 use Rattle.stored.specs.HistoryTree.{HistoryEntry, HistoryRecord, HistoryTree, history_kind, history_root_entry, record_in}
 use Rattle.stored.specs.Records.{NumbersOnce, Root, TableRoot}
@@ -127,14 +124,6 @@ starts_from c one = record { idle = refl; suffice = suffices } where
   line_is : (table : ℕ) (key : List ℕ) → line (base c) table key ≡ option_to_list (one table key).version
   line_is table key = line-base (descending table_lt c.tables) (descending placed_lt (kept c)) table key ∙ of_key_descending placed_lt table key (kept c) (one table key).version (one table key).is
 
-  -- what is kept is durable at stable
-  durable_kept : (table : ℕ) (key : List ℕ) (v : Version Change) → Member v (line (base c) table key) → is_stable c.stable v ≡ true
-  durable_kept table key v there =
-      let p = of-key-from table key (descending placed_lt (kept c)) v (subst (λ (l : List (Version Change)). Member v l) (line-base (descending table_lt c.tables) (descending placed_lt (kept c)) table key) there) in
-      let k = kept-from c p.0 (member-descending placed_lt (kept c) p.0 p.1) in
-      let seen = and_parts (has_table c.tables p.0.table) (sees_name c.run c.snapshot p.0.version.window.name && is_stable c.stable p.0.version) k.1 in
-      subst (λ (x : Version Change). is_stable c.stable x ≡ true) (sym p.3) (and_parts (sees_name c.run c.snapshot p.0.version.window.name) (is_stable c.stable p.0.version) seen.1).1
-
   head_list : (o : Option (Version Change)) → o ≡ head_of (option_to_list o)
   head_list None = refl
   head_list (Some v) = refl
@@ -142,10 +131,7 @@ starts_from c one = record { idle = refl; suffice = suffices } where
   suffices : (table : ℕ) (key : List ℕ) → NewestSuffices (start c) table key
   suffices table key =
       let shown = (one table key).version in
-      record {
-        durable = durable_kept table key;
-        reached = ap (core c.oldest) (line_is table key) ∙ (core_one c.oldest shown ∙ (ap option_to_list (head_list shown) ∙ sym (ap (λ (l : List (Version Change)). option_to_list (head_of l)) (line_is table key))));
-      }
+      record { reached = ap (core c.oldest) (line_is table key) ∙ (core_one c.oldest shown ∙ (ap option_to_list (head_list shown) ∙ sym (ap (λ (l : List (Version Change)). option_to_list (head_of l)) (line_is table key)))) }
 
 flat_one : (bytes : List ℕ) (s : Stored) → IsOn bytes s → IsFlat s.kept → (table : ℕ) (key : List ℕ) → AtMostOne table key (kept (content_of s))
 flat_one bytes s on flat table key =

@@ -1,17 +1,16 @@
 -- What the steps of a checkpoint leave together.
-use Rattle.std.specs.Prelude.{◌≡◌, ◌⊎◌, ℕ, ◌+◌, ◌*◌, ◌/◌, ◌<◌, ◌≤◌, true, false, List, [], ◌∷◌, length, Option, Some, None, Result, Ok, Err, IfOk, refl, slice_get, slice_index_or}
+use Rattle.std.specs.Prelude.{◌≡◌, ℕ, ◌+◌, ◌*◌, ◌/◌, ◌<◌, ◌≤◌, true, false, List, length, Option, Some, None, Result, Ok, Err, IfOk, refl}
 use Rattle.std.proofs.Common.{inl, inr, sym, ◌∙◌, ap, subst, arith}
 use Rattle.std.proofs.lemmas.Bool.{cases_eq, eq-eqb, ne_eqb}
 use Rattle.std.proofs.lemmas.List.{get_or-set_same, get_or-set_other}
 use Rattle.disk_model.specs.declared.disk.Disk.{Ghosts}
-use Rattle.disk_model.specs.Crash.{Each, LeavesOnly}
+use Rattle.disk_model.specs.Crash.{LeavesOnly}
 use Rattle.disk_model.proofs.Crash.{joined, widened}
-use Rattle.extent_list.specs.Space.{Space, Taken, HasNoRoom, end_of}
+use Rattle.extent_list.specs.Space.{Taken, HasNoRoom}
 use Rattle.le_codec.specs.Images.{block_size}
 use Rattle.block_mgr.specs.declared.cell.Cell.{Cell}
 use Rattle.block_mgr.specs.Blocks.{Books, unit_of}
-use Rattle.block_mgr.specs.Cells.{AreUnits, cell_at, captured, done, done_cell, freed, fresh, kept, nothing}
-use Rattle.block_mgr.specs.Writes.{Added}
+use Rattle.block_mgr.specs.Cells.{AreUnits, cell_at, captured, done_cell, freed, fresh, kept, nothing}
 use Rattle.block_mgr.proofs.HolderLemmas.{at_map, is_there}
 use Rattle.device_layout.specs.declared.addr.Addr.{Addr}
 use Rattle.device_layout.specs.declared.link.Link.{Link}
@@ -24,17 +23,16 @@ use Rattle.kv_model.specs.Machine.{Machine}
 use Rattle.catalog.specs.Known.{NumbersAscend}
 use Rattle.row_page.specs.Rows.{Row}
 use Rattle.stored.specs.Records.{Record, record_image}
-use Rattle.stored.specs.Stored.{Stored, IsOn}
+use Rattle.stored.specs.Stored.{Stored}
 use Rattle.one_table.proofs.Opens.{record_bytes}
-use Rattle.checkpoint_core.specs.Stands.{HasStill, Stands, AreInUse, IsReady, chosen_of, placed_at}
-use Rattle.checkpoint_core.specs.Finishes.{IsOld, IsEither, Finishes, Fails, HadRoom, IsLastNow, ReadsAfter, AreBack, units_of}
+use Rattle.checkpoint_core.specs.Stands.{HasStill, IsReady, chosen_of}
+use Rattle.checkpoint_core.specs.Finishes.{IsOld, IsEither, Finishes, Fails, IsLastNow, ReadsAfter, AreBack, units_of}
 use Rattle.ckpt_step.specs.Checkpoints.{IsCheckpointOf, IsRecordOf}
-use Rattle.ckpt_step.specs.Grounds.{found_in, number_of}
-use Rattle.ckpt_step.specs.Halves.{AllWritten, SomeWritten, Half, AreOwn, IsFresh, IsSafe, blocks_at_all, done_at, half_cell, record_cell}
-use Rattle.ckpt_step.specs.Sizes.{HasPlaces, LacksPlace, PlacesLeaves}
-use Rattle.ckpt_step.specs.Runs.{AllPut, IsDone, IsImageOf, LeavesOne, Runs, SomePut, made_of}
+use Rattle.ckpt_step.specs.Grounds.{number_of}
+use Rattle.ckpt_step.specs.Halves.{AllWritten, SomeWritten, Half, IsFresh, done_at, half_cell, record_cell}
+use Rattle.ckpt_step.specs.Runs.{AllPut, IsImageOf, Runs, SomePut, made_of}
 use Rattle.ckpt_step.specs.declared.leaf_error.LeafError.{LeafError}
-use Rattle.ckpt_step.specs.declared.leaf_error.LeafError.TheVariants.{Over, Store}
+use Rattle.ckpt_step.specs.declared.leaf_error.LeafError.TheVariants.{Store}
 use Rattle.ckpt_step.proofs.Made.{count_leaves, made_is, made_ready}
 
 pub if_ok_map : {T E : Type 0} {P Q : T → Type 0} (r : Result T E) → IfOk r P → ((x : T) → P x → Q x) → IfOk r Q
@@ -166,6 +164,7 @@ module _ {D : Type 0} (g : Ghosts D) (old : Option Stored) (was : List Link) (m 
         left = turns after a left;
         each = each;
         places = (books'.space, block_size (length (record_image img.r)), space, at, all.placed, record_size, sized (g.capacity mid) (λ (n capacity : ℕ). Taken books'.space space n capacity at) room taken);
+        same = all.same;
         done = record {
           on = on;
           tables = img.tables;

@@ -1,14 +1,13 @@
 -- The cells once a checkpoint is settled, and those that an opening finds.
-use Rattle.std.specs.Prelude.{◌≡◌, ◌⊎◌, ℕ, ◌+◌, ◌*◌, ◌/◌, ◌≤◌, ◌==◌, true, false, List, [], ◌∷◌, ◌++◌, length, map, refl, fold}
+use Rattle.std.specs.Prelude.{◌≡◌, ◌⊎◌, ℕ, ◌+◌, ◌*◌, ◌/◌, ◌==◌, true, false, List, [], ◌∷◌, ◌++◌, map, refl, fold}
 use Rattle.std.specs.List.{AllByRecursion, flat_map}
 use Rattle.std.proofs.Common.{inl, inr, sym, ◌∙◌, ap, subst, arith}
 use Rattle.std.proofs.lemmas.Bool.{cases_Bool, cases_eq, eq-eqb, eqb-true, ne_eqb, false≢true}
 use Rattle.block_mgr.specs.declared.cell.Cell.{Cell}
 use Rattle.block_mgr.specs.declared.found.Found.{Found}
-use Rattle.block_mgr.specs.Cells.{cell_at, nothing}
+use Rattle.block_mgr.specs.Cells.{nothing}
 use Rattle.block_mgr.specs.Open.{with_found}
 use Rattle.block_mgr.proofs.OpenLemmas.{here, elsewhere}
-use Rattle.device_layout.specs.declared.addr.Addr.{Addr}
 use Rattle.device_layout.specs.declared.link.Link.{Link}
 use Rattle.kv_model.specs.Holds.{Member}
 use Rattle.stored.specs.Records.{TableRoot}

@@ -1,8 +1,8 @@
 -- The checkpoint on which the next one stands.
-use Rattle.std.specs.Prelude.{◌≡◌, ◌⊎◌, ℕ, ◌+◌, ◌*◌, ◌/◌, ◌≤◌, ◌==◌, true, false, List, [], ◌∷◌, ◌++◌, length, map, Option, Some, None, option_map, refl, fold, slice_get, zero, suc}
-use Rattle.std.specs.List.{AllByRecursion, flat_map}
+use Rattle.std.specs.Prelude.{◌≡◌, ℕ, ◌+◌, ◌*◌, false, List, [], ◌∷◌, ◌++◌, length, map, Option, Some, option_map, refl, fold, slice_get, zero, suc}
+use Rattle.std.specs.List.{flat_map}
 use Rattle.std.proofs.Common.{inl, inr, sym, ◌∙◌, ap, subst, arith}
-use Rattle.std.proofs.lemmas.Bool.{cases_Bool, cases_eq, eq-eqb, eqb-true, ne_eqb, false≢true}
+use Rattle.std.proofs.lemmas.Bool.{cases_eq, eq-eqb, ne_eqb}
 use Rattle.std.proofs.lemmas.List.{length-map}
 use Rattle.std.proofs.lemmas.Simd.{map-map}
 use Rattle.std.proofs.lemmas.Option.{slice_get-map}
@@ -26,7 +26,7 @@ use Rattle.stored.specs.Blocks.{Block}
 use Rattle.stored.specs.Links.{nowhere}
 use Rattle.stored.specs.Records.{TableRoot, Record}
 use Rattle.stored.specs.Stored.{Stored, IsOn}
-use Rattle.checkpoint_core.specs.Stands.{AreInUse, Stands, body_blocks}
+use Rattle.checkpoint_core.specs.Stands.{AreInUse, body_blocks}
 use Rattle.one_table.specs.Damage.{record_found}
 use Rattle.one_table.specs.Leaves.{blocks_at}
 use Rattle.one_table.proofs.Leaves.{no_block, stored_block}
@@ -34,7 +34,7 @@ use Rattle.recover_open.specs.Damage.{blocks_found, leaf_found_of}
 use Rattle.recover_open.specs.Flat.{IsFlat}
 use Rattle.ckpt_step.specs.declared.ground.Ground.{Ground}
 use Rattle.ckpt_step.specs.Grounds.{HasRoots, StandsOn, found_in, leaf_root}
-use Rattle.ckpt_step.specs.Halves.{blocks_at_all, half_cell, leaf_cell, record_cell, settled_at, with_last}
+use Rattle.ckpt_step.specs.Halves.{blocks_at_all, half_cell, record_cell, settled_at, with_last}
 use Rattle.ckpt_step.specs.Records.{of_number, roots_by_name}
 use Rattle.ckpt_step.specs.Runs.{IsDone, made_of}
 use Rattle.ckpt_step.proofs.OrderedByName.{flat_by_name, length_by_name}

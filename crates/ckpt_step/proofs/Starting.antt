@@ -1,5 +1,5 @@
 -- From a ground to a checkpoint that runs, and back.
-use Rattle.std.specs.Prelude.{◌≡◌, ℕ, ◌≤◌, IsTrue, true, false, List, [], length, reverse, Option, None, Some, refl, slice_get}
+use Rattle.std.specs.Prelude.{◌≡◌, ℕ, true, false, List, [], reverse, Option}
 use Rattle.std.proofs.Common.{sym, ◌∙◌, ap, subst, arith}
 use Rattle.std.proofs.lemmas.List.{reverse-reverse}
 use Rattle.extent_list.specs.Space.{Space, end_of}
@@ -11,11 +11,11 @@ use Rattle.device_layout.specs.declared.link.Link.{Link}
 use Rattle.kv_model.specs.History.{Table}
 use Rattle.catalog.specs.Known.{NumbersAscend}
 use Rattle.stored.specs.Stored.{Stored}
-use Rattle.checkpoint_core.specs.Stands.{Stands, blocks_of, chosen_of}
+use Rattle.checkpoint_core.specs.Stands.{blocks_of}
 use Rattle.checkpoint_core.proofs.Holding.{in_use_same, still_long}
 use Rattle.one_table.proofs.Writes.{stands_begun}
 use Rattle.ckpt_step.specs.declared.ground.Ground.{Ground}
-use Rattle.ckpt_step.specs.Grounds.{AreRoots, StandsOn, found_in, number_of}
+use Rattle.ckpt_step.specs.Grounds.{AreRoots, StandsOn, found_in}
 use Rattle.ckpt_step.specs.Halves.{AreOldLeaves, Half}
 use Rattle.ckpt_step.specs.Runs.{Runs}
 use Rattle.ckpt_step.proofs.PastLeaves.{are_old_leaves}

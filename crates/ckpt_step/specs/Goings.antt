@@ -15,7 +15,7 @@ use Rattle.checkpoint_core.specs.Finishes.{IsOld}
 use Rattle.ckpt_step.specs.declared.leaf_error.LeafError.{LeafError}
 use Rattle.ckpt_step.specs.declared.leaf_error.LeafError.TheVariants.{Over, Store}
 use Rattle.ckpt_step.specs.Checkpoints.{AreLeavesOf, IsLeafOf}
-use Rattle.ckpt_step.specs.Halves.{Half, IsSafe}
+use Rattle.ckpt_step.specs.Halves.{Half, IsSafe, KeepSame}
 use Rattle.ckpt_step.specs.Ones.{Captures, Fails, HasNone, IsOne, StandsThere}
 use Rattle.ckpt_step.specs.Sizes.{LeavesLack, PlacesLeaves}
 
@@ -53,6 +53,7 @@ pub record Going {D : Type 0} (g : Ghosts D) (old : Option Stored) (was : List L
   pub rows : (rest : List (List Row)) → AreLeavesOf m (drop place known) rest → AreLeavesOf m known (leaves ++ rest)
   pub placed : (last : Space) → PlacesLeaves (g.seen before) (g.capacity before) old m books'.space (drop place known) last → PlacesLeaves (g.seen before) (g.capacity before) old m books.space known last
   pub lacks : LeavesLack (g.seen before) (g.capacity before) old m books'.space (drop place known) → LeavesLack (g.seen before) (g.capacity before) old m books.space known
+  pub same : KeepSame (g.seen before) old m known links
   pub keeps : Keeps (Has books.cells) (g.seen before) (g.seen after)
   pub used : (at n : ℕ) → Has books.cells at n → Has books'.cells at n
   pub live : (at n : ℕ) → HasLive books.cells at n → HasLive books'.cells at n

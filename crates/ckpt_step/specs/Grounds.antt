@@ -10,6 +10,8 @@ use Rattle.kv_model.specs.History.{Table}
 use Rattle.stored.specs.Links.{nowhere}
 use Rattle.stored.specs.Records.{TableRoot, Record}
 use Rattle.stored.specs.Stored.{Stored}
+use Rattle.disk_model.specs.declared.disk.Disk.{Ghosts}
+use Rattle.engine_world.specs.Stands.{Engine}
 use Rattle.checkpoint_core.specs.Stands.{Stands, chosen_of}
 use Rattle.recover_open.specs.Damage.{blocks_found}
 use Rattle.recover_open.specs.Flat.{IsFlat}
@@ -59,3 +61,7 @@ pub record StandsOn (seen : List ℕ) (images : List ℕ → Type 0) (known : Li
   pub long : 8192 ≤ length seen
   pub within : end_of g.place.blocks.space ≤ length seen
   pub roots : AreRoots known g.leaves.items old
+
+-- where the engine is up, the ground is that of the last completed checkpoint of the disk
+abbrev pub IsSteady : {D : Type 0} → Ghosts D → Engine → Ground → D → Type 0
+IsSteady g e stand disk = e.hub.fault ≡ None → (old : Option Stored) × StandsOn (g.seen disk) (g.may_leave disk) e.hub.tables.tables stand old

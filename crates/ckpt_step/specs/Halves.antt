@@ -22,8 +22,8 @@ use Rattle.stored.specs.Stored.{Stored}
 use Rattle.checkpoint_core.specs.Stands.{Stands, AreInUse, blocks_of}
 use Rattle.checkpoint_core.specs.Finishes.{IsOld}
 use Rattle.one_table.specs.Leaves.{LeafIs, blocks_at}
-use Rattle.ckpt_step.specs.Checkpoints.{AreLeavesOf}
-use Rattle.ckpt_step.specs.Grounds.{found_in}
+use Rattle.ckpt_step.specs.Checkpoints.{AreLeavesOf, IsLeafOf}
+use Rattle.ckpt_step.specs.Grounds.{found_in, link_in}
 use Rattle.ckpt_step.specs.Sizes.{PlacesLeaves, LeavesLack, IsOver}
 use Rattle.ckpt_step.specs.declared.leaf_error.LeafError.{LeafError}
 use Rattle.ckpt_step.specs.declared.leaf_error.LeafError.TheVariants.{Over, Store}
@@ -125,6 +125,10 @@ pub record Half (seen : List ℕ) (images : List ℕ → Type 0) (books : Books)
   pub was_are : AreOldLeaves old was
   pub own : AreOwn old was links
 
+-- each of these leaves that the checkpoint before has with the same rows stands where it did
+abbrev pub KeepSame : List ℕ → Option Stored → Machine → List Table → List Link → Type 0
+KeepSame bytes old m known links = (place : ℕ) (t : Table) (link : Link) (rows : List Row) → slice_get known place ≡ Some t → slice_get links place ≡ Some link → IsLeafOf m t rows → rows ≢ [] → LeafIs bytes (link_in old t) rows → link ≡ link_in old t
+
 -- ---- writing them
 
 -- a call of the disk failed
@@ -146,6 +150,7 @@ module _ {D : Type 0} (g : Ghosts D) (old : Option Stored) (was : List Link) (m 
     pub rows : AreLeavesOf m known leaves
     pub left : LeavesOnly g before after (IsOld (g.may_leave before) old)
     pub placed : PlacesLeaves (g.seen before) (g.capacity before) old m books.space known books'.space
+    pub same : KeepSame (g.seen before) old m known links'
 
   -- those of the first tables are
   pub record SomeWritten (e : LeafError) : Type 0 where

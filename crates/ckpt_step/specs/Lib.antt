@@ -10,3 +10,5 @@ pub mod Runs
 pub mod Frees
 pub mod Ones
 pub mod Goings
+pub mod Calm
+pub mod Keeps

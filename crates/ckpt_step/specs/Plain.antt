@@ -1,7 +1,7 @@
 -- Machines on which no commit had a stamp.
 use Rattle.std.specs.Prelude.{◌≡◌, ℕ, List, Option, None, Some}
 use Rattle.wt_code.specs.declared.answers.Answer.{Answer}
-use Rattle.kv_model.specs.Calls.{Actor, Call, Commit, Prepare, Set, CkptStart, CkptStep, CkptFinish, Rts, Close, ActorAnswers, OpensSession, rolled_back}
+use Rattle.kv_model.specs.Calls.{Actor, Call, Commit, CkptStart, CkptStep, CkptFinish, Rts, Close, ActorAnswers, OpensSession, rolled_back}
 use Rattle.kv_model.specs.Content.{start}
 use Rattle.kv_model.specs.Machine.{Machine}
 use Rattle.kv_model.specs.Valid.{Valid}
@@ -23,12 +23,10 @@ pub record GoesPlain (m next : Machine) : Type 0 where
   pub completed : next.completed ≡ m.completed
   pub fault : next.fault ≡ m.fault
 
--- neither a stamp nor a checkpoint
+-- no commit with a stamp, and no checkpoint
 abbrev pub IsUnstamped : Call → Type 0
 IsUnstamped (Commit None None) = Unit {0}
 IsUnstamped (Commit commit durable) = ⊥
-IsUnstamped (Prepare stamp) = ⊥
-IsUnstamped (Set oldest stable) = ⊥
 IsUnstamped CkptStart = ⊥
 IsUnstamped CkptStep = ⊥
 IsUnstamped CkptFinish = ⊥
@@ -44,7 +42,7 @@ IsFlatStill (Some s) = IsFlat s.kept
 abbrev pub StartsPlain : Type 0
 StartsPlain = (bytes : List ℕ) (old : Option Stored) → HasStill old bytes → IsFlatStill old → IsPlain (start (content_was old))
 
--- and a call without a stamp leaves it so
+-- and a call that commits without a stamp leaves it so
 abbrev pub StaysPlain : Type 0
 StaysPlain =
     (m next : Machine) (actor : Actor) (call : Call) (answer : Answer (List ℕ)) → Valid m → IsPlain m → IsUnstamped call → ActorAnswers nothing_around m actor call answer next → GoesPlain m next

@@ -1,6 +1,5 @@
 -- What the writing of a checkpoint leaves, step by step.
 use Rattle.std.specs.Prelude.{◌≡◌, ◌⊎◌, ℕ, ◌*◌, ◌/◌, ◌≤◌, false, List, length, Option, Some, Result, Ok, Err}
-use Rattle.failure.specs.declared.Fault.{Fault}
 use Rattle.disk_model.specs.Crash.{Each, LeavesOnly}
 use Rattle.disk_model.specs.declared.disk.Disk.{Ghosts}
 use Rattle.extent_list.specs.Space.{end_of}
@@ -27,9 +26,9 @@ use Rattle.engine_world.specs.Stands.{Engine}
 use Rattle.engine_world.specs.Systems.{with_fault}
 use Rattle.ckpt_step.specs.Checkpoints.{IsCheckpointOf, IsRecordOf}
 use Rattle.ckpt_step.specs.Grounds.{StandsOn, number_of}
-use Rattle.ckpt_step.specs.Halves.{AreOwn, IsFresh, IsSafe, blocks_at_all, done_at, half_cell}
+use Rattle.ckpt_step.specs.Halves.{AreOwn, IsFresh, IsSafe, KeepSame, blocks_at_all, done_at, half_cell}
 use Rattle.ckpt_step.specs.Records.{leaves_by_name, roots_by_name}
-use Rattle.ckpt_step.specs.Sizes.{HasPlaces, HasRoomFor, IsFullFor, IsOver, LacksPlace}
+use Rattle.ckpt_step.specs.Sizes.{HasPlaces, HasRoomFor, IsFullFor, IsOver, KeepsLeaves, LacksPlace}
 use Rattle.ckpt_step.specs.declared.ground.Ground.{Ground}
 use Rattle.ckpt_step.specs.declared.leaf_error.LeafError.{LeafError}
 use Rattle.ckpt_step.specs.declared.leaf_error.LeafError.TheVariants.{Over, Store}
@@ -84,6 +83,7 @@ module _ {D : Type 0} (g : Ghosts D) (old : Option Stored) (was : List Link) (m 
     pub left : LeavesOnly g before after (IsEither (g.may_leave before) old (made_of r known leaves a))
     pub each : Each (g.may_leave after) (λ c. IsOn c (made_of r known leaves a))
     pub places : HasPlaces (g.seen before) (g.capacity before) old m books.space known
+    pub same : KeepSame (g.seen before) old m known links
     pub done : IsDone (g.seen after) books' old was known links leaves r a
 
   -- they are not
@@ -107,6 +107,7 @@ module _ {D : Type 0} (g : Ghosts D) (old : Option Stored) (m : Machine) (known 
     pub each : Each (g.may_leave after) (λ c. IsOn c new)
     pub on : StandsOn (g.seen after) (g.may_leave after) known stand' (Some new)
     pub had_room : HasRoomFor (g.seen before) (g.capacity before) m
+    pub kept : KeepsLeaves (g.seen before) old m new
 
   -- the one before does
   pub record OldStands (e : LeafError) : Type 0 where

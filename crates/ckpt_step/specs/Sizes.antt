@@ -22,6 +22,11 @@ abbrev pub WritesLeaf : List ℕ → Link → List Row → Option ℕ → Type 0
 WritesLeaf bytes link rows None = (rows ≡ []) ⊎ LeafIs bytes link rows
 WritesLeaf bytes link rows (Some size) = (rows ≢ []) × (LeafIs bytes link rows → ⊥) × (size ≡ block_size (image_length rows))
 
+-- a leaf that the checkpoint before has with the same rows keeps its block
+abbrev pub KeepsLeaves : List ℕ → Option Stored → Machine → Stored → Type 0
+KeepsLeaves bytes old m new =
+    (t : Table) (rows : List Row) → Member t (tables m.history) → IsLeafOf m t rows → rows ≢ [] → LeafIs bytes (link_in old t) rows → link_in (Some new) t ≡ link_in old t
+
 -- a block of this size has a place, if there is one to write
 abbrev pub Places : Space → ℕ → Option ℕ → Space → Type 0
 Places space capacity None next = next ≡ space

@@ -18,7 +18,7 @@ use Rattle.engine.specs.Checkpoints.{MayStart}
 use Rattle.ckpt_step.specs.declared.ground.Ground.{Ground}
 use Rattle.ckpt_step.specs.Checkpoints.{IsCheckpointOf}
 use Rattle.ckpt_step.specs.Grounds.{StandsOn, number_of}
-use Rattle.ckpt_step.specs.Sizes.{IsFullFor, HasRoomFor, IsOver}
+use Rattle.ckpt_step.specs.Sizes.{IsFullFor, HasRoomFor, IsOver, KeepsLeaves}
 
 -- the machine refuses that a checkpoint starts
 abbrev pub IsBarred : Machine → ℕ → Refusal → Type 0
@@ -42,6 +42,7 @@ module _ {D : Type 0} (g : Ghosts D) (old : Option Stored) (w : World) (stand st
     pub each : Each (g.may_leave after) (λ c. IsOn c new)
     pub on : StandsOn (g.seen after) (g.may_leave after) e.hub.tables.tables stand' (Some new)
     pub had_room : HasRoomFor (g.seen before) (g.capacity before) w.machine
+    pub kept : KeepsLeaves (g.seen before) old w.machine new
     pub fit : IsOver w.machine → ⊥
     pub may : MayStart w.machine (number_of old) (Ok tt)
     pub same : e' ≡ e

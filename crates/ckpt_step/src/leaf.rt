@@ -28,7 +28,8 @@ use wt_code::{Refusal, StoreError};
 
 // Writes and captures the leaf with these rows, and gives what leads to it. `was` is the link of the
 // checkpoint before: where the same leaf stands there, it is captured as it is. No rows need no
-// block. The block is written once, or read once where it may be the same.
+// block. Where the greatest name and the greatest durable stamp are those of before, the block of
+// before is read; one is written unless it has the same bytes.
 pub(crate) fn write_leaf<D: Disk>(
     alloc: Global,
     disk: &mut D,

@@ -28,7 +28,8 @@ use wt_code::StoreError;
 // Writes and captures the leaf of each table, by place: one that has the rows which the checkpoint
 // before has of it keeps its block. `was` has the links of that one, and `links`, which is empty,
 // gets those of the leaves that are captured; after an error it has the first of them. Each leaf is
-// captured once, and its block is written once, or read once where it may be the same.
+// captured once; the block of before is read where it may be the same, and one is written where it
+// is not.
 pub(crate) fn write_leaves<D: Disk>(
     alloc: Global,
     disk: &mut D,

@@ -24,5 +24,5 @@ mod tests;
 mod writing;
 
 pub use ground::Ground;
-pub use laws::{checkpoints_open, plain_stays};
+pub use laws::{calm_stays, checkpoints_are_kept, checkpoints_open, plain_stays};
 pub use taking::checkpoint;

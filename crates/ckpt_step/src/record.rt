@@ -29,7 +29,6 @@ pub(crate) fn record_of(
 ) -> Result<Record, NoMemory>
     requires number { number < 2 ^ 62 - 1 }
     requires run { engine.now.hub.txns.run ≤ number + 1 }
-    requires links { length links.now ≡ length engine.now.hub.tables.tables }
     requires sight { snapshot.now.sight ≡ sight_at engine.now.hub.txns.run engine.now.hub.txns.next (unended engine.now.hub.txns) }
     ensures admitted { IfOk result IsRecord }
     ensures sequence { IfOk result (λ r. r.sequence ≡ number + 1) }

@@ -1,12 +1,13 @@
 // A checkpoint in one event.
-ghost use Rattle.std.specs.Prelude.{◌≡◌, ◌≤◌, ◌+◌, Option, length, None, IfErr, OnOk, IsTrue};
+ghost use Rattle.std.specs.Prelude.{◌≡◌, ◌⊎◌, ◌≤◌, ◌+◌, Option, Some, Err, length, None, IfErr, OnOk, IsTrue};
 ghost use Rattle.failure.specs.Counts.{Rose};
+ghost use Rattle.failure.specs.declared.Fault.{Fault as AFault};
 ghost use Rattle.disk_model.specs.Crash.{SameDisk};
 ghost use Rattle.stored.specs.Stored.{Stored};
 ghost use Rattle.engine_world.specs.Stands.{Stands};
 ghost use Rattle.engine_world.specs.Worlds.{World};
-ghost use Rattle.ckpt_step.specs.Grounds.{StandsOn};
-ghost use Rattle.engine_world.specs.Systems.{checkpointed};
+ghost use Rattle.ckpt_step.specs.Grounds.{IsSteady, StandsOn};
+ghost use Rattle.engine_world.specs.Systems.{checkpointed, with_fault};
 ghost use Rattle.snapshot.specs.Matters.{NoneResolves};
 ghost use Rattle.ckpt_step.specs.Runs.{Concludes};
 ghost use Rattle.ckpt_step.specs.Takes.{Takes, IsOfCheckpoint};
@@ -30,8 +31,8 @@ use wt_code::{Limit, Refusal, StoreError};
 /// back. A failed read leaves the engine up; a failed write or sync takes it down, and the device has
 /// the checkpoint before or, where the gate of the slot was being opened, the new one.
 ///
-/// `O(rows)`, each leaf captured once and its block written once, or read once where it may be
-/// the same.
+/// `O(rows)`, each leaf captured once. The block of before is read where it may be the same, and one
+/// is written where it is not.
 pub fn checkpoint<D: Disk>(
     alloc: Global,
     disk: &mut D,
@@ -40,15 +41,18 @@ pub fn checkpoint<D: Disk>(
 ) -> Result<(), Refusal>
     requires run { engine.old.hub.txns.run ≤ ground.old.number + 1 }
     requires leaves { length ground.old.leaves.items ≤ length engine.old.hub.tables.tables }
-    requires ready { IsTrue (D.honest disk.old) → (old : Option Stored) × StandsOn (D.seen disk.old) (D.may_leave disk.old) engine.old.hub.tables.tables ground.old old }
+    requires steady { IsTrue (D.honest disk.old) → IsSteady D.Disk engine.old ground.old disk.old }
     ensures takes { IsTrue (D.honest disk.old) → (w : World) → Stands engine.old w → w.machine.checkpoint ≡ None → (old : Option Stored) → StandsOn (D.seen disk.old) (D.may_leave disk.old) engine.old.hub.tables.tables ground.old old
         → Takes D.Disk old w ground.old ground.new engine.old engine.new disk.old disk.new result }
+    ensures down { (fault : AFault) → engine.old.hub.fault ≡ Some fault → (result ≡ Err (Refusal.Panic fault)) × (engine.new ≡ engine.old) × (ground.new ≡ ground.old) × (disk.new ≡ disk.old) }
+    ensures steady { IsTrue (D.honest disk.old) → IsSteady D.Disk engine.new ground.new disk.new }
     ensures refusals { IfErr result IsOfCheckpoint }
     ensures fault { IfErr result (λ r. r ≡ Refusal.DiskFault → Rose (D.faults disk.old) (D.faults disk.new)) }
     ensures run { ground.old.number ≤ ground.new.number }
     ensures leaves { length ground.new.leaves.items ≤ length engine.old.hub.tables.tables }
     ensures sessions { length engine.new.sessions ≡ length engine.old.sessions }
     ensures hub { (engine.new.hub.tables ≡ engine.old.hub.tables) × (engine.new.hub.txns ≡ engine.old.hub.txns) }
+    ensures engine { (engine.new ≡ engine.old) ⊎ ((fault : AFault) × (engine.new ≡ with_fault engine.old fault)) }
     ensures disk { SameDisk D.Disk disk.old disk.new }
 {
     match engine.may_checkpoint(ground.number) {

@@ -131,7 +131,6 @@ fn image_of(
 ) -> Result<Vec<u8>, NoMemory>
     requires number { number < 2 ^ 62 - 1 }
     requires run { engine.now.hub.txns.run ≤ number + 1 }
-    requires links { length links.now ≡ length engine.now.hub.tables.tables }
     requires sight { snapshot.now.sight ≡ sight_at engine.now.hub.txns.run engine.now.hub.txns.next (unended engine.now.hub.txns) }
     ensures image { (w : World) → Stands engine.now w → NoneResolves w.machine → IfOk result (λ v. IsImageOf w.machine number engine.now.hub.tables.tables links.now v.items) }
     ensures some { IfOk result (λ v. 1 ≤ length v.items) }

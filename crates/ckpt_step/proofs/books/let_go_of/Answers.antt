@@ -1,6 +1,5 @@
-use Rattle.ckpt_step.proofs.Frees.{freed_is, not_freed}
-use Rattle.std.proofs.Common.{◌∙◌, ap, refl, List}
-use Rattle.std.proofs.lemmas.Bool.{both_ways}
+use Rattle.ckpt_step.proofs.Frees.{freed_is}
+use Rattle.std.proofs.Common.{◌∙◌, ap, List}
 use Rattle.block_mgr.specs.declared.cell.Cell.{Cell}
 use Rattle.block_mgr.specs.Cells.{cell_at}
 use Rattle.ckpt_step.proofs.books.let_go_of.Goals as goal

@@ -1,5 +1,4 @@
-use Rattle.std.proofs.Common.{◌≡◌, ◌≤◌, ap, List, ℕ, length, Result, Ok, Err, IfOk, arith}
-use Rattle.stored.specs.Records.{record_image}
+use Rattle.std.proofs.Common.{ap, length, arith}
 use Rattle.one_table.proofs.Opens.{record_bytes}
 use Rattle.ckpt_step.proofs.Putting.{if_ok_map}
 use Rattle.ckpt_step.proofs.writing.image_of.Goals as goal

@@ -1,13 +1,14 @@
-use Rattle.std.proofs.Common.{refl, ◌≡◌, ◌∙◌, ◌+◌, sym, ap, subst, List, ℕ, [], length, Option, Some, arith}
+use Rattle.std.proofs.Common.{refl, ◌≡◌, ◌∙◌, ◌+◌, sym, ap, subst, List, ℕ, Some, arith}
 use Rattle.extent_list.specs.Space.{Space}
-use Rattle.block_mgr.specs.Cells.{cell_at}
 use Rattle.device_layout.specs.declared.link.Link.{Link}
 use Rattle.device_layout.specs.Slots.{slot_at}
 use Rattle.kv_model.specs.History.{Table, tables}
+use Rattle.ckpt_step.specs.Grounds.{AreRoots, StandsOn}
 use Rattle.ckpt_step.specs.Halves.{AreOldLeaves, AreOwn, half_cell}
 use Rattle.ckpt_step.specs.Runs.{made_of}
 use Rattle.ckpt_step.specs.Sizes.{HasPlaces, LacksPlace}
 use Rattle.ckpt_step.proofs.Past.{free_space}
+use Rattle.ckpt_step.proofs.SameLeaves.{keeps_leaves}
 use Rattle.ckpt_step.proofs.Standing.{new_ground}
 use Rattle.ckpt_step.proofs.Starting.{half_start, known_is, old_ground, past_leaves}
 use Rattle.ckpt_step.proofs.writing.write.Goals as goal
@@ -38,13 +39,16 @@ returns-in-Ok-clause-wrote g c h w stands none sees old on =
     let own = subst (λ (l : List Link). AreOwn old l links) (sym leaves_same) put.done.own in
     let number : mid.number + 1 ≡ put.r.sequence = omega (arith, c.in-Ok.ensures.number, on.number, put.is.names.sequence) in
     let rev = known_is known (tables w.machine.history) stands.made in
+    let new = made_of put.r known put.leaves a in
+    let stands_now : StandsOn (D.seen c.write_blocks.new.disk) (D.may_leave c.write_blocks.new.disk) known c.settle.new.ground (Some new) = new_ground (D.seen c.write_blocks.new.disk) mid.place.blocks old stand.leaves.items known next ascend links put.leaves c.in-Ok.ensures.count put.r a put.done c.settle.new.ground.place.blocks.cells (c.settle.ensures.cells old a past own put.done.fresh put.done.cells) put.is.names.flat
+    (D.may_leave c.write_blocks.new.disk) c.settle.new.ground put.each refl (c.settle.ensures.units put.done.units) (c.settle.ensures.held ∙ put.done.idle) c.settle.ensures.end (c.settle.ensures.number ∙ number) (c.settle.ensures.slot ∙ ap (λ (n : ℕ). Some (slot_at n a)) number) c.settle.ensures.leaves in
     record {
-      new = made_of put.r known put.leaves a;
+      new = new;
       is = put.is;
       left = put.left;
       each = put.each;
-      on = new_ground (D.seen c.write_blocks.new.disk) mid.place.blocks old stand.leaves.items known next ascend links put.leaves c.in-Ok.ensures.count put.r a put.done c.settle.new.ground.place.blocks.cells (c.settle.ensures.cells old a past own put.done.fresh put.done.cells) put.is.names.flat
-          (D.may_leave c.write_blocks.new.disk) c.settle.new.ground put.each refl (c.settle.ensures.units put.done.units) (c.settle.ensures.held ∙ put.done.idle) c.settle.ensures.end (c.settle.ensures.number ∙ number) (c.settle.ensures.slot ∙ ap (λ (n : ℕ). Some (slot_at n a)) number) c.settle.ensures.leaves;
+      on = stands_now;
+      kept = keeps_leaves seen old w.machine known links 1 next new ascend rev c.in-Ok.ensures.count put.same (subst (λ (l : List Link). AreRoots known l (Some new)) c.settle.ensures.leaves stands_now.roots);
       had_room = record {
         old = old;
         has = on.stands.seen_has;

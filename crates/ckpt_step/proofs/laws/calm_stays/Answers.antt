@@ -1,0 +1,17 @@
+use Rattle.ckpt_step.proofs.CalmWorlds.{answers, opens, starts, steps_so, stores}
+use Rattle.ckpt_step.proofs.laws.calm_stays.Goals as goal
+
+pub returns-clause-starts : goal.returns-clause-starts
+returns-clause-starts c = starts
+
+pub returns-clause-steps : goal.returns-clause-steps
+returns-clause-steps c = steps_so
+
+pub returns-clause-answers : goal.returns-clause-answers
+returns-clause-answers c = answers
+
+pub returns-clause-opens : goal.returns-clause-opens
+returns-clause-opens c = opens
+
+pub returns-clause-stores : goal.returns-clause-stores
+returns-clause-stores c = stores
