@@ -9,7 +9,7 @@ use Rattle.wt_code.specs.declared.refusals.Busy.TheVariants as who
 use Rattle.wt_code.specs.declared.refusals.Refusal.{Refusal}
 use Rattle.wt_code.specs.declared.refusals.Refusal.TheVariants as told
 use Rattle.kv_model.specs.Calls.{rolled_back}
-use Rattle.kv_model.specs.Closing.{after_all, first_held, rolling_back}
+use Rattle.kv_model.specs.Closing.{after_all, close_busy, first_held, rolling_back}
 use Rattle.kv_model.specs.Decisions.{is_there}
 use Rattle.kv_model.specs.History.{Entry, Write, Undo, tables}
 use Rattle.kv_model.specs.Machine.{Checkpoint, EndTransaction, Machine, Phase, Running, Failed, Prepared, Resolving, Leaving, StartLeaving, Transaction, after, appended, left, name_of, of_some, transaction_of}
@@ -33,6 +33,18 @@ pub told_of_checkpoint : (w : World) (r : Refusal) → w.machine.checkpoint ≡ 
 told_of_checkpoint w r free is =
     let first : Option ℕ = first_held (unfinished_in w).calls 0 w.machine.sessions in
     by_told w.machine.fault first r (sym (ap (λ (c : Option Checkpoint). close_told w.machine.fault (if is_there c then Some who.Checkpoint else option_map who.Resolving first)) free) ∙ is)
+
+-- where a close may come the engine is up, and nobody is in its way
+told_free : (fault : Option Fault) (busy : Option Busy) → close_told fault busy ≡ Ok tt → (fault ≡ None) × (busy ≡ None)
+told_free (Some fault) busy is = absurd cc
+told_free None (Some busy) is = absurd cc
+told_free None None is = (refl, refl)
+
+pub up_of : (w : World) → MayClose w → w.machine.fault ≡ None
+up_of w may = (told_free w.machine.fault (busy_in w) may).0
+
+pub free_of : (w : World) → MayClose w → close_busy w.machine (unfinished_in w) ≡ None
+free_of w may = (told_free w.machine.fault (busy_in w) may).1
 
 -- no such refusal tells a fault of the disk
 pub not_of_disk : (fault : Option Fault) (busy : Option Busy) (r : Refusal) → close_told fault busy ≡ Err r → r ≡ told.DiskFault → ⊥
@@ -86,6 +98,7 @@ pub run_same : (e e' : Engine) (w : World) → Stands e w → Stands e' (rolled 
 run_same e e' w st later = later.txns.run ∙ ((stays_rolled w.machine).run ∙ sym st.txns.run)
 
 pub record IsAsBefore (e e' : Engine) : Type 0 where
+  pub up : e.hub.fault ≡ None
   pub run : e'.hub.txns.run ≡ e.hub.txns.run
   pub tables_are : e'.hub.tables.tables ≡ e.hub.tables.tables
 
@@ -100,8 +113,9 @@ may_roll e result done tells is w st free = sym (tells w st free) ∙ is
 
 pub as_before : (e e' : Engine) (result : Result (Unit {0}) Refusal) (done : Unit {0}) → Tells e result → result ≡ Ok done → Rolls e e' → ((w : World) × Stands e w × (w.machine.checkpoint ≡ None)) → IsAsBefore e e'
 as_before e e' result done tells is rolls (w, st, free) =
-    let later = rolls w st (may_roll e result done tells is w st free) in
-    record { run = run_same e e' w st later; tables_are = catalog_same e e' w st later }
+    let may = may_roll e result done tells is w st free in
+    let later = rolls w st may in
+    record { up = st.fault ∙ up_of w may; run = run_same e e' w st later; tables_are = catalog_same e e' w st later }
 
 -- ---- the answer
 

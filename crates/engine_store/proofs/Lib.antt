@@ -3,3 +3,8 @@ pub mod Places
 pub mod Founds
 pub mod Closings
 pub mod Nothing
+pub mod Contents
+pub mod Installing
+pub mod Taking
+pub mod Shutting
+pub mod Reopening

@@ -1,5 +1,9 @@
+pub mod Devices
+pub mod Images
+pub mod Answers
 pub mod Opened
 pub mod Closes
 pub mod ByPlace
 pub mod Tables
 pub mod Found
+pub mod Held

@@ -2,8 +2,10 @@
 //!
 //! Stands for an engine, and for the last completed checkpoint of its device. Promises that an
 //! opening makes an engine that stands for the machine which what the device holds begins with, and
-//! that a close rolls back each transaction and takes a checkpoint (`ckpt_step`). The calls go to
-//! the engine itself. Leaves to the caller to attach the disk.
+//! that a close rolls back each transaction and takes a checkpoint (`ckpt_step`). Where no commit had
+//! a stamp, a checkpoint, a close and an opening anew keep what holds between two calls (`IsHeld`):
+//! at each moment a crash leaves what opens to a checkpoint that was done, or was being installed
+//! since. The calls go to the engine itself. Leaves to the caller to attach the disk.
 #![tactic(auto)]
 
 mod by_place;

@@ -1,6 +1,7 @@
 // Two tables of one leaf each, whose order by name is not that by number, read by a session.
 ghost use Rattle.std.specs.Prelude.{◌≡◌};
 
+mod checkpoints;
 mod closings;
 mod plain_disk;
 

@@ -20,16 +20,18 @@ const COMMIT: SessionCall = SessionCall::Commit {
     durable: None,
 };
 
-fn new_device(rt: &impl Abort, alloc: Global) -> PlainDisk {
+// A new device. The calls of these numbers fail, the first being 0.
+pub(super) fn new_device(rt: &impl Abort, alloc: Global, failing: &[u64]) -> PlainDisk {
     let mut content = Vec::new(alloc);
     content.resize(8_192, 0).expect(rt, "there is memory");
-    let made = MemDisk::new(alloc, content, 1 << 20, Vec::new(alloc));
+    let failing = Vec::from_slice(alloc, failing).expect(rt, "there is memory");
+    let made = MemDisk::new(alloc, content, 1 << 20, failing);
     PlainDisk {
         medium: made.expect(rt, "there is memory"),
     }
 }
 
-fn create(rt: &impl Abort, alloc: Global, engine: &mut Local, name: &[u8]) {
+pub(super) fn create(rt: &impl Abort, alloc: Global, engine: &mut Local, name: &[u8]) {
     let call = SystemCall::Create {
         table: item(rt, alloc, name),
         formats: BYTES,
@@ -39,7 +41,7 @@ fn create(rt: &impl Abort, alloc: Global, engine: &mut Local, name: &[u8]) {
     assert!(rt; engine.call(alloc, Call::System(0, call)) == Answer::Done);
 }
 
-fn ask(
+pub(super) fn ask(
     rt: &impl Abort,
     alloc: Global,
     engine: &mut Local,
@@ -50,16 +52,16 @@ fn ask(
     engine.call(alloc, Call::Session(session, call))
 }
 
-fn begin(rt: &impl Abort, alloc: Global, engine: &mut Local, session: u32) {
+pub(super) fn begin(rt: &impl Abort, alloc: Global, engine: &mut Local, session: u32) {
     let begun = ask(rt, alloc, engine, session, SessionCall::Begin(None));
     assert!(rt; begun == Answer::Done);
 }
 
-fn commit(rt: &impl Abort, alloc: Global, engine: &mut Local, session: u32) {
+pub(super) fn commit(rt: &impl Abort, alloc: Global, engine: &mut Local, session: u32) {
     assert!(rt; ask(rt, alloc, engine, session, COMMIT) == Answer::Done);
 }
 
-fn put(
+pub(super) fn put(
     rt: &impl Abort,
     alloc: Global,
     engine: &mut Local,
@@ -144,7 +146,7 @@ fn open_again(rt: &impl Abort, alloc: Global, disk: &mut PlainDisk, value: &[u8]
 #[test]
 fn what_was_committed_is_there_again(rt: HostRuntime) {
     let alloc = rt.alloc();
-    let mut disk = new_device(&rt, alloc);
+    let mut disk = new_device(&rt, alloc, &[]);
     let mut store = open(&rt, alloc, &mut disk);
     // The order by name is not that by number.
     create(&rt, alloc, &mut store.engine, b"b");

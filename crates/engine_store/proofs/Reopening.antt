@@ -1,0 +1,187 @@
+-- What an opening anew finds, and what it leaves of what holds between two calls.
+use Rattle.std.proofs.Common.{◌≡◌, ◌≤◌, ℕ, List, [], ◌∷◌, length, Option, Some, None, refl, sym, subst, ◌∙◌, inl, inr, arith}
+use Rattle.failure.specs.Counts.{Rose}
+use Rattle.disk_model.specs.Crash.{Each, LeavesOnly, Looked}
+use Rattle.disk_model.specs.Disk.{NoMore}
+use Rattle.disk_model.specs.declared.disk.Disk.{Ghosts}
+use Rattle.extent_list.specs.Space.{end_of}
+use Rattle.device_layout.specs.declared.link.Link.{Link}
+use Rattle.wt_code.specs.declared.refusals.Refusal.{Refusal}
+use Rattle.wt_code.specs.declared.refusals.Refusal.TheVariants.{Corrupt, DiskFault, NoMemory, Limit as Refusal_Limit}
+use Rattle.wt_code.specs.declared.refusals.Limit.TheVariants.{Checkpoints, Image, Tables}
+use Rattle.kv_model.specs.Content.{Content, OpensAs, start}
+use Rattle.kv_model.specs.History.{Table}
+use Rattle.kv_model.specs.Holds.{Member}
+use Rattle.kv_model.specs.Machine.{Completed}
+use Rattle.stored.specs.Stored.{Stored, Reads, IsBlank, IsOn}
+use Rattle.stored.proofs.Device.{one_content}
+use Rattle.checkpoint_core.specs.Stands.{HasStill}
+use Rattle.one_table.specs.Closings.{content_was}
+use Rattle.recover_open.specs.Damage.{IsDamage}
+use Rattle.recover_open.specs.Flat.{IsFlat}
+use Rattle.recover_open.proofs.Devices.{damage_no_content}
+use Rattle.engine_world.specs.Systems.{first_world}
+use Rattle.engine_world.specs.Worlds.{World}
+use Rattle.ckpt_step.specs.declared.ground.Ground.{Ground}
+use Rattle.ckpt_step.specs.Grounds.{AreRoots, StandsOn}
+use Rattle.ckpt_step.specs.Plain.{IsFlatStill, StartsPlain}
+use Rattle.engine_store.specs.declared.store.Store.{Store}
+use Rattle.engine_store.specs.Answers.{RefusesReopening}
+use Rattle.engine_store.specs.Devices.{Installed, IsWide, device_of, may_open_to}
+use Rattle.engine_store.specs.Held.{IsHeld, NotReopened, Reopens}
+use Rattle.engine_store.specs.Images.{OpensToAny, OpensToLast, OpensToOne}
+use Rattle.engine_store.specs.Opened.{IsOpened, OpenRefused}
+use Rattle.engine_store.proofs.Contents.{start_opens, still_reads}
+use Rattle.engine_store.proofs.Installing.{past_later, stays_on}
+
+-- ---- a device that was only looked at
+
+pub stands_looked : (bytes seen : List ℕ) (was images : List ℕ → Type 0) (known : List Table) (g : Ground) (old : Option Stored) → seen ≡ bytes → NoMore was images → StandsOn bytes was known g old → StandsOn seen images known g old
+stands_looked bytes seen was images known g old same fewer on = record {
+  stands = record {
+    seen_has = subst (λ (l : List ℕ). HasStill old l) (sym same) on.stands.seen_has;
+    images_have = λ synced c left. on.stands.images_have synced c (fewer c left);
+    in_use = on.stands.in_use;
+  };
+  number = on.number;
+  slot = on.slot;
+  cells = on.cells;
+  units = on.units;
+  idle = on.idle;
+  long = subst (λ (l : List ℕ). 8192 ≤ length l) (sym same) on.long;
+  within = subst (λ (l : List ℕ). end_of g.place.blocks.space ≤ length l) (sym same) on.within;
+  roots = on.roots;
+}
+
+flat_still : (known : List Table) (links : List Link) (old : Option Stored) → AreRoots known links old → IsFlatStill old
+flat_still known links None roots = tt
+flat_still known links (Some s) roots = roots.flat
+
+module _ {D : Type 0} (g : Ghosts D) (start_disk before after : D) (looked : Looked g before after) (image : g.may_leave before (g.seen before)) (s : Store) (w : World) (first : Completed) (made : List Installed) (held : IsHeld g start_disk s before w first made) where
+  images_looked : Each (g.may_leave after) (OpensToAny (may_open_to (first ∷ []) made))
+  images_looked c left = held.images c (looked.images c left)
+
+  ever_looked : LeavesOnly g start_disk after (OpensToOne first made)
+  ever_looked = record {
+    later = omega (arith, held.ever.later, looked.later);
+    each = λ c left. held.ever.each c (looked.since (g.moment start_disk) c held.ever.later left);
+    before = λ t c le left. held.ever.before t c le (looked.since t c (omega (arith, le, held.ever.later)) left);
+  }
+
+  -- the same engine goes on
+  held_looked : IsHeld g start_disk s after w first made
+  held_looked = record {
+    stands = held.stands;
+    idle = held.idle;
+    on = λ up. let on = held.on up in record {
+      old = on.old;
+      on = stands_looked (g.seen before) (g.seen after) (g.may_leave before) (g.may_leave after) s.engine.hub.tables.tables s.ground on.old looked.content looked.images on.on;
+      opens = on.opens;
+      one = on.one;
+    };
+    images = images_looked;
+    last = last_looked held.last;
+    ever = ever_looked;
+    stays = stays_on (g.left_since before) (g.left_since after) (g.moment before) (λ c. ⊥) (λ t c le left. inl (looked.since t c le left)) (first ∷ []) made (λ c none. absurd none) held.past held.stays;
+    past = past_later made (g.moment before) (g.moment after) looked.later held.past;
+  }
+    where
+      last_looked : OpensToLast (g.may_leave before) first w.machine.completed made → OpensToLast (g.may_leave after) first w.machine.completed made
+      last_looked (inl (content, each, opens)) = inl (content, ((λ c left. each.0 c (looked.images c left)), each.1), opens)
+      last_looked (inr (pending, there, each)) = inr (pending, there, images_looked)
+
+  -- ---- it is opened anew
+
+  module _ (s' : Store) (is : IsOpened (g.seen after) (g.may_leave after) s') where
+    abbrev content : Content
+    content = content_was is.old
+
+    reads : Reads (g.seen before) content
+    reads = subst (λ (l : List ℕ). Reads l content) looked.content (still_reads is.old (g.seen after) is.on.stands.seen_has)
+
+    one : (k : Completed) × Member k (may_open_to (first ∷ []) made) × OpensAs content k
+    one = from_any (held.images (g.seen before) image)
+      where
+        from_any : OpensToAny (may_open_to (first ∷ []) made) (g.seen before) → (k : Completed) × Member k (may_open_to (first ∷ []) made) × OpensAs content k
+        from_any (k, there, (other, read, opens)) = (k, there, subst (λ (x : Content). OpensAs x k) (one_content (g.seen before) other content read reads) opens)
+
+    opens : OpensAs content (start content).completed
+    opens = start_opens content one.2.layered
+
+    last_reopened : OpensToLast (g.may_leave before) first w.machine.completed made → OpensToLast (g.may_leave after) first (start content).completed made
+    last_reopened (inl (other, each, opened)) =
+        let same : other ≡ content = one_content (g.seen before) other content (each.0 (g.seen before) image) reads in
+        inl (content, ((λ c left. subst (λ (x : Content). Reads c x) same (each.0 c (looked.images c left))), one.2.layered), opens)
+    last_reopened (inr (pending, there, each)) = inr (pending, there, images_looked)
+
+    held_reopened : IsHeld g start_disk s' after (first_world content s'.engine) first made
+    held_reopened = record {
+      stands = is.world;
+      idle = refl;
+      on = λ up. record { old = is.old; on = is.on; opens = opens; one = one };
+      images = images_looked;
+      last = last_reopened held.last;
+      ever = ever_looked;
+      stays = held_looked.stays;
+      past = held_looked.past;
+    }
+
+    pub reopened : StartsPlain → Reopens g start_disk w first made s s' before after
+    reopened plain = record {
+      content = content;
+      reads = reads;
+      one = one;
+      later = record { faults = looked.count; moment = looked.later };
+      seen = looked.content;
+      capacity = looked.capacity;
+      held = held_reopened;
+      plain = plain (g.seen after) is.old is.on.stands.seen_has (flat_still s'.engine.hub.tables.tables s'.ground.leaves.items is.old is.on.roots);
+    }
+
+  -- ---- it is not
+
+  wide : (content : Content) → Reads (g.seen before) content → ((s : Stored) → IsOn (g.seen before) s → IsFlat s.kept → ⊥) → (IsBlank (g.seen before) → ⊥) → IsWide (g.seen before)
+  wide content (inl blank) not_flat not_blank = absurd (not_blank blank.0)
+  wide content (inr (s, on, same)) not_flat not_blank = (s, on, not_flat s on)
+
+  why_not : (known : Type 0) → known → (content : Content) → Reads (g.seen before) content → (r : Refusal) → OpenRefused (Rose (g.faults before) (g.faults after)) known (g.seen before) r → RefusesReopening (device_of g before) (device_of g after) r
+  why_not known k content reads r (inl (inl disk)) = inl disk
+  why_not known k content reads r (inl (inr (inl none))) = inr (inl none)
+  why_not known k content reads r (inl (inr (inr (inl (is, last))))) = inr (inr (inr (inr (is, last k))))
+  why_not known k content reads r (inl (inr (inr (inr (inl (is, not_flat, not_blank)))))) = inr (inr (inl (is, wide content reads (not_flat k) (not_blank k))))
+  why_not known k content reads r (inl (inr (inr (inr (inr (at, want, found, is, damage)))))) = absurd (damage_no_content (g.seen before) at want found content (damage k) reads)
+  why_not known k content reads r (inr (is, used)) = inr (inr (inr (inl (is, used k))))
+
+  pub not_reopened : (known : Type 0) → known → (s' : Store) → s' ≡ s → (r : Refusal) → OpenRefused (Rose (g.faults before) (g.faults after)) known (g.seen before) r → NotReopened g start_disk w first made s s' before after r
+  not_reopened known k s' same r why = record {
+    why = let any = held.images (g.seen before) image in why_not known k any.2.0 any.2.1 r why;
+    later = record { faults = looked.count; moment = looked.later };
+    seen = looked.content;
+    capacity = looked.capacity;
+    held = subst (λ (x : Store). IsHeld g start_disk x after w first made) (sym same) held_looked;
+  }
+
+-- ---- what a refusal tells
+
+-- of damage it tells that of the device
+pub damage_of : (fault known : Type 0) (bytes : List ℕ) (r : Refusal) → OpenRefused fault known bytes r → (at want found : ℕ) → r ≡ Corrupt at want found → known → IsDamage bytes at want found
+damage_of fault known bytes r (inl (inl (is, rose))) at want found same k = let e : DiskFault ≡ Corrupt at want found = sym is ∙ same in absurd (cc)
+damage_of fault known bytes r (inl (inr (inl is))) at want found same k = let e : NoMemory ≡ Corrupt at want found = sym is ∙ same in absurd (cc)
+damage_of fault known bytes r (inl (inr (inr (inl (is, last))))) at want found same k = let e : Refusal_Limit Checkpoints ≡ Corrupt at want found = sym is ∙ same in absurd (cc)
+damage_of fault known bytes r (inl (inr (inr (inr (inl (is, not_flat, not_blank)))))) at want found same k = let e : Refusal_Limit Image ≡ Corrupt at want found = sym is ∙ same in absurd (cc)
+damage_of fault known bytes r (inl (inr (inr (inr (inr (at', want', found', is, damage)))))) at want found same k =
+    let e : Corrupt at' want' found' ≡ Corrupt at want found = sym is ∙ same in
+    let place : at' ≡ at = cc in
+    let wanted : want' ≡ want = cc in
+    let met : found' ≡ found = cc in
+    subst (λ (x : ℕ). IsDamage bytes x want found) place (subst (λ (x : ℕ). IsDamage bytes at' x found) wanted (subst (λ (x : ℕ). IsDamage bytes at' want' x) met (damage k)))
+damage_of fault known bytes r (inr (is, used)) at want found same k = let e : Refusal_Limit Tables ≡ Corrupt at want found = sym is ∙ same in absurd (cc)
+
+-- and of a fault that the disk counted it
+pub fault_of : (fault known : Type 0) (bytes : List ℕ) (r : Refusal) → OpenRefused fault known bytes r → r ≡ DiskFault → fault
+fault_of fault known bytes r (inl (inl (is, rose))) same = rose
+fault_of fault known bytes r (inl (inr (inl is))) same = let e : NoMemory ≡ DiskFault = sym is ∙ same in absurd (cc)
+fault_of fault known bytes r (inl (inr (inr (inl (is, last))))) same = let e : Refusal_Limit Checkpoints ≡ DiskFault = sym is ∙ same in absurd (cc)
+fault_of fault known bytes r (inl (inr (inr (inr (inl (is, not_flat, not_blank)))))) same = let e : Refusal_Limit Image ≡ DiskFault = sym is ∙ same in absurd (cc)
+fault_of fault known bytes r (inl (inr (inr (inr (inr (at, want, found, is, damage)))))) same = let e : Corrupt at want found ≡ DiskFault = sym is ∙ same in absurd (cc)
+fault_of fault known bytes r (inr (is, used)) same = let e : Refusal_Limit Tables ≡ DiskFault = sym is ∙ same in absurd (cc)

@@ -1,0 +1,310 @@
+-- What a checkpoint in one event leaves of what holds between two calls.
+use Rattle.std.proofs.Common.{◌≡◌, ◌⊎◌, ◌≤◌, ℕ, List, [], ◌∷◌, ◌++◌, Option, Some, None, Result, Ok, Err, refl, sym, ap, subst, ◌∙◌, inl, inr, arith}
+use Rattle.failure.specs.Counts.{Rose}
+use Rattle.failure.specs.declared.Fault.{Fault}
+use Rattle.disk_model.specs.Crash.{Each, LeavesOnly}
+use Rattle.disk_model.specs.declared.disk.Disk.{Ghosts}
+use Rattle.disk_model.proofs.Crash.{joined, widened}
+use Rattle.wt_code.specs.declared.answers.Answer.TheVariants.{Refused}
+use Rattle.wt_code.specs.declared.refusals.Refusal.{Refusal}
+use Rattle.wt_code.specs.declared.refusals.Refusal.TheVariants.{DiskFault, Panic}
+use Rattle.kv_model.specs.Content.{Content, OpensAs}
+use Rattle.kv_model.specs.Decisions.{StartCall}
+use Rattle.kv_model.specs.Machine.{Machine, Completed, GoDown, after as after_event}
+use Rattle.kv_model.specs.Outside.{Stored as StoredWhole, NoPlace, ReadFailed, WriteFailed}
+use Rattle.stored.specs.Opens.{Opens}
+use Rattle.stored.specs.Stored.{Stored, Reads, IsOn, content_of}
+use Rattle.stored.proofs.Device.{one_content}
+use Rattle.checkpoint_core.specs.Finishes.{IsOld, IsEither}
+use Rattle.one_table.specs.Closings.{content_was}
+use Rattle.engine_world.specs.Stands.{Engine, Stands}
+use Rattle.engine_world.specs.Systems.{DownsGo, checkpointed, with_fault}
+use Rattle.engine_world.specs.Worlds.{World}
+use Rattle.engine_world.proofs.HubMoves.{decided-down}
+use Rattle.engine.specs.Checkpoints.{MayStart}
+use Rattle.ckpt_step.specs.declared.ground.Ground.{Ground}
+use Rattle.ckpt_step.specs.Checkpoints.{IsCheckpointOf}
+use Rattle.ckpt_step.specs.Grounds.{StandsOn, number_of}
+use Rattle.ckpt_step.specs.Laws.{CheckpointsOpen}
+use Rattle.ckpt_step.specs.Plain.{IsPlain}
+use Rattle.ckpt_step.specs.Sizes.{IsOver}
+use Rattle.ckpt_step.specs.Takes.{Fallen, NotTaken, Taken, Takes, WhyNot}
+use Rattle.engine_store.specs.declared.store.Store.{Store}
+use Rattle.engine_store.specs.Answers.{CheckpointTakes}
+use Rattle.engine_store.specs.Devices.{Installed, IsLater, IsNumberOf, device_of, may_open_to}
+use Rattle.engine_store.specs.Held.{Checkpoints, IsGrounded, IsHeld}
+use Rattle.engine_store.specs.Images.{OpensToAny, OpensToLast, OpensToOne}
+use Rattle.engine_store.proofs.Contents.{number_read, numbered, still_reads}
+use Rattle.engine_store.proofs.Installing.{any_last, any_more, any_one, last_opens, one_last, one_more, past_later, past_more, pending_last, stays_more, stays_on}
+
+-- ---- of an engine that is up
+
+module _ {D : Type 0} (g : Ghosts D) (start_disk before after : D)
+    (counts : g.moment before ≤ g.moment after → (c : List ℕ) → g.may_leave after c → g.left_since after (g.moment before) c) (only : (c : List ℕ) → g.left_since after (g.moment after) c → g.may_leave after c)
+    (image : g.may_leave before (g.seen before)) (s s' : Store) (w : World) (first : Completed) (made : List Installed) (held : IsHeld g start_disk s before w first made)
+    (grounded : IsGrounded (g.seen before) (g.may_leave before) s w.machine.completed (may_open_to (first ∷ []) made)) where
+  abbrev Old : List ℕ → Type 0
+  Old = IsOld (g.may_leave before) grounded.old
+
+  abbrev KeptAll : Type 0
+  KeptAll = LeavesOnly g before after Old
+
+  old_opens : (c : List ℕ) → Old c → OpensToAny (may_open_to (first ∷ []) made) c
+  old_opens c (inl was) = held.images c was
+  old_opens c (inr still) = (grounded.one.0, grounded.one.1, (content_was grounded.old, still_reads grounded.old c still, grounded.one.2))
+
+  old_now : KeptAll → (c : List ℕ) → g.may_leave after c → Old c
+  old_now kept c left = kept.each c (counts kept.later c left)
+
+  last_on : KeptAll → OpensToLast (g.may_leave before) first w.machine.completed made → OpensToLast (g.may_leave after) first w.machine.completed made
+  last_on kept (inl (content, each, opens)) = inl (content, ((λ c left. reads c (old_now kept c left)), each.1), opens)
+    where
+      same : content ≡ content_was grounded.old
+      same = one_content (g.seen before) content (content_was grounded.old) (each.0 (g.seen before) image) (still_reads grounded.old (g.seen before) grounded.on.stands.seen_has)
+
+      reads : (c : List ℕ) → Old c → Reads c content
+      reads c (inl was) = each.0 c was
+      reads c (inr still) = subst (λ (x : Content). Reads c x) (sym same) (still_reads grounded.old c still)
+  last_on kept (inr (pending, there, each)) = inr (pending, there, λ c left. old_opens c (old_now kept c left))
+
+  -- nothing was installed
+  kept_held : (next : World) → Stands s'.engine next → next.machine.checkpoint ≡ None → next.machine.completed ≡ w.machine.completed → KeptAll
+      → (next.machine.fault ≡ None → StandsOn (g.seen after) (g.may_leave after) s'.engine.hub.tables.tables s'.ground grounded.old) → IsHeld g start_disk s' after next first made
+  kept_held next stands idle same kept on = record {
+    stands = stands;
+    idle = idle;
+    on = λ up. record { old = grounded.old; on = on up; opens = subst (λ (k : Completed). OpensAs (content_was grounded.old) k) (sym same) grounded.opens; one = grounded.one };
+    images = λ c left. old_opens c (old_now kept c left);
+    last = subst (λ (k : Completed). OpensToLast (g.may_leave after) first k made) (sym same) (last_on kept held.last);
+    ever = joined g start_disk before after (OpensToOne first made) Old held.ever kept (λ c old. any_one first made c (old_opens c old));
+    stays = stays_on (g.left_since before) (g.left_since after) (g.moment before) Old kept.before (first ∷ []) made old_opens held.past held.stays;
+    past = past_later made (g.moment before) (g.moment after) kept.later held.past;
+  }
+
+  -- one checkpoint more was installed, or was being installed
+  module _ (new : Stored) (own : Installed) (opens : (c : List ℕ) → IsOn c new → Opens c own.checkpoint) (left : LeavesOnly g before after (IsEither (g.may_leave before) grounded.old new)) where
+    either_opens : (c : List ℕ) → IsEither (g.may_leave before) grounded.old new c → OpensToAny (may_open_to (first ∷ []) made) c ⊎ Opens c own.checkpoint
+    either_opens c (inl kept) = inl (old_opens c kept)
+    either_opens c (inr on) = inr (opens c on)
+
+    one_of : (c : List ℕ) → OpensToAny (may_open_to (first ∷ []) made) c ⊎ Opens c own.checkpoint → OpensToOne first (made ++ own ∷ []) c
+    one_of c (inl any) = one_more first made own c (any_one first made c any)
+    one_of c (inr is) = one_last first made own c is
+
+    any_of : (r : Refusal) → own.refused ≡ Some r → (c : List ℕ) → OpensToAny (may_open_to (first ∷ []) made) c ⊎ Opens c own.checkpoint → OpensToAny (may_open_to (first ∷ []) (made ++ own ∷ [])) c
+    any_of r stopped c (inl any) = any_more (first ∷ []) made own r c stopped any
+    any_of r stopped c (inr is) = any_last (first ∷ []) made own c is
+
+    ever_more : LeavesOnly g start_disk after (OpensToOne first (made ++ own ∷ []))
+    ever_more = joined g start_disk before after (OpensToOne first (made ++ own ∷ [])) (IsEither (g.may_leave before) grounded.old new)
+        (widened g start_disk before (OpensToOne first made) (OpensToOne first (made ++ own ∷ [])) held.ever (λ c one. one_more first made own c one))
+        left (λ c either. one_of c (either_opens c either))
+
+    -- each image has it
+    done_held : (next : World) → Stands s'.engine next → next.machine.checkpoint ≡ None → own.at ≡ g.moment after → next.machine.completed ≡ own.checkpoint → Each (g.may_leave after) (λ c. IsOn c new)
+        → StandsOn (g.seen after) (g.may_leave after) s'.engine.hub.tables.tables s'.ground (Some new) → OpensAs (content_of new) own.checkpoint → IsHeld g start_disk s' after next first (made ++ own ∷ [])
+    done_held next stands idle now same each on new_opens = record {
+      stands = stands;
+      idle = idle;
+      on = λ up. record {
+        old = Some new;
+        on = on;
+        opens = subst (λ (k : Completed). OpensAs (content_of new) k) (sym same) new_opens;
+        one = (own.checkpoint, last_opens (first ∷ []) made own, new_opens);
+      };
+      images = λ c image. any_last (first ∷ []) made own c (opens c (each c image));
+      last = inl (content_of new, ((λ c image. inr (new, each c image, refl)), new_opens.layered), subst (λ (k : Completed). OpensAs (content_of new) k) (sym same) new_opens);
+      ever = ever_more;
+      stays = stays_more (g.left_since before) (g.left_since after) (g.moment before) (IsEither (g.may_leave before) grounded.old new) left.before (first ∷ []) made own either_opens
+          (λ told c since. opens c (each c (only c (subst (λ (t : ℕ). g.left_since after t c) now since)))) held.past held.stays;
+      past = past_more made own (g.moment before) (g.moment after) left.later (omega (arith, now)) held.past;
+    }
+
+    -- a fault at its gate stopped it
+    gate_held : (next : World) → Stands s'.engine next → next.machine.checkpoint ≡ None → own.at ≡ g.moment after → own.refused ≡ Some DiskFault → (next.machine.fault ≡ None → ⊥) → IsHeld g start_disk s' after next first (made ++ own ∷ [])
+    gate_held next stands idle now stopped down =
+        let images : Each (g.may_leave after) (OpensToAny (may_open_to (first ∷ []) (made ++ own ∷ []))) = λ c image. any_of DiskFault stopped c (either_opens c (left.each c (counts left.later c image))) in
+        record {
+          stands = stands;
+          idle = idle;
+          on = λ up. absurd (down up);
+          images = images;
+          last = inr (own.checkpoint, pending_last made own stopped, images);
+          ever = ever_more;
+          stays = stays_more (g.left_since before) (g.left_since after) (g.moment before) (IsEither (g.may_leave before) grounded.old new) left.before (first ∷ []) made own either_opens
+              (λ told c since. absurd (not_done told)) held.past held.stays;
+          past = past_more made own (g.moment before) (g.moment after) left.later (omega (arith, now)) held.past;
+        }
+      where
+        not_done : own.refused ≡ None → ⊥
+        not_done told = let e : Some DiskFault ≡ None = sym stopped ∙ told in cc
+
+  -- ---- by what the checkpoint answers
+
+  module _ (count : g.faults before ≤ g.faults after) (room : g.capacity after ≡ g.capacity before) (law : CheckpointsOpen) (downs : DownsGo) (plain : IsPlain w.machine) where
+    abbrev m : Machine
+    m = w.machine
+
+    abbrev number : ℕ
+    number = number_of grounded.old
+
+    abbrev Gives : Result (Unit {0}) Refusal → Type 0
+    Gives result = Checkpoints g start_disk w first made s s' before after result
+
+    is_later : g.moment before ≤ g.moment after → IsLater (device_of g before) (device_of g after)
+    is_later le = record { faults = count; moment = le }
+
+    counted : IsNumberOf (g.seen before) number
+    counted = numbered (g.seen before) grounded.old grounded.on.stands.seen_has
+
+    abbrev installed : Option Refusal → Installed
+    installed refused = record { checkpoint = (checkpointed m).completed; refused = refused; at = g.moment after }
+
+    module _ (new : Stored) (checkpoint : IsCheckpointOf m number new) where
+      new_opens : (c : List ℕ) → IsOn c new → OpensAs (content_of new) (checkpointed m).completed
+      new_opens c on = law m number new held.stands.valid on.whole.is_record plain.suffice checkpoint
+
+      opens_new : (c : List ℕ) → IsOn c new → Opens c (checkpointed m).completed
+      opens_new c on = (content_of new, inr (new, on, refl), new_opens c on)
+
+    taken : Taken g grounded.old w s.ground s'.ground s.engine s'.engine before after → Gives (Ok tt)
+    taken t = record {
+      next = checkpointed m;
+      now = made ++ installed None ∷ [];
+      behind = record { later = is_later t.leaves.later; capacity = room; has = (t.new, number, t.is, t.on.stands.seen_has) };
+      takes = inr (number, Ok tt, counted, t.may, inr (t.fit, record { storing = StoredWhole; takes = t.had_room; told = refl; leaves = refl }));
+      installs = refl;
+      held = done_held t.new (installed None) (opens_new t.new t.is) t.leaves (record w { machine = checkpointed m }) t.stands refl refl refl t.each
+          (subst (λ (e : Engine). StandsOn (g.seen after) (g.may_leave after) e.hub.tables.tables s'.ground (Some t.new)) (sym t.same) t.on) (new_opens t.new t.is (g.seen after) t.on.stands.seen_has);
+      plain = record { idle = refl; suffice = λ table key. record { reached = (plain.suffice table key).reached } };
+    }
+
+    refused_by : (r : Refusal) → WhyNot (Rose (g.faults before) (g.faults after)) (g.seen before) (g.capacity before) m number r → CheckpointTakes (device_of g before) (device_of g after) m (Refused r) m
+    refused_by r (inl barred) = inr (number, Err r, counted, barred, (refl, refl))
+    refused_by r (inr (inl none)) = inl (cc, refl)
+    refused_by r (inr (inr (may, inl (is, over)))) = inr (number, Ok tt, counted, may, inl (over, cc, refl))
+    refused_by r (inr (inr (may, inr (fit, inl (is, full))))) = inr (number, Ok tt, counted, may, inr (fit, record { storing = NoPlace; takes = full; told = cc; leaves = refl }))
+    refused_by r (inr (inr (may, inr (fit, inr (is, rose))))) = inr (number, Ok tt, counted, may, inr (fit, record { storing = ReadFailed; takes = rose; told = cc; leaves = refl }))
+
+    not_taken : (r : Refusal) → NotTaken g grounded.old w s.ground s'.ground s.engine s'.engine before after r → Gives (Err r)
+    not_taken r n = record {
+      next = m;
+      now = made;
+      behind = record { later = is_later n.leaves.later; capacity = room; has = λ up. (grounded.old, grounded.on.stands.seen_has, n.on.stands.seen_has) };
+      takes = refused_by r n.why;
+      installs = inl refl;
+      held = kept_held w (subst (λ (e : Engine). Stands e w) (sym n.same) held.stands) held.idle refl n.leaves
+          (λ up. subst (λ (e : Engine). StandsOn (g.seen after) (g.may_leave after) e.hub.tables.tables s'.ground grounded.old) (sym n.same) n.on);
+      plain = plain;
+    }
+
+    module _ (fault : Fault) (may : MayStart m number (Ok tt)) (fit : IsOver m → ⊥) (rose : Rose (g.faults before) (g.faults after)) (is : s'.engine ≡ with_fault s.engine fault) where
+      abbrev down : Machine
+      down = after_event m (GoDown fault)
+
+      fell_stands : Stands s'.engine (record w { machine = down })
+      fell_stands = subst (λ (e : Engine). Stands e (record w { machine = down })) (sym is) (downs s.engine w fault held.stands)
+
+      fell_takes : CheckpointTakes (device_of g before) (device_of g after) m (Refused DiskFault) down
+      fell_takes = inr (number, Ok tt, counted, may, inr (fit, record { storing = WriteFailed fault; takes = rose; told = refl; leaves = refl }))
+
+      fell_plain : IsPlain down
+      fell_plain = record { idle = held.idle; suffice = λ table key. record { reached = (plain.suffice table key).reached } }
+
+      not_up : down.fault ≡ None → ⊥
+      not_up up = let e : Some fault ≡ None = up in cc
+
+      fell_before : KeptAll → Gives (Err DiskFault)
+      fell_before kept = record {
+        next = down;
+        now = made;
+        behind = record { later = is_later kept.later; capacity = room; has = λ up. absurd (not_up up) };
+        takes = fell_takes;
+        installs = inl refl;
+        held = kept_held (record w { machine = down }) fell_stands held.idle refl kept (λ up. absurd (not_up up));
+        plain = fell_plain;
+      }
+
+      fell_at : (new : Stored) → IsCheckpointOf m number new → LeavesOnly g before after (IsEither (g.may_leave before) grounded.old new) → Gives (Err DiskFault)
+      fell_at new checkpoint left = record {
+        next = down;
+        now = made ++ installed (Some DiskFault) ∷ [];
+        behind = record { later = is_later left.later; capacity = room; has = λ up. absurd (not_up up) };
+        takes = fell_takes;
+        installs = inr (refl, (fault, refl), refl);
+        held = gate_held new (installed (Some DiskFault)) (opens_new new checkpoint) left (record w { machine = down }) fell_stands held.idle refl refl not_up;
+        plain = fell_plain;
+      }
+
+    fallen : (r : Refusal) → Fallen g grounded.old w s.ground s'.ground s.engine s'.engine before after r → Gives (Err r)
+    fallen r f = subst (λ (x : Refusal). Gives (Err x)) (sym f.is) (elim f.leaves [
+      | inl kept ↦ fell_before f.fault f.may f.fit f.rose f.down kept
+      | inr (new, checkpoint, left) ↦ fell_at f.fault f.may f.fit f.rose f.down new checkpoint left
+    ])
+
+    pub by_takes : (result : Result (Unit {0}) Refusal) → Takes g grounded.old w s.ground s'.ground s.engine s'.engine before after result → Gives result
+    by_takes (Ok end) t = taken t
+    by_takes (Err r) (inl n) = not_taken r n
+    by_takes (Err r) (inr f) = fallen r f
+
+-- ---- the calls that are under way go on
+
+pub goes_on : (downs : DownsGo) (e e' : Engine) → (e' ≡ e) ⊎ ((fault : Fault) × (e' ≡ with_fault e fault)) → (w : World) → Stands e w → w.machine.checkpoint ≡ None
+    → (m : Machine) × (m.checkpoint ≡ None) × Stands e' (record w { machine = m })
+goes_on downs e e' (inl same) w stands idle = (w.machine, idle, subst (λ (x : Engine). Stands x w) (sym same) stands)
+goes_on downs e e' (inr (fault, is)) w stands idle =
+    let down : Machine = after_event w.machine (GoDown fault) in
+    (down, idle, subst (λ (x : Engine). Stands x (record w { machine = down })) (sym is) (downs e w fault stands))
+
+-- ---- of one that is down
+
+module _ {D : Type 0} (g : Ghosts D) (start_disk disk : D) (image : g.may_leave disk (g.seen disk)) (s : Store) (w : World) (first : Completed) (made : List Installed) (held : IsHeld g start_disk s disk w first made) where
+  -- the number of the last checkpoint that was done
+  pub number_held : (n : ℕ) × IsNumberOf (g.seen disk) n
+  number_held = let any = held.images (g.seen disk) image in number_read (g.seen disk) any.2.0 any.2.1
+
+  refused_down : (fault : Fault) → w.machine.fault ≡ Some fault → IsPlain w.machine → Checkpoints g start_disk w first made s s disk disk (Err (Panic fault))
+  refused_down fault down plain = record {
+    next = w.machine;
+    now = made;
+    behind = record { later = record { faults = omega arith; moment = omega arith }; capacity = refl; has = λ up. absurd (not_both up) };
+    takes = inr (number_held.0, Err (Panic fault), number_held.1, decided-down w.machine 0 (StartCall number_held.0) fault down refl, (refl, refl));
+    installs = inl refl;
+    held = held;
+    plain = plain;
+  }
+    where
+      not_both : w.machine.fault ≡ None → ⊥
+      not_both up = let e : None ≡ Some fault = sym up ∙ down in cc
+
+  pub by_down : (s' : Store) (after : D) (result : Result (Unit {0}) Refusal) (fault : Fault) → w.machine.fault ≡ Some fault → IsPlain w.machine → result ≡ Err (Panic fault) → s' ≡ s → after ≡ disk
+      → Checkpoints g start_disk w first made s s' disk after result
+  by_down s' after result fault down plain is same still =
+      subst (λ (d : D). Checkpoints g start_disk w first made s s' disk d result) (sym still)
+      (subst (λ (x : Store). Checkpoints g start_disk w first made s x disk disk result) (sym same)
+      (subst (λ (r : Result (Unit {0}) Refusal). Checkpoints g start_disk w first made s s disk disk r) (sym is)
+      (refused_down fault down plain)))
+
+-- ---- of either
+
+same_store : (s s' : Store) → s'.engine ≡ s.engine → s'.ground ≡ s.ground → s' ≡ s
+same_store s s' engine place =
+    ap (λ (e : Engine). let x : Store = record { engine = e; ground = s'.ground } in x) engine
+    ∙ ap (λ (p : Ground). let x : Store = record { engine = s.engine; ground = p } in x) place
+
+module _ {D : Type 0} (g : Ghosts D) (start_disk before after : D)
+    (counts : g.moment before ≤ g.moment after → (c : List ℕ) → g.may_leave after c → g.left_since after (g.moment before) c) (only : (c : List ℕ) → g.left_since after (g.moment after) c → g.may_leave after c)
+    (image : g.may_leave before (g.seen before)) (s s' : Store) (w : World) (first : Completed) (made : List Installed) (held : IsHeld g start_disk s before w first made)
+    (count : g.faults before ≤ g.faults after) (room : g.capacity after ≡ g.capacity before) (law : CheckpointsOpen) (downs : DownsGo) (plain : IsPlain w.machine) (result : Result (Unit {0}) Refusal)
+    (takes : (old : Option Stored) → StandsOn (g.seen before) (g.may_leave before) s.engine.hub.tables.tables s.ground old → Takes g old w s.ground s'.ground s.engine s'.engine before after result)
+    (down : (fault : Fault) → s.engine.hub.fault ≡ Some fault → (result ≡ Err (Panic fault)) × (s'.engine ≡ s.engine) × (s'.ground ≡ s.ground) × (after ≡ before)) where
+  by_fault : (f : Option Fault) → w.machine.fault ≡ f → Checkpoints g start_disk w first made s s' before after result
+  by_fault None up =
+      let on = held.on up in
+      by_takes g start_disk before after counts only image s s' w first made held on count room law downs plain result (takes on.old on.on)
+  by_fault (Some fault) is =
+      let told = down fault (held.stands.fault ∙ is) in
+      by_down g start_disk before image s w first made held s' after result fault is plain told.0 (same_store s s' told.1 told.2) told.3
+
+  pub checkpoints_by : Checkpoints g start_disk w first made s s' before after result
+  checkpoints_by = by_fault w.machine.fault refl

@@ -1,0 +1,76 @@
+-- Devices at the points of a run, and the checkpoints that calls install on them.
+use Rattle.std.specs.Prelude.{◌≡◌, ◌⊎◌, ℕ, ◌+◌, ◌-◌, ◌^◌, ◌≤◌, List, [], ◌∷◌, ◌++◌, length, Option, Some, None}
+use Rattle.limits.specs.declared.TheConstants.{TABLES_MAX}
+use Rattle.failure.specs.Counts.{Rose}
+use Rattle.disk_model.specs.declared.disk.Disk.{Ghosts}
+use Rattle.wt_code.specs.declared.refusals.Refusal.{Refusal}
+use Rattle.device_layout.specs.declared.slot.Slot.{Slot}
+use Rattle.turtle.specs.Slots.{Chooses}
+use Rattle.kv_model.specs.Machine.{Machine, Completed}
+use Rattle.kv_model.specs.Outside.{Storing, Stored, NoPlace, ReadFailed, Damaged, WriteFailed}
+use Rattle.stored.specs.Stored.{Stored as OnDevice, IsOn, IsBlank}
+use Rattle.checkpoint_core.specs.Stands.{HasStill}
+use Rattle.recover_open.specs.Flat.{IsFlat}
+use Rattle.ckpt_step.specs.Sizes.{HasRoomFor, IsFullFor}
+
+-- a device at a point of a run: what a read gives, how much it may hold, how often it has failed, and its moment
+pub record Device : Type 0 where
+  pub seen : List ℕ
+  pub capacity : ℕ
+  pub faults : ℕ
+  pub moment : ℕ
+
+abbrev pub device_of : {D : Type 0} → Ghosts D → D → Device
+device_of g disk = record { seen = g.seen disk; capacity = g.capacity disk; faults = g.faults disk; moment = g.moment disk }
+
+-- no count falls, and no moment comes back
+pub record IsLater (old new : Device) : Type 0 where
+  pub faults : old.faults ≤ new.faults
+  pub moment : old.moment ≤ new.moment
+
+-- The device has the checkpoint that it had, and as much room: any call leaves it so but one that takes a checkpoint.
+pub record KeepsCheckpoint (old new : Device) : Type 0 where
+  pub capacity : new.capacity ≡ old.capacity
+  pub checkpoint : (s : Option OnDevice) → HasStill s old.seen → HasStill s new.seen
+
+-- A checkpoint that a call installed, or was installing when a fault at its gate stopped it: with what the call answered (None: done), and the moment of that answer.
+pub record Installed : Type 0 where
+  pub checkpoint : Completed
+  pub refused : Option Refusal
+  pub at : ℕ
+
+-- the same once a call installed this one, or was installing it
+abbrev pub opening_with : List Completed → Completed → Option Refusal → List Completed
+opening_with these checkpoint None = checkpoint ∷ []
+opening_with these checkpoint (Some r) = these ++ checkpoint ∷ []
+
+-- To which checkpoints a device may open that could open to these, once calls installed those: to the last one that was done, and to any that a fault at its gate stopped since.
+abbrev pub may_open_to : List Completed → List Installed → List Completed
+may_open_to these [] = these
+may_open_to these (i ∷ made) = may_open_to (opening_with these i.checkpoint i.refused) made
+
+-- ---- what lies outside
+
+-- the greatest run, and the greatest number of a checkpoint
+abbrev pub last_number : ℕ
+last_number = 2 ^ 62 - 1
+
+-- the device's last completed checkpoint has this number
+abbrev pub IsNumberOf : List ℕ → ℕ → Type 0
+IsNumberOf bytes n = (IsBlank bytes × (n ≡ 0)) ⊎ ((slot : Slot) × Chooses bytes (Some slot) × (slot.sequence ≡ n))
+
+-- the device has a checkpoint with a tree of more levels, or with a history
+abbrev pub IsWide : List ℕ → Type 0
+IsWide bytes = (s : OnDevice) × IsOn bytes s × (IsFlat s.kept → ⊥)
+
+-- its next number leaves none for as many tables as an engine may have
+abbrev pub IsUsedUp : List ℕ → Type 0
+IsUsedUp bytes = (s : OnDevice) × IsOn bytes s × (2 ^ 32 + length s.kept.tables ≤ s.kept.next_table + TABLES_MAX)
+
+-- how a device takes the blocks of a checkpoint: each has a place, or one of them finds none
+abbrev pub MayTakeAt : Device → Device → Machine → Storing → Type 0
+MayTakeAt old new m Stored = HasRoomFor old.seen old.capacity m
+MayTakeAt old new m NoPlace = IsFullFor old.seen old.capacity m
+MayTakeAt old new m ReadFailed = Rose old.faults new.faults
+MayTakeAt old new m (Damaged offset want found) = ⊥
+MayTakeAt old new m (WriteFailed fault) = Rose old.faults new.faults
