@@ -1,5 +1,5 @@
--- No line changes the checkpoint that the device has.
-use Rattle.std.proofs.Common.{◌≡◌, ◌∙◌, ◌+◌, ◌≤◌, ◌++◌, ℕ, zero, suc, List, [], ◌∷◌, length, get_or, set, refl, sym, ap, subst, inl, inr, arith}
+-- What the line of an actor keeps: the checkpoint that the device has, that none runs, the fault, and the run; tables only come.
+use Rattle.std.proofs.Common.{◌≡◌, ◌∙◌, ◌≤◌, ◌++◌, ℕ, zero, suc, List, [], ◌∷◌, length, get_or, set, refl, sym, ap, subst, inl, inr, append_assoc, arith}
 use Rattle.std.specs.Prelude.{◌⊎◌, Bool, true, false, not, nat_le, nat_lt, Option, Some, None, option_map, if◌then◌else◌, ◌==◌, slice_get, slice_index_or, slice_set}
 use Rattle.std.proofs.Math.ListN.{get_or-map}
 use Rattle.std.proofs.lemmas.List.{get_or_past}
@@ -16,12 +16,12 @@ use Rattle.wt_code.specs.declared.refusals.Invalid.{Invalid}
 use Rattle.wt_code.specs.declared.refusals.Invalid.TheVariants as why
 use Rattle.wt_code.specs.declared.refusals.Limit.TheVariants as counted
 use Rattle.limits.specs.declared.TheConstants.{NUMBER_MAX, TABLES_MAX}
-use Rattle.kv_model.specs.History.{Table, named, tables}
-use Rattle.kv_model.specs.Machine.{Machine, Phase, Running, Failed, Prepared, Resolving, Leaving, Transaction, of_some, transaction_of, decided, left, prepared, Event, OpenSession, BeginAt, DrawId, AcceptWrite, RefuseWrite, PrepareAt, CommitAt, StartLeaving, EndTransaction, PlaceCursor, CreateTable, SetStamps, RollbackToStable, CheckpointStart, CheckpointFinish, CheckpointDrop, GoDown, Nothing, after}
+use Rattle.kv_model.specs.History.{Entry, Commit as CommitEntry, Prepare as PrepareEntry, Resolve, Undo as UndoEntry, Table, Write, named, tables}
+use Rattle.kv_model.specs.Machine.{Machine, Phase, Running, Failed, Prepared, Resolving, Leaving, Transaction, of_some, transaction_of, appended, decided, left, name_of, prepared, stamped, Event, OpenSession, BeginAt, DrawId, AcceptWrite, RefuseWrite, PrepareAt, CommitAt, StartLeaving, EndTransaction, PlaceCursor, CreateTable, SetStamps, RollbackToStable, CheckpointStart, CheckpointFinish, CheckpointDrop, GoDown, Nothing, after}
 use Rattle.kv_model.specs.Refusals.{begin_rules, commit_rules, durable_below, first_of, or_stamp, prepare_rules, resolve_rules, set_rules, stamp_of}
 use Rattle.kv_model.specs.Decisions.{Outcome, Done, Gives, GivesRow, Left, End, Resumes, Refused, Request, BeginCall, PrepareCall, CommitCall, RollbackCall, EndCall, FindKey, FindToWrite, FindRow, CreateCall, SetCall, Demand, Occupied, GetAnswer, WriteAnswer, checked, commit_decision, create_decision, decision, id_drawn, in_state, invalid, is_name, is_on_page, judged, key_checks, refused, rollback_decision, ruled, running_session, same_formats, table_checks, while_up, write_checks}
 use Rattle.kv_model.specs.Rows.{NextAnswer, SeekAnswer, reset_decision, row_event, seek_event}
-use Rattle.kv_model.specs.Calls.{Call, Begin, GetKey, PutKey, RemoveKey, SeekKey, NextRow, Reset, Prepare, Commit, Rollback, Create, Set, AtPlace, Decided as DecidesCall, HeldUp, IsHeldUp, IsKeptOut, IsShort, Judged, SessionAnswers, Settled, SystemAnswers, ended, settled}
+use Rattle.kv_model.specs.Calls.{Call, Begin, GetKey, PutKey, RemoveKey, SeekKey, NextRow, Reset, Prepare, Commit, Rollback, Create, Set, AtPlace, Decided as DecidesCall, HeldUp, IsHeldUp, IsKeptOut, IsShort, Judged, SessionAnswers, Settled, SystemAnswers, settled}
 use Rattle.wt_calls.specs.declared.call.Call.{Call as AnyCall}
 use Rattle.wt_calls.specs.declared.call.Call.TheVariants as call
 use Rattle.wt_calls.specs.declared.system_call.SystemCall.{SystemCall}
@@ -52,55 +52,90 @@ use Rattle.engine.specs.declared.step.Step.TheVariants.{Start, Go}
 use Rattle.engine.specs.Runs.{AsksIn, IsBuilt, MakesIn, MayStep, StepsOut}
 use Rattle.engine.specs.Sound.{AreBuilt}
 use Rattle.engine.specs.Whole.{CallsIn, MakesAt, MayAnswer, with_session_more}
-use Rattle.script_run.specs.Scripts.{Answers, Begins, Ends, Goes, IsLater, IsLaterCall, Opens, Outside, Ran, Refuses, Replies, RunsLines, Script, actor_in, caller, missing, opened_more}
+use Rattle.script_run.specs.Runs.{IsOfActor}
+use Rattle.script_run.specs.Scripts.{Answers, Begins, Ends, Goes, IsLaterCall, Opens, Refuses, Replies, Script, actor_in, caller, missing, opened_more}
 
 -- ---- events
 
--- the event leaves it
+-- the event takes no checkpoint, and is no fault
 abbrev pub Spares : Event → Type 0
+Spares RollbackToStable = ⊥
+Spares CheckpointStart = ⊥
 Spares CheckpointFinish = ⊥
+Spares CheckpointDrop = ⊥
+Spares (GoDown fault) = ⊥
 Spares _ = Unit {0}
 
-abbrev pub IsSame : Machine → Machine → Type 0
-IsSame m next = next.completed ≡ m.completed
+pub record Keeps (m next : Machine) : Type 0 where
+  pub completed : next.completed ≡ m.completed
+  pub checkpoint : next.checkpoint ≡ m.checkpoint
+  pub fault : next.fault ≡ m.fault
+  pub run : next.run ≡ m.run
+  pub more : List Table
+  pub tables : tables next.history ≡ more ++ tables m.history
 
-same-of : (m : Machine) (f : Transaction → Machine) → ((t : Transaction) → IsSame m (f t)) → (o : Option Transaction) → IsSame m (of_some m f o)
-same-of m f each None = refl
-same-of m f each (Some t) = each t
+keeps-none : (m : Machine) → Keeps m m
+keeps-none m = record { completed = refl; checkpoint = refl; fault = refl; run = refl; more = []; tables = refl }
 
-same-decided : (p : Phase) (m : Machine) (session commit durable : ℕ) (t : Transaction) → IsSame m (decided p m session commit durable t)
-same-decided (Prepared at) m session commit durable t = refl
-same-decided Running m session commit durable t = refl
-same-decided Failed m session commit durable t = refl
-same-decided Resolving m session commit durable t = refl
-same-decided Leaving m session commit durable t = refl
+keeps-then : (l m n : Machine) → Keeps l m → Keeps m n → Keeps l n
+keeps-then l m n a b = record {
+  completed = b.completed ∙ a.completed;
+  checkpoint = b.checkpoint ∙ a.checkpoint;
+  fault = b.fault ∙ a.fault;
+  run = b.run ∙ a.run;
+  more = b.more ++ a.more;
+  tables = b.tables ∙ ap (λ (l : List Table). b.more ++ l) a.tables ∙ sym (append_assoc b.more a.more (tables l.history));
+}
 
-same-left : (p : Phase) (m : Machine) (session : ℕ) (t : Transaction) → IsSame m (left p m session t)
-same-left (Prepared at) m session t = refl
-same-left Running m session t = refl
-same-left Failed m session t = refl
-same-left Resolving m session t = refl
-same-left Leaving m session t = refl
+keeps-as : (m n next : Machine) → next ≡ n → Keeps m n → Keeps m next
+keeps-as m n next is keeps = subst (λ (x : Machine). Keeps m x) (sym is) keeps
 
-pub same-after : (m : Machine) (event : Event) → Spares event → IsSame m (after m event)
-same-after m OpenSession spares = refl
-same-after m (BeginAt session read) spares = refl
-same-after m (DrawId session) spares = refl
-same-after m (AcceptWrite session table key change) spares = refl
-same-after m (RefuseWrite session) spares = refl
-same-after m (PrepareAt session stamp) spares = same-of m (prepared m session stamp) (λ t. refl) (transaction_of m session)
-same-after m (CommitAt session commit durable) spares = same-of m (λ t. decided t.phase m session commit durable t) (λ t. same-decided t.phase m session commit durable t) (transaction_of m session)
-same-after m (StartLeaving session) spares = same-of m (λ t. left t.phase m session t) (λ t. same-left t.phase m session t) (transaction_of m session)
-same-after m (EndTransaction session) spares = refl
-same-after m (PlaceCursor session cursor position) spares = refl
-same-after m (CreateTable table) spares = refl
-same-after m (SetStamps oldest stable) spares = refl
-same-after m RollbackToStable spares = refl
-same-after m CheckpointStart spares = refl
-same-after m CheckpointFinish spares = absurd spares
-same-after m CheckpointDrop spares = refl
-same-after m (GoDown fault) spares = refl
-same-after m Nothing spares = refl
+-- where its history has the same tables
+keeps-known : (m next : Machine) → next.completed ≡ m.completed → next.checkpoint ≡ m.checkpoint → next.fault ≡ m.fault → next.run ≡ m.run → tables next.history ≡ tables m.history → Keeps m next
+keeps-known m next completed checkpoint fault run known = record { completed = completed; checkpoint = checkpoint; fault = fault; run = run; more = []; tables = known }
+
+appended-tables : (writes : List Write) (entry : Entry) (history : List Entry) → tables (entry ∷ history) ≡ tables history → tables (appended writes entry history) ≡ tables history
+appended-tables [] entry history is = refl
+appended-tables (w ∷ writes) entry history is = is
+
+keeps-of : (m : Machine) (f : Transaction → Machine) → ((t : Transaction) → Keeps m (f t)) → (o : Option Transaction) → Keeps m (of_some m f o)
+keeps-of m f each None = keeps-none m
+keeps-of m f each (Some t) = each t
+
+keeps-decided : (p : Phase) (m : Machine) (session commit durable : ℕ) (t : Transaction) → Keeps m (decided p m session commit durable t)
+keeps-decided (Prepared at) m session commit durable t = keeps-known m _ refl refl refl refl (appended-tables t.writes (Resolve (name_of m t) (stamped commit durable t.writes)) m.history refl)
+keeps-decided Running m session commit durable t = keeps-known m _ refl refl refl refl (appended-tables t.writes (CommitEntry (name_of m t) (stamped commit durable t.writes)) m.history refl)
+keeps-decided Failed m session commit durable t = keeps-known m _ refl refl refl refl (appended-tables t.writes (CommitEntry (name_of m t) (stamped commit durable t.writes)) m.history refl)
+keeps-decided Resolving m session commit durable t = keeps-known m _ refl refl refl refl (appended-tables t.writes (CommitEntry (name_of m t) (stamped commit durable t.writes)) m.history refl)
+keeps-decided Leaving m session commit durable t = keeps-known m _ refl refl refl refl (appended-tables t.writes (CommitEntry (name_of m t) (stamped commit durable t.writes)) m.history refl)
+
+keeps-left : (p : Phase) (m : Machine) (session : ℕ) (t : Transaction) → Keeps m (left p m session t)
+keeps-left (Prepared at) m session t = keeps-known m _ refl refl refl refl (appended-tables t.writes (UndoEntry (name_of m t)) m.history refl)
+keeps-left Running m session t = keeps-known m _ refl refl refl refl refl
+keeps-left Failed m session t = keeps-known m _ refl refl refl refl refl
+keeps-left Resolving m session t = keeps-none m
+keeps-left Leaving m session t = keeps-known m _ refl refl refl refl refl
+
+pub keeps-after : (m : Machine) (event : Event) → Spares event → Keeps m (after m event)
+keeps-after m OpenSession spares = keeps-known m _ refl refl refl refl refl
+keeps-after m (BeginAt session read) spares = keeps-known m _ refl refl refl refl refl
+keeps-after m (DrawId session) spares = keeps-known m _ refl refl refl refl refl
+keeps-after m (AcceptWrite session table key change) spares = keeps-known m _ refl refl refl refl refl
+keeps-after m (RefuseWrite session) spares = keeps-known m _ refl refl refl refl refl
+keeps-after m (PrepareAt session stamp) spares =
+    keeps-of m (prepared m session stamp) (λ t. keeps-known m _ refl refl refl refl (appended-tables t.writes (PrepareEntry (name_of m t) stamp) m.history refl)) (transaction_of m session)
+keeps-after m (CommitAt session commit durable) spares = keeps-of m (λ t. decided t.phase m session commit durable t) (λ t. keeps-decided t.phase m session commit durable t) (transaction_of m session)
+keeps-after m (StartLeaving session) spares = keeps-of m (λ t. left t.phase m session t) (λ t. keeps-left t.phase m session t) (transaction_of m session)
+keeps-after m (EndTransaction session) spares = keeps-known m _ refl refl refl refl refl
+keeps-after m (PlaceCursor session cursor position) spares = keeps-known m _ refl refl refl refl refl
+keeps-after m (CreateTable table) spares = record { completed = refl; checkpoint = refl; fault = refl; run = refl; more = table ∷ []; tables = refl }
+keeps-after m (SetStamps oldest stable) spares = keeps-known m _ refl refl refl refl refl
+keeps-after m Nothing spares = keeps-none m
+keeps-after m RollbackToStable spares = absurd spares
+keeps-after m CheckpointStart spares = absurd spares
+keeps-after m CheckpointFinish spares = absurd spares
+keeps-after m CheckpointDrop spares = absurd spares
+keeps-after m (GoDown fault) spares = absurd spares
 
 -- ---- decisions
 
@@ -227,81 +262,80 @@ spares-write m session t table key change demand Resumes event there = absurd th
 
 -- ---- whole calls
 
-same-judged : (m : Machine) (session : ℕ) (request : Request) (outcome : Outcome) (next : Machine) → IsAsked request → Judged m session request outcome next → IsSame m next
-same-judged m session request outcome next asked (event, is, leaves) =
-    ap (λ (n : Machine). n.completed) leaves ∙ same-after m event (spares-by (decision m session request) outcome event (spares-decision m session request asked) is)
+keeps-judged : (m : Machine) (session : ℕ) (request : Request) (outcome : Outcome) (next : Machine) → IsAsked request → Judged m session request outcome next → Keeps m next
+keeps-judged m session request outcome next asked (event, is, leaves) =
+    keeps-as m (after m event) next leaves (keeps-after m event (spares-by (decision m session request) outcome event (spares-decision m session request asked) is))
 
-same-ended : (m : Machine) (session : ℕ) (outcome : Outcome) (o : Option Transaction)
-    → IsSame m (of_some {A = Transaction} {B = Outcome × Machine} (outcome, m) (λ t. let last = decision m session (EndCall outcome) in (last.0, after m last.1)) o).1
-same-ended m session outcome None = refl
-same-ended m session outcome (Some t) = same-after m (decision m session (EndCall outcome)).1 (spares-decision m session (EndCall outcome) tt)
+keeps-ended : (m : Machine) (session : ℕ) (outcome : Outcome) (o : Option Transaction)
+    → Keeps m (of_some {A = Transaction} {B = Outcome × Machine} (outcome, m) (λ t. let last = decision m session (EndCall outcome) in (last.0, after m last.1)) o).1
+keeps-ended m session outcome None = keeps-none m
+keeps-ended m session outcome (Some t) = keeps-after m (decision m session (EndCall outcome)).1 (spares-decision m session (EndCall outcome) tt)
 
-same-settled : (m : Machine) (session : ℕ) (outcome : Outcome) (event : Event) → Spares event → IsSame m (settled m session outcome event).1
-same-settled m session outcome (StartLeaving s) spares =
-    same-ended (after m (StartLeaving s)) session outcome (transaction_of (after m (StartLeaving s)) session) ∙ same-after m (StartLeaving s) tt
-same-settled m session outcome (CommitAt s commit durable) spares =
-    same-ended (after m (CommitAt s commit durable)) session outcome (transaction_of (after m (CommitAt s commit durable)) session) ∙ same-after m (CommitAt s commit durable) tt
-same-settled m session outcome event spares = same-after m event spares
+keeps-settled : (m : Machine) (session : ℕ) (outcome : Outcome) (event : Event) → Spares event → Keeps m (settled m session outcome event).1
+keeps-settled m session outcome (StartLeaving s) spares =
+    keeps-then m (after m (StartLeaving s)) _ (keeps-after m (StartLeaving s) tt) (keeps-ended (after m (StartLeaving s)) session outcome (transaction_of (after m (StartLeaving s)) session))
+keeps-settled m session outcome (CommitAt s commit durable) spares =
+    keeps-then m (after m (CommitAt s commit durable)) _ (keeps-after m (CommitAt s commit durable) tt) (keeps-ended (after m (CommitAt s commit durable)) session outcome (transaction_of (after m (CommitAt s commit durable)) session))
+keeps-settled m session outcome event spares = keeps-after m event spares
 
-same-settles : (m : Machine) (session : ℕ) (request : Request) (outcome : Outcome) (next : Machine) → IsAsked request → Settled m session request outcome next → IsSame m next
-same-settles m session request outcome next asked is =
-    sym (ap (λ (made : Outcome × Machine). made.1.completed) is) ∙ same-settled m session (decision m session request).0 (decision m session request).1 (spares-decision m session request asked)
+keeps-settles : (m : Machine) (session : ℕ) (request : Request) (outcome : Outcome) (next : Machine) → IsAsked request → Settled m session request outcome next → Keeps m next
+keeps-settles m session request outcome next asked is =
+    subst (λ (made : Outcome × Machine). Keeps m made.1) is (keeps-settled m session (decision m session request).0 (decision m session request).1 (spares-decision m session request asked))
 
-same-placed : (m : Machine) (session : ℕ) (name : List ℕ) (request : Request) (LooksSo : Machine → Transaction → Table → Outcome → Event → Type 0) (outcome : Outcome) (next : Machine)
-    → IsAsked request → ((n : Machine) (t : Transaction) (table : Table) (o : Outcome) (event : Event) → LooksSo n t table o event → Spares event) → AtPlace m session name request LooksSo outcome next → IsSame m next
-same-placed m session name request LooksSo outcome next asked each (inl (r, e, is, told, same)) = ap (λ (n : Machine). n.completed) same
-same-placed m session name request LooksSo outcome next asked each (inr (e, t, table, event, is, finds, looks, leaves)) =
-    ap (λ (n : Machine). n.completed) leaves ∙ same-after (after m e) event (each (after m e) t table outcome event looks)
-    ∙ same-after m e (spares-by (decision m session request) Done e (spares-decision m session request asked) is)
+keeps-placed : (m : Machine) (session : ℕ) (name : List ℕ) (request : Request) (LooksSo : Machine → Transaction → Table → Outcome → Event → Type 0) (outcome : Outcome) (next : Machine)
+    → IsAsked request → ((n : Machine) (t : Transaction) (table : Table) (o : Outcome) (event : Event) → LooksSo n t table o event → Spares event) → AtPlace m session name request LooksSo outcome next → Keeps m next
+keeps-placed m session name request LooksSo outcome next asked each (inl (r, e, is, told, same)) = keeps-as m m next same (keeps-none m)
+keeps-placed m session name request LooksSo outcome next asked each (inr (e, t, table, event, is, finds, looks, leaves)) =
+    keeps-as m (after (after m e) event) next leaves
+    (keeps-then m (after m e) (after (after m e) event) (keeps-after m e (spares-by (decision m session request) Done e (spares-decision m session request asked) is)) (keeps-after (after m e) event (each (after m e) t table outcome event looks)))
 
-same-call : (m : Machine) (session : ℕ) (made : Call) (outcome : Outcome) (next : Machine) → DecidesCall m session made outcome next → IsSame m next
-same-call m session (Begin read) outcome next d = same-judged m session (BeginCall read) outcome next tt d
-same-call m session (Prepare stamp) outcome next d = same-judged m session (PrepareCall stamp) outcome next tt d
-same-call m session (Commit commit durable) outcome next d = same-settles m session (CommitCall commit durable) outcome next tt d
-same-call m session Rollback outcome next d = same-settles m session RollbackCall outcome next tt d
-same-call m session (Reset cursor) outcome next (e, is, leaves) =
-    ap (λ (n : Machine). n.completed) leaves ∙ same-after m e (spares-by (reset_decision m session cursor) outcome e (spares-reset m session cursor) is)
-same-call m session (GetKey name key) outcome next d =
-    same-placed m session name (FindKey name key) (λ n t table o event. GetAnswer n session t table.number key o × (event ≡ Nothing)) outcome next tt (λ n t table o event looks. spares-is event Nothing looks.1 tt) d
-same-call m session (SeekKey cursor name key) outcome next d =
-    same-placed m session name (FindKey name key) (λ n t table o event. SeekAnswer n session t cursor table.number key o event) outcome next tt
+keeps-call : (m : Machine) (session : ℕ) (made : Call) (outcome : Outcome) (next : Machine) → DecidesCall m session made outcome next → Keeps m next
+keeps-call m session (Begin read) outcome next d = keeps-judged m session (BeginCall read) outcome next tt d
+keeps-call m session (Prepare stamp) outcome next d = keeps-judged m session (PrepareCall stamp) outcome next tt d
+keeps-call m session (Commit commit durable) outcome next d = keeps-settles m session (CommitCall commit durable) outcome next tt d
+keeps-call m session Rollback outcome next d = keeps-settles m session RollbackCall outcome next tt d
+keeps-call m session (Reset cursor) outcome next (e, is, leaves) =
+    keeps-as m (after m e) next leaves (keeps-after m e (spares-by (reset_decision m session cursor) outcome e (spares-reset m session cursor) is))
+keeps-call m session (GetKey name key) outcome next d =
+    keeps-placed m session name (FindKey name key) (λ n t table o event. GetAnswer n session t table.number key o × (event ≡ Nothing)) outcome next tt (λ n t table o event looks. spares-is event Nothing looks.1 tt) d
+keeps-call m session (SeekKey cursor name key) outcome next d =
+    keeps-placed m session name (FindKey name key) (λ n t table o event. SeekAnswer n session t cursor table.number key o event) outcome next tt
     (λ n t table o event looks. spares-is event (seek_event session cursor table.number key o) looks.1 (spares-seek session cursor table.number key o)) d
-same-call m session (NextRow cursor name way) outcome next d =
-    same-placed m session name (FindRow name) (λ n t table o event. NextAnswer n session t cursor table.number way o event) outcome next tt
+keeps-call m session (NextRow cursor name way) outcome next d =
+    keeps-placed m session name (FindRow name) (λ n t table o event. NextAnswer n session t cursor table.number way o event) outcome next tt
     (λ n t table o event looks. spares-is event (row_event session cursor table.number o) looks.1 (spares-row session cursor table.number o)) d
-same-call m session (PutKey name key value demand) outcome next d =
-    same-placed m session name (FindToWrite name key (PutOf value)) (λ n t table o event. WriteAnswer n session t table.number key (PutOf value) demand o event) outcome next tt
+keeps-call m session (PutKey name key value demand) outcome next d =
+    keeps-placed m session name (FindToWrite name key (PutOf value)) (λ n t table o event. WriteAnswer n session t table.number key (PutOf value) demand o event) outcome next tt
     (λ n t table o event looks. spares-write n session t table.number key (PutOf value) demand o event looks) d
-same-call m session (RemoveKey name key) outcome next d =
-    same-placed m session name (FindToWrite name key RemoveOf) (λ n t table o event. WriteAnswer n session t table.number key RemoveOf Occupied o event) outcome next tt
+keeps-call m session (RemoveKey name key) outcome next d =
+    keeps-placed m session name (FindToWrite name key RemoveOf) (λ n t table o event. WriteAnswer n session t table.number key RemoveOf Occupied o event) outcome next tt
     (λ n t table o event looks. spares-write n session t table.number key RemoveOf Occupied o event looks) d
-same-call m session _ outcome next d = absurd d
+keeps-call m session _ outcome next d = absurd d
 
-same-short : (m : Machine) (answer : Answer (List ℕ)) (next : Machine) → IsShort m answer next → IsSame m next
-same-short m answer next (told, same) = ap (λ (n : Machine). n.completed) same
+keeps-short : (m : Machine) (answer : Answer (List ℕ)) (next : Machine) → IsShort m answer next → Keeps m next
+keeps-short m answer next (told, same) = keeps-as m m next same (keeps-none m)
 
-same-out : (m : Machine) (answer : Answer (List ℕ)) (next : Machine) → IsKeptOut nothing_around m answer next → IsSame m next
-same-out m answer next (r, may, told, inl same) = ap (λ (n : Machine). n.completed) same
-same-out m answer next (r, may, told, inr (is, (fault, leaves))) = ap (λ (n : Machine). n.completed) leaves
+keeps-out : (m : Machine) (answer : Answer (List ℕ)) (next : Machine) → IsKeptOut nothing_around m answer next → Keeps m next
+keeps-out m answer next (r, may, told, left) = absurd may
 
-same-held : (m : Machine) (session : ℕ) (request : Request) (answer : Answer (List ℕ)) (next : Machine) → IsAsked request → IsHeldUp nothing_around m session request answer next → IsSame m next
-same-held m session request answer next asked (inl short) = same-short m answer next short
-same-held m session request answer next asked (inr (e, is, inl short)) =
-    same-short (after m e) answer next short ∙ same-after m e (spares-by (decision m session request) Done e (spares-decision m session request asked) is)
-same-held m session request answer next asked (inr (e, is, inr out)) =
-    same-out (after m e) answer next out ∙ same-after m e (spares-by (decision m session request) Done e (spares-decision m session request asked) is)
+keeps-held : (m : Machine) (session : ℕ) (request : Request) (answer : Answer (List ℕ)) (next : Machine) → IsAsked request → IsHeldUp nothing_around m session request answer next → Keeps m next
+keeps-held m session request answer next asked (inl short) = keeps-short m answer next short
+keeps-held m session request answer next asked (inr (e, is, inl short)) =
+    keeps-then m (after m e) next (keeps-after m e (spares-by (decision m session request) Done e (spares-decision m session request asked) is)) (keeps-short (after m e) answer next short)
+keeps-held m session request answer next asked (inr (e, is, inr out)) =
+    keeps-then m (after m e) next (keeps-after m e (spares-by (decision m session request) Done e (spares-decision m session request asked) is)) (keeps-out (after m e) answer next out)
 
-same-up : (m : Machine) (session : ℕ) (made : Call) (answer : Answer (List ℕ)) (next : Machine) → HeldUp nothing_around m session made answer next → IsSame m next
-same-up m session (GetKey name key) answer next h = same-held m session (FindKey name key) answer next tt h
-same-up m session (SeekKey cursor name key) answer next h = same-held m session (FindKey name key) answer next tt h
-same-up m session (NextRow cursor name way) answer next h = same-held m session (FindRow name) answer next tt h
-same-up m session (PutKey name key value demand) answer next h = same-held m session (FindToWrite name key (PutOf value)) answer next tt h
-same-up m session (RemoveKey name key) answer next h = same-held m session (FindToWrite name key RemoveOf) answer next tt h
-same-up m session _ answer next h = absurd h
+keeps-up : (m : Machine) (session : ℕ) (made : Call) (answer : Answer (List ℕ)) (next : Machine) → HeldUp nothing_around m session made answer next → Keeps m next
+keeps-up m session (GetKey name key) answer next h = keeps-held m session (FindKey name key) answer next tt h
+keeps-up m session (SeekKey cursor name key) answer next h = keeps-held m session (FindKey name key) answer next tt h
+keeps-up m session (NextRow cursor name way) answer next h = keeps-held m session (FindRow name) answer next tt h
+keeps-up m session (PutKey name key value demand) answer next h = keeps-held m session (FindToWrite name key (PutOf value)) answer next tt h
+keeps-up m session (RemoveKey name key) answer next h = keeps-held m session (FindToWrite name key RemoveOf) answer next tt h
+keeps-up m session _ answer next h = absurd h
 
-same-session : (m : Machine) (session : ℕ) (made : Call) (answer : Answer (List ℕ)) (next : Machine) → SessionAnswers nothing_around m session made answer next → IsSame m next
-same-session m session made answer next (inl (outcome, d, tells)) = same-call m session made outcome next d
-same-session m session made answer next (inr held) = same-up m session made answer next held
+keeps-session : (m : Machine) (session : ℕ) (made : Call) (answer : Answer (List ℕ)) (next : Machine) → SessionAnswers nothing_around m session made answer next → Keeps m next
+keeps-session m session made answer next (inl (outcome, d, tells)) = keeps-call m session made outcome next d
+keeps-session m session made answer next (inr held) = keeps-up m session made answer next held
 
 -- a call of the system that the engine has
 abbrev IsMade : Call → Type 0
@@ -309,11 +343,11 @@ IsMade (Create table formats) = Unit {0}
 IsMade (Set oldest stable) = Unit {0}
 IsMade _ = ⊥
 
-same-system : (m : Machine) (made : Call) (answer : Answer (List ℕ)) (next : Machine) → IsMade made → SystemAnswers nothing_around m made answer next → IsSame m next
-same-system m (Create name formats) answer next is (inl short) = same-short m answer next short
-same-system m (Create name formats) answer next is (inr (table, for, (outcome, d, tells))) = same-judged m 0 (CreateCall table) outcome next tt d
-same-system m (Set oldest stable) answer next is (outcome, d, tells) = same-judged m 0 (SetCall oldest stable) outcome next tt d
-same-system m _ answer next is answers = absurd is
+keeps-system : (m : Machine) (made : Call) (answer : Answer (List ℕ)) (next : Machine) → IsMade made → SystemAnswers nothing_around m made answer next → Keeps m next
+keeps-system m (Create name formats) answer next is (inl short) = keeps-short m answer next short
+keeps-system m (Create name formats) answer next is (inr (table, for, (outcome, d, tells))) = keeps-judged m 0 (CreateCall table) outcome next tt d
+keeps-system m (Set oldest stable) answer next is (outcome, d, tells) = keeps-judged m 0 (SetCall oldest stable) outcome next tt d
+keeps-system m _ answer next is answers = absurd is
 
 -- ---- steps of a session's call
 
@@ -323,43 +357,43 @@ IsCalm (Decided answer event left) = Spares event
 IsCalm _ = Unit {0}
 
 record MadeCalm (m : Machine) (made : Made) : Type 0 where
-  same : IsSame m made.machine
+  keeps : Keeps m made.machine
   calm : IsCalm made.doing
 
-calm-goes : (to : ℕ → Doing) (left : ℕ) (next m : Machine) (made : Made) → IsSame m next → ((n : ℕ) → IsCalm (to n)) → GoesTo to left next made → MadeCalm m made
-calm-goes to left next m made same each (fewer, less, is) = subst (λ (x : Made). MadeCalm m x) (sym is) (record { same = same; calm = each fewer })
+calm-goes : (to : ℕ → Doing) (left : ℕ) (next m : Machine) (made : Made) → Keeps m next → ((n : ℕ) → IsCalm (to n)) → GoesTo to left next made → MadeCalm m made
+calm-goes to left next m made keeps each (fewer, less, is) = subst (λ (x : Made). MadeCalm m x) (sym is) (record { keeps = keeps; calm = each fewer })
 
-calm-ends : (answer : Answer (List ℕ)) (next m : Machine) (made : Made) → IsSame m next → EndsWith answer next made → MadeCalm m made
-calm-ends answer next m made same is = subst (λ (x : Made). MadeCalm m x) (sym is) (record { same = same; calm = tt })
+calm-ends : (answer : Answer (List ℕ)) (next m : Machine) (made : Made) → Keeps m next → EndsWith answer next made → MadeCalm m made
+calm-ends answer next m made keeps is = subst (λ (x : Made). MadeCalm m x) (sym is) (record { keeps = keeps; calm = tt })
 
-calm-finishes : (answer : Answer (List ℕ)) (left : ℕ) (next m : Machine) (made : Made) → IsSame m next → Finishes answer left next made → MadeCalm m made
-calm-finishes answer left next m made same (inl ends) = calm-ends answer next m made same ends
-calm-finishes answer left next m made same (inr goes) = calm-goes (Decided answer Nothing) left next m made same (λ n. tt) goes
+calm-finishes : (answer : Answer (List ℕ)) (left : ℕ) (next m : Machine) (made : Made) → Keeps m next → Finishes answer left next made → MadeCalm m made
+calm-finishes answer left next m made keeps (inl ends) = calm-ends answer next m made keeps ends
+calm-finishes answer left next m made keeps (inr goes) = calm-goes (Decided answer Nothing) left next m made keeps (λ n. tt) goes
 
 calm-found : (outcome : Outcome) (event : Event) (m : Machine) (made : Call) (name : List ℕ) (left : ℕ) (x : Made) → Spares event → FoundBy outcome event m made name left x → MadeCalm m x
-calm-found (Refused r) event m made name left x spares ends = calm-ends (answers.Refused r) m m x refl ends
-calm-found Done event m made name left x spares (table, is, goes) = calm-goes (Placed made table.number) left (after m event) m x (same-after m event spares) (λ n. tt) goes
+calm-found (Refused r) event m made name left x spares ends = calm-ends (answers.Refused r) m m x (keeps-none m) ends
+calm-found Done event m made name left x spares (table, is, goes) = calm-goes (Placed made table.number) left (after m event) m x (keeps-after m event spares) (λ n. tt) goes
 calm-found _ event m made name left x spares there = absurd there
 
 calm-finds : (m : Machine) (session : ℕ) (request : Request) (made : Call) (name : List ℕ) (left : ℕ) (x : Made) → IsAsked request → Finds m session request made name left x → MadeCalm m x
 calm-finds m session request made name left x asked found = calm-found (decision m session request).0 (decision m session request).1 m made name left x (spares-decision m session request asked) found
 
-calm-transaction : (o : Option Transaction) (answer : Answer (List ℕ)) (next m : Machine) (session left : ℕ) (x : Made) → IsSame m next → EndsIn o answer next session left x → MadeCalm m x
-calm-transaction None answer next m session left x same (up, finishes) = calm-finishes answer left next m x same finishes
-calm-transaction (Some t) answer next m session left x same (inl goes) = calm-goes (Ending answer) left next m x same (λ n. tt) goes
-calm-transaction (Some t) answer next m session left x same (inr (up, none, finishes)) =
-    calm-finishes answer left (after next (EndTransaction session)) m x (same-after next (EndTransaction session) tt ∙ same) finishes
+calm-transaction : (o : Option Transaction) (answer : Answer (List ℕ)) (next m : Machine) (session left : ℕ) (x : Made) → Keeps m next → EndsIn o answer next session left x → MadeCalm m x
+calm-transaction None answer next m session left x keeps (up, finishes) = calm-finishes answer left next m x keeps finishes
+calm-transaction (Some t) answer next m session left x keeps (inl goes) = calm-goes (Ending answer) left next m x keeps (λ n. tt) goes
+calm-transaction (Some t) answer next m session left x keeps (inr (up, none, finishes)) =
+    calm-finishes answer left (after next (EndTransaction session)) m x (keeps-then m next (after next (EndTransaction session)) keeps (keeps-after next (EndTransaction session) tt)) finishes
 
 calm-settled : (outcome : Outcome) (event : Event) (m : Machine) (session left : ℕ) (x : Made) → Spares event → SettledBy outcome event m session left x → MadeCalm m x
-calm-settled outcome Nothing m session left x spares (answer, tells, ends) = calm-ends answer m m x refl ends
-calm-settled outcome event m session left x spares (answer, tells, ends) = calm-transaction (transaction_of (after m event) session) answer (after m event) m session left x (same-after m event spares) ends
+calm-settled outcome Nothing m session left x spares (answer, tells, ends) = calm-ends answer m m x (keeps-none m) ends
+calm-settled outcome event m session left x spares (answer, tells, ends) = calm-transaction (transaction_of (after m event) session) answer (after m event) m session left x (keeps-after m event spares) ends
 
 calm-settles : (m : Machine) (session : ℕ) (request : Request) (left : ℕ) (x : Made) → IsAsked request → Settles m session request left x → MadeCalm m x
 calm-settles m session request left x asked settles =
     calm-settled (decision m session request).0 (decision m session request).1 m session left x (spares-decision m session request asked) settles
 
 calm-by : (decides : Outcome × Event) (m : Machine) (x : Made) → Spares decides.1 → JudgedBy decides m x → MadeCalm m x
-calm-by decides m x spares (answer, tells, ends) = calm-ends answer (after m decides.1) m x (same-after m decides.1 spares) ends
+calm-by decides m x spares (answer, tells, ends) = calm-ends answer (after m decides.1) m x (keeps-after m decides.1 spares) ends
 
 calm-judges : (made : Call) (m : Machine) (session left : ℕ) (x : Made) → Judges made m session left x → MadeCalm m x
 calm-judges (Begin read) m session left x j = calm-by (decision m session (BeginCall read)) m x (spares-decision m session (BeginCall read) tt) j
@@ -383,30 +417,30 @@ spares-look (NextRow cursor name way) m session t table outcome event looks = sp
 spares-look _ m session t table outcome event looks = absurd looks
 
 calm-looks : (made : Call) (m : Machine) (answer : Answer (List ℕ)) (event : Event) (left : ℕ) (x : Made) → Spares event → LooksOn made m answer event left x → MadeCalm m x
-calm-looks (PutKey name key value demand) m answer event left x spares goes = calm-goes (Decided answer Nothing) left (after m event) m x (same-after m event spares) (λ n. tt) goes
-calm-looks (RemoveKey name key) m answer event left x spares goes = calm-goes (Decided answer Nothing) left (after m event) m x (same-after m event spares) (λ n. tt) goes
-calm-looks _ m answer event left x spares goes = calm-goes (Decided answer event) left m m x refl (λ n. spares) goes
+calm-looks (PutKey name key value demand) m answer event left x spares goes = calm-goes (Decided answer Nothing) left (after m event) m x (keeps-after m event spares) (λ n. tt) goes
+calm-looks (RemoveKey name key) m answer event left x spares goes = calm-goes (Decided answer Nothing) left (after m event) m x (keeps-after m event spares) (λ n. tt) goes
+calm-looks _ m answer event left x spares goes = calm-goes (Decided answer event) left m m x (keeps-none m) (λ n. spares) goes
 
 calm-fault : (o : Option Fault) (left : ℕ) (m : Machine) (x : Made) → TellsFault o left m x → MadeCalm m x
 calm-fault None left m x there = absurd there
-calm-fault (Some fault) left m x goes = calm-goes (Decided (answers.Refused (Panic fault)) Nothing) left m m x refl (λ n. tt) goes
+calm-fault (Some fault) left m x goes = calm-goes (Decided (answers.Refused (Panic fault)) Nothing) left m m x (keeps-none m) (λ n. tt) goes
 
 calm-unless : (o : Option Fault) (answer : Answer (List ℕ)) (m : Machine) (session left : ℕ) (x : Made) → EndsUnless o answer m session left x → MadeCalm m x
-calm-unless None answer m session left x finishes = calm-finishes answer left (after m (EndTransaction session)) m x refl finishes
-calm-unless (Some fault) answer m session left x ends = calm-ends (answers.Refused (Panic fault)) m m x refl ends
+calm-unless None answer m session left x finishes = calm-finishes answer left (after m (EndTransaction session)) m x (keeps-after m (EndTransaction session) tt) finishes
+calm-unless (Some fault) answer m session left x ends = calm-ends (answers.Refused (Panic fault)) m m x (keeps-none m) ends
 
 calm-on : (doing : Doing) (m : Machine) (session : ℕ) (x : Made) → IsCalm doing → GoesOn doing m session x → MadeCalm m x
-calm-on Resting m session x calm is = subst (λ (y : Made). MadeCalm m y) (sym is) (record { same = refl; calm = tt })
-calm-on (Asked made left) m session x calm (inl goes) = calm-goes (Asked made) left m m x refl (λ n. tt) goes
+calm-on Resting m session x calm is = subst (λ (y : Made). MadeCalm m y) (sym is) (record { keeps = keeps-none m; calm = tt })
+calm-on (Asked made left) m session x calm (inl goes) = calm-goes (Asked made) left m m x (keeps-none m) (λ n. tt) goes
 calm-on (Asked made left) m session x calm (inr judges) = calm-judges made m session left x judges
-calm-on (Placed made table left) m session x calm (inl goes) = calm-goes (Placed made table) left m m x refl (λ n. tt) goes
+calm-on (Placed made table left) m session x calm (inl goes) = calm-goes (Placed made table) left m m x (keeps-none m) (λ n. tt) goes
 calm-on (Placed made table left) m session x calm (inr (inl looks)) =
     calm-looks made m looks.answer looks.event left x (spares-look made m session looks.transaction table looks.outcome looks.event looks.finds) looks.goes
-calm-on (Placed made table left) m session x calm (inr (inr goes)) = calm-goes (Decided (answers.Refused NoMemory) Nothing) left m m x refl (λ n. tt) goes
-calm-on (Decided answer event left) m session x calm (inl goes) = calm-goes (Decided answer event) left m m x refl (λ n. calm) goes
-calm-on (Decided answer event left) m session x calm (inr (inl ends)) = calm-ends answer (after m event) m x (same-after m event calm) ends
+calm-on (Placed made table left) m session x calm (inr (inr goes)) = calm-goes (Decided (answers.Refused NoMemory) Nothing) left m m x (keeps-none m) (λ n. tt) goes
+calm-on (Decided answer event left) m session x calm (inl goes) = calm-goes (Decided answer event) left m m x (keeps-none m) (λ n. calm) goes
+calm-on (Decided answer event left) m session x calm (inr (inl ends)) = calm-ends answer (after m event) m x (keeps-after m event calm) ends
 calm-on (Decided answer event left) m session x calm (inr (inr tells)) = calm-fault m.fault left m x tells
-calm-on (Ending answer left) m session x calm (inl goes) = calm-goes (Ending answer) left m m x refl (λ n. tt) goes
+calm-on (Ending answer left) m session x calm (inl goes) = calm-goes (Ending answer) left m m x (keeps-none m) (λ n. tt) goes
 calm-on (Ending answer left) m session x calm (inr ends) = calm-unless m.fault answer m session left x ends
 
 -- ---- worlds
@@ -421,17 +455,17 @@ pub record WorldCalm (w : World) : Type 0 where
   systems : (number : ℕ) → IsMadeIn (slice_index_or w.systems number None)
 
 pub record StaysCalm (w later : World) : Type 0 where
-  pub same : IsSame w.machine later.machine
+  pub keeps : Keeps w.machine later.machine
   pub calm : WorldCalm later
 
 stays-then : (a b c : World) → StaysCalm a b → StaysCalm b c → StaysCalm a c
-stays-then a b c x y = record { same = y.same ∙ x.same; calm = y.calm }
+stays-then a b c x y = record { keeps = keeps-then a.machine b.machine c.machine x.keeps y.keeps; calm = y.calm }
 
 stays-at : (w later next : World) → next ≡ later → StaysCalm w later → StaysCalm w next
 stays-at w later next is stays = subst (λ (x : World). StaysCalm w x) (sym is) stays
 
 stays : (w : World) → WorldCalm w → StaysCalm w w
-stays w calm = record { same = refl; calm = calm }
+stays w calm = record { keeps = keeps-none w.machine; calm = calm }
 
 each-set : {A : Type 0} (P : A → Type 0) (xs : List A) (i : ℕ) (v d : A) → ((k : ℕ) → P (get_or xs k d)) → P v → (k : ℕ) → P (get_or (set xs i v) k d)
 each-set P [] i v d each there k = each k
@@ -452,34 +486,34 @@ IsCalmAt doing = IsCalm doing
 abbrev IsMadeAt : Option Call → Type 0
 IsMadeAt o = IsMadeIn o
 
-calm-machine : (w : World) (m : Machine) → WorldCalm w → IsSame w.machine m → StaysCalm w (record w { machine = m })
-calm-machine w m calm same = record { same = same; calm = record { sessions = calm.sessions; systems = calm.systems } }
+calm-machine : (w : World) (m : Machine) → WorldCalm w → Keeps w.machine m → StaysCalm w (record w { machine = m })
+calm-machine w m calm keeps = record { keeps = keeps; calm = record { sessions = calm.sessions; systems = calm.systems } }
 
-calm-session : (w : World) (m : Machine) (session : ℕ) (doing : Doing) → WorldCalm w → IsSame w.machine m → IsCalm doing → StaysCalm w (record w { machine = m; sessions = slice_set w.sessions session doing })
-calm-session w m session doing calm same there =
-    record { same = same; calm = record { sessions = each-set IsCalmAt w.sessions session doing Resting calm.sessions there; systems = calm.systems } }
+calm-session : (w : World) (m : Machine) (session : ℕ) (doing : Doing) → WorldCalm w → Keeps w.machine m → IsCalm doing → StaysCalm w (record w { machine = m; sessions = slice_set w.sessions session doing })
+calm-session w m session doing calm keeps there =
+    record { keeps = keeps; calm = record { sessions = each-set IsCalmAt w.sessions session doing Resting calm.sessions there; systems = calm.systems } }
 
-calm-system : (w : World) (m : Machine) (number : ℕ) (o : Option Call) → WorldCalm w → IsSame w.machine m → IsMadeIn o → StaysCalm w (record w { machine = m; systems = slice_set w.systems number o })
-calm-system w m number o calm same there =
-    record { same = same; calm = record { sessions = calm.sessions; systems = each-set IsMadeAt w.systems number o None calm.systems there } }
+calm-system : (w : World) (m : Machine) (number : ℕ) (o : Option Call) → WorldCalm w → Keeps w.machine m → IsMadeIn o → StaysCalm w (record w { machine = m; systems = slice_set w.systems number o })
+calm-system w m number o calm keeps there =
+    record { keeps = keeps; calm = record { sessions = calm.sessions; systems = each-set IsMadeAt w.systems number o None calm.systems there } }
 
 -- ---- steps of a world
 
 calm-begins : (doing : Doing) (w : World) (session : ℕ) (made : Call) (told : Told) (next : World) → WorldCalm w → BeginsIn doing w session made told next → StaysCalm w next
-calm-begins Resting w session made told next calm (left, started, is) = stays-at w _ next is (calm-session w w.machine session (Asked made left) calm refl tt)
+calm-begins Resting w session made told next calm (left, started, is) = stays-at w _ next is (calm-session w w.machine session (Asked made left) calm (keeps-none w.machine) tt)
 calm-begins (Asked other left) w session made told next calm (refuses, is) = stays-at w w next is (stays w calm)
 calm-begins (Placed other table left) w session made told next calm (refuses, is) = stays-at w w next is (stays w calm)
 calm-begins (Decided answer event left) w session made told next calm (refuses, is) = stays-at w w next is (stays w calm)
 calm-begins (Ending answer left) w session made told next calm (refuses, is) = stays-at w w next is (stays w calm)
 
 calm-asks : (o : Option Call) (w : World) (number : ℕ) (made : Call) (told : Told) (next : World) → IsMade made → WorldCalm w → AsksIn o w number made told next → StaysCalm w next
-calm-asks None w number made told next there calm (started, is) = stays-at w _ next is (calm-system w w.machine number (Some made) calm refl there)
+calm-asks None w number made told next there calm (started, is) = stays-at w _ next is (calm-system w w.machine number (Some made) calm (keeps-none w.machine) there)
 calm-asks (Some other) w number made told next there calm (refuses, is) = stays-at w w next is (stays w calm)
 
 calm-makes : (o : Option Call) (w : World) (number : ℕ) (told : Told) (next : World) → IsMadeIn o → WorldCalm w → MakesIn o w number told next → StaysCalm w next
 calm-makes None w number told next there calm (refuses, is) = stays-at w w next is (stays w calm)
 calm-makes (Some made) w number told next there calm (answer, m, answers, tells, is) =
-    stays-at w _ next is (calm-system w m number None calm (same-system w.machine made answer m there answers) tt)
+    stays-at w _ next is (calm-system w m number None calm (keeps-system w.machine made answer m there answers) tt)
 
 -- the step starts no call of a later stage
 abbrev StepNow : Step → Type 0
@@ -492,7 +526,7 @@ calm-step w (Start (call.Session session made)) told next now calm may = calm-be
 calm-step w (Start (call.System number made)) told next now calm may = calm-asks (slice_index_or w.systems number None) w number (system_call_in made) told next now calm may
 calm-step w (Go (by.Session session)) told next now calm may =
     let x = calm-on (doing_of w session) w.machine session may.made (calm.sessions session) may.goes in
-    stays-at w _ next may.leaves (calm-session w may.made.machine session may.made.doing calm x.same x.calm)
+    stays-at w _ next may.leaves (calm-session w may.made.machine session may.made.doing calm x.keeps x.calm)
 calm-step w (Go (by.System number)) told next now calm may = calm-makes (slice_index_or w.systems number None) w number told next (calm.systems number) calm may
 
 calm-out : (n : ℕ) (w : World) (who : Actor) (answer : Answer (List ℕ)) (next : World) → WorldCalm w → StepsOut n w who answer next → StaysCalm w next
@@ -502,14 +536,14 @@ calm-out (suc n) w who answer next calm (middle, step, steps) =
     stays-then w middle next x (calm-out n middle who answer next x.calm steps)
 
 calm-calls : (doing : Doing) (w : World) (session : ℕ) (made : Call) (answer : Answer (List ℕ)) (next : World) → WorldCalm w → CallsIn doing w session made answer next → StaysCalm w next
-calm-calls Resting w session made answer next calm (answers, is) = stays-at w _ next is (calm-machine w next.machine calm (same-session w.machine session made answer next.machine answers))
+calm-calls Resting w session made answer next calm (answers, is) = stays-at w _ next is (calm-machine w next.machine calm (keeps-session w.machine session made answer next.machine answers))
 calm-calls (Asked other left) w session made answer next calm (refuses, is) = stays-at w w next is (stays w calm)
 calm-calls (Placed other table left) w session made answer next calm (refuses, is) = stays-at w w next is (stays w calm)
 calm-calls (Decided other event left) w session made answer next calm (refuses, is) = stays-at w w next is (stays w calm)
 calm-calls (Ending other left) w session made answer next calm (refuses, is) = stays-at w w next is (stays w calm)
 
 calm-makes-at : (o : Option Call) (w : World) (made : Call) (answer : Answer (List ℕ)) (next : World) → IsMade made → WorldCalm w → MakesAt o w made answer next → StaysCalm w next
-calm-makes-at None w made answer next there calm (answers, is) = stays-at w _ next is (calm-machine w next.machine calm (same-system w.machine made answer next.machine there answers))
+calm-makes-at None w made answer next there calm (answers, is) = stays-at w _ next is (calm-machine w next.machine calm (keeps-system w.machine made answer next.machine there answers))
 calm-makes-at (Some other) w made answer next there calm (refuses, is) = stays-at w w next is (stays w calm)
 
 -- the call is of no later stage
@@ -522,7 +556,7 @@ calm-answer w (call.Session session made) answer next now calm may = calm-calls 
 calm-answer w (call.System number made) answer next now calm may = calm-makes-at (slice_index_or w.systems number None) w (system_call_in made) answer next now calm may
 
 calm-more : (w : World) → WorldCalm w → StaysCalm w (with_session_more w)
-calm-more w calm = record { same = refl; calm = record { sessions = each-more IsCalmAt w.sessions Resting Resting calm.sessions tt; systems = calm.systems } }
+calm-more w calm = record { keeps = keeps-after w.machine OpenSession tt; calm = record { sessions = each-more IsCalmAt w.sessions Resting Resting calm.sessions tt; systems = calm.systems } }
 
 calm-opened : (n : ℕ) (w : World) → WorldCalm w → StaysCalm w (opened_more n w)
 calm-opened zero w calm = stays w calm
@@ -570,7 +604,7 @@ calm-start made s formats reply later w now calm (inl b) =
     stays-at w b.next later.world (ap (λ (x : Script). x.world) b.leaves) (calm-step w (Start (stored_call formats made)) b.t b.next (start-now formats made now) calm b.stepped)
 calm-start made s formats reply later w now calm (inr refuses) = calm-refuses NoMemory s w reply later calm refuses
 
-pub calm-line : (asked : Line) (s : Script) (formats : Formats) (reply : Reply) (later : Script) → (IsLater asked → ⊥) → WorldCalm s.world → Replies asked s formats reply later → StaysCalm s.world later.world
+pub calm-line : (asked : Line) (s : Script) (formats : Formats) (reply : Reply) (later : Script) → IsOfActor asked → WorldCalm s.world → Replies asked s formats reply later → StaysCalm s.world later.world
 calm-line (line.Whole made) s formats reply later now calm replies =
     calm-opens (caller made) s.world later.world (λ w. Answers made s formats reply later w ⊎ Refuses NoMemory s w reply later) (λ r w. Refuses r s w reply later) calm
     (λ v c there. calm-whole made s formats reply later v now c there) (λ r v c refuses. calm-refuses r s v reply later c refuses) replies
@@ -583,26 +617,7 @@ calm-line (line.Step who) s formats reply later now calm replies =
 calm-line (line.Finish who) s formats reply later now calm replies =
     calm-opens (actor_in who) s.world later.world (λ w. Ends (actor_in who) s formats reply later w) (λ r w. Refuses r s w reply later) calm
     (λ v c e. stays-at v e.next later.world (ap (λ (x : Script). x.world) e.leaves) (calm-out e.count v (actor_in who) e.answer e.next c e.stepped)) (λ r v c refuses. calm-refuses r s v reply later c refuses) replies
-calm-line (line.Control asked) s formats reply later now calm replies = absurd replies
-
--- ---- runs
-
-same-last : (s : Script) (ran other : Ran) → ran ≡ other → IsSame s.world.machine other.last.world.machine → IsSame s.world.machine ran.last.world.machine
-same-last s ran other is same = ap (λ (r : Ran). r.last.world.machine.completed) is ∙ same
-
-pub same-run : (o : Outside) (at used : ℕ) (texts : List (List ℕ)) (s : Script) (ran : Ran) → WorldCalm s.world → RunsLines o at used texts s ran → IsSame s.world.machine ran.last.world.machine
-same-run o at used [] s ran calm (inl (ended, is)) = same-last s ran _ is refl
-same-run o at used [] s ran calm (inr (inl (failed, is))) = same-last s ran _ is refl
-same-run o at used [] s ran calm (inr (inr is)) = same-last s ran _ is refl
-same-run o at used (text ∷ texts) s ran calm (inl (none, nil, is)) = same-last s ran _ is refl
-same-run o at used (text ∷ texts) s ran calm (inr (inl (nil, is))) = same-last s ran _ is refl
-same-run o at used (text ∷ texts) s ran calm (inr (inr (room, asked, formats, reply, later, spelled, now, replies, inl (rest, is, runs)))) =
-    let x = calm-line asked s formats reply later now calm replies in
-    same-last s ran _ is (same-run o (at + 1) (used + (length text + 1)) texts later rest x.calm runs ∙ x.same)
-same-run o at used (text ∷ texts) s ran calm (inr (inr (room, asked, formats, reply, later, spelled, now, replies, inr (inl (n, nil, failed, less, is))))) =
-    same-last s ran _ is (calm-line asked s formats reply later now calm replies).same
-same-run o at used (text ∷ texts) s ran calm (inr (inr (room, asked, formats, reply, later, spelled, now, replies, inr (inr (nil, is))))) =
-    same-last s ran _ is (calm-line asked s formats reply later now calm replies).same
+calm-line (line.Control asked) s formats reply later now calm replies = absurd now
 
 -- ---- the engine at first
 
@@ -666,3 +681,41 @@ calm-first e w st built = record {
       ap (λ (ss : List (Option Call)). get_or ss number None) (sym st.systems) ∙ get_or-map (option_map system_call_in) e.systems number None in
       subst (λ (o : Option Call). IsMadeIn o) (sym is) (made-at e.systems number built (get_or e.systems number None) refl);
 }
+
+-- ---- the rest of a line of an actor
+
+-- it leaves the device, and the checkpoints that were installed
+pub record LeavesDevice (s later : Script) : Type 0 where
+  pub device : later.device ≡ s.device
+  pub first : later.first ≡ s.first
+  pub made : later.made ≡ s.made
+
+leaves-world : (s later : Script) (w : World) → later ≡ record s { world = w } → LeavesDevice s later
+leaves-world s later w is = record { device = ap (λ (x : Script). x.device) is; first = ap (λ (x : Script). x.first) is; made = ap (λ (x : Script). x.made) is }
+
+leaves-opens : (who : Actor) (w : World) (s later : Script) (GoesSo : World → Type 0) (EndsSo : Refusal → World → Type 0) → ((v : World) → GoesSo v → LeavesDevice s later) → ((r : Refusal) (v : World) → EndsSo r v → LeavesDevice s later)
+    → Opens who w GoesSo EndsSo → LeavesDevice s later
+leaves-opens who w s later GoesSo EndsSo goes ends (inl there) = goes (opened_more (missing who w) w) there
+leaves-opens who w s later GoesSo EndsSo goes ends (inr (n, r, less, why, there)) = ends r (opened_more n w) there
+
+leaves-whole : (made : AnyCall) (s : Script) (formats : Formats) (reply : Reply) (later : Script) (w : World) → Answers made s formats reply later w ⊎ Refuses NoMemory s w reply later → LeavesDevice s later
+leaves-whole made s formats reply later w (inl a) = leaves-world s later a.next a.leaves
+leaves-whole made s formats reply later w (inr refuses) = leaves-world s later w refuses.1
+
+leaves-start : (made : AnyCall) (s : Script) (formats : Formats) (reply : Reply) (later : Script) (w : World) → Begins made s formats reply later w ⊎ Refuses NoMemory s w reply later → LeavesDevice s later
+leaves-start made s formats reply later w (inl b) =
+    record { device = ap (λ (x : Script). x.device) b.leaves; first = ap (λ (x : Script). x.first) b.leaves; made = ap (λ (x : Script). x.made) b.leaves }
+leaves-start made s formats reply later w (inr refuses) = leaves-world s later w refuses.1
+
+pub leaves-line : (asked : Line) (s : Script) (formats : Formats) (reply : Reply) (later : Script) → IsOfActor asked → Replies asked s formats reply later → LeavesDevice s later
+leaves-line (line.Whole made) s formats reply later now replies =
+    leaves-opens (caller made) s.world s later (λ w. Answers made s formats reply later w ⊎ Refuses NoMemory s w reply later) (λ r w. Refuses r s w reply later)
+    (λ v there. leaves-whole made s formats reply later v there) (λ r v refuses. leaves-world s later v refuses.1) replies
+leaves-line (line.Start made) s formats reply later now replies =
+    leaves-opens (caller made) s.world s later (λ w. Begins made s formats reply later w ⊎ Refuses NoMemory s w reply later) (λ r w. Refuses r s w reply later)
+    (λ v there. leaves-start made s formats reply later v there) (λ r v refuses. leaves-world s later v refuses.1) replies
+leaves-line (line.Step who) s formats reply later now replies =
+    leaves-opens (actor_in who) s.world s later (λ w. Goes (actor_in who) s formats reply later w) (λ r w. Refuses r s w reply later) (λ v g. leaves-world s later g.next g.leaves) (λ r v refuses. leaves-world s later v refuses.1) replies
+leaves-line (line.Finish who) s formats reply later now replies =
+    leaves-opens (actor_in who) s.world s later (λ w. Ends (actor_in who) s formats reply later w) (λ r w. Refuses r s w reply later) (λ v e. leaves-world s later e.next e.leaves) (λ r v refuses. leaves-world s later v refuses.1) replies
+leaves-line (line.Control asked) s formats reply later now replies = absurd now

@@ -2,7 +2,9 @@ pub mod Cutting
 pub mod Taking
 pub mod Opening
 pub mod Replying
-pub mod Bases
 pub mod Keeping
+pub mod Unfaulted
+pub mod Holding
+pub mod Devices
 pub mod Scripting
 pub mod Turning

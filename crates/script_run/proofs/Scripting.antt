@@ -1,28 +1,32 @@
 -- Lines that were run one after the other, and the run that they are the front of.
 use Rattle.std.proofs.Common.{◌≡◌, ◌∙◌, ◌++◌, ◌+◌, ◌≤◌, ℕ, List, [], ◌∷◌, length, refl, sym, ap, subst, inl, inr, append_assoc, arith}
-use Rattle.std.specs.Prelude.{Bool, true, false, IsTrue, Option, Some, None, filter, cond}
+use Rattle.std.specs.Prelude.{◌⊎◌, ◌||◌, Bool, true, false, IsTrue, Option, Some, None, filter, cond, replicate}
 use Rattle.std.proofs.lemmas.List.{append-nil}
 use Rattle.failure.specs.Counts.{Rose}
 use Rattle.wt_code.specs.declared.refusals.Refusal.{Refusal}
-use Rattle.wt_code.specs.declared.refusals.Refusal.TheVariants.{NoMemory}
+use Rattle.wt_code.specs.declared.refusals.Refusal.TheVariants.{DiskFault, NoMemory}
 use Rattle.wt_io.specs.Streams.{AtEnd, Gave, Took}
 use Rattle.wt_io.specs.StreamLemmas.{took_more, took_none}
 use Rattle.wt_io.specs.declared.streams.Source.{Ghosts as SourceGhosts}
 use Rattle.wt_io.specs.declared.streams.Sink.{Ghosts as SinkGhosts}
 use Rattle.script_text.specs.declared.replies.Reply.{Reply}
 use Rattle.script_text.specs.Replies.{line_of_reply}
-use Rattle.engine_world.specs.Stands.{Engine, Stands}
+use Rattle.limits.specs.declared.TheConstants.{SESSIONS_MAX}
+use Rattle.disk_model.specs.declared.disk.Disk.{Ghosts}
+use Rattle.kv_model.specs.Machine.{Completed}
 use Rattle.engine_world.specs.Worlds.{World}
-use Rattle.engine.specs.Sound.{AreBuilt}
+use Rattle.ckpt_step.specs.Calm.{IsCalm}
+use Rattle.engine_store.specs.declared.store.Store.{Store}
+use Rattle.engine_store.specs.Devices.{device_of}
+use Rattle.engine_store.specs.Held.{IsHeld}
 use Rattle.script_run.specs.declared.script.End.TheVariants.{Stopped}
 use Rattle.script_run.specs.declared.script.Place.{Place}
 use Rattle.script_run.specs.declared.script.ScriptRun.{ScriptRun}
 use Rattle.script_run.specs.Lines.{AreLines, Held, IsCut}
-use Rattle.script_run.specs.Scripts.{Outside, Ran, RunsLines, Script, counts, ends, first_of, fresh, listed, outside, prints, refusals_in}
-use Rattle.script_run.specs.Runs.{IsRun}
-use Rattle.script_run.specs.Turns.{LineDone, TurnEnds, TurnGoesOn, met_with, script_at}
+use Rattle.script_run.specs.Scripts.{Outside, Ran, RunsLines, Script, counts, ends, first_of, fresh, gives_stamp, listed, outside, plain, prints, refusals_in}
+use Rattle.script_run.specs.Runs.{IsAt, IsRun, MetFault}
+use Rattle.script_run.specs.Turns.{LineDone, TurnEnds, TurnGoesOn, met_with}
 use Rattle.script_run.proofs.Cutting.{gave_more, gave_none}
-use Rattle.script_run.proofs.Keeping.{calm-first, same-run}
 
 -- ---- lines of an input
 
@@ -53,35 +57,37 @@ end-stays (Some all) now given (rest, is, front) at_end = subst (λ (o : Option 
 -- ---- lines that were run
 
 -- the lines were run and printed whole: what was printed, and the refusals in it
-abbrev pub DoneLines : List (List ℕ) → ℕ → ℕ → Script → ℕ → ℕ → Script → List ℕ → List Refusal → Type 0
-DoneLines [] at used s at' used' s' text refusals = (at' ≡ at) × (used' ≡ used) × (s' ≡ s) × (text ≡ []) × (refusals ≡ [])
-DoneLines (line ∷ lines) at used s at' used' s' text refusals =
-    (printed : List ℕ) × (refusal : Option Refusal) × (later : Script) × (rest : List ℕ) × (others : List Refusal) × LineDone line used s printed refusal later
-    × DoneLines lines (at + 1) (used + (length line + 1)) later at' used' s' rest others × (text ≡ printed ++ rest) × (refusals ≡ listed refusal ++ others)
+abbrev pub DoneLines : List (List ℕ) → ℕ → ℕ → Bool → Script → ℕ → ℕ → Bool → Script → List ℕ → List Refusal → Type 0
+DoneLines [] at used stamped s at' used' stamped' s' text refusals = (at' ≡ at) × (used' ≡ used) × (stamped' ≡ stamped) × (s' ≡ s) × (text ≡ []) × (refusals ≡ [])
+DoneLines (line ∷ lines) at used stamped s at' used' stamped' s' text refusals =
+    (printed : List ℕ) × (refusal : Option Refusal) × (middle : Bool) × (later : Script) × (rest : List ℕ) × (others : List Refusal) × LineDone line used stamped middle s printed refusal later
+    × DoneLines lines (at + 1) (used + (length line + 1)) middle later at' used' stamped' s' rest others × (text ≡ printed ++ rest) × (refusals ≡ listed refusal ++ others)
 
 -- one line more
-pub done-more : (lines : List (List ℕ)) (at used : ℕ) (s : Script) (at' used' : ℕ) (s' : Script) (text : List ℕ) (refusals : List Refusal) (line printed : List ℕ) (refusal : Option Refusal) (later : Script)
-    → DoneLines lines at used s at' used' s' text refusals → LineDone line used' s' printed refusal later
-    → DoneLines (lines ++ line ∷ []) at used s (at' + 1) (used' + (length line + 1)) later (text ++ printed) (refusals ++ listed refusal)
-done-more [] at used s at' used' s' text refusals line printed refusal later (at_is, used_is, same, no_text, none) done = (
+pub done-more : (lines : List (List ℕ)) (at used : ℕ) (stamped : Bool) (s : Script) (at' used' : ℕ) (stamped' : Bool) (s' : Script) (text : List ℕ) (refusals : List Refusal) (line printed : List ℕ) (refusal : Option Refusal) (last : Bool) (later : Script)
+    → DoneLines lines at used stamped s at' used' stamped' s' text refusals → LineDone line used' stamped' last s' printed refusal later
+    → DoneLines (lines ++ line ∷ []) at used stamped s (at' + 1) (used' + (length line + 1)) last later (text ++ printed) (refusals ++ listed refusal)
+done-more [] at used stamped s at' used' stamped' s' text refusals line printed refusal last later (at_is, used_is, stamped_is, same, no_text, none) done = (
   printed,
   refusal,
+  last,
   later,
   [],
   [],
-  subst (λ (x : Script). LineDone line used x printed refusal later) same (subst (λ (n : ℕ). LineDone line n s' printed refusal later) used_is done),
-  (ap (λ (n : ℕ). n + 1) at_is, ap (λ (n : ℕ). n + (length line + 1)) used_is, refl, refl, refl),
+  subst (λ (b : Bool). LineDone line used b last s printed refusal later) stamped_is (subst (λ (x : Script). LineDone line used stamped' last x printed refusal later) same (subst (λ (n : ℕ). LineDone line n stamped' last s' printed refusal later) used_is done)),
+  (ap (λ (n : ℕ). n + 1) at_is, ap (λ (n : ℕ). n + (length line + 1)) used_is, refl, refl, refl, refl),
   ap (λ (l : List ℕ). l ++ printed) no_text ∙ sym (append-nil printed),
   ap (λ (l : List Refusal). l ++ listed refusal) none ∙ sym (append-nil (listed refusal)),
 )
-done-more (first ∷ lines) at used s at' used' s' text refusals line printed refusal later (p, r, l, rest, others, one, more, is, all) done = (
+done-more (first ∷ lines) at used stamped s at' used' stamped' s' text refusals line printed refusal last later (p, r, b, l, rest, others, one, more, is, all) done = (
   p,
   r,
+  b,
   l,
   rest ++ printed,
   others ++ listed refusal,
   one,
-  done-more lines (at + 1) (used + (length first + 1)) l at' used' s' rest others line printed refusal later more done,
+  done-more lines (at + 1) (used + (length first + 1)) b l at' used' stamped' s' rest others line printed refusal last later more done,
   ap (λ (x : List ℕ). x ++ printed) is ∙ append_assoc p rest printed,
   ap (λ (x : List Refusal). x ++ listed refusal) all ∙ append_assoc (listed r) others (listed refusal),
 )
@@ -101,28 +107,32 @@ prints-so ran text rest printed line refusals others refusal reply is so all one
     (ap (λ (l : List Refusal). l ++ ran.replies) (all ∙ ap (λ (l : List Refusal). l ++ others) one) ∙ append_assoc (refusals_in reply) others ran.replies)
 
 -- the run behind the lines is one from their first, with them before it
-pub done-runs : (o : Outside) (lines : List (List ℕ)) (at used : ℕ) (s : Script) (at' used' : ℕ) (s' : Script) (text : List ℕ) (refusals : List Refusal) (texts : List (List ℕ)) (ran : Ran)
-    → DoneLines lines at used s at' used' s' text refusals → RunsLines o at' used' texts s' ran → RunsLines o at used (lines ++ texts) s (behind text refusals ran)
-done-runs o [] at used s at' used' s' text refusals texts ran (at_is, used_is, same, no_text, none) runs =
-    subst (λ (l : List ℕ). RunsLines o at used texts s (behind l refusals ran)) (sym no_text)
-    (subst (λ (l : List Refusal). RunsLines o at used texts s (behind [] l ran)) (sym none)
-    (subst (λ (x : Script). RunsLines o at used texts x ran) same
-    (subst (λ (n : ℕ). RunsLines o at n texts s' ran) used_is
-    (subst (λ (n : ℕ). RunsLines o n used' texts s' ran) at_is runs))))
-done-runs o (line ∷ lines) at used s at' used' s' text refusals texts ran (printed, refusal, later, rest, others, one, more, is, all) runs =
+pub done-runs : (o : Outside) (lines : List (List ℕ)) (at used : ℕ) (stamped : Bool) (s : Script) (at' used' : ℕ) (stamped' : Bool) (s' : Script) (text : List ℕ) (refusals : List Refusal) (texts : List (List ℕ)) (ran : Ran)
+    → DoneLines lines at used stamped s at' used' stamped' s' text refusals → RunsLines o at' used' stamped' texts s' ran → RunsLines o at used stamped (lines ++ texts) s (behind text refusals ran)
+done-runs o [] at used stamped s at' used' stamped' s' text refusals texts ran (at_is, used_is, stamped_is, same, no_text, none) runs =
+    subst (λ (l : List ℕ). RunsLines o at used stamped texts s (behind l refusals ran)) (sym no_text)
+    (subst (λ (l : List Refusal). RunsLines o at used stamped texts s (behind [] l ran)) (sym none)
+    (subst (λ (x : Script). RunsLines o at used stamped texts x ran) same
+    (subst (λ (b : Bool). RunsLines o at used b texts s' ran) stamped_is
+    (subst (λ (n : ℕ). RunsLines o at n stamped' texts s' ran) used_is
+    (subst (λ (n : ℕ). RunsLines o n used' stamped' texts s' ran) at_is runs)))))
+done-runs o (line ∷ lines) at used stamped s at' used' stamped' s' text refusals texts ran (printed, refusal, middle, later, rest, others, one, more, is, all) runs =
     inr (inr (
       one.room,
       one.asked,
-      one.formats,
-      one.reply,
-      later,
       one.line,
       one.now,
-      one.replies,
-      inl (
-        behind rest others ran,
-        prints-so ran text rest printed (line_of_reply one.formats one.reply) refusals others refusal one.reply is one.printed_is all one.refusal_is,
-        done-runs o lines (at + 1) (used + (length line + 1)) later at' used' s' rest others texts ran more runs,
+      inr (
+        one.formats,
+        one.reply,
+        later,
+        one.replies,
+        inl (
+          behind rest others ran,
+          prints-so ran text rest printed (line_of_reply one.formats one.reply) refusals others refusal one.reply is one.printed_is all one.refusal_is,
+          subst (λ (b : Bool). RunsLines o (at + 1) (used + (length line + 1)) b (lines ++ texts) later (behind rest others ran)) one.stamped_is
+              (done-runs o lines (at + 1) (used + (length line + 1)) middle later at' used' stamped' s' rest others texts ran more runs),
+        ),
       ),
     ))
 
@@ -134,23 +144,35 @@ pub record IsWider (o o' : Outside) : Type 0 where
   pub ended : o.input_ended → o'.input_ended
   pub output : o.output_failed → o'.output_failed
 
-pub runs-wider : (o o' : Outside) (at used : ℕ) (texts : List (List ℕ)) (s : Script) (ran : Ran) → IsWider o o' → RunsLines o at used texts s ran → RunsLines o' at used texts s ran
-runs-wider o o' at used [] s ran wide (inl (ended, is)) = inl (wide.ended ended, is)
-runs-wider o o' at used [] s ran wide (inr (inl (failed, is))) = inr (inl (wide.failed failed, is))
-runs-wider o o' at used [] s ran wide (inr (inr is)) = inr (inr is)
-runs-wider o o' at used (text ∷ texts) s ran wide (inl none) = inl none
-runs-wider o o' at used (text ∷ texts) s ran wide (inr (inl short)) = inr (inl short)
-runs-wider o o' at used (text ∷ texts) s ran wide (inr (inr (room, asked, formats, reply, later, spelled, now, replies, inl (rest, is, runs)))) =
-    inr (inr (room, asked, formats, reply, later, spelled, now, replies, inl (rest, is, runs-wider o o' (at + 1) (used + (length text + 1)) texts later rest wide runs)))
-runs-wider o o' at used (text ∷ texts) s ran wide (inr (inr (room, asked, formats, reply, later, spelled, now, replies, inr (inl (n, nil, failed, less, is))))) =
-    inr (inr (room, asked, formats, reply, later, spelled, now, replies, inr (inl (n, nil, wide.output failed, less, is))))
-runs-wider o o' at used (text ∷ texts) s ran wide (inr (inr (room, asked, formats, reply, later, spelled, now, replies, inr (inr short)))) =
-    inr (inr (room, asked, formats, reply, later, spelled, now, replies, inr (inr short)))
+pub runs-wider : (o o' : Outside) (at used : ℕ) (stamped : Bool) (texts : List (List ℕ)) (s : Script) (ran : Ran) → IsWider o o' → RunsLines o at used stamped texts s ran → RunsLines o' at used stamped texts s ran
+runs-wider o o' at used stamped [] s ran wide (inl (ended, is)) = inl (wide.ended ended, is)
+runs-wider o o' at used stamped [] s ran wide (inr (inl (failed, is))) = inr (inl (wide.failed failed, is))
+runs-wider o o' at used stamped [] s ran wide (inr (inr is)) = inr (inr is)
+runs-wider o o' at used stamped (text ∷ texts) s ran wide (inl none) = inl none
+runs-wider o o' at used stamped (text ∷ texts) s ran wide (inr (inl short)) = inr (inl short)
+runs-wider o o' at used stamped (text ∷ texts) s ran wide (inr (inr (room, asked, spelled, now, inl stops))) = inr (inr (room, asked, spelled, now, inl stops))
+runs-wider o o' at used stamped (text ∷ texts) s ran wide (inr (inr (room, asked, spelled, now, inr (formats, reply, later, replies, inl (rest, is, runs))))) =
+    inr (inr (room, asked, spelled, now, inr (formats, reply, later, replies, inl (rest, is, runs-wider o o' (at + 1) (used + (length text + 1)) (stamped || gives_stamp asked) texts later rest wide runs))))
+runs-wider o o' at used stamped (text ∷ texts) s ran wide (inr (inr (room, asked, spelled, now, inr (formats, reply, later, replies, inr (inl (n, nil, failed, less, is)))))) =
+    inr (inr (room, asked, spelled, now, inr (formats, reply, later, replies, inr (inl (n, nil, wide.output failed, less, is)))))
+runs-wider o o' at used stamped (text ∷ texts) s ran wide (inr (inr (room, asked, spelled, now, inr (formats, reply, later, replies, inr (inr short))))) =
+    inr (inr (room, asked, spelled, now, inr (formats, reply, later, replies, inr (inr short))))
 
-rose-before : (first before now : ℕ) → first ≤ before → Rose before now → Rose first now
+pub rose-before : (first before now : ℕ) → first ≤ before → Rose before now → Rose first now
 rose-before first before now le rose = omega (arith, le, rose)
 
+pub rose-after : (first before now : ℕ) → before ≤ now → Rose first before → Rose first now
+rose-after first before now le rose = omega (arith, le, rose)
+
+-- a fault that was met before, or is met now
+pub rose-either : (P : Type 0) (first before now : ℕ) → first ≤ before → before ≤ now → (P → Rose first before) → P ⊎ Rose before now → Rose first now
+rose-either P first before now more le was (inl p) = rose-after first before now le (was p)
+rose-either P first before now more le was (inr rose) = rose-before first before now more rose
+
 -- ---- the first fault of the disk or want of memory
+
+pub none-met : (r : Refusal) → let none : Option Refusal = None in none ≡ Some r → ⊥
+none-met r is = cc
 
 met-more : (refusals : List Refusal) (refusal : Option Refusal) → met_with (first_of (filter counts refusals)) refusal ≡ first_of (filter counts (refusals ++ listed refusal))
 met-more [] refusal = refl
@@ -159,112 +181,138 @@ met-more (r ∷ refusals) refusal =
     ≡ first_of (cond b (r ∷ filter counts (refusals ++ listed refusal)) (filter counts (refusals ++ listed refusal))))
     [ true ↦ refl | false ↦ met-more refusals refusal ]
 
+-- ---- what a run met
+
+-- want of memory is no fault of the disk
+pub none-told : MetFault (record { end = Stopped NoMemory; met = None }) → ⊥
+none-told (inl is) = cc
+none-told (inr is) = cc
+
+-- one that it met in its last turn, or before
+pub rose-told : (told : ScriptRun) (first before now : ℕ) (met : Option Refusal) → first ≤ before → before ≤ now → told.met ≡ met → (met ≡ Some DiskFault → Rose first before) → (told.end ≡ Stopped DiskFault → Rose before now) → MetFault told → Rose first now
+rose-told told first before now met more le same was rose (inl end) = rose-before first before now more (rose end)
+rose-told told first before now met more le same was rose (inr is) = rose-after first before now le (was (sym same ∙ is))
+
 -- ---- a run so far
 
--- of a run that is this far, from the engine of this world
-pub record IsDone {S K : Type 0} (source : SourceGhosts S) (sink : SinkGhosts K) (input input' : S) (out out' : K) (held : Held) (place : Place) (w : World) (e : Engine) : Type 0 where
-  pub given : List ℕ
-  pub gave : Gave (source.left input) (source.left input') given
-  pub texts : List (List ℕ)
-  pub lines : AreLines held.ended given texts held.behind
-  pub text : List ℕ
-  pub refusals : List Refusal
-  pub world : World
-  pub done : DoneLines texts 1 0 (fresh w) place.line place.used (script_at world place) text refusals
-  pub took : Took (sink.written out) (sink.written out') text
-  pub met : place.met ≡ first_of (filter counts refusals)
-  pub stands : Stands e world
+module _ {D : Type 0} (g : Ghosts D) (disk : D) (w : World) where
+  -- of a run that is this far, from the store of this world
+  pub record IsDone {S K : Type 0} (source : SourceGhosts S) (sink : SinkGhosts K) (input input' : S) (out out' : K) (held : Held) (place : Place) (store : Store) (now : D) : Type 0 where
+    pub given : List ℕ
+    pub gave : Gave (source.left input) (source.left input') given
+    pub texts : List (List ℕ)
+    pub lines : AreLines held.ended given texts held.behind
+    pub text : List ℕ
+    pub refusals : List Refusal
+    pub script : Script
+    pub done : DoneLines texts 1 0 false (fresh w (device_of g disk)) place.line place.used place.stamped script text refusals
+    pub took : Took (sink.written out) (sink.written out') text
+    pub met : place.met ≡ first_of (filter counts refusals)
+    pub at : IsAt g disk place.stamped store now script
+    pub start : script.first ≡ w.machine.completed
+    pub kept : script.formats ≡ place.formats
 
--- before the first line
-pub none-done : {S K : Type 0} (source : SourceGhosts S) (sink : SinkGhosts K) (input : S) (out : K) (held : Held) (place : Place) (w : World) (e : Engine)
-    → held.behind ≡ [] → place.line ≡ 1 → place.used ≡ 0 → place.formats ≡ (fresh w).formats → place.met ≡ None → Stands e w → IsDone source sink input input out out held place w e
-none-done source sink input out held place w e empty line used formats met st = record {
-  given = [];
-  gave = gave_none (source.left input);
-  texts = [];
-  lines = sym empty;
-  text = [];
-  refusals = [];
-  world = w;
-  done = (line, used, ap (λ l. let s : Script = record { world = w; formats = l } in s) formats, refl, refl);
-  took = took_none (sink.written out);
-  met = met;
-  stands = st;
-}
+  -- before the first line
+  pub first-at : (store : Store) → IsHeld g disk store disk w w.machine.completed [] → IsCalm w → (stamped : Bool) → IsAt g disk stamped store disk (fresh w (device_of g disk))
+  first-at store held calm stamped = record { held = held; device = refl; calm = λ none. calm }
 
--- one line more
-pub more-done : {S K : Type 0} (source : SourceGhosts S) (sink : SinkGhosts K) (input input' input'' : S) (out out' out'' : K) (held held' : Held) (place next : Place) (w : World) (e e' : Engine)
-    → (IsTrue held.ended → IsTrue held'.ended) → (d : IsDone source sink input input' out out' held place w e)
-    → TurnGoesOn source sink input' input'' out' out'' held held' place next d.world e' → IsDone source sink input input'' out out'' held' next w e'
-more-done source sink input input' input'' out out' out'' held held' place next w e e' stays d t =
-    let all = done-more d.texts 1 0 (fresh w) place.line place.used (script_at d.world place) d.text d.refusals held'.line t.line.printed t.line.refusal (script_at t.line.later next) d.done t.line.done in
-    record {
-      given = d.given ++ t.given;
-      gave = gave_more (source.left input) (source.left input') (source.left input'') d.given t.given d.gave t.gave.0;
-      texts = d.texts ++ held'.line ∷ [];
-      lines = lines-then held.ended held'.ended d.given t.given held.behind held'.behind d.texts (held'.line ∷ []) t.gave.1 stays d.lines (held'.behind, t.cut, refl);
-      text = d.text ++ t.line.printed;
-      refusals = d.refusals ++ listed t.line.refusal;
-      world = t.line.later;
-      done = subst (λ (n : ℕ). DoneLines (d.texts ++ held'.line ∷ []) 1 0 (fresh w) n next.used (script_at t.line.later next) (d.text ++ t.line.printed) (d.refusals ++ listed t.line.refusal)) (sym t.line.behind.line)
-          (subst (λ (n : ℕ). DoneLines (d.texts ++ held'.line ∷ []) 1 0 (fresh w) (place.line + 1) n (script_at t.line.later next) (d.text ++ t.line.printed) (d.refusals ++ listed t.line.refusal)) (sym t.line.behind.used) all);
-      took = took_more (sink.written out) (sink.written out') (sink.written out'') d.text t.line.printed d.took t.line.took;
-      met = t.line.behind.met ∙ ap (λ (m : Option Refusal). met_with m t.line.refusal) d.met ∙ met-more d.refusals t.line.refusal;
-      stands = t.line.stands;
-    }
+  pub none-done : {S K : Type 0} (source : SourceGhosts S) (sink : SinkGhosts K) (input : S) (out : K) (held : Held) (place : Place) (store : Store)
+      → held.behind ≡ [] → place.line ≡ 1 → place.used ≡ 0 → place.stamped ≡ false → place.formats ≡ replicate SESSIONS_MAX plain → place.met ≡ None → IsHeld g disk store disk w w.machine.completed [] → IsCalm w
+      → IsDone source sink input input out out held place store disk
+  none-done source sink input out held place store empty line used stamped formats met holds calm = record {
+    given = [];
+    gave = gave_none (source.left input);
+    texts = [];
+    lines = sym empty;
+    text = [];
+    refusals = [];
+    script = fresh w (device_of g disk);
+    done = (line, used, stamped, refl, refl, refl);
+    took = took_none (sink.written out);
+    met = met;
+    at = first-at store holds calm place.stamped;
+    start = refl;
+    kept = sym formats;
+  }
 
--- the run, at its end
-pub run-done : {S K : Type 0} (source : SourceGhosts S) (sink : SinkGhosts K) (input input' input'' : S) (out out' out'' : K) (held : Held) (place next : Place) (w : World) (first e e' : Engine) (told : ScriptRun)
-    → source.fault_count input ≤ source.fault_count input' → sink.fault_count out ≤ sink.fault_count out' → Stands first w → AreBuilt first.systems
-    → (d : IsDone source sink input input' out out' held place w e) → TurnEnds source sink input' input'' out' out'' held place next d.world e' told.end → told.met ≡ next.met
-    → IsRun (outside source sink input input'' out out'') (source.left input) (source.left input'') (sink.written out) (sink.written out'') w e' told
-run-done source sink input input' input'' out out' out'' held place next w first e e' told reads writes st built d t met =
-    let o = outside source sink input input'' out out'' in
-    let own = outside source sink input' input'' out' out'' in
-    let wide : IsWider own o = record {
-      failed = λ rose. rose-before (source.fault_count input) (source.fault_count input') (source.fault_count input'') reads rose;
-      ended = λ ended. ended;
-      output = λ rose. rose-before (sink.fault_count out) (sink.fault_count out') (sink.fault_count out'') writes rose;
-    } in
-    let ran : Ran = behind d.text d.refusals t.run.ran in
-    let runs : RunsLines o 1 0 (d.texts ++ t.texts) (fresh w) ran =
-    done-runs o d.texts 1 0 (fresh w) place.line place.used (script_at d.world place) d.text d.refusals t.texts t.run.ran d.done (runs-wider own o place.line place.used t.texts (script_at d.world place) t.run.ran wide t.run.runs) in
-    let none : d.refusals ++ t.run.ran.replies ≡ d.refusals = ap (λ (l : List Refusal). d.refusals ++ l) t.run.no_reply ∙ append-nil d.refusals in
-    record {
-      given = d.given ++ t.given;
-      gave = gave_more (source.left input) (source.left input') (source.left input'') d.given t.given d.gave t.gave.0;
-      texts = d.texts ++ t.texts;
-      behind = t.behind;
-      ended = t.ended;
-      at_end = t.at_end;
-      lines = lines-then held.ended t.ended d.given t.given held.behind t.behind d.texts t.texts t.gave.1 t.stays d.lines t.lines;
-      ran = ran;
-      runs = runs;
-      took = took_more (sink.written out) (sink.written out') (sink.written out'') d.text t.run.ran.text d.took t.run.took;
-      end_is = t.run.end_is;
-      met = met ∙ t.run.met ∙ d.met ∙ ap (λ (l : List Refusal). first_of (filter counts l)) (sym none);
-      whole = λ through. t.whole (t.run.end_is ∙ through);
-      stands = t.run.stands;
-      checkpoint = same-run o 1 0 (d.texts ++ t.texts) (fresh w) ran (calm-first first w st built) runs;
-    }
+  -- one line more
+  pub more-done : {S K : Type 0} (source : SourceGhosts S) (sink : SinkGhosts K) (input input' input'' : S) (out out' out'' : K) (held held' : Held) (place next : Place) (store store' : Store) (now now' : D)
+      → (IsTrue held.ended → IsTrue held'.ended) → (d : IsDone source sink input input' out out' held place store now)
+      → TurnGoesOn g disk store' now' source sink input' input'' out' out'' held held' place next d.script → IsDone source sink input input'' out out'' held' next store' now'
+  more-done source sink input input' input'' out out' out'' held held' place next store store' now now' stays d t =
+      let l = t.line in
+      let begin = fresh w (device_of g disk) in
+      let all = done-more d.texts 1 0 false begin place.line place.used place.stamped d.script d.text d.refusals held'.line l.printed l.refusal next.stamped l.later d.done l.done in
+      record {
+        given = d.given ++ t.given;
+        gave = gave_more (source.left input) (source.left input') (source.left input'') d.given t.given d.gave t.gave.0;
+        texts = d.texts ++ held'.line ∷ [];
+        lines = lines-then held.ended held'.ended d.given t.given held.behind held'.behind d.texts (held'.line ∷ []) t.gave.1 stays d.lines (held'.behind, t.cut, refl);
+        text = d.text ++ l.printed;
+        refusals = d.refusals ++ listed l.refusal;
+        script = l.later;
+        done = subst (λ (n : ℕ). DoneLines (d.texts ++ held'.line ∷ []) 1 0 false begin n next.used next.stamped l.later (d.text ++ l.printed) (d.refusals ++ listed l.refusal)) (sym l.line)
+            (subst (λ (n : ℕ). DoneLines (d.texts ++ held'.line ∷ []) 1 0 false begin (place.line + 1) n next.stamped l.later (d.text ++ l.printed) (d.refusals ++ listed l.refusal)) (sym l.used) all);
+        took = took_more (sink.written out) (sink.written out') (sink.written out'') d.text l.printed d.took l.took;
+        met = l.met ∙ ap (λ (m : Option Refusal). met_with m l.refusal) d.met ∙ met-more d.refusals l.refusal;
+        at = l.at;
+        start = l.start ∙ d.start;
+        kept = l.kept;
+      }
 
--- there was no memory to begin with
-pub none-run : {S K : Type 0} (source : SourceGhosts S) (sink : SinkGhosts K) (input : S) (out : K) (w : World) (e : Engine) (told : ScriptRun) → told.end ≡ Stopped NoMemory → told.met ≡ None → Stands e w
-    → IsRun (outside source sink input input out out) (source.left input) (source.left input) (sink.written out) (sink.written out) w e told
-none-run source sink input out w e told end met st = record {
-  given = [];
-  gave = gave_none (source.left input);
-  texts = [];
-  behind = [];
-  ended = false;
-  at_end = λ is. absurd cc;
-  lines = refl;
-  ran = ends (Stopped NoMemory) (fresh w);
-  runs = inr (inr refl);
-  took = took_none (sink.written out);
-  end_is = end;
-  met = met;
-  whole = λ through. refl;
-  stands = st;
-  checkpoint = refl;
-}
+  -- the run, at its end
+  pub run-done : {S K : Type 0} (source : SourceGhosts S) (sink : SinkGhosts K) (input input' input'' : S) (out out' out'' : K) (held : Held) (place next : Place) (store store' : Store) (now now' : D) (told : ScriptRun)
+      → source.fault_count input ≤ source.fault_count input' → sink.fault_count out ≤ sink.fault_count out'
+      → (d : IsDone source sink input input' out out' held place store now) → TurnEnds g disk store' now' source sink input' input'' out' out'' held place next d.script told.end → told.met ≡ next.met
+      → IsRun g (outside source sink input input'' out out'') (source.left input) (source.left input'') (sink.written out) (sink.written out'') w disk now' store' told
+  run-done source sink input input' input'' out out' out'' held place next store store' now now' told reads writes d t met =
+      let o = outside source sink input input'' out out'' in
+      let own = outside source sink input' input'' out' out'' in
+      let wide : IsWider own o = record {
+        failed = λ rose. rose-before (source.fault_count input) (source.fault_count input') (source.fault_count input'') reads rose;
+        ended = λ ended. ended;
+        output = λ rose. rose-before (sink.fault_count out) (sink.fault_count out') (sink.fault_count out'') writes rose;
+      } in
+      let begin = fresh w (device_of g disk) in
+      let ran : Ran = behind d.text d.refusals t.run.ran in
+      let runs : RunsLines o 1 0 false (d.texts ++ t.texts) begin ran =
+      done-runs o d.texts 1 0 false begin place.line place.used place.stamped d.script d.text d.refusals t.texts t.run.ran d.done (runs-wider own o place.line place.used place.stamped t.texts d.script t.run.ran wide t.run.runs) in
+      let none : d.refusals ++ t.run.ran.replies ≡ d.refusals = ap (λ (l : List Refusal). d.refusals ++ l) t.run.no_reply ∙ append-nil d.refusals in
+      record {
+        given = d.given ++ t.given;
+        gave = gave_more (source.left input) (source.left input') (source.left input'') d.given t.given d.gave t.gave.0;
+        texts = d.texts ++ t.texts;
+        behind = t.behind;
+        ended = t.ended;
+        at_end = t.at_end;
+        lines = lines-then held.ended t.ended d.given t.given held.behind t.behind d.texts t.texts t.gave.1 t.stays d.lines t.lines;
+        ran = ran;
+        runs = runs;
+        took = took_more (sink.written out) (sink.written out') (sink.written out'') d.text t.run.ran.text d.took t.run.took;
+        end_is = t.run.end_is;
+        met = met ∙ t.run.met ∙ d.met ∙ ap (λ (l : List Refusal). first_of (filter counts l)) (sym none);
+        whole = λ through. t.whole (t.run.end_is ∙ through);
+        device = t.run.at.device;
+        held = subst (λ (c : Completed). IsHeld g disk store' now' t.run.ran.last.world c t.run.ran.last.made) (t.run.start ∙ d.start) t.run.at.held;
+      }
+
+  -- there was no memory to begin with
+  pub none-run : {S K : Type 0} (source : SourceGhosts S) (sink : SinkGhosts K) (input : S) (out : K) (store : Store) (told : ScriptRun) → told.end ≡ Stopped NoMemory → told.met ≡ None → IsHeld g disk store disk w w.machine.completed []
+      → IsRun g (outside source sink input input out out) (source.left input) (source.left input) (sink.written out) (sink.written out) w disk disk store told
+  none-run source sink input out store told end met holds = record {
+    given = [];
+    gave = gave_none (source.left input);
+    texts = [];
+    behind = [];
+    ended = false;
+    at_end = λ is. absurd cc;
+    lines = refl;
+    ran = ends (Stopped NoMemory) (fresh w (device_of g disk));
+    runs = inr (inr refl);
+    took = took_none (sink.written out);
+    end_is = end;
+    met = met;
+    whole = λ through. refl;
+    device = refl;
+    held = holds;
+  }

@@ -1,4 +1,5 @@
 pub mod Lines
 pub mod Scripts
+pub mod Faults
 pub mod Runs
 pub mod Turns

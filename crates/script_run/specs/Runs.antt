@@ -1,12 +1,19 @@
 -- What the functions that run a line do.
-use Rattle.std.specs.Prelude.{◌≡◌, ◌⊎◌, ◌<◌, ◌∷◌, ◌++◌, [], ℕ, Bool, List, Option, None, Some, Result, Ok, Err, length, filter, IsTrue}
+use Rattle.std.specs.Prelude.{◌≡◌, ◌⊎◌, ◌<◌, ◌∷◌, ◌++◌, ◌||◌, [], ℕ, Bool, true, false, List, Option, Some, Result, Ok, Err, length, filter, IsTrue}
 use Rattle.item.specs.declared.formats.Formats.{Formats}
 use Rattle.wt_code.specs.declared.refusals.Refusal.{Refusal}
-use Rattle.wt_code.specs.declared.refusals.Refusal.TheVariants.{NoMemory}
+use Rattle.wt_code.specs.declared.refusals.Refusal.TheVariants.{Corrupt, DiskFault, NoMemory}
+use Rattle.disk_model.specs.declared.disk.Disk.{Ghosts}
+use Rattle.engine_store.specs.declared.store.Store.{Store}
+use Rattle.engine_store.specs.Devices.{device_of}
+use Rattle.engine_store.specs.Held.{IsHeld}
+use Rattle.engine_store.specs.Opened.{IsReady}
+use Rattle.ckpt_step.specs.Calm.{IsCalm}
+use Rattle.ckpt_step.specs.Grounds.{IsSteady}
 use Rattle.wt_io.specs.Streams.{Gave, Took}
 use Rattle.wt_calls.specs.declared.call.Call.{Call}
 use Rattle.script_text.specs.declared.line.Line.{Line}
-use Rattle.script_text.specs.declared.line.Line.TheVariants.{Whole, Start, Step, Finish, Control}
+use Rattle.script_text.specs.declared.line.Line.TheVariants.{Whole, Start, Step, Finish, Control as OfAll}
 use Rattle.script_text.specs.declared.replies.Reply.{Reply}
 use Rattle.script_text.specs.Grammar.{IsLine}
 use Rattle.script_text.specs.Replies.{line_of_reply}
@@ -15,13 +22,15 @@ use Rattle.engine_world.specs.Worlds.{World}
 use Rattle.engine.specs.declared.step.Actor.{Actor}
 use Rattle.engine.specs.declared.step.Actor.TheVariants as by
 use Rattle.script_run.specs.declared.one_line.Printed.{Printed}
-use Rattle.script_run.specs.declared.one_line.Told.{Told}
-use Rattle.script_run.specs.declared.script.End.TheVariants.{Through}
+use Rattle.script_run.specs.declared.one_line.Stop.{Stop}
+use Rattle.script_run.specs.declared.one_line.Stop.TheVariants as stop
+use Rattle.script_run.specs.declared.told.Told.{Told}
+use Rattle.script_run.specs.declared.script.End.TheVariants.{Through, Stopped}
 use Rattle.script_run.specs.declared.script.ScriptRun.{ScriptRun}
 use Rattle.script_run.specs.Lines.{AreLines}
 use Rattle.wt_io.specs.declared.streams.Source.{Ghosts as SourceGhosts}
 use Rattle.wt_io.specs.declared.streams.Sink.{Ghosts as SinkGhosts}
-use Rattle.script_run.specs.Scripts.{outside, Answers, Begins, Ends, Goes, Outside, Ran, Refuses, Replies, RunsLines, Script, IsLater, NoSession, actor_in, caller, counts, first_of, fresh, listed, missing, opened_more, refusals_in}
+use Rattle.script_run.specs.Scripts.{outside, Answers, Begins, Ends, Goes, Outside, Ran, Refuses, Replies, RunsLines, Script, IsLater, IsLaterCall, NoSession, StopsBy, actor_in, caller, counts, first_of, fresh, gives_stamp, listed, missing, opened_more, refusals_in}
 
 -- one of the four actors of the system, or any session
 abbrev pub IsKnown : Actor → Type 0
@@ -33,7 +42,7 @@ IsOfKnown (Whole made) = IsKnown (caller made)
 IsOfKnown (Start made) = IsKnown (caller made)
 IsOfKnown (Step who) = IsKnown (actor_in who)
 IsOfKnown (Finish who) = IsKnown (actor_in who)
-IsOfKnown (Control asked) = Unit {0}
+IsOfKnown (OfAll asked) = Unit {0}
 
 -- the actor is there
 abbrev pub IsThere : Actor → Engine → Type 0
@@ -67,35 +76,87 @@ IsGone who s w told e = (later : Script) × Goes who s told.formats told.reply l
 abbrev pub IsEnded : Actor → Script → World → Told → Engine → Type 0
 IsEnded who s w told e = (later : Script) × Ends who s told.formats told.reply later w × Stands e later.world × (later.formats ≡ s.formats)
 
--- a line was run, and told so
-pub record IsLineRun (text : List ℕ) (s : Script) (e : Engine) (kept : List Formats) (asked : Line) (formats : Formats) (reply : Reply) : Type 0 where
-  pub line : IsLine text asked
-  pub now : IsLater asked → ⊥
-  pub later : Script
-  pub replies : Replies asked s formats reply later
-  pub stands : Stands e later.world
-  pub kept_is : kept ≡ later.formats
+-- a line of an actor, which reaches the engine and no more
+abbrev pub IsOfActor : Line → Type 0
+IsOfActor (Whole made) = IsLaterCall made → ⊥
+IsOfActor (Start made) = IsLaterCall made → ⊥
+IsOfActor (Step who) = Unit {0}
+IsOfActor (Finish who) = Unit {0}
+IsOfActor (OfAll asked) = ⊥
 
-abbrev pub IsUntouched : World → List Formats → Engine → List Formats → Type 0
-IsUntouched w before e kept = Stands e w × (kept ≡ before)
+-- ---- on a device
 
--- what was made of a line: it is none, or this is printed of it
-abbrev pub LineMade : List ℕ → World → List Formats → Engine → List Formats → Option Printed → Type 0
-LineMade text w before e kept None = ((asked : Line) → IsLine text asked → IsLater asked) × IsUntouched w before e kept
-LineMade text w before e kept (Some printed) =
-    (asked : Line) × (formats : Formats) × (reply : Reply) × IsLineRun text (record { world = w; formats = before }) e kept asked formats reply
-    × (printed.line.items ≡ line_of_reply formats reply ++ 10 ∷ []) × (listed printed.refusal ≡ refusals_in reply)
+-- what the calls of a store ask of it and its disk
+pub record IsFit {D : Type 0} (g : Ghosts D) (store : Store) (disk : D) : Type 0 where
+  pub ready : IsReady store
+  pub steady : IsTrue (g.honest disk) → IsSteady g store.engine store.ground disk
 
--- for want of memory nothing was made of it, or its reply is not printed
-abbrev pub LineStops : List ℕ → World → List Formats → Engine → List Formats → Type 0
-LineStops text w before e kept =
-    IsUntouched w before e kept
-    ⊎ ((asked : Line) × (formats : Formats) × (reply : Reply) × IsLineRun text (record { world = w; formats = before }) e kept asked formats reply)
+-- The store and its disk stand for s, in a run that began on the first disk. Until a commit has a stamp, none that is under way has one.
+pub record IsAt {D : Type 0} (g : Ghosts D) (first : D) (stamped : Bool) (store : Store) (disk : D) (s : Script) : Type 0 where
+  pub held : IsHeld g first store disk s.world s.first s.made
+  pub device : s.device ≡ device_of g disk
+  pub calm : stamped ≡ false → IsCalm s.world
+
+-- what is printed of a line
+pub record IsPrintedOf (asked : Line) (formats : Formats) (reply : Reply) (printed : Printed) : Type 0 where
+  pub line : printed.line.items ≡ line_of_reply formats reply ++ 10 ∷ []
+  pub refusal : listed printed.refusal ≡ refusals_in reply
+  pub stamps : printed.stamps ≡ gives_stamp asked
+
+module _ {D : Type 0} (g : Ghosts D) (first : D) where
+  -- a line was replied to, and left the store and its disk so
+  pub record IsTold (stamped : Bool) (asked : Line) (s : Script) (store : Store) (disk : D) (kept : List Formats) (told : Told) : Type 0 where
+    pub later : Script
+    pub replies : Replies asked s told.formats told.reply later
+    pub at : IsAt g first stamped store disk later
+    pub start : later.first ≡ s.first
+    pub kept_is : later.formats ≡ kept
+
+  -- the device was not opened
+  pub record IsStopped (asked : Line) (s : Script) (store : Store) (disk : D) (r : Refusal) : Type 0 where
+    pub later : Script
+    pub stops : StopsBy asked s r later
+    pub at : IsAt g first true store disk later
+    pub start : later.first ≡ s.first
+
+  abbrev pub RepliedAs : Bool → Line → Script → Store → D → List Formats → Result Told Refusal → Type 0
+  RepliedAs stamped asked s store disk kept (Ok told) = IsTold stamped asked s store disk kept told
+  RepliedAs stamped asked s store disk kept (Err r) = IsStopped asked s store disk r
+
+  -- a line was run, and told so
+  pub record IsLineRun (text : List ℕ) (stamped : Bool) (s : Script) (store : Store) (disk : D) (kept : List Formats) (asked : Line) (formats : Formats) (reply : Reply) : Type 0 where
+    pub line : IsLine text asked
+    pub now : IsLater stamped asked → ⊥
+    pub later : Script
+    pub replies : Replies asked s formats reply later
+    pub at : IsAt g first (stamped || gives_stamp asked) store disk later
+    pub start : later.first ≡ s.first
+    pub kept_is : later.formats ≡ kept
+
+  -- what was made of a line: this is printed of it; or it is none; or for want of memory nothing was made of it, or its reply is not printed; or the device was not opened
+  abbrev pub LineMade : List ℕ → Bool → Script → Store → D → List Formats → Result Printed Stop → Type 0
+  LineMade text stamped s store disk kept (Ok printed) =
+      (asked : Line) × (formats : Formats) × (reply : Reply) × IsLineRun text stamped s store disk kept asked formats reply × IsPrintedOf asked formats reply printed
+  LineMade text stamped s store disk kept (Err stop.NoLine) = ((asked : Line) → IsLine text asked → IsLater stamped asked) × IsAt g first stamped store disk s
+  LineMade text stamped s store disk kept (Err stop.NoMemory) =
+      IsAt g first stamped store disk s ⊎ ((asked : Line) × (formats : Formats) × (reply : Reply) × IsLineRun text stamped s store disk kept asked formats reply)
+  LineMade text stamped s store disk kept (Err (stop.Opening r)) = (asked : Line) × IsLine text asked × (IsLater stamped asked → ⊥) × IsStopped asked s store disk r
+
+-- a fault of the disk is printed, or stopped the run
+abbrev pub PrintsFault : Result Printed Stop → Type 0
+PrintsFault (Ok printed) = printed.refusal ≡ Some DiskFault
+PrintsFault (Err (stop.Opening r)) = r ≡ DiskFault
+PrintsFault (Err _) = ⊥
+
+-- an opening met damage
+abbrev pub StopsDamaged : ℕ → ℕ → ℕ → Result Printed Stop → Type 0
+StopsDamaged at want found (Err (stop.Opening r)) = r ≡ Corrupt at want found
+StopsDamaged at want found _ = ⊥
 
 -- ---- whole scripts
 
--- A run of a script on an engine that stands for this world: what the input gave, the lines of that, and what they make.
-pub record IsRun (o : Outside) (left left' written written' : Option (List ℕ)) (w : World) (e : Engine) (told : ScriptRun) : Type 0 where
+-- A run of a script on an engine and its device that stand for this world: what the input gave, the lines of that, and what they make.
+pub record IsRun {D : Type 0} (g : Ghosts D) (o : Outside) (left left' written written' : Option (List ℕ)) (w : World) (before after : D) (s : Store) (told : ScriptRun) : Type 0 where
   pub given : List ℕ
   pub gave : Gave left left' given
   pub texts : List (List ℕ)
@@ -105,18 +166,22 @@ pub record IsRun (o : Outside) (left left' written written' : Option (List ℕ))
   pub at_end : IsTrue ended → o.input_ended
   pub lines : AreLines ended given texts behind
   pub ran : Ran
-  pub runs : RunsLines o 1 0 texts (fresh w) ran
+  pub runs : RunsLines o 1 0 false texts (fresh w (device_of g before)) ran
   pub took : Took written written' ran.text
   pub end_is : told.end ≡ ran.end
   -- the first fault of the disk or want of memory that a line replied
   pub met : told.met ≡ first_of (filter counts ran.replies)
   -- at the end of its input there is no byte behind the last line
   pub whole : ran.end ≡ Through → behind ≡ []
-  pub stands : Stands e ran.last.world
-  -- no line changes the checkpoint that the device has
-  pub checkpoint : ran.last.world.machine.completed ≡ w.machine.completed
+  pub device : ran.last.device ≡ device_of g after
+  -- what the engine and its device are held to, over the checkpoints that lines installed
+  pub held : IsHeld g before s after ran.last.world w.machine.completed ran.last.made
 
--- the same of streams, before and after
-abbrev pub IsRunOver : {S K : Type 0} → SourceGhosts S → SinkGhosts K → S → S → K → K → World → Engine → ScriptRun → Type 0
-IsRunOver s k input input_now out out_now w e told =
-    IsRun (outside s k input input_now out out_now) (s.left input) (s.left input_now) (k.written out) (k.written out_now) w e told
+-- the same of a disk and of streams, before and after
+abbrev pub IsRunOver : {D S K : Type 0} → Ghosts D → SourceGhosts S → SinkGhosts K → S → S → K → K → World → D → D → Store → ScriptRun → Type 0
+IsRunOver g s k input input_now out out_now w before after store told =
+    IsRun g (outside s k input input_now out out_now) (s.left input) (s.left input_now) (k.written out) (k.written out_now) w before after store told
+
+-- the run met a fault of the disk
+abbrev pub MetFault : ScriptRun → Type 0
+MetFault told = (told.end ≡ Stopped DiskFault) ⊎ (told.met ≡ Some DiskFault)

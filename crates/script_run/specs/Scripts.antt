@@ -1,5 +1,5 @@
 -- What the lines of a script reply, what each leaves, and how a script ends.
-use Rattle.std.specs.Prelude.{◌≡◌, ◌⊎◌, ◌<◌, ◌≤◌, ◌+◌, ◌-◌, ℕ, zero, suc, Bool, true, false, List, [], ◌∷◌, ◌++◌, length, take, replicate, slice_index_or, slice_set, Option, None, Some}
+use Rattle.std.specs.Prelude.{◌≡◌, ◌⊎◌, ◌<◌, ◌≤◌, ◌+◌, ◌-◌, ◌||◌, ℕ, zero, suc, Bool, true, false, IsTrue, MatchBool, List, [], ◌∷◌, ◌++◌, length, take, replicate, slice_index_or, slice_set, Option, None, Some}
 use Rattle.limits.specs.declared.TheConstants.{SESSIONS_MAX}
 use Rattle.failure.specs.Counts.{Rose}
 use Rattle.item.specs.declared.formats.Format.TheVariants.{U}
@@ -9,38 +9,55 @@ use Rattle.wt_code.specs.declared.answers.Answer.TheVariants as answers
 use Rattle.wt_code.specs.declared.refusals.Refusal.{Refusal}
 use Rattle.wt_code.specs.declared.refusals.Refusal.TheVariants as refusal
 use Rattle.wt_code.specs.declared.refusals.Limit.TheVariants.{Sessions}
-use Rattle.wt_code.specs.declared.refusals.Invalid.TheVariants.{Text}
+use Rattle.wt_code.specs.declared.refusals.Invalid.TheVariants.{InCall, Text}
 use Rattle.wt_io.specs.Streams.{AtEnd}
 use Rattle.wt_io.specs.declared.streams.Source.{Ghosts as SourceGhosts}
 use Rattle.wt_io.specs.declared.streams.Sink.{Ghosts as SinkGhosts}
 use Rattle.kv_model.specs.History.{named, tables}
-use Rattle.kv_model.specs.Machine.{Machine, of_some}
+use Rattle.kv_model.specs.Machine.{Machine, Completed, of_some}
+use Rattle.kv_model.specs.Calls.{rolled_back}
+use Rattle.kv_model.specs.Content.{Content, OpensAs, start}
+use Rattle.kv_model.specs.Decisions.{is_there}
+use Rattle.kv_model.specs.Holds.{Member}
+use Rattle.stored.specs.Stored.{Reads}
 use Rattle.wt_calls.specs.declared.call.Call.{Call}
 use Rattle.wt_calls.specs.declared.call.Call.TheVariants as call
+use Rattle.wt_calls.specs.declared.session_call.SessionCall.TheVariants as session_call
 use Rattle.call_steps.specs.declared.reply.Reply.{Reply as Told}
 use Rattle.call_steps.specs.declared.reply.Reply.TheVariants as told
 use Rattle.script_text.specs.declared.line.Actor.{Actor}
 use Rattle.script_text.specs.declared.line.Actor.TheVariants as actor
 use Rattle.script_text.specs.declared.line.Line.{Line}
-use Rattle.script_text.specs.declared.line.Line.TheVariants.{Whole, Start, Step, Finish, Control}
+use Rattle.script_text.specs.declared.line.Control.{Control}
+use Rattle.script_text.specs.declared.line.Control.TheVariants.{Checkpoint, Close, Crash, Frames}
+use Rattle.script_text.specs.declared.line.Line.TheVariants.{Whole, Start, Step, Finish, Control as OfAll}
 use Rattle.script_text.specs.declared.replies.Reply.{Reply}
 use Rattle.script_text.specs.declared.replies.Reply.TheVariants.{Started, More, Answered}
 use Rattle.script_text.specs.Grammar.{IsLine}
 use Rattle.script_text.specs.Replies.{line_of_reply}
 use Rattle.script_text.specs.Stored.{table_of_items, stored_call}
 use Rattle.engine_world.specs.Worlds.{World}
+use Rattle.engine_world.specs.Systems.{checkpointed}
 use Rattle.engine.specs.declared.step.Actor.{Actor as EngineActor}
 use Rattle.engine.specs.declared.step.Actor.TheVariants as by
 use Rattle.engine.specs.declared.step.Step.TheVariants as step
 use Rattle.engine.specs.Runs.{MayStep, StepsOut, IsBuilt}
 use Rattle.engine.specs.Whole.{MayAnswer, with_session_more}
+use Rattle.engine_store.specs.Answers.{CheckpointTakes, CloseTakes, Installs, IsLeft, RefusesReopening}
+use Rattle.engine_store.specs.Devices.{Device, Installed, IsLater as IsLaterDevice, may_open_to}
 use Rattle.script_run.specs.declared.script.End.{End}
 use Rattle.script_run.specs.declared.script.End.TheVariants.{Through, Stopped, InputFailed, OutputFailed}
 use Rattle.script_run.specs.declared.script.TheConstants.{INPUT_MAX}
 
--- between two lines: the world, and by session the formats of the call that it has started
+-- between two lines
 pub record Script : Type 0 where
   pub world : World
+  pub device : Device
+  -- the checkpoint that the device had before the first line
+  pub first : Completed
+  -- those that lines installed since, or were installing
+  pub made : List Installed
+  -- by session: those of the call that it has started
   pub formats : List Formats
 
 abbrev pub plain : Formats
@@ -55,12 +72,29 @@ abbrev pub IsLaterCall : Call → Type 0
 IsLaterCall (call.Session session made) = ⊥
 IsLaterCall (call.System number made) = IsBuilt made → ⊥
 
-abbrev pub IsLater : Line → Type 0
-IsLater (Whole made) = IsLaterCall made
-IsLater (Start made) = IsLaterCall made
-IsLater (Step who) = ⊥
-IsLater (Finish who) = ⊥
-IsLater (Control asked) = Unit {0}
+-- a checkpoint and a close are once the text has committed with a stamp
+abbrev pub IsLaterControl : Bool → Control → Type 0
+IsLaterControl stamped Checkpoint = IsTrue stamped
+IsLaterControl stamped Close = IsTrue stamped
+IsLaterControl stamped Crash = ⊥
+IsLaterControl stamped (Frames count) = Unit {0}
+
+abbrev pub IsLater : Bool → Line → Type 0
+IsLater stamped (Whole made) = IsLaterCall made
+IsLater stamped (Start made) = IsLaterCall made
+IsLater stamped (Step who) = ⊥
+IsLater stamped (Finish who) = ⊥
+IsLater stamped (OfAll asked) = IsLaterControl stamped asked
+
+-- the text of the line commits with a stamp
+abbrev pub call_stamps : Call → Bool
+call_stamps (call.Session session (session_call.Commit commit durable)) = is_there commit || is_there durable
+call_stamps _ = false
+
+abbrev pub gives_stamp : Line → Bool
+gives_stamp (Whole made) = call_stamps made
+gives_stamp (Start made) = call_stamps made
+gives_stamp _ = false
 
 -- ---- actors
 
@@ -133,7 +167,7 @@ pub record Begins (made : Call) (s : Script) (formats : Formats) (reply : Reply)
   pub next : World
   pub stepped : MayStep w (step.Start (stored_call formats made)) t next
   pub told : reply ≡ in_script t
-  pub leaves : later ≡ record { world = next; formats = kept_after t (caller made) formats s.formats }
+  pub leaves : later ≡ record s { world = next; formats = kept_after t (caller made) formats s.formats }
 
 -- one step is made
 pub record Goes (who : EngineActor) (s : Script) (formats : Formats) (reply : Reply) (later : Script) (w : World) : Type 0 where
@@ -154,7 +188,77 @@ pub record Ends (who : EngineActor) (s : Script) (formats : Formats) (reply : Re
   pub told : reply ≡ Answered answer
   pub leaves : later ≡ record s { world = next }
 
--- the reply to a line, in these formats, and what it leaves
+-- ---- lines that reach the device
+
+-- the world of an engine as an opening makes it: no session, and nothing started
+abbrev pub opened_world : Machine → World
+opened_world m = record { machine = m; sessions = []; systems = None ∷ None ∷ None ∷ None ∷ [] }
+
+-- a line of `sys` that is no call: refused where `sys` has a call that is not finished
+abbrev pub BySystem : Script → Reply → Script → Type 0 → Type 0
+BySystem s reply later Goes = MatchBool (is_there (slice_index_or s.world.systems 0 None)) ((reply ≡ Answered (answers.Refused (refusal.Invalid InCall))) × (later ≡ s)) Goes
+
+abbrev pub on_device : Script → Machine → Device → List Installed → Script
+on_device s m device made = record s { world = record s.world { machine = m }; device = device; made = made }
+
+-- a checkpoint in one event
+pub record Checkpoints (s : Script) (reply : Reply) (later : Script) : Type 0 where
+  pub answer : Answer (List ℕ)
+  pub next : Machine
+  pub device : Device
+  pub made : List Installed
+  pub behind : IsLeft s.device device s.world.machine next answer
+  pub takes : CheckpointTakes s.device device s.world.machine answer next
+  pub installs : Installs answer (checkpointed s.world.machine).completed device next s.made made
+  pub told : reply ≡ Answered answer
+  pub leaves : later ≡ on_device s next device made
+
+-- a close
+pub record Closes (s : Script) (answer : Answer (List ℕ)) (later : Script) : Type 0 where
+  pub next : Machine
+  pub device : Device
+  pub made : List Installed
+  pub behind : IsLeft s.device device (rolled_back s.world.machine) next answer
+  pub takes : CloseTakes s.device device s.world answer next
+  pub installs : Installs answer (checkpointed (rolled_back s.world.machine)).completed device next s.made made
+  pub leaves : later ≡ on_device s next device made
+
+-- Memory is forgotten and the device opened: to one of the checkpoints to which it may open, with no session.
+pub record Reopens (s later : Script) : Type 0 where
+  pub content : Content
+  pub reads : Reads s.device.seen content
+  pub one : (k : Completed) × Member k (may_open_to (s.first ∷ []) s.made) × OpensAs content k
+  pub device : Device
+  pub after : IsLaterDevice s.device device
+  pub seen : device.seen ≡ s.device.seen
+  pub capacity : device.capacity ≡ s.device.capacity
+  pub leaves : later ≡ record s { world = opened_world (start content); device = device; formats = replicate SESSIONS_MAX plain }
+
+-- it is not opened, and the engine before it is the last
+pub record NotReopened (s : Script) (r : Refusal) (later : Script) : Type 0 where
+  pub device : Device
+  pub after : IsLaterDevice s.device device
+  pub seen : device.seen ≡ s.device.seen
+  pub capacity : device.capacity ≡ s.device.capacity
+  pub why : RefusesReopening s.device device r
+  pub leaves : later ≡ record s { device = device }
+
+abbrev pub ControlReplies : Control → Script → Reply → Script → Type 0
+ControlReplies Checkpoint s reply later = BySystem s reply later (Checkpoints s reply later)
+ControlReplies Close s reply later =
+    BySystem s reply later
+    (((r : Refusal) × Closes s (answers.Refused r) later × (reply ≡ Answered (answers.Refused r)))
+    ⊎ ((middle : Script) × Closes s answers.Done middle × Reopens middle later × (reply ≡ Answered answers.Done)))
+ControlReplies Crash s reply later = Reopens s later × (reply ≡ Answered answers.Done)
+ControlReplies (Frames count) s reply later = ⊥
+
+-- An opening that is refused ends the script.
+abbrev pub StopsBy : Line → Script → Refusal → Script → Type 0
+StopsBy (OfAll Close) s r later = (slice_index_or s.world.systems 0 None ≡ None) × ((middle : Script) × Closes s answers.Done middle × NotReopened middle r later)
+StopsBy (OfAll Crash) s r later = NotReopened s r later
+StopsBy _ s r later = ⊥
+
+-- ---- the reply to a line, in these formats, and what it leaves
 abbrev pub Replies : Line → Script → Formats → Reply → Script → Type 0
 Replies (Whole made) s formats reply later =
     Opens (caller made) s.world (λ w. Answers made s formats reply later w ⊎ Refuses refusal.NoMemory s w reply later) (λ r w. Refuses r s w reply later)
@@ -162,7 +266,7 @@ Replies (Start made) s formats reply later =
     Opens (caller made) s.world (λ w. Begins made s formats reply later w ⊎ Refuses refusal.NoMemory s w reply later) (λ r w. Refuses r s w reply later)
 Replies (Step who) s formats reply later = Opens (actor_in who) s.world (λ w. Goes (actor_in who) s formats reply later w) (λ r w. Refuses r s w reply later)
 Replies (Finish who) s formats reply later = Opens (actor_in who) s.world (λ w. Ends (actor_in who) s formats reply later w) (λ r w. Refuses r s w reply later)
-Replies (Control asked) s formats reply later = ⊥
+Replies (OfAll asked) s formats reply later = (formats ≡ plain) × ControlReplies asked s reply later
 
 -- the refusal that a reply tells, if it does
 abbrev pub refusals_in : Reply → List Refusal
@@ -200,8 +304,8 @@ pub record Ran : Type 0 where
   pub end : End
 
 -- before the first line
-abbrev pub fresh : World → Script
-fresh w = record { world = w; formats = replicate SESSIONS_MAX plain }
+abbrev pub fresh : World → Device → Script
+fresh w device = record { world = w; device = device; first = w.machine.completed; made = []; formats = replicate SESSIONS_MAX plain }
 
 abbrev pub ends : End → Script → Ran
 ends end s = record { text = []; replies = []; last = s; end = end }
@@ -210,8 +314,8 @@ abbrev pub prints : List ℕ → Reply → Ran → Ran
 prints line reply ran = record ran { text = line ++ 10 ∷ ran.text; replies = refusals_in reply ++ ran.replies }
 
 -- the line is none, is of a later stage, or has a byte behind those that an input may have
-abbrev pub IsNone : ℕ → List ℕ → Type 0
-IsNone used text = ((asked : Line) → IsLine text asked → IsLater asked) ⊎ (INPUT_MAX < used + length text)
+abbrev pub IsNone : Bool → ℕ → List ℕ → Type 0
+IsNone stamped used text = ((asked : Line) → IsLine text asked → IsLater stamped asked) ⊎ (INPUT_MAX < used + length text)
 
 -- What is printed of a reply and what follows: all of it and the lines behind it, a front of it where the output fails, or nothing for want of memory. The last two end the run.
 abbrev pub Prints : Outside → List ℕ → (Ran → Type 0) → List (List ℕ) → Reply → Script → Ran → Type 0
@@ -220,15 +324,17 @@ Prints o line Rest texts reply later ran =
     ⊎ (((n : ℕ) × (texts ≡ []) × o.output_failed × (n < length (line ++ 10 ∷ [])) × (ran ≡ record (ends OutputFailed later) { text = take n (line ++ 10 ∷ []) }))
     ⊎ ((texts ≡ []) × (ran ≡ ends (Stopped refusal.NoMemory) later)))
 
--- The lines in order, the first of them with this number, behind so many bytes of lines with their newlines. A line that is none, want of memory and a stream that fails end the run; a refusal that a line replies does not.
-abbrev pub RunsLines : Outside → ℕ → ℕ → List (List ℕ) → Script → Ran → Type 0
-RunsLines o at used [] s ran =
+-- The lines in order, the first of them with this number, behind so many bytes of lines with their newlines; stamped: the text of one of those committed with a stamp. A line that is none, an opening that is refused, want of memory and a stream that fails end the run; a refusal that a line replies does not.
+abbrev pub RunsLines : Outside → ℕ → ℕ → Bool → List (List ℕ) → Script → Ran → Type 0
+RunsLines o at used stamped [] s ran =
     (o.input_ended × (ran ≡ ends Through s)) ⊎ ((o.input_failed × (ran ≡ ends InputFailed s)) ⊎ (ran ≡ ends (Stopped refusal.NoMemory) s))
-RunsLines o at used (text ∷ texts) s ran =
-    (IsNone used text × (texts ≡ []) × (ran ≡ ends (Stopped (refusal.Invalid (Text at))) s))
+RunsLines o at used stamped (text ∷ texts) s ran =
+    (IsNone stamped used text × (texts ≡ []) × (ran ≡ ends (Stopped (refusal.Invalid (Text at))) s))
     ⊎ (((texts ≡ []) × (ran ≡ ends (Stopped refusal.NoMemory) s))
-    ⊎ ((used + length text ≤ INPUT_MAX) × (asked : Line) × (formats : Formats) × (reply : Reply) × (later : Script) × IsLine text asked × (IsLater asked → ⊥) × Replies asked s formats reply later
-    × Prints o (line_of_reply formats reply) (λ rest. RunsLines o (at + 1) (used + (length text + 1)) texts later rest) texts reply later ran))
+    ⊎ ((used + length text ≤ INPUT_MAX) × (asked : Line) × IsLine text asked × (IsLater stamped asked → ⊥)
+    × (((r : Refusal) × (later : Script) × StopsBy asked s r later × (texts ≡ []) × (ran ≡ ends (Stopped r) later))
+    ⊎ ((formats : Formats) × (reply : Reply) × (later : Script) × Replies asked s formats reply later
+    × Prints o (line_of_reply formats reply) (λ rest. RunsLines o (at + 1) (used + (length text + 1)) (stamped || gives_stamp asked) texts later rest) texts reply later ran))))
 
 -- of the refusals that a script replies, a fault of the disk and want of memory count
 abbrev pub counts : Refusal → Bool

@@ -1,22 +1,26 @@
-//! Scripts over the engine: the lines of an input, each a call or a step of one, and for each the
-//! line of text that tells its reply.
+//! Scripts over the engine and its device: the lines of an input, each a call or a step of one, or
+//! something that is asked of the device, and for each the line of text that tells its reply.
 //!
 //! It stands for `specs/Lines`, which says how an input is cut into lines, and for `specs/Scripts`,
 //! which says what a line replies, what it leaves, and how a script ends. Promises that `run_script`
 //! runs the lines of its input in order, each as it says, and prints of each what tells its reply;
 //! that a refusal which a line replies does not end the script, and that bytes which are no line,
-//! or one of a later stage, change nothing and stop it with the number of their line; that it ends
-//! else only for want of memory, at a stream that fails, or at the end of the input; and that no
-//! line changes the checkpoint that the device has. Leaves to the caller where the engine comes
-//! from, and what is told of how a script ended.
+//! or one of a later stage, change nothing and stop it with the number of their line; and that it
+//! ends else only where the device is not opened anew, for want of memory, at a stream that fails,
+//! or at the end of the input. What the device opens to then is told by the checkpoints that lines
+//! installed. Leaves to the caller where the store comes from, and what is told of how a script
+//! ended.
 #![tactic(auto)]
 
+mod control;
 mod lines;
 mod one_line;
 mod script;
 #[cfg(test)]
 mod tests;
+mod told;
 
 pub use lines::{Lines, NoLine};
-pub use one_line::{PLAIN, Printed, run_line};
+pub use one_line::{Printed, Stop, run_line};
 pub use script::{End, INPUT_MAX, ScriptRun, run_script};
+pub use told::PLAIN;

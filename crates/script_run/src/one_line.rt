@@ -1,38 +1,33 @@
 // One line of a script: what it asks for is made, and the line that tells its reply.
-ghost use Rattle.std.specs.Prelude.{◌≡◌, ◌⊎◌, ◌↔◌, ◌<◌, ◌++◌, ◌∷◌, [], List, length, IsTrue, IfOk, IfErr, OnErr};
-ghost use Rattle.item.specs.declared.formats.Formats.{Formats as KeptFormats};
-ghost use Rattle.wt_code.specs.declared.answers.Answer.TheVariants.{Refused};
+ghost use Rattle.std.specs.Prelude.{◌≡◌, ◌⊎◌, ◌↔◌, ◌<◌, ◌||◌, ◌++◌, ◌∷◌, [], ℕ, Bool, List, false, length, IsTrue, IfOk, IfErr, OnErr};
+ghost use Rattle.failure.specs.Counts.{Rose};
+ghost use Rattle.disk_model.specs.Crash.{SameDisk};
+ghost use Rattle.recover_open.specs.Damage.{IsDamage};
+ghost use Rattle.wt_code.specs.declared.refusals.Refusal.TheVariants.{Corrupt};
 ghost use Rattle.script_text.specs.declared.line.Line.TheVariants.{Whole as WholeLine, Start as StartLine, Step as StepLine, Finish as FinishLine};
-ghost use Rattle.script_text.specs.declared.replies.Reply.TheVariants.{Answered};
 ghost use Rattle.script_text.specs.Replies.{line_of_reply};
 ghost use Rattle.engine_world.specs.Stands.{Stands};
 ghost use Rattle.engine_world.specs.Worlds.{World};
 ghost use Rattle.engine.specs.Runs.{IsBuilt};
-ghost use Rattle.script_run.specs.Runs.{IsAnswered, IsBegun, IsEnded, IsGone, IsKnown, IsOfKnown, IsReplied, IsThere, LineMade, LineStops, OpensAs};
-ghost use Rattle.script_run.specs.Scripts.{Script, IsLater, IsLaterCall, actor_in, caller, formats_in, in_script, kept_after, kept_formats, kept_more, listed, refusals_in};
+ghost use Rattle.script_run.specs.Faults.{NoFault, RepliesFault};
+ghost use Rattle.script_run.specs.Runs.{IsAnswered, IsAt, IsBegun, IsEnded, IsFit, IsGone, IsKnown, IsOfActor, IsOfKnown, IsReplied, IsThere, LineMade, OpensAs, PrintsFault, RepliedAs, StopsDamaged};
+ghost use Rattle.script_run.specs.Scripts.{Script, IsLater, IsLaterCall, IsLaterControl, actor_in, call_stamps, caller, formats_in, gives_stamp, in_script, kept_after, kept_formats, kept_more, listed, refusals_in};
 
+use crate::control::control;
+use crate::told::{PLAIN, Told, refused};
+use ckpt_step::calm_stays;
+use disk_model::Disk;
 use engine::{Actor, Local, Step};
+use engine_store::Store;
 use failure::NoMemory;
-use item::{Format, Formats};
+use item::Formats;
+use limits::SESSIONS_MAX;
 use script_text::{
-    Actor as LineActor, Line, Reply, as_stored, line_of_answer, parse_line, table_of_items,
+    Actor as LineActor, Control, Line, Reply, as_stored, line_of_answer, parse_line, table_of_items,
 };
 use std::alloc::Global;
-use wt_calls::{Call, SystemCall};
+use wt_calls::{Call, SessionCall, SystemCall};
 use wt_code::{Answer, Refusal};
-
-/// The formats in which items are told that are of no table. Those that are kept at first.
-pub const PLAIN: Formats = Formats {
-    key: Format::U,
-    value: Format::U,
-};
-
-// A reply, and the formats in which it is told.
-#[derive(Drop)]
-pub(crate) struct Told {
-    reply: Reply,
-    formats: Formats,
-}
 
 /// What is printed of a line.
 #[derive(Drop)]
@@ -41,43 +36,77 @@ pub struct Printed {
     pub line: Vec<u8>,
     /// The refusal that the reply tells, if it does.
     pub refusal: Option<Refusal>,
+    /// Whether the text commits with a stamp.
+    pub stamps: bool,
 }
 
-/// Runs a line, and gives what is printed of it; none where the bytes are no line, or one of a
-/// later stage. Where memory is wanted, what the line asks for may be done.
+/// Why nothing is printed of a line, which ends its script.
+#[derive(Clone, Copy, PartialEq, Eq, Debug)]
+pub enum Stop {
+    /// The bytes are no line, or one of a later stage. Nothing was made of it.
+    NoLine,
+    /// Memory is wanted. What the line asks for may be done.
+    NoMemory,
+    /// The device was not opened anew.
+    Opening(Refusal),
+}
+
+/// Runs a line, and gives what is printed of it. A checkpoint and a close are of a later stage where
+/// a line before committed with a stamp (`stamped`).
 /// By session, `formats` has those of the call that it has started: at first `PLAIN` for each.
-pub fn run_line(
+pub fn run_line<D: Disk>(
     alloc: Global,
-    local: &mut Local,
-    formats: &mut [Formats],
+    store: &mut Store,
+    disk: &mut D,
+    formats: &mut [Formats; SESSIONS_MAX],
+    stamped: bool,
     text: &[u8],
-) -> Result<Option<Printed>, NoMemory>
-    ensures made { (w : World) → Stands local.old w → IfOk result (λ printed. LineMade text.now w formats.old local.new formats.new printed) }
-    ensures stops { (w : World) → Stands local.old w → OnErr result (LineStops text.now w formats.old local.new formats.new) }
+) -> Result<Printed, Stop>
+    requires fit { IsFit D.Disk store.old disk.old }
+    ensures made { IsTrue (D.honest disk.old) → (first_disk : D) → (s : Script) → IsAt D.Disk first_disk stamped store.old disk.old s → s.formats ≡ formats.old → LineMade D.Disk first_disk text.now stamped s store.new disk.new formats.new result }
+    ensures fault { NoFault store.old.engine → PrintsFault result → Rose (D.faults disk.old) (D.faults disk.new) }
+    ensures quiet { NoFault store.old.engine → NoFault store.new.engine }
+    ensures damage { IsTrue (D.honest disk.old) → (at want found : ℕ) → StopsDamaged at want found result → IsDamage (D.seen disk.new) at want found }
+    ensures fit { IsFit D.Disk store.new disk.new }
+    ensures disk { SameDisk D.Disk disk.old disk.new }
 {
-    let Some(line) = parse_line(alloc, text)? else {
-        return Ok(None);
+    let line = match parse_line(alloc, text) {
+        Err(_) => return Err(Stop::NoMemory),
+        Ok(None) => return Err(Stop::NoLine),
+        Ok(Some(line)) => line,
     };
-    if is_later(&line) {
-        return Ok(None);
+    if is_later(&line, stamped) {
+        return Err(Stop::NoLine);
     }
-    let told = reply_to(alloc, local, formats, line);
-    match print_of(alloc, &told) {
-        Err(_) => Err(NoMemory),
-        Ok(printed) => Ok(Some(printed)),
+    let stamps = gives_stamp(&line);
+    match reply_to(alloc, store, disk, formats, line) {
+        Err(refusal) => Err(Stop::Opening(refusal)),
+        Ok(told) => print_of(alloc, &told, stamps),
     }
 }
 
-fn print_of(alloc: Global, told: &Told) -> Result<Printed, NoMemory>
+fn print_of(alloc: Global, told: &Told, stamps: bool) -> Result<Printed, Stop>
     ensures line { IfOk result (λ p. p.line.items ≡ line_of_reply told.now.formats told.now.reply ++ 10 ∷ []) }
     ensures refusal { IfOk result (λ p. listed p.refusal ≡ refusals_in told.now.reply) }
+    ensures stamps { IfOk result (λ p. p.stamps ≡ stamps) }
+    ensures short { IfErr result (λ e. e ≡ Stop.NoMemory) }
+{
+    match line_of(alloc, told) {
+        Err(_) => Err(Stop::NoMemory),
+        Ok(line) => Ok(Printed {
+            line,
+            refusal: refusal_in(&told.reply),
+            stamps,
+        }),
+    }
+}
+
+fn line_of(alloc: Global, told: &Told) -> Result<Vec<u8>, NoMemory>
+    ensures { IfOk result (λ line. line.items ≡ line_of_reply told.now.formats told.now.reply ++ 10 ∷ []) }
 {
     let mut line = line_of_answer(alloc, &told.reply, told.formats)?;
     line.extend_from_slice(b"\n")?;
-    Ok(Printed {
-        line,
-        refusal: refusal_in(&told.reply),
-    })
+    Ok(line)
 }
 
 // The refusal that a reply tells, if it does.
@@ -109,22 +138,86 @@ fn is_later_call(call: &Call) -> bool
     }
 }
 
-fn is_later(line: &Line) -> bool
-    ensures { IsTrue result ↔ IsLater line.now }
+fn is_later_control(asked: &Control, stamped: bool) -> bool
+    ensures { IsTrue result ↔ IsLaterControl stamped asked.now }
+{
+    match asked {
+        Control::Checkpoint => stamped,
+        Control::Close => stamped,
+        Control::Crash => false,
+        Control::Frames(_) => true,
+    }
+}
+
+fn is_later(line: &Line, stamped: bool) -> bool
+    ensures { IsTrue result ↔ IsLater stamped line.now }
 {
     match line {
         Line::Whole(call) => is_later_call(call),
         Line::Start(call) => is_later_call(call),
         Line::Step(_) => false,
         Line::Finish(_) => false,
-        Line::Control(_) => true,
+        Line::Control(asked) => is_later_control(asked, stamped),
     }
 }
 
-fn reply_to(alloc: Global, local: &mut Local, formats: &mut [Formats], line: Line) -> Told
-    requires now { IsLater line → ⊥ }
+fn call_stamps(call: &Call) -> bool
+    ensures { result ≡ call_stamps call.now }
+{
+    match call {
+        Call::Session(_, SessionCall::Commit { commit, durable }) => {
+            commit.is_some() || durable.is_some()
+        }
+        _ => false,
+    }
+}
+
+// Whether the text commits with a stamp.
+fn gives_stamp(line: &Line) -> bool
+    ensures { result ≡ gives_stamp line.now }
+{
+    match line {
+        Line::Whole(call) => call_stamps(call),
+        Line::Start(call) => call_stamps(call),
+        _ => false,
+    }
+}
+
+// The error is why the device was not opened anew.
+fn reply_to<D: Disk>(
+    alloc: Global,
+    store: &mut Store,
+    disk: &mut D,
+    formats: &mut [Formats; SESSIONS_MAX],
+    line: Line,
+) -> Result<Told, Refusal>
+    requires now { IsLater false line → ⊥ }
     requires actor { IsOfKnown line }
-    ensures { (w : World) → Stands local.old w → IsReplied line (record { world = w; formats = formats.old }) result local.new formats.new }
+    requires fit { IsFit D.Disk store.old disk.old }
+    ensures replies { IsTrue (D.honest disk.old) → (first_disk : D) → (stamped : Bool) → (s : Script) → (IsLater stamped line → ⊥) → IsAt D.Disk first_disk stamped store.old disk.old s → s.formats ≡ formats.old
+        → RepliedAs D.Disk first_disk (stamped || gives_stamp line) line s store.new disk.new formats.new result }
+    ensures fault { NoFault store.old.engine → RepliesFault result → Rose (D.faults disk.old) (D.faults disk.new) }
+    ensures quiet { NoFault store.old.engine → NoFault store.new.engine }
+    ensures damage { IfErr result (λ r. (at want found : ℕ) → r ≡ Corrupt at want found → IsTrue (D.honest disk.old) → IsDamage (D.seen disk.new) at want found) }
+    ensures fit { IsFit D.Disk store.new disk.new }
+    ensures disk { SameDisk D.Disk disk.old disk.new }
+{
+    match line {
+        Line::Control(asked) => control(alloc, store, disk, formats, asked),
+        line => {
+            calm_stays();
+            store.engine.actors();
+            store.engine.has_world();
+            Ok(reply_of(alloc, &mut store.engine, formats.as_mut_slice(), line))
+        }
+    }
+}
+
+// The reply to a line of an actor, which does not reach the disk.
+fn reply_of(alloc: Global, local: &mut Local, formats: &mut [Formats], line: Line) -> Told
+    requires now { IsOfActor line }
+    requires actor { IsOfKnown line }
+    ensures { (s : Script) → s.formats ≡ formats.old → Stands local.old s.world → IsReplied line s result local.new formats.new }
 {
     match line {
         Line::Whole(call) => whole(alloc, local, call),
@@ -132,15 +225,6 @@ fn reply_to(alloc: Global, local: &mut Local, formats: &mut [Formats], line: Lin
         Line::Step(who) => step(alloc, local, formats, who),
         Line::Finish(who) => finish(alloc, local, formats, who),
         Line::Control(_) => refused(Refusal::NoMemory),
-    }
-}
-
-fn refused(refusal: Refusal) -> Told
-    ensures reply { result.reply ≡ Answered (Refused refusal) }
-{
-    Told {
-        reply: Reply::Answered(Answer::Refused(refusal)),
-        formats: PLAIN,
     }
 }
 
@@ -227,7 +311,7 @@ fn keep_formats(formats: &mut [Formats], who: Actor, those: Formats)
 fn whole(alloc: Global, local: &mut Local, call: Call) -> Told
     requires built { IsLaterCall call → ⊥ }
     requires actor { IsKnown (caller call) }
-    ensures { (w : World) → (kept : List KeptFormats) → Stands local.old w → IsReplied (WholeLine call) (record { world = w; formats = kept }) result local.new kept }
+    ensures { (s : Script) → Stands local.old s.world → IsReplied (WholeLine call) s result local.new s.formats }
 {
     match open(alloc, local, caller(&call)) {
         Err(refusal) => refused(refusal),
@@ -255,7 +339,7 @@ fn answer(alloc: Global, local: &mut Local, call: Call) -> Told
 fn start(alloc: Global, local: &mut Local, kept: &mut [Formats], call: Call) -> Told
     requires built { IsLaterCall call → ⊥ }
     requires actor { IsKnown (caller call) }
-    ensures { (w : World) → Stands local.old w → IsReplied (StartLine call) (record { world = w; formats = kept.old }) result local.new kept.new }
+    ensures { (s : Script) → s.formats ≡ kept.old → Stands local.old s.world → IsReplied (StartLine call) s result local.new kept.new }
 {
     match open(alloc, local, caller(&call)) {
         Err(refusal) => refused(refusal),
@@ -298,7 +382,7 @@ fn keep_after(reply: &call_steps::Reply, kept: &mut [Formats], who: Actor, those
 
 fn step(alloc: Global, local: &mut Local, kept: &[Formats], who: LineActor) -> Told
     requires actor { IsKnown (actor_in who) }
-    ensures { (w : World) → Stands local.old w → IsReplied (StepLine who) (record { world = w; formats = kept.now }) result local.new kept.now }
+    ensures { (s : Script) → s.formats ≡ kept.now → Stands local.old s.world → IsReplied (StepLine who) s result local.new kept.now }
 {
     let actor = actor_in(who);
     match open(alloc, local, actor) {
@@ -322,7 +406,7 @@ fn go(alloc: Global, local: &mut Local, kept: &[Formats], who: Actor) -> Told
 
 fn finish(alloc: Global, local: &mut Local, kept: &[Formats], who: LineActor) -> Told
     requires actor { IsKnown (actor_in who) }
-    ensures { (w : World) → Stands local.old w → IsReplied (FinishLine who) (record { world = w; formats = kept.now }) result local.new kept.now }
+    ensures { (s : Script) → s.formats ≡ kept.now → Stands local.old s.world → IsReplied (FinishLine who) s result local.new kept.now }
 {
     let actor = actor_in(who);
     match open(alloc, local, actor) {

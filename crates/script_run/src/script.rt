@@ -1,15 +1,26 @@
 // Whole scripts: the lines of an input, one after the other.
-ghost use Rattle.std.specs.Prelude.{◌≡◌, ◌≤◌, ◌+◌, ℕ, length, filter, replicate, IsTrue, IfNone, IfSome};
+ghost use Rattle.std.specs.Prelude.{◌≡◌, ◌≤◌, ◌+◌, ◌||◌, [], ℕ, Bool, false, length, filter, replicate, IsTrue, IfNone, IfSome};
+ghost use Rattle.failure.specs.Counts.{Rose};
+ghost use Rattle.disk_model.specs.Crash.{SameDisk};
+ghost use Rattle.recover_open.specs.Damage.{IsDamage};
 ghost use Rattle.wt_io.specs.Streams.{AtEnd};
-ghost use Rattle.engine_world.specs.Stands.{Stands};
+ghost use Rattle.wt_code.specs.declared.refusals.Refusal.TheVariants.{Corrupt};
 ghost use Rattle.engine_world.specs.Worlds.{World};
-ghost use Rattle.script_run.specs.Runs.{IsRunOver};
-ghost use Rattle.script_run.specs.Scripts.{counts, first_of, listed, plain};
-ghost use Rattle.script_run.specs.Turns.{HasMoved, IsBehind, LineTurn, PrintTurn, TurnMade, met_with};
+ghost use Rattle.ckpt_step.specs.Calm.{IsCalm};
+ghost use Rattle.ckpt_step.specs.Grounds.{IsSteady};
+ghost use Rattle.engine_store.specs.Held.{IsHeld};
+ghost use Rattle.engine_store.specs.Opened.{IsReady};
+ghost use Rattle.script_run.specs.Faults.{NoFault};
+ghost use Rattle.script_run.specs.Runs.{IsAt, IsFit, IsRunOver, MetFault};
+ghost use Rattle.script_run.specs.Scripts.{Script, counts, first_of, listed, plain};
+ghost use Rattle.script_run.specs.Turns.{HasMoved, IsBehind, LineTurn, MeetsFault, PrintTurn, TurnMade, met_with};
+ghost use Rattle.script_run.specs.declared.script.End.TheVariants.{InputFailed as InputFails, OutputFailed as OutputFails, Stopped as Stops};
 
 use crate::lines::{Lines, NoLine};
-use crate::one_line::{PLAIN, Printed, run_line};
-use engine::Local;
+use crate::one_line::{Printed, Stop, run_line};
+use crate::told::PLAIN;
+use disk_model::Disk;
+use engine_store::Store;
 use item::Formats;
 use limits::SESSIONS_MAX;
 use std::alloc::Global;
@@ -21,7 +32,8 @@ use wt_io::{Sink, Source, write_all};
 pub enum End {
     /// At the end of its input.
     Through,
-    /// At a line that is none or is of a later stage, or for want of memory.
+    /// At a line that is none or is of a later stage, for want of memory, or since the device was
+    /// not opened anew.
     Stopped(Refusal),
     /// A read of the input failed.
     InputFailed,
@@ -41,24 +53,32 @@ pub struct ScriptRun {
 /// The longest input, in bytes: 2^30. The line with a byte behind it is refused as one that is none.
 pub const INPUT_MAX: u64 = 1 << 30;
 
-/// Runs a script: the lines of the input in order, each a call or a step of one, up to the end of
-/// the input. For each of them a line is printed that tells its reply, with one write. A refusal
-/// that a line replies does not end the script. A line that is none, or is of a later stage, stops
-/// it by `Invalid::Text` with the number of the line, counted from 1, and is not run; want of
-/// memory and a stream that fails end it too.
+/// Runs a script: the lines of the input in order, each a call or a step of one, or something that
+/// is asked of the device, up to the end of the input. For each of them a line is printed that tells
+/// its reply, with one write. A refusal that a line replies does not end the script. A line that is
+/// none, or is of a later stage, stops it by `Invalid::Text` with the number of the line, counted
+/// from 1, and is not run; an opening that is refused, want of memory and a stream that fails end it
+/// too. Once a line has committed with a stamp, a checkpoint and a close are of a later stage.
 ///
 /// A line has 65,536 bytes at most without its newline, an input `INPUT_MAX`, and there are 64
 /// sessions at most, opened at their first use. `O(bytes)` beside the calls.
-pub fn run_script<S: Source, K: Sink>(
+pub fn run_script<D: Disk, S: Source, K: Sink>(
     alloc: Global,
-    local: &mut Local,
+    store: &mut Store,
+    disk: &mut D,
     input: &mut S,
     out: &mut K,
 ) -> ScriptRun
-    ensures run { (w : World) → Stands local.old w → IsRunOver S.Source K.Sink input.old input.new out.old out.new w local.new result }
+    requires ready { IsReady store.old }
+    requires steady { IsTrue (D.honest disk.old) → IsSteady D.Disk store.old.engine store.old.ground disk.old }
+    ensures run { IsTrue (D.honest disk.old) → (w : World) → IsHeld D.Disk disk.old store.old disk.old w w.machine.completed [] → IsCalm w → IsRunOver D.Disk S.Source K.Sink input.old input.new out.old out.new w disk.old disk.new store.new result }
+    ensures input { result.end ≡ InputFails → Rose (S.fault_count input.old) (S.fault_count input.new) }
+    ensures output { result.end ≡ OutputFails → Rose (K.fault_count out.old) (K.fault_count out.new) }
+    ensures fault { length store.old.engine.sessions ≡ 0 → MetFault result → Rose (D.faults disk.old) (D.faults disk.new) }
+    ensures damage { IsTrue (D.honest disk.old) → (at want found : ℕ) → result.end ≡ Stops (Corrupt at want found) → IsDamage (D.seen disk.new) at want found }
+    ensures disk { SameDisk D.Disk disk.old disk.new }
 {
-    // What the actors of the system have started is known of every engine.
-    local.actors();
+    store.engine.has_world();
     let Ok(mut lines) = Lines::new(alloc) else {
         return ScriptRun {
             end: End::Stopped(Refusal::NoMemory),
@@ -67,7 +87,7 @@ pub fn run_script<S: Source, K: Sink>(
     };
     let mut place = Place::first();
     'lines: loop {
-        match turn(alloc, local, input, out, &mut lines, &mut place) {
+        match turn(alloc, store, disk, input, out, &mut lines, &mut place) {
             None => {}
             Some(end) => {
                 return ScriptRun {
@@ -86,6 +106,8 @@ struct Place {
     line: u64,
     // The bytes of the lines before it, with their newlines.
     used: u64,
+    // Whether the text of a line before it commits with a stamp.
+    stamped: bool,
     // By session, those of the call that it has started.
     formats: [Formats; SESSIONS_MAX],
     // The first fault of the disk or want of memory that a line replied.
@@ -96,27 +118,30 @@ impl Place {
     fn first() -> Place
         ensures line { result.line ≡ 1 }
         ensures used { result.used ≡ 0 }
+        ensures stamped { result.stamped ≡ false }
         ensures formats { result.formats ≡ replicate SESSIONS_MAX plain }
         ensures met { result.met ≡ None }
     {
         Place {
             line: 1,
             used: 0,
+            stamped: false,
             formats: [PLAIN; SESSIONS_MAX],
             met: None,
         }
     }
 
-    // Behind a line of so many bytes, whose reply tells this refusal.
-    fn pass(&mut self, size: usize, refusal: Option<Refusal>)
+    // Behind a line of so many bytes, of which this was printed.
+    fn pass(&mut self, size: usize, printed: &Printed)
         requires line { self.old.line ≤ self.old.used + 1 }
         requires room { self.old.used + size ≤ INPUT_MAX }
-        ensures behind { IsBehind size refusal self.old self.new }
+        ensures behind { IsBehind size printed.now.refusal printed.now.stamps self.old self.new }
         ensures formats { self.new.formats ≡ self.old.formats }
     {
         self.line += 1;
         self.used += size as u64 + 1;
-        self.met = met_with(self.met, refusal);
+        self.stamped = self.stamped || printed.stamps;
+        self.met = met_with(self.met, printed.refusal);
     }
 }
 
@@ -141,9 +166,10 @@ fn counted(refusal: Option<Refusal>) -> Option<Refusal>
 }
 
 // One line more, or the end.
-fn turn<S: Source, K: Sink>(
+fn turn<D: Disk, S: Source, K: Sink>(
     alloc: Global,
-    local: &mut Local,
+    store: &mut Store,
+    disk: &mut D,
     input: &mut S,
     out: &mut K,
     lines: &mut Lines,
@@ -152,44 +178,63 @@ fn turn<S: Source, K: Sink>(
     requires end { IsTrue lines.old.ended → AtEnd (S.left input.old) }
     requires line { place.old.line ≤ place.old.used + 1 }
     requires used { place.old.used ≤ INPUT_MAX + 1 }
-    ensures made { (w : World) → Stands local.old w → TurnMade S.Source K.Sink input.old input.new out.old out.new lines.old lines.new place.old place.new w local.new result }
+    requires fit { IsFit D.Disk store.old disk.old }
+    ensures made { IsTrue (D.honest disk.old) → (first_disk : D) → (s : Script) → IsAt D.Disk first_disk place.old.stamped store.old disk.old s → s.formats ≡ place.old.formats
+        → TurnMade D.Disk first_disk store.new disk.new S.Source K.Sink input.old input.new out.old out.new lines.old lines.new place.old place.new s result }
     ensures moved { IfNone result (HasMoved place.old place.new) }
     ensures end { IfNone result (IsTrue lines.new.ended → AtEnd (S.left input.new)) }
     ensures stays { IfNone result (IsTrue lines.old.ended → IsTrue lines.new.ended) }
     ensures input { S.fault_count input.old ≤ S.fault_count input.new }
     ensures output { K.fault_count out.old ≤ K.fault_count out.new }
+    ensures input_fails { IfSome result (λ end. end ≡ InputFails → Rose (S.fault_count input.old) (S.fault_count input.new)) }
+    ensures output_fails { IfSome result (λ end. end ≡ OutputFails → Rose (K.fault_count out.old) (K.fault_count out.new)) }
+    ensures fault { NoFault store.old.engine → MeetsFault place.old place.new (Rose (D.faults disk.old) (D.faults disk.new)) result }
+    ensures quiet { NoFault store.old.engine → NoFault store.new.engine }
+    ensures damage { IsTrue (D.honest disk.old) → (at want found : ℕ) → IfSome result (λ end. end ≡ Stops (Corrupt at want found) → IsDamage (D.seen disk.new) at want found) }
+    ensures fit { IsFit D.Disk store.new disk.new }
+    ensures disk { SameDisk D.Disk disk.old disk.new }
 {
     match lines.next(input) {
         Err(NoLine::Failed) => Some(End::InputFailed),
         Err(NoLine::NoMemory) => Some(End::Stopped(Refusal::NoMemory)),
         Ok(false) => Some(End::Through),
-        Ok(true) => run_and_print(alloc, local, out, lines.line(), place),
+        Ok(true) => run_and_print(alloc, store, disk, out, lines.line(), place),
     }
 }
 
 // Runs a line, and prints what is told of it.
-fn run_and_print<K: Sink>(
+fn run_and_print<D: Disk, K: Sink>(
     alloc: Global,
-    local: &mut Local,
+    store: &mut Store,
+    disk: &mut D,
     out: &mut K,
     text: &[u8],
     place: &mut Place,
 ) -> Option<End>
     requires line { place.old.line ≤ place.old.used + 1 }
     requires used { place.old.used ≤ INPUT_MAX + 1 }
-    ensures made { (w : World) → Stands local.old w → LineTurn K.Sink out.old out.new text.now w local.new place.old place.new result }
+    requires fit { IsFit D.Disk store.old disk.old }
+    ensures made { IsTrue (D.honest disk.old) → (first_disk : D) → (s : Script) → IsAt D.Disk first_disk place.old.stamped store.old disk.old s → s.formats ≡ place.old.formats
+        → LineTurn D.Disk first_disk store.new disk.new K.Sink out.old out.new text.now s place.old place.new result }
     ensures moved { IfNone result (HasMoved place.old place.new) }
-    ensures early { IfSome result (λ end. end ≡ End.Through → ⊥) }
+    ensures early { IfSome result (λ end. (end ≡ End.Through → ⊥) × (end ≡ InputFails → ⊥)) }
     ensures output { K.fault_count out.old ≤ K.fault_count out.new }
+    ensures output_fails { IfSome result (λ end. end ≡ OutputFails → Rose (K.fault_count out.old) (K.fault_count out.new)) }
+    ensures fault { NoFault store.old.engine → MeetsFault place.old place.new (Rose (D.faults disk.old) (D.faults disk.new)) result }
+    ensures quiet { NoFault store.old.engine → NoFault store.new.engine }
+    ensures damage { IsTrue (D.honest disk.old) → (at want found : ℕ) → IfSome result (λ end. end ≡ Stops (Corrupt at want found) → IsDamage (D.seen disk.new) at want found) }
+    ensures fit { IsFit D.Disk store.new disk.new }
+    ensures disk { SameDisk D.Disk disk.old disk.new }
 {
     let none = End::Stopped(Refusal::Invalid(Invalid::Text { line: place.line }));
     if place.used + text.len() as u64 > INPUT_MAX {
         return Some(none);
     }
-    match run_line(alloc, local, place.formats.as_mut_slice(), text) {
-        Err(_) => Some(End::Stopped(Refusal::NoMemory)),
-        Ok(None) => Some(none),
-        Ok(Some(printed)) => print(out, &printed, text.len(), place),
+    match run_line(alloc, store, disk, &mut place.formats, place.stamped, text) {
+        Err(Stop::NoLine) => Some(none),
+        Err(Stop::NoMemory) => Some(End::Stopped(Refusal::NoMemory)),
+        Err(Stop::Opening(refusal)) => Some(End::Stopped(refusal)),
+        Ok(printed) => print(out, &printed, text.len(), place),
     }
 }
 
@@ -203,7 +248,7 @@ fn print<K: Sink>(out: &mut K, printed: &Printed, size: usize, place: &mut Place
     match write_all(out, printed.line.as_slice()) {
         Err(_) => Some(End::OutputFailed),
         Ok(()) => {
-            place.pass(size, printed.refusal);
+            place.pass(size, printed);
             None
         }
     }

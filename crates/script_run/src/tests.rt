@@ -1,13 +1,17 @@
-// Scripts, with what each prints and how it ends, on an engine without tables.
+// Scripts, with what each prints and how it ends, on a device on which nothing was done.
 mod bad_lines;
+mod devices;
+mod plain_disk;
 mod steps;
 mod stories;
 
 use crate::{Lines, NoLine, ScriptRun, run_script};
 use bad_lines::NO_LINES;
-use catalog::Catalog;
-use engine::Local;
+use devices::{DEVICES, FAILING, STAMPED};
+use disk_model::MemDisk;
+use engine_store::open_on;
 use failure::NoMemory;
+use plain_disk::PlainDisk;
 use std::alloc::Global;
 use std::process::Abort;
 use std::test::Fail;
@@ -22,12 +26,15 @@ struct Story<'a> {
     rows: &'a [(&'a str, &'a str)],
 }
 
-// A script, with the numbers of the reads and the writes that fail.
+// A script, with the numbers of the reads, the writes and the calls of the disk that fail, and how
+// many bytes the disk may hold.
 #[derive(Clone, Copy)]
 struct Script<'a> {
     text: &'a str,
     reads: &'a [u64],
     writes: &'a [u64],
+    disk: &'a [u64],
+    room: u64,
 }
 
 // A script whose streams do not fail, with what it prints and behind it how it ends.
@@ -37,35 +44,40 @@ struct Row<'a> {
     told: &'a str,
 }
 
-#[tactic(auto, using(crate::proofs::Bases::nothing_is_base))]
-fn engine(alloc: Global) -> Result<Local, NoMemory> {
-    let tables = Catalog::new(alloc);
-    Local::open(alloc, 1, 0, 0, tables, Vec::new(alloc))
+fn device(alloc: Global, script: Script<'_>) -> Result<PlainDisk, NoMemory> {
+    let mut content = Vec::new(alloc);
+    content.resize(8_192, 0)?;
+    let failing = Vec::from_slice(alloc, script.disk)?;
+    let medium = MemDisk::new(alloc, content, script.room, failing)?;
+    Ok(PlainDisk { medium })
 }
 
 // What a script prints, and behind it how it ends.
-fn told(alloc: Global, script: Script<'_>) -> Result<String, Fail> {
-    let mut local = engine(alloc)?;
+fn outcome(rt: &impl Abort, alloc: Global, script: Script<'_>) -> Result<String, Fail> {
+    let mut disk = device(alloc, script)?;
+    let mut store = open_on(alloc, &mut disk).expect(rt, "it opens");
     let mut input = MemSource::new(alloc, script.text.as_bytes(), script.reads)?;
     let mut out = MemSink::new(alloc, script.writes)?;
-    let ScriptRun { end, met } = run_script(alloc, &mut local, &mut input, &mut out);
+    let ScriptRun { end, met } = run_script(alloc, &mut store, &mut disk, &mut input, &mut out);
     let mut told = String::from_utf8_lossy(alloc, out.bytes())?;
     let ending = format!(in alloc; "{end:?} {met:?}")?;
     told.push_str(ending.as_str())?;
     Ok(told)
 }
 
-fn plainly(alloc: Global, text: &str) -> Result<String, Fail> {
-    let script = Script {
+// A script on streams and a disk that do not fail.
+fn plain(text: &str) -> Script<'_> {
+    Script {
         text,
         reads: &[],
         writes: &[],
-    };
-    told(alloc, script)
+        disk: &[],
+        room: 1 << 20,
+    }
 }
 
 // Whether a story prints what its rows say, up to the end of its input.
-fn comes_out(alloc: Global, story: &Story<'_>) -> Result<bool, Fail> {
+fn comes_out(rt: &impl Abort, alloc: Global, story: &Story<'_>) -> Result<bool, Fail> {
     let mut text = String::from_str(alloc, "sys create t S S\n")?;
     let mut wanted = String::from_str(alloc, "ok\n")?;
     for (lines, printed) in story.rows {
@@ -73,13 +85,13 @@ fn comes_out(alloc: Global, story: &Story<'_>) -> Result<bool, Fail> {
         wanted.push_str(printed)?;
     }
     wanted.push_str("Through None")?;
-    let told = plainly(alloc, text.as_str())?;
+    let told = outcome(rt, alloc, plain(text.as_str()))?;
     Ok(told.as_str() == wanted.as_str())
 }
 
 fn all_come_out(rt: &impl Abort, alloc: Global, stories: &[Story<'_>]) -> Result<(), Fail> {
     for story in stories {
-        let right = comes_out(alloc, story)?;
+        let right = comes_out(rt, alloc, story)?;
         let shows = story.shows;
         assert!(rt; right, "{shows}");
     }
@@ -94,7 +106,8 @@ fn stories_come_out_as_written(rt: HostRuntime) -> Result<(), Fail> {
     all_come_out(&rt, alloc, CALLS)?;
     all_come_out(&rt, alloc, SINGLE)?;
     all_come_out(&rt, alloc, COMMITS)?;
-    all_come_out(&rt, alloc, ROLLBACKS)
+    all_come_out(&rt, alloc, ROLLBACKS)?;
+    all_come_out(&rt, alloc, DEVICES)
 }
 
 // A line that puts a value of so many letters, behind two other lines.
@@ -112,7 +125,7 @@ fn what_is_no_line_stops_the_script_with_its_number(rt: HostRuntime) -> Result<(
     let alloc = rt.alloc();
     for line in NO_LINES {
         let text = format!(in alloc; "sys create t S S\n{line}\ns1 begin\n")?;
-        let told = plainly(alloc, text.as_str())?;
+        let told = outcome(&rt, alloc, plain(text.as_str()))?;
         assert_eq!(rt;
             told.as_str(),
             "ok\nStopped(Invalid(Text { line: 2 })) None",
@@ -120,10 +133,10 @@ fn what_is_no_line_stops_the_script_with_its_number(rt: HostRuntime) -> Result<(
         );
     }
     let longest = long_line(alloc, 65_525)?;
-    let told = plainly(alloc, longest.as_str())?;
+    let told = outcome(&rt, alloc, plain(longest.as_str()))?;
     assert_eq!(rt; told.as_str(), "ok\nok\n22 value long\nok\nThrough None");
     let longer = long_line(alloc, 65_526)?;
-    let told = plainly(alloc, longer.as_str())?;
+    let told = outcome(&rt, alloc, plain(longer.as_str()))?;
     assert_eq!(rt;
         told.as_str(),
         "ok\nok\nStopped(Invalid(Text { line: 3 })) None"
@@ -158,7 +171,7 @@ const LAST_LINES: &[Row<'static>] = &[
 fn the_last_line_may_have_no_newline(rt: HostRuntime) -> Result<(), Fail> {
     let alloc = rt.alloc();
     for row in LAST_LINES {
-        let told = plainly(alloc, row.text)?;
+        let told = outcome(&rt, alloc, plain(row.text))?;
         assert_eq!(rt; told.as_str(), row.told);
     }
     Ok(())
@@ -188,7 +201,7 @@ fn oks(alloc: Global, count: u32, behind: &str) -> Result<String, Fail> {
 fn there_are_1024_tables_at_most(rt: HostRuntime) -> Result<(), Fail> {
     let alloc = rt.alloc();
     let text = tables(alloc, 1_025)?;
-    let told = plainly(alloc, text.as_str())?;
+    let told = outcome(&rt, alloc, plain(text.as_str()))?;
     let wanted = oks(alloc, 1_024, "75 limit tables\nThrough None")?;
     assert_eq!(rt; told.as_str(), wanted.as_str());
     Ok(())
@@ -202,20 +215,43 @@ fn a_stream_that_fails_ends_the_script(rt: HostRuntime) -> Result<(), Fail> {
     let text = tables(alloc, 300)?;
     let text = text.as_str();
     let script = Script {
-        text,
         reads: &[1],
-        writes: &[],
+        ..plain(text)
     };
-    let read = told(alloc, script)?;
+    let read = outcome(&rt, alloc, script)?;
     let wanted = oks(alloc, 210, "InputFailed None")?;
     assert_eq!(rt; read.as_str(), wanted.as_str());
     let script = Script {
-        text,
-        reads: &[],
         writes: &[2],
+        ..plain(text)
     };
-    let written = told(alloc, script)?;
+    let written = outcome(&rt, alloc, script)?;
     assert_eq!(rt; written.as_str(), "ok\nok\nOutputFailed None");
+    Ok(())
+}
+
+#[test]
+fn a_stamp_keeps_a_checkpoint_and_a_close_away(rt: HostRuntime) -> Result<(), Fail> {
+    let alloc = rt.alloc();
+    for row in STAMPED {
+        let told = outcome(&rt, alloc, plain(row.text))?;
+        assert_eq!(rt; told.as_str(), row.told);
+    }
+    Ok(())
+}
+
+#[test]
+fn a_disk_that_fails_or_is_full_is_told(rt: HostRuntime) -> Result<(), Fail> {
+    let alloc = rt.alloc();
+    for row in FAILING {
+        let script = Script {
+            disk: row.calls,
+            room: row.room,
+            ..plain(row.text)
+        };
+        let told = outcome(&rt, alloc, script)?;
+        assert_eq!(rt; told.as_str(), row.told);
+    }
     Ok(())
 }
 

@@ -18,7 +18,7 @@ returns-in-Err c = λ s w same st. (record s { world = w }, inr (c.refused.ensur
 pub returns-in-Ok : goal.returns-in-Ok
 returns-in-Ok c = λ s w same st.
     let b = c.step-reply.ensures.step w st in (
-      record { world = b.0; formats = kept_after c.step-reply.result (caller c.args.call) c.formats_in-formats.result s.formats },
+      record s { world = b.0; formats = kept_after c.step-reply.result (caller c.args.call) c.formats_in-formats.result s.formats },
       inl (record {
         formats_are = c.formats_in-formats.ensures w st;
         t = c.step-reply.result;

@@ -1,45 +1,27 @@
-use Rattle.std.proofs.Common.{◌∙◌, sym, inr}
-use Rattle.std.proofs.lemmas.Bool.{false≢true}
 use Rattle.script_text.specs.Words.{words_of}
+use Rattle.script_run.specs.Scripts.{IsLater}
+use Rattle.script_run.proofs.Holding.{not_later, printed_made}
 use Rattle.script_run.proofs.Replying.{line-known}
 use Rattle.script_run.proofs.one_line.run_line.Goals as goal
 
-pub reply_to-told-requires-clause-actor : goal.reply_to-told-requires-clause-actor
-reply_to-told-requires-clause-actor c =
-    let is = (c.in_ok-line.ensures c.in-Some.line).0 c.in-Some.is in
-    line-known c.in-Some.line (words_of c.args.text.now) is.spelled
+pub reply_to-requires-clause-actor : goal.reply_to-requires-clause-actor
+reply_to-requires-clause-actor g c =
+    let is = (c.in-Ok-Some.ensures c.in-Ok-Some.line).0 c.in-Ok-Some.field-0-is in
+    line-known c.in-Ok-Some.line (words_of c.args.text.now) is.spelled
 
-pub returns-in-Err-clause-stops : goal.returns-in-Err-clause-stops
-returns-in-Err-clause-stops c = λ w st.
-    let r = c.reply_to-told.ensures w st in
-    inr (
-      c.in-Some.line,
-      c.reply_to-told.result.formats,
-      c.reply_to-told.result.reply,
-      record {
-        line = (c.in_ok-line.ensures c.in-Some.line).0 c.in-Some.is;
-        now = λ later. absurd (false≢true (sym c.if-is_later.false ∙ c.is_later.ensures.1 later));
-        later = r.later;
-        replies = r.replies;
-        stands = r.stands;
-        kept_is = r.kept_is;
-      },
-    )
+pub returns-in-Err-reply_to-clause-made : goal.returns-in-Err-reply_to-clause-made
+returns-in-Err-reply_to-clause-made g c = λ honest first s at same. let now = not_later c.is_later.result (IsLater c.args.stamped c.in-Ok-Some.line) c.if-is_later.false c.is_later.ensures.1 in (
+  c.in-Ok-Some.line,
+  (c.in-Ok-Some.ensures c.in-Ok-Some.line).0 c.in-Ok-Some.field-0-is,
+  now,
+  c.in-Err-reply_to.ensures.replies honest first c.args.stamped s now at same,
+)
 
-pub returns-clause-made : goal.returns-clause-made
-returns-clause-made c = λ w st.
-    let r = c.reply_to-told.ensures w st in (
-      c.in-Some.line,
-      c.reply_to-told.result.formats,
-      c.reply_to-told.result.reply,
-      record {
-        line = (c.in_ok-line.ensures c.in-Some.line).0 c.in-Some.is;
-        now = λ later. absurd (false≢true (sym c.if-is_later.false ∙ c.is_later.ensures.1 later));
-        later = r.later;
-        replies = r.replies;
-        stands = r.stands;
-        kept_is = r.kept_is;
-      },
-      c.in-Ok.ensures.line,
-      c.in-Ok.ensures.refusal,
-    )
+pub returns-in-Err-reply_to-clause-damage : goal.returns-in-Err-reply_to-clause-damage
+returns-in-Err-reply_to-clause-damage g c = λ honest at want found is. c.in-Err-reply_to.ensures.damage at want found is honest
+
+pub returns-in-Ok-clause-made : goal.returns-in-Ok-clause-made
+returns-in-Ok-clause-made g c = λ honest first s at same. let now = not_later c.is_later.result (IsLater c.args.stamped c.in-Ok-Some.line) c.if-is_later.false c.is_later.ensures.1 in
+    printed_made g.D.Disk first c.args.text.now c.args.stamped s c.reply_to.new.store c.reply_to.new.disk c.reply_to.new.formats c.in-Ok-Some.line c.in-Ok.told c.gives_stamp-stamps.result c.print_of.result
+    ((c.in-Ok-Some.ensures c.in-Ok-Some.line).0 c.in-Ok-Some.field-0-is) now (c.in-Ok.ensures.replies honest first c.args.stamped s now at same) c.gives_stamp-stamps.ensures
+    c.print_of.ensures.line c.print_of.ensures.refusal c.print_of.ensures.stamps c.print_of.ensures.short

@@ -4,20 +4,18 @@ use Rattle.wt_code.specs.declared.refusals.Refusal.TheVariants.{NoMemory}
 use Rattle.engine_world.specs.Stands.{Stands}
 use Rattle.engine.specs.declared.step.Actor.{Actor}
 use Rattle.script_run.specs.Runs.{OpensAs}
-use Rattle.script_run.specs.Scripts.{Answers, Refuses, Script, caller, missing, opened_more}
+use Rattle.script_run.specs.Scripts.{Answers, Refuses, caller, missing, opened_more}
 use Rattle.script_run.proofs.Replying.{turned-away}
 use Rattle.script_run.proofs.one_line.whole.Goals as goal
 
 pub returns-in-Err : goal.returns-in-Err
-returns-in-Err c = λ w kept st.
-    let s : Script = record { world = w; formats = kept } in
+returns-in-Err c = λ s st.
     let x = turned-away (λ later v. Answers c.args.call s c.refused.result.formats c.refused.result.reply later v ⊎ Refuses NoMemory s v c.refused.result.reply later) (caller c.args.call) s c.in-Err.refusal c.refused.result.reply c.open.new.local c.refused.ensures.reply
-    (subst (λ (a : Actor). OpensAs a w (Err c.in-Err.refusal) c.open.new.local) c.caller.ensures (c.in-Err.ensures.opens w st)) in
+    (subst (λ (a : Actor). OpensAs a s.world (Err c.in-Err.refusal) c.open.new.local) c.caller.ensures (c.in-Err.ensures.opens s.world st)) in
     record { later = x.later; replies = x.replies; stands = x.stands; kept_is = x.kept }
 
 pub returns-in-Ok : goal.returns-in-Ok
-returns-in-Ok c = λ w kept st.
-    let s : Script = record { world = w; formats = kept } in
-    let opened = subst (λ (a : Actor). Stands c.open.new.local (opened_more (missing a w) w)) c.caller.ensures (c.in-Ok.ensures.opens w st) in
-    let a = c.answer.ensures s (opened_more (missing (caller c.args.call) w) w) opened in
+returns-in-Ok c = λ s st.
+    let opened = subst (λ (a : Actor). Stands c.open.new.local (opened_more (missing a s.world) s.world)) c.caller.ensures (c.in-Ok.ensures.opens s.world st) in
+    let a = c.answer.ensures s (opened_more (missing (caller c.args.call) s.world) s.world) opened in
     record { later = a.0; replies = inl a.1; stands = a.2; kept_is = sym a.3 }

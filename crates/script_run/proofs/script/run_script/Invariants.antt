@@ -1,9 +1,15 @@
-use Rattle.std.proofs.Common.{◌≤◌, ◌+◌, ◌-◌}
-use Rattle.std.specs.Prelude.{IsTrue}
+use Rattle.std.proofs.Common.{◌≡◌, ◌≤◌, ◌+◌, ◌-◌, [], length}
+use Rattle.std.specs.Prelude.{IsTrue, Some}
+use Rattle.failure.specs.Counts.{Rose}
 use Rattle.wt_io.specs.Streams.{AtEnd}
-use Rattle.engine_world.specs.Stands.{Stands}
+use Rattle.disk_model.specs.Crash.{SameDisk}
+use Rattle.wt_code.specs.declared.refusals.Refusal.TheVariants.{DiskFault}
 use Rattle.engine_world.specs.Worlds.{World}
+use Rattle.ckpt_step.specs.Calm.{IsCalm}
+use Rattle.engine_store.specs.Held.{IsHeld}
 use Rattle.script_run.specs.declared.script.TheConstants.{INPUT_MAX}
+use Rattle.script_run.specs.Faults.{NoFault}
+use Rattle.script_run.specs.Runs.{IsFit}
 use Rattle.script_run.proofs.Scripting.{IsDone}
 use Rattle.script_run.proofs.script.run_script.Given as goal
 
@@ -14,7 +20,12 @@ invariant-lines g l = record {
   used : l.place.used ≤ INPUT_MAX + 1;
   reads : g.S.Source.fault_count l.fn.input ≤ g.S.Source.fault_count l.input;
   writes : g.K.Sink.fault_count l.fn.out ≤ g.K.Sink.fault_count l.out;
-  done : (w : World) → Stands l.fn.local w → IsDone g.S.Source g.K.Sink l.fn.input l.input l.fn.out l.out l.lines l.place w l.local;
+  fit : IsFit g.D.Disk l.store l.disk;
+  disk : SameDisk g.D.Disk l.fn.disk l.disk;
+  quiet : length l.fn.store.engine.sessions ≡ 0 → NoFault l.store.engine;
+  met : length l.fn.store.engine.sessions ≡ 0 → l.place.met ≡ Some DiskFault → Rose (g.D.Disk.faults l.fn.disk) (g.D.Disk.faults l.disk);
+  done : IsTrue (g.D.Disk.honest l.fn.disk) → (w : World) → IsHeld g.D.Disk l.fn.disk l.fn.store l.fn.disk w w.machine.completed [] → IsCalm w
+      → IsDone g.D.Disk l.fn.disk w g.S.Source g.K.Sink l.fn.input l.input l.fn.out l.out l.lines l.place l.store l.disk;
 }
 
 abbrev pub decreases-lines : goal.decreases-lines

@@ -1,0 +1,264 @@
+-- What lines that reach the device reply and leave.
+use Rattle.std.specs.Prelude.{◌≡◌, ◌||◌, Bool, true, false, IsTrue, MatchBool, List, [], ◌∷◌, length, map, replicate, Option, Some, None, Result, Ok, Err, IfErr, slice_index_or}
+use Rattle.std.proofs.Common.{inl, inr, refl, sym, ap, subst, ◌∙◌, arith}
+use Rattle.std.proofs.lemmas.Bool.{false≢true}
+use Rattle.limits.specs.declared.TheConstants.{SESSIONS_MAX}
+use Rattle.disk_model.specs.declared.disk.Disk.{Ghosts}
+use Rattle.disk_model.specs.Crash.{SameDisk}
+use Rattle.item.specs.declared.formats.Formats.{Formats}
+use Rattle.wt_code.specs.declared.answers.Answer.TheVariants.{Done, Refused}
+use Rattle.wt_code.specs.declared.refusals.Refusal.{Refusal}
+use Rattle.wt_code.specs.declared.refusals.Refusal.TheVariants.{Invalid}
+use Rattle.wt_code.specs.declared.refusals.Invalid.TheVariants.{InCall}
+use Rattle.kv_model.specs.Calls.{Call, rolled_back}
+use Rattle.kv_model.specs.Content.{Content, start}
+use Rattle.kv_model.specs.Decisions.{is_there}
+use Rattle.kv_model.specs.Machine.{Machine}
+use Rattle.stored.specs.Stored.{Reads}
+use Rattle.script_text.specs.declared.line.Control.{Control}
+use Rattle.script_text.specs.declared.line.Control.TheVariants.{Checkpoint, Close, Crash}
+use Rattle.script_text.specs.declared.line.Line.TheVariants.{Control as OfAll}
+use Rattle.script_text.specs.declared.replies.Reply.{Reply}
+use Rattle.script_text.specs.declared.replies.Reply.TheVariants.{Answered}
+use Rattle.wt_calls.specs.declared.system_call.SystemCall.{SystemCall}
+use Rattle.engine_world.specs.Stands.{Engine, Stands}
+use Rattle.engine_world.specs.Systems.{first_world}
+use Rattle.engine_world.specs.Worlds.{World, Doing}
+use Rattle.ckpt_step.specs.Calm.{IsCalm, StartsCalm}
+use Rattle.ckpt_step.specs.Plain.{IsPlain}
+use Rattle.engine_store.specs.declared.store.Store.{Store}
+use Rattle.engine_store.specs.Answers.{CheckpointTakes, CloseTakes, IsLeft, RefusesReopening, answer_of}
+use Rattle.engine_store.specs.Devices.{Device, IsLater, device_of}
+use Rattle.engine_store.specs.Held as held
+use Rattle.engine_store.specs.Held.{IsHeld}
+use Rattle.script_run.specs.declared.told.Told.{Told}
+use Rattle.script_run.specs.Faults.{AreStill, NoFault}
+use Rattle.script_run.specs.Runs.{IsAt, IsStopped, IsTold, RepliedAs}
+use Rattle.script_run.specs.Scripts.{BySystem, Checkpoints, Closes, NotReopened, Reopens, Script, gives_stamp, on_device, opened_world, plain}
+
+-- ---- what goes on
+
+pub same_disk : {D : Type 0} (g : Ghosts D) (disk : D) → SameDisk g disk disk
+same_disk g disk = record { same = refl; room = refl; home = refl; later = omega arith }
+
+-- a machine on which no commit has a stamp, with the calls that are under way
+calm_on : (w : World) (m : Machine) → IsCalm w → IsPlain m → IsCalm (record w { machine = m })
+calm_on w m calm plain = record { plain = plain; doings = calm.doings; systems = calm.systems }
+
+-- the calls that are under way go on
+pub no_fault_on : (e e' : Engine) → NoFault e → ((w : World) → Stands e w → w.machine.checkpoint ≡ None → (m : Machine) × (m.checkpoint ≡ None) × Stands e' (record w { machine = m })) → NoFault e'
+no_fault_on e e' (w, stands, idle, still) goes = let x = goes w stands idle in (record w { machine = x.0 }, x.2, x.1, still)
+
+none_still : (doings : List Doing) → length doings ≡ 0 → AreStill doings
+none_still [] is = tt
+none_still (d ∷ doings) is = absurd (omega (arith, is))
+
+-- an engine without a session
+pub no_fault_first : (e : Engine) (w : World) → length e.sessions ≡ 0 → Stands e w → w.machine.checkpoint ≡ None → NoFault e
+no_fault_first e w none stands idle = (w, stands, idle, none_still w.sessions (stands.doings ∙ none))
+
+-- nothing is known of stamps
+pub at_any : {D : Type 0} (g : Ghosts D) (first : D) (stamped : Bool) (store : Store) (disk : D) (s : Script) → IsAt g first stamped store disk s → IsAt g first true store disk s
+at_any g first stamped store disk s at = record { held = at.held; device = at.device; calm = λ is. absurd (false≢true (sym is)) }
+
+-- a line of `sys`, by whether it has a call that is not finished
+by_busy : (s : Script) (reply : Reply) (later : Script) (Goes : Type 0) → is_there (slice_index_or s.world.systems 0 None) ≡ true → reply ≡ Answered (Refused (Invalid InCall)) → later ≡ s → BySystem s reply later Goes
+by_busy s reply later Goes busy told same = subst (λ (b : Bool). MatchBool b ((reply ≡ Answered (Refused (Invalid InCall))) × (later ≡ s)) Goes) (sym busy) (told, same)
+
+by_idle : (s : Script) (reply : Reply) (later : Script) (Goes : Type 0) → is_there (slice_index_or s.world.systems 0 None) ≡ false → Goes → BySystem s reply later Goes
+by_idle s reply later Goes idle goes = subst (λ (b : Bool). MatchBool b ((reply ≡ Answered (Refused (Invalid InCall))) × (later ≡ s)) Goes) (sym idle) goes
+
+not_there : (o : Option Call) → is_there o ≡ false → o ≡ None
+not_there None is = refl
+not_there (Some c) is = absurd (false≢true (sym is))
+
+-- ---- a checkpoint, and a close
+
+module _ {D : Type 0} (g : Ghosts D) (first : D) (s : Script) (store store' : Store) (disk disk' : D) (result : Result (Unit {0}) Refusal) (at : IsAt g first false store disk s) where
+  calm : IsCalm s.world
+  calm = at.calm refl
+
+  module _ (x : held.Checkpoints g first s.world s.first s.made store store' disk disk' result) where
+    abbrev checkpoint_later : Script
+    checkpoint_later = on_device s x.next (device_of g disk') x.now
+
+    checkpoint_is : (reply : Reply) → reply ≡ Answered (answer_of result) → Checkpoints s reply checkpoint_later
+    checkpoint_is reply told = record {
+      answer = answer_of result;
+      next = x.next;
+      device = device_of g disk';
+      made = x.now;
+      behind = subst (λ (d : Device). IsLeft d (device_of g disk') s.world.machine x.next (answer_of result)) (sym at.device) x.behind;
+      takes = subst (λ (d : Device). CheckpointTakes d (device_of g disk') s.world.machine (answer_of result) x.next) (sym at.device) x.takes;
+      installs = x.installs;
+      told = told;
+      leaves = refl;
+    }
+
+    checkpoint_at : IsAt g first false store' disk' checkpoint_later
+    checkpoint_at = record { held = x.held; device = refl; calm = λ is. calm_on s.world x.next calm x.plain }
+
+  module _ (x : held.Shuts g first s.world s.first s.made store store' disk disk' result) where
+    abbrev close_later : Script
+    close_later = on_device s x.next (device_of g disk') x.now
+
+    close_is : Closes s (answer_of result) close_later
+    close_is = record {
+      next = x.next;
+      device = device_of g disk';
+      made = x.now;
+      behind = subst (λ (d : Device). IsLeft d (device_of g disk') (rolled_back s.world.machine) x.next (answer_of result)) (sym at.device) x.behind;
+      takes = subst (λ (d : Device). CloseTakes d (device_of g disk') s.world (answer_of result) x.next) (sym at.device) x.takes;
+      installs = x.installs;
+      leaves = refl;
+    }
+
+    close_at : IsAt g first false store' disk' close_later
+    close_at = record { held = x.held; device = refl; calm = λ is. calm_on s.world x.next calm x.plain }
+
+module _ {D : Type 0} (g : Ghosts D) (first : D) (s : Script) (store : Store) (disk : D) (told : Told) where
+  pub checkpoint_busy : IsAt g first false store disk s → is_there (slice_index_or s.world.systems 0 None) ≡ true → told.reply ≡ Answered (Refused (Invalid InCall)) → told.formats ≡ plain
+      → IsTold g first false (OfAll Checkpoint) s store disk s.formats told
+  checkpoint_busy at busy reply formats = record { later = s; replies = (formats, by_busy s told.reply s _ busy reply refl); at = at; start = refl; kept_is = refl }
+
+  pub close_busy : (kept : List Formats) → IsAt g first false store disk s → s.formats ≡ kept → is_there (slice_index_or s.world.systems 0 None) ≡ true → told.reply ≡ Answered (Refused (Invalid InCall)) → told.formats ≡ plain
+      → IsTold g first false (OfAll Close) s store disk kept told
+  close_busy kept at same busy reply formats = record { later = s; replies = (formats, by_busy s told.reply s _ busy reply refl); at = at; start = refl; kept_is = same }
+
+module _ {D : Type 0} (g : Ghosts D) (first : D) (s : Script) (store store' : Store) (disk disk' : D) (at : IsAt g first false store disk s) (idle : is_there (slice_index_or s.world.systems 0 None) ≡ false) (x : held.Shuts g first s.world s.first s.made store store' disk disk' (Ok tt)) where
+  abbrev between : Script
+  between = close_later g first s store store' disk disk' (Ok tt) at x
+
+  closes : Closes s Done between
+  closes = close_is g first s store store' disk disk' (Ok tt) at x
+
+  close_then : (last : Store) (now : D) (kept : List Formats) (result : Result Told Refusal) → RepliedAs g first false (OfAll Crash) between last now kept result → RepliedAs g first false (OfAll Close) s last now kept result
+  close_then last now kept (Ok told) r = record {
+    later = r.later;
+    replies = (r.replies.0, by_idle s told.reply r.later _ idle (inr (between, closes, r.replies.1.0, r.replies.1.1)));
+    at = r.at;
+    start = r.start;
+    kept_is = r.kept_is;
+  }
+  close_then last now kept (Err e) r = record { later = r.later; stops = (not_there (slice_index_or s.world.systems 0 None) idle, (between, closes, r.stops)); at = r.at; start = r.start }
+
+module _ {D : Type 0} (g : Ghosts D) (first : D) (s : Script) (store : Store) (disk : D) (at : IsAt g first false store disk s) (idle : is_there (slice_index_or s.world.systems 0 None) ≡ false) (store' : Store) (disk' : D) where
+  pub checkpoint_told : (result : Result (Unit {0}) Refusal) (told : Told) → held.Checkpoints g first s.world s.first s.made store store' disk disk' result → told.reply ≡ Answered (answer_of result) → told.formats ≡ plain
+      → IsTold g first false (OfAll Checkpoint) s store' disk' s.formats told
+  checkpoint_told result told x reply formats =
+      let later = checkpoint_later g first s store store' disk disk' result at x in
+      record {
+        later = later;
+        replies = (formats, by_idle s told.reply later _ idle (checkpoint_is g first s store store' disk disk' result at x told.reply reply));
+        at = checkpoint_at g first s store store' disk disk' result at x;
+        start = refl;
+        kept_is = refl;
+      }
+
+  -- a close that is refused
+  pub close_refused : (r : Refusal) (kept : List Formats) (told : Told) → held.Shuts g first s.world s.first s.made store store' disk disk' (Err r) → s.formats ≡ kept → told.reply ≡ Answered (Refused r) → told.formats ≡ plain
+      → IsTold g first false (OfAll Close) s store' disk' kept told
+  close_refused r kept told x same reply formats =
+      let later = close_later g first s store store' disk disk' (Err r) at x in
+      record {
+        later = later;
+        replies = (formats, by_idle s told.reply later _ idle (inl (r, close_is g first s store store' disk disk' (Err r) at x, reply)));
+        at = close_at g first s store store' disk disk' (Err r) at x;
+        start = refl;
+        kept_is = same;
+      }
+
+  -- one that is done, behind which the device is opened anew or not
+  pub close_done : (x : held.Shuts g first s.world s.first s.made store store' disk disk' (Ok tt)) (last : Store) (now : D) (kept : List Formats) (result : Result Told Refusal)
+      → (((stamped : Bool) (t : Script) → IsAt g first stamped store' disk' t → RepliedAs g first stamped (OfAll Crash) t last now kept result)) → RepliedAs g first false (OfAll Close) s last now kept result
+  close_done x last now kept result reopens = close_then g first s store store' disk disk' at idle x last now kept result (reopens false (close_later g first s store store' disk disk' (Ok tt) at x) (close_at g first s store store' disk disk' (Ok tt) at x))
+
+-- ---- an opening anew
+
+four : (systems : List (Option SystemCall)) → length systems ≡ 4 → let none : Option Call = None in map (λ (x : Option SystemCall). none) systems ≡ none ∷ none ∷ none ∷ none ∷ []
+four (a ∷ b ∷ c ∷ d ∷ []) is = refl
+four [] is = absurd (omega (arith, is))
+four (a ∷ []) is = absurd (omega (arith, is))
+four (a ∷ b ∷ []) is = absurd (omega (arith, is))
+four (a ∷ b ∷ c ∷ []) is = absurd (omega (arith, is))
+four (a ∷ b ∷ c ∷ d ∷ e ∷ systems) is = absurd (omega (arith, is))
+
+opened_is : (content : Content) (e : Engine) → length e.systems ≡ 4 → first_world content e ≡ opened_world (start content)
+opened_is content e is = let Systems : Type 0 = List (Option Call) in
+    ap (λ (l : Systems). let w : World = record { machine = start content; sessions = []; systems = l } in w) (four e.systems is)
+
+module _ {D : Type 0} (g : Ghosts D) (first : D) (stamped : Bool) (s : Script) (store store' : Store) (disk disk' : D) (at : IsAt g first stamped store disk s) where
+  pub reopened : (law : StartsCalm) (told : Told) (kept : List Formats) → length store'.engine.systems ≡ 4 → held.Reopens g first s.world s.first s.made store store' disk disk' → told.reply ≡ Answered Done → told.formats ≡ plain → kept ≡ replicate SESSIONS_MAX plain
+      → IsTold g first stamped (OfAll Crash) s store' disk' kept told
+  reopened law told kept actors x reply formats new =
+      let same = opened_is x.content store'.engine actors in
+      let later : Script = record s { world = opened_world (start x.content); device = device_of g disk'; formats = replicate SESSIONS_MAX plain } in
+      let reopens : Reopens s later = record {
+        content = x.content;
+        reads = subst (λ (d : Device). Reads d.seen x.content) (sym at.device) x.reads;
+        one = x.one;
+        device = device_of g disk';
+        after = subst (λ (d : Device). IsLater d (device_of g disk')) (sym at.device) x.later;
+        seen = x.seen ∙ sym (ap (λ (d : Device). d.seen) at.device);
+        capacity = x.capacity ∙ sym (ap (λ (d : Device). d.capacity) at.device);
+        leaves = refl;
+      } in
+      record {
+        later = later;
+        replies = (formats, (reopens, reply));
+        at = record {
+          held = subst (λ (w : World). IsHeld g first store' disk' w s.first s.made) same x.held;
+          device = refl;
+          calm = λ none. subst (λ (w : World). IsCalm w) same (law x.content store'.engine x.plain);
+        };
+        start = refl;
+        kept_is = sym new;
+      }
+
+  pub not_reopened : (r : Refusal) → held.NotReopened g first s.world s.first s.made store store' disk disk' r → IsStopped g first (OfAll Crash) s store' disk' r
+  not_reopened r x =
+      let later : Script = record s { device = device_of g disk' } in
+      let stops : NotReopened s r later = record {
+        device = device_of g disk';
+        after = subst (λ (d : Device). IsLater d (device_of g disk')) (sym at.device) x.later;
+        seen = x.seen ∙ sym (ap (λ (d : Device). d.seen) at.device);
+        capacity = x.capacity ∙ sym (ap (λ (d : Device). d.capacity) at.device);
+        why = subst (λ (d : Device). RefusesReopening d (device_of g disk') r) (sym at.device) x.why;
+        leaves = refl;
+      } in
+      record { later = later; stops = stops; at = record { held = x.held; device = refl; calm = λ is. absurd (false≢true (sym is)) }; start = refl }
+
+-- ---- the lines together
+
+-- what is known of a refusal
+pub refused_as : {A : Type 0} (result : Result A Refusal) (P Q : Refusal → Type 0) → ((r : Refusal) → P r → Q r) → IfErr result P → IfErr result Q
+refused_as (Ok a) P Q each is = is
+refused_as (Err r) P Q each is = each r is
+
+or_none : (b : Bool) → b || false ≡ false → b ≡ false
+or_none true is = is
+or_none false is = refl
+
+-- a line of the device gives no stamp
+pub gives_none : {D : Type 0} (g : Ghosts D) (first : D) (stamped : Bool) (asked : Control) (s : Script) (store : Store) (disk : D) (kept : List Formats) (result : Result Told Refusal)
+    → RepliedAs g first stamped (OfAll asked) s store disk kept result → RepliedAs g first (stamped || gives_stamp (OfAll asked)) (OfAll asked) s store disk kept result
+gives_none g first stamped asked s store disk kept (Ok told) r = record {
+  later = r.later;
+  replies = r.replies;
+  at = record { held = r.at.held; device = r.at.device; calm = λ none. r.at.calm (or_none stamped none) };
+  start = r.start;
+  kept_is = r.kept_is;
+}
+gives_none g first stamped asked s store disk kept (Err e) r = r
+
+-- a checkpoint and a close come while no line gave a stamp
+module _ {D : Type 0} (g : Ghosts D) (first : D) (s : Script) (store : Store) (disk : D) where
+  pub checkpoint_plain : (stamped : Bool) → (IsTrue stamped → ⊥) → IsAt g first stamped store disk s → (store' : Store) (disk' : D) (kept : List Formats) (told : Told) → s.formats ≡ kept
+      → (IsAt g first false store disk s → IsTold g first false (OfAll Checkpoint) s store' disk' s.formats told) → IsTold g first stamped (OfAll Checkpoint) s store' disk' kept told
+  checkpoint_plain false other at store' disk' kept told same replied = subst (λ (l : List Formats). IsTold g first false (OfAll Checkpoint) s store' disk' l told) same (replied at)
+  checkpoint_plain true other at store' disk' kept told same replied = absurd (other refl)
+
+  pub close_plain : (stamped : Bool) → (IsTrue stamped → ⊥) → IsAt g first stamped store disk s → (store' : Store) (disk' : D) (kept : List Formats) (result : Result Told Refusal)
+      → (IsAt g first false store disk s → RepliedAs g first false (OfAll Close) s store' disk' kept result) → RepliedAs g first stamped (OfAll Close) s store' disk' kept result
+  close_plain false other at store' disk' kept result replied = replied at
+  close_plain true other at store' disk' kept result replied = absurd (other refl)

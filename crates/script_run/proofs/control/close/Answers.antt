@@ -1,0 +1,23 @@
+use Rattle.std.proofs.Common.{◌∙◌, refl, sym}
+use Rattle.std.specs.Prelude.{ℕ, ◌≡◌, IsTrue}
+use Rattle.recover_open.specs.Damage.{IsDamage}
+use Rattle.wt_code.specs.declared.refusals.Refusal.TheVariants.{Corrupt}
+use Rattle.script_run.proofs.Devices.{close_done, close_refused, refused_as}
+use Rattle.script_run.proofs.control.close.Goals as goal
+
+pub returns-in-Ok-clause-replies : goal.returns-in-Ok-clause-replies
+returns-in-Ok-clause-replies g c = λ honest first s at same.
+    close_done g.D.Disk first s c.args.store.now c.args.disk.now at (sym (c.has_started.ensures s.world at.held.stands) ∙ c.if-has_started.false) c.close.new.self c.close.new.disk
+    (c.in-Ok.ensures.shuts honest first s.world s.first s.made at.held (at.calm refl).plain) c.reopen.new.store c.reopen.new.disk c.reopen.new.formats c.reopen.result
+    (λ stamped t there. c.reopen.ensures.replies (c.close.ensures.disk.same ∙ honest) first stamped t there)
+
+pub returns-in-Ok-clause-damage : goal.returns-in-Ok-clause-damage
+returns-in-Ok-clause-damage g c =
+    refused_as c.reopen.result (λ r. (at want found : ℕ) → r ≡ Corrupt at want found → IsTrue (g.D.Disk.honest c.close.new.disk) → IsDamage (g.D.Disk.seen c.reopen.new.disk) at want found)
+    (λ r. (at want found : ℕ) → r ≡ Corrupt at want found → IsTrue (g.D.Disk.honest c.args.disk.now) → IsDamage (g.D.Disk.seen c.reopen.new.disk) at want found)
+    (λ r known at want found is honest. known at want found is (c.close.ensures.disk.same ∙ honest)) c.reopen.ensures.damage
+
+pub returns-in-Err-clause-replies : goal.returns-in-Err-clause-replies
+returns-in-Err-clause-replies g c = λ honest first s at same.
+    close_refused g.D.Disk first s c.args.store.now c.args.disk.now at (sym (c.has_started.ensures s.world at.held.stands) ∙ c.if-has_started.false) c.close.new.self c.close.new.disk c.in-Err.refusal c.args.formats.now c.refused-in-Err.result
+    (c.in-Err.ensures.shuts honest first s.world s.first s.made at.held (at.calm refl).plain) same c.refused-in-Err.ensures.reply c.refused-in-Err.ensures.formats

@@ -1,0 +1,23 @@
+use Rattle.std.proofs.Common.{subst, sym}
+use Rattle.script_text.specs.declared.line.Control.{Control}
+use Rattle.script_run.specs.Runs.{IsTold, RepliedAs}
+use Rattle.script_run.specs.Scripts.{IsLaterControl}
+use Rattle.script_text.specs.declared.line.Line.TheVariants.{Control as OfAll}
+use Rattle.script_run.proofs.Devices.{close_plain, checkpoint_plain}
+use Rattle.script_run.proofs.control.control.Goals as goal
+
+pub returns-in-Checkpoint-clause-replies : goal.returns-in-Checkpoint-clause-replies
+returns-in-Checkpoint-clause-replies g c = λ honest first stamped s now at same.
+    subst (λ (a : Control). IsTold g.D.Disk first stamped (OfAll a) s c.checkpoint.new.store c.checkpoint.new.disk c.args.formats.now c.checkpoint.result) (sym c.in-Checkpoint.is)
+    (checkpoint_plain g.D.Disk first s c.args.store.now c.args.disk.now stamped (λ is. subst (λ (a : Control). IsLaterControl stamped a → ⊥) c.in-Checkpoint.is now is) at c.checkpoint.new.store c.checkpoint.new.disk c.args.formats.now c.checkpoint.result same
+    (c.checkpoint.ensures.replies honest first s))
+
+pub returns-in-Close-clause-replies : goal.returns-in-Close-clause-replies
+returns-in-Close-clause-replies g c = λ honest first stamped s now at same.
+    subst (λ (a : Control). RepliedAs g.D.Disk first stamped (OfAll a) s c.close.new.store c.close.new.disk c.close.new.formats c.close.result) (sym c.in-Close.is)
+    (close_plain g.D.Disk first s c.args.store.now c.args.disk.now stamped (λ is. subst (λ (a : Control). IsLaterControl stamped a → ⊥) c.in-Close.is now is) at c.close.new.store c.close.new.disk c.close.new.formats c.close.result
+    (λ there. c.close.ensures.replies honest first s there same))
+
+pub returns-in-Crash-clause-replies : goal.returns-in-Crash-clause-replies
+returns-in-Crash-clause-replies g c = λ honest first stamped s now at same.
+    subst (λ (a : Control). RepliedAs g.D.Disk first stamped (OfAll a) s c.reopen.new.store c.reopen.new.disk c.reopen.new.formats c.reopen.result) (sym c.in-Crash.is) (c.reopen.ensures.replies honest first stamped s at)

@@ -1,0 +1,11 @@
+use Rattle.std.proofs.Common.{refl}
+use Rattle.script_run.proofs.Devices.{not_reopened, reopened}
+use Rattle.script_run.proofs.control.reopen.Goals as goal
+
+pub returns-in-Err-clause-replies : goal.returns-in-Err-clause-replies
+returns-in-Err-clause-replies g c = λ honest first stamped s at.
+    not_reopened g.D.Disk first stamped s c.args.store.now c.reopen.new.self c.args.disk.now c.reopen.new.disk at c.in-Err.refusal (c.in-Err.ensures.opens honest first s.world s.first s.made at.held)
+
+pub returns-in-Ok-clause-replies : goal.returns-in-Ok-clause-replies
+returns-in-Ok-clause-replies g c = λ honest first stamped s at.
+    reopened g.D.Disk first stamped s c.args.store.now c.reopen.new.self c.args.disk.now c.reopen.new.disk at c.calm_stays.ensures.starts c.done.result _ c.actors.ensures.systems (c.in-Ok.ensures.opens honest first s.world s.first s.made at.held) c.done.ensures.reply c.done.ensures.formats refl

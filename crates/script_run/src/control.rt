@@ -1,0 +1,116 @@
+// Lines that reach the device: a checkpoint, a close, and an opening anew.
+ghost use Rattle.std.specs.Prelude.{◌≡◌, ℕ, Bool, false, Ok, IfErr, IsTrue};
+ghost use Rattle.failure.specs.Counts.{Rose};
+ghost use Rattle.disk_model.specs.Crash.{SameDisk};
+ghost use Rattle.recover_open.specs.Damage.{IsDamage};
+ghost use Rattle.wt_code.specs.declared.refusals.Refusal.TheVariants.{Corrupt};
+ghost use Rattle.script_text.specs.declared.line.Line.TheVariants.{Control as ControlLine};
+ghost use Rattle.script_text.specs.declared.line.Control.TheVariants.{Checkpoint as CheckpointLine, Close as CloseLine, Crash as CrashLine};
+ghost use Rattle.script_run.specs.Faults.{NoFault, RepliesFault};
+ghost use Rattle.script_run.specs.Runs.{IsAt, IsFit, IsTold, RepliedAs};
+ghost use Rattle.script_run.specs.Scripts.{Script, IsLaterControl};
+
+use crate::told::{PLAIN, Told, done, refused};
+use ckpt_step::calm_stays;
+use disk_model::Disk;
+use engine_store::Store;
+use item::Formats;
+use limits::SESSIONS_MAX;
+use script_text::Control;
+use std::alloc::Global;
+use wt_code::{Invalid, Refusal};
+
+// The error is why the device was not opened.
+pub(crate) fn control<D: Disk>(
+    alloc: Global,
+    store: &mut Store,
+    disk: &mut D,
+    formats: &mut [Formats; SESSIONS_MAX],
+    asked: Control,
+) -> Result<Told, Refusal>
+    requires now { IsLaterControl false asked → ⊥ }
+    requires fit { IsFit D.Disk store.old disk.old }
+    ensures replies { IsTrue (D.honest disk.old) → (first_disk : D) → (stamped : Bool) → (s : Script) → (IsLaterControl stamped asked → ⊥) → IsAt D.Disk first_disk stamped store.old disk.old s → s.formats ≡ formats.old
+        → RepliedAs D.Disk first_disk stamped (ControlLine asked) s store.new disk.new formats.new result }
+    ensures fault { RepliesFault result → Rose (D.faults disk.old) (D.faults disk.new) }
+    ensures quiet { NoFault store.old.engine → NoFault store.new.engine }
+    ensures damage { IfErr result (λ r. (at want found : ℕ) → r ≡ Corrupt at want found → IsTrue (D.honest disk.old) → IsDamage (D.seen disk.new) at want found) }
+    ensures fit { IsFit D.Disk store.new disk.new }
+    ensures disk { SameDisk D.Disk disk.old disk.new }
+{
+    match asked {
+        Control::Checkpoint => Ok(checkpoint(alloc, store, disk)),
+        Control::Close => close(alloc, store, disk, formats),
+        Control::Crash => reopen(alloc, store, disk, formats),
+        Control::Frames(_) => Ok(refused(Refusal::NoMemory)),
+    }
+}
+
+fn checkpoint<D: Disk>(alloc: Global, store: &mut Store, disk: &mut D) -> Told
+    requires fit { IsFit D.Disk store.old disk.old }
+    ensures replies { IsTrue (D.honest disk.old) → (first_disk : D) → (s : Script) → IsAt D.Disk first_disk false store.old disk.old s → IsTold D.Disk first_disk false (ControlLine CheckpointLine) s store.new disk.new s.formats result }
+    ensures fault { RepliesFault (Ok result) → Rose (D.faults disk.old) (D.faults disk.new) }
+    ensures quiet { NoFault store.old.engine → NoFault store.new.engine }
+    ensures fit { IsFit D.Disk store.new disk.new }
+    ensures disk { SameDisk D.Disk disk.old disk.new }
+{
+    if store.engine.has_started(0) {
+        return refused(Refusal::Invalid(Invalid::InCall));
+    }
+    match store.checkpoint(alloc, disk) {
+        Ok(()) => done(),
+        Err(refusal) => refused(refusal),
+    }
+}
+
+// After a close the device is opened anew.
+fn close<D: Disk>(
+    alloc: Global,
+    store: &mut Store,
+    disk: &mut D,
+    formats: &mut [Formats; SESSIONS_MAX],
+) -> Result<Told, Refusal>
+    requires fit { IsFit D.Disk store.old disk.old }
+    ensures replies { IsTrue (D.honest disk.old) → (first_disk : D) → (s : Script) → IsAt D.Disk first_disk false store.old disk.old s → s.formats ≡ formats.old
+        → RepliedAs D.Disk first_disk false (ControlLine CloseLine) s store.new disk.new formats.new result }
+    ensures fault { RepliesFault result → Rose (D.faults disk.old) (D.faults disk.new) }
+    ensures quiet { NoFault store.old.engine → NoFault store.new.engine }
+    ensures damage { IfErr result (λ r. (at want found : ℕ) → r ≡ Corrupt at want found → IsTrue (D.honest disk.old) → IsDamage (D.seen disk.new) at want found) }
+    ensures fit { IsFit D.Disk store.new disk.new }
+    ensures disk { SameDisk D.Disk disk.old disk.new }
+{
+    if store.engine.has_started(0) {
+        return Ok(refused(Refusal::Invalid(Invalid::InCall)));
+    }
+    match store.close(alloc, disk) {
+        Ok(()) => reopen(alloc, store, disk, formats),
+        Err(refusal) => Ok(refused(refusal)),
+    }
+}
+
+// Memory is forgotten, and the device opened anew, without a session.
+fn reopen<D: Disk>(
+    alloc: Global,
+    store: &mut Store,
+    disk: &mut D,
+    formats: &mut [Formats; SESSIONS_MAX],
+) -> Result<Told, Refusal>
+    requires fit { IsFit D.Disk store.old disk.old }
+    ensures replies { IsTrue (D.honest disk.old) → (first_disk : D) → (stamped : Bool) → (s : Script) → IsAt D.Disk first_disk stamped store.old disk.old s → RepliedAs D.Disk first_disk stamped (ControlLine CrashLine) s store.new disk.new formats.new result }
+    ensures fault { RepliesFault result → Rose (D.faults disk.old) (D.faults disk.new) }
+    ensures quiet { NoFault store.old.engine → NoFault store.new.engine }
+    ensures damage { IfErr result (λ r. (at want found : ℕ) → r ≡ Corrupt at want found → IsTrue (D.honest disk.old) → IsDamage (D.seen disk.new) at want found) }
+    ensures fit { IsFit D.Disk store.new disk.new }
+    ensures disk { SameDisk D.Disk disk.old disk.new }
+{
+    match store.reopen(alloc, disk) {
+        Err(refusal) => Err(refusal),
+        Ok(()) => {
+            calm_stays();
+            store.engine.actors();
+            store.engine.has_world();
+            *formats = [PLAIN; SESSIONS_MAX];
+            Ok(done())
+        }
+    }
+}

@@ -1,0 +1,175 @@
+// Lines that reach the device.
+use super::{Row, Story};
+
+const OK2: &str = "ok\nok\n";
+
+const OK3: &str = "ok\nok\nok\n";
+
+// The keys `a` and `b` are set to 1.
+const SET_A: (&str, &str) = ("s9 begin\ns9 put t a 1\ns9 commit\n", OK3);
+
+const SET_B: (&str, &str) = ("s9 begin\ns9 put t b 1\ns9 commit\n", OK3);
+
+pub(super) const DEVICES: &[Story<'static>] = &[
+    Story {
+        shows: "a crash forgets what was committed since the last checkpoint",
+        rows: &[
+            SET_A,
+            ("sys ckpt\n", "ok\n"),
+            SET_B,
+            ("sys crash\n", "ok\n"),
+            ("s1 begin\ns1 get t a\n", "ok\nok 1\n"),
+            ("s1 get t b\n", "-31803 not found\n"),
+        ],
+    },
+    Story {
+        shows: "what a checkpoint after a crash has, the next crash leaves",
+        rows: &[
+            ("sys ckpt\nsys crash\n", OK2),
+            SET_A,
+            ("sys create u u u\nsys ckpt\n", OK2),
+            ("sys ckpt\nsys crash\n", OK2),
+            ("s1 begin\ns1 get t a\n", "ok\nok 1\n"),
+            ("s1 get u a\n", "-31803 not found\n"),
+        ],
+    },
+    Story {
+        shows: "without a checkpoint nothing is left, not even the table",
+        rows: &[
+            SET_A,
+            ("sys crash\n", "ok\n"),
+            ("s1 begin\ns1 get t a\n", "ok\n2 no table\n"),
+        ],
+    },
+    Story {
+        shows: "a close rolls back what runs, and what was committed is read on",
+        rows: &[
+            SET_A,
+            ("s2 begin\ns2 put t b 2\n", OK2),
+            ("sys close\n", "ok\n"),
+            ("s2 commit\n", "22 no transaction\n"),
+            ("s1 begin\ns1 get t a\n", "ok\nok 1\n"),
+            ("s1 get t b\n", "-31803 not found\n"),
+        ],
+    },
+    Story {
+        shows: "a close waits for a call of a session, and goes on after it",
+        rows: &[
+            ("s1! begin\n", "started\n"),
+            ("sys close\n", "16 busy resolving s1\n"),
+            ("s1.\ns1 put t a 1\n", OK2),
+            ("s1 commit\nsys close\n", OK2),
+            ("s1 begin\ns1 get t a\n", "ok\nok 1\n"),
+        ],
+    },
+    Story {
+        shows: "a line of `sys` waits for its call",
+        rows: &[
+            ("sys! create u u u\n", "started\n"),
+            ("sys ckpt\nsys close\n", "22 in call\n22 in call\n"),
+            ("sys..\nsys ckpt\n", OK2),
+            ("sys2! create v u u\nsys ckpt\n", "started\nok\n"),
+        ],
+    },
+    Story {
+        shows: "a crash forgets the calls that are under way",
+        rows: &[
+            ("s1! begin\nsys! create u u u\n", "started\nstarted\n"),
+            ("sys crash\n", "ok\n"),
+            ("s1.\nsys.\n", "22 no call\n22 no call\n"),
+            ("s1 begin\n", "ok\n"),
+        ],
+    },
+    Story {
+        shows: "a checkpoint leaves a call that is under way",
+        rows: &[
+            SET_A,
+            ("s1 begin\ns1! get t a\n", "ok\nstarted\n"),
+            ("s1.\nsys ckpt\n", "more\nok\n"),
+            ("s1..\n", "ok 1\n"),
+        ],
+    },
+    Story {
+        shows: "a crash comes after a stamp too",
+        rows: &[
+            ("s1 begin\ns1 put t a 1\ns1 commit commit=a\n", OK3),
+            ("sys crash\n", "ok\n"),
+            ("s1 begin\ns1 get t a\n", "ok\n2 no table\n"),
+        ],
+    },
+];
+
+// A checkpoint and a close are no lines once the text of one before committed with a stamp, even
+// where that was refused.
+pub(super) const STAMPED: &[Row<'static>] = &[
+    Row {
+        text: "sys create t S S\ns1 begin\ns1 put t a 1\ns1 commit commit=a\nsys ckpt\n",
+        told: "ok\nok\nok\nok\nStopped(Invalid(Text { line: 5 })) None",
+    },
+    Row {
+        text: "s1 commit durable=a\nsys close\n",
+        told: "22 no transaction\nStopped(Invalid(Text { line: 2 })) None",
+    },
+    Row {
+        text: "s1! commit commit=a\nsys crash\nsys ckpt\n",
+        told: "started\nok\nStopped(Invalid(Text { line: 3 })) None",
+    },
+    Row {
+        text: "sys set stable=a\ns1 begin read=b\ns1 commit\nsys ckpt\nsys close\n",
+        told: "ok\nok\nok\nok\nok\nThrough None",
+    },
+];
+
+// A script on a disk whose calls of these numbers fail, which may hold so many bytes. An opening has
+// three calls.
+#[derive(Clone, Copy)]
+pub(super) struct Failing<'a> {
+    pub(super) text: &'a str,
+    pub(super) calls: &'a [u64],
+    pub(super) room: u64,
+    pub(super) told: &'a str,
+}
+
+// Call 6 is the sync of the blocks of the checkpoint, 12 that of its slot's first byte, and 14 reads
+// at the next one.
+const CHECKPOINT: &str =
+    "sys create t S S\ns1 begin\ns1 put t a 1\ns1 commit\nsys ckpt\ns1 begin\nsys ckpt\nsys close\nsys crash\ns1 begin\ns1 get t a\n";
+
+pub(super) const FAILING: &[Failing<'static>] = &[
+    Failing {
+        text: CHECKPOINT,
+        calls: &[6],
+        room: 1 << 20,
+        told: "ok\nok\nok\nok\n5 disk fault\n-31804 panic\n-31804 panic\n-31804 panic\nok\nok\n2 no table\nThrough Some(DiskFault)",
+    },
+    Failing {
+        text: CHECKPOINT,
+        calls: &[12],
+        room: 1 << 20,
+        told: "ok\nok\nok\nok\n5 disk fault\n-31804 panic\n-31804 panic\n-31804 panic\nok\nok\nok 1\nThrough Some(DiskFault)",
+    },
+    Failing {
+        text: CHECKPOINT,
+        calls: &[14],
+        room: 1 << 20,
+        told: "ok\nok\nok\nok\nok\nok\n5 disk fault\nok\nok\nok\nok 1\nThrough Some(DiskFault)",
+    },
+    Failing {
+        text: CHECKPOINT,
+        calls: &[],
+        room: 8_192,
+        told: "ok\nok\nok\nok\n28 no space\nok\n28 no space\n28 no space\nok\nok\n2 no table\nThrough None",
+    },
+    Failing {
+        text: "s1 begin\nsys crash\ns1 begin\n",
+        calls: &[4],
+        room: 8_192,
+        told: "ok\nStopped(DiskFault) None",
+    },
+    Failing {
+        text: "s1 begin\nsys close\ns1 begin\n",
+        calls: &[12],
+        room: 1 << 20,
+        told: "ok\nStopped(DiskFault) None",
+    },
+];
