@@ -22,7 +22,8 @@ use Rattle.kv_model.specs.Told.{Tells}
 use Rattle.kv_model.specs.Calls.{Session, Call, Begin, GetKey, PutKey, RemoveKey, SeekKey, NextRow, Commit, Create, Around, Judged, Settled, AtPlace, IsShort, IsHeldUp, HeldUp, SessionAnswers, SystemAnswers, settled, ended}
 use Rattle.engine_world.specs.Whole.{nothing_around}
 use Rattle.ckpt_step.specs.Plain.{IsUnstamped}
-use Rattle.wt_tool.specs.Points.{Device, IsLater, KeepsCheckpoint, Did, around}
+use Rattle.wt_tool.specs.Points.{Did, around}
+use Rattle.engine_store.specs.Devices.{Device, IsLater, KeepsCheckpoint}
 use Rattle.wt_tool.specs.Parts.{at}
 use Rattle.wt_tool.specs.Led.{IsMild, IsWord}
 

@@ -4,7 +4,7 @@ use Rattle.std.proofs.lemmas.Bool.{false≢true, cases_lt, cases_Bool, leb-true,
 use Rattle.std.proofs.lemmas.List.{get_or_past}
 use Rattle.std.proofs.lemmas.Option.{slice_get_cases}
 use Rattle.std.proofs.Math.ListN.{get_or-map}
-use Rattle.std.proofs.Common.{◌≡◌, ◌⊎◌, ℕ, suc, ◌+◌, ◌<◌, ◌≤◌, List, [], ◌∷◌, ◌++◌, Option, Some, None, Result, Ok, Err, refl, sym, ap, subst, ◌∙◌, inl, inr, arith}
+use Rattle.std.proofs.Common.{◌≡◌, ℕ, suc, ◌+◌, ◌<◌, ◌≤◌, List, [], ◌∷◌, ◌++◌, Option, Some, None, Result, Ok, Err, refl, sym, ap, subst, ◌∙◌, inl, inr, arith}
 use Rattle.failure.specs.Counts.{Rose}
 use Rattle.failure.specs.declared.Fault.{Fault}
 use Rattle.disk_model.specs.Crash.{Each, LeavesOnly}
@@ -51,9 +51,10 @@ use Rattle.ckpt_step.specs.Sizes.{IsOver}
 use Rattle.ckpt_step.specs.Takes.{Takes, WhyNot, IsOfCheckpoint}
 use Rattle.engine_store.specs.declared.store.Store.{Store}
 use Rattle.engine_store.specs.Closes.{rolled, Closes as StoreCloses}
-use Rattle.wt_tool.specs.Points.{Point, Installed, IsLater, DidClose, IsNumberOf, MayTakeAt, device_of, point_of, stops, closed, last_number}
+use Rattle.wt_tool.specs.Points.{Point, DidClose, point_of, stops, closed}
+use Rattle.engine_store.specs.Devices.{Installed, IsLater, IsNumberOf, MayTakeAt, device_of, last_number, may_open_to}
 use Rattle.wt_tool.specs.Narrow.{ClosesOne}
-use Rattle.wt_tool.specs.Top.{EachReads, OpensToOne, Pending}
+use Rattle.engine_store.specs.Images.{EachReads, OpensToAny, OpensToOne}
 use Rattle.wt_tool.specs.Parts.{IsQuiet, IsPlainOn, LeavesAt, NoDamage}
 
 -- ---- the content of what a device has
@@ -389,9 +390,9 @@ module _ {D : Type 0} (g : Ghosts D) (before after : D) (counts : g.moment befor
         not_none : let gone : Option Refusal = Some DiskFault in gone ≡ None → ⊥
         not_none gone = cc
 
-        opens : (c : List ℕ) → IsEither (g.may_leave before) old new c → Opens c (rolled_back m).completed ⊎ ((k : Completed) × Pending (own (Some DiskFault) ∷ []) k × Opens c k)
-        opens c (inl kept) = inl (subst (λ (k : Completed). Opens c k) (sym goes.completed) (old_opens c kept))
-        opens c (inr on) = inr (closed m, inl (refl, refl, tt), opens_new c on)
+        opens : (c : List ℕ) → IsEither (g.may_leave before) old new c → OpensToAny (may_open_to (m.completed ∷ []) (own (Some DiskFault) ∷ [])) c
+        opens c (inl kept) = (m.completed, inl refl, old_opens c kept)
+        opens c (inr on) = (closed m, inr (inl refl), opens_new c on)
 
   -- a fault before the gate
   fallen_old : (fault : Fault) → Rose (g.faults before) (g.faults after) → (IsOver (rolled_back m) → ⊥) → number_of old < last_number → KeptAll → LeavesSo (Err DiskFault)

@@ -17,7 +17,8 @@ use Rattle.wt_io.specs.StreamLemmas.{took_more}
 use Rattle.item_forms.specs.Forms.{stored_as}
 use Rattle.script_run.specs.declared.script.End.{End}
 use Rattle.script_run.specs.declared.script.End.TheVariants.{Through, Stopped, OutputFailed}
-use Rattle.wt_tool.specs.Points.{Device, Point, Ran, Did, ends, stops, prints, tells}
+use Rattle.wt_tool.specs.Points.{Point, Ran, Did, ends, stops, prints, tells}
+use Rattle.engine_store.specs.Devices.{Device}
 use Rattle.wt_tool.specs.Openings.{formats_at}
 use Rattle.wt_tool.specs.Reads.{GetsKeys, ReadsKeys, the_get, printed_of}
 use Rattle.wt_tool.specs.Parts.{NoDamage, Reading, at}

@@ -22,7 +22,8 @@ use Rattle.engine_world.specs.Stands.{Engine, Stands}
 use Rattle.engine_world.specs.Systems.{first_world}
 use Rattle.engine_world.specs.Worlds.{World}
 use Rattle.script_run.specs.declared.script.End.TheVariants.{Through, OutputFailed}
-use Rattle.wt_tool.specs.Points.{Device, Ran, ends, prints, stops, tells}
+use Rattle.wt_tool.specs.Points.{Ran, ends, prints, stops, tells}
+use Rattle.engine_store.specs.Devices.{Device}
 use Rattle.wt_tool.specs.Openings.{formats_at}
 use Rattle.wt_tool.specs.Reads.{GetsKeys, ReadsKeys, the_get, printed_of}
 use Rattle.wt_tool.specs.Parts.{IsQuiet, NoDamage, Reading, Starts, at}

@@ -27,7 +27,8 @@ use Rattle.engine_world.specs.Whole.{nothing_around}
 use Rattle.engine_world.specs.Worlds.{World, Doing, Resting, doing_of}
 use Rattle.engine.specs.Whole.{CallsIn, MakesAt, MayAnswer, with_session_more}
 use Rattle.ckpt_step.specs.Plain.{IsPlain, GoesPlain, IsUnstamped, OpensPlain, StaysPlain}
-use Rattle.wt_tool.specs.Points.{Device, Point, Ran, Did, WithSession, Calls, stops}
+use Rattle.wt_tool.specs.Points.{Point, Ran, Did, WithSession, Calls, stops}
+use Rattle.engine_store.specs.Devices.{Device}
 use Rattle.wt_tool.specs.Openings.{formats_at}
 use Rattle.wt_tool.specs.Writes.{PutsPairs, the_put}
 use Rattle.wt_tool.specs.Creates.{MakesTable}

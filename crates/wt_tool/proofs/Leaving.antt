@@ -20,9 +20,10 @@ use Rattle.ckpt_step.specs.Grounds.{AreRoots, HasRoots, StandsOn}
 use Rattle.ckpt_step.specs.Plain.{IsPlain, IsFlatStill, StartsPlain}
 use Rattle.engine_store.specs.declared.store.Store.{Store}
 use Rattle.engine_store.specs.Opened.{IsReady}
-use Rattle.wt_tool.specs.Points.{Device, Point, Ran, device_of, point_of}
+use Rattle.wt_tool.specs.Points.{Point, Ran, point_of}
+use Rattle.engine_store.specs.Devices.{Device, device_of}
 use Rattle.wt_tool.specs.Narrow.{ClosesOne}
-use Rattle.wt_tool.specs.Top.{EachReads, OpensToOne}
+use Rattle.engine_store.specs.Images.{EachReads, OpensToLast, OpensToOne}
 use Rattle.wt_tool.specs.Parts.{IsOpenedOn, IsPlainOn, LeavesAt, LeavesFrom, Makes, at, silent_run}
 use Rattle.wt_tool.specs.Led.{Grows}
 use Rattle.wt_tool.proofs.Closings.{start_opens, still_reads}
@@ -111,7 +112,7 @@ module _ {D : Type 0} (g : Ghosts D) (content : Content) (Run : Point → Ran �
     made = l.made;
     next = l.next;
     run = goes (device_of g old) (silent_run result l.made (point_of g l.next new)) l.run;
-    opens = l.opens;
+    opens = subst (λ (k : Completed). OpensToLast (g.may_leave new) k l.next.completed l.made) same l.opens;
     ever = subst (λ (k : Completed). LeavesOnly g old new (OpensToOne k l.made)) same l.ever;
     stays = l.stays;
   }

@@ -6,6 +6,5 @@ mod Leading
 mod Leaving
 mod Naming
 mod Putting
-mod Unfaulted
 mod ScriptRuns
 mod Running

@@ -15,7 +15,8 @@ use Rattle.kv_model.specs.Calls.{Session, Call, Begin, Commit}
 use Rattle.item_forms.specs.Forms.{stored_as}
 use Rattle.engine_world.specs.Stands.{Engine, Stands}
 use Rattle.engine_world.specs.Worlds.{World}
-use Rattle.wt_tool.specs.Points.{Device, Point, Ran, Did, Calls, WithSession, ends}
+use Rattle.wt_tool.specs.Points.{Point, Ran, Did, Calls, WithSession, ends}
+use Rattle.engine_store.specs.Devices.{Device}
 use Rattle.wt_tool.specs.Openings.{formats_at}
 use Rattle.wt_tool.specs.Writes.{PutsPairs, WritesPairs, the_put}
 use Rattle.wt_tool.specs.Narrow.{ClosesOne}

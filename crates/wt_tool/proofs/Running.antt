@@ -27,12 +27,13 @@ use Rattle.engine_store.specs.Opened.{HasNumbers, IsOpened, OpenRefused}
 use Rattle.stored.proofs.Device.{one_content, one_stored}
 use Rattle.wt_line.specs.Line.{Asked, script}
 use Rattle.script_run.specs.Scripts.{Outside, counts}
-use Rattle.wt_tool.specs.Points.{Point, Ran, Installed, point_of, device_of, stops, last_number}
+use Rattle.wt_tool.specs.Points.{Point, Ran, point_of, stops}
+use Rattle.engine_store.specs.Devices.{Installed, device_of, last_number, IsWide}
 use Rattle.wt_tool.specs.Openings.{RefusesOpening, MayOpen, Opens}
 use Rattle.wt_tool.specs.Commands.{Runs, RunsOpened}
 use Rattle.wt_tool.specs.Parts.{NoDamage, IsOpenedOn, Starts, Leaves, Reading, Scripting, met_of, end_of, silent_run}
-use Rattle.wt_tool.specs.Top.{Went, Telling, IsSo, Tells, IsTold, IsCut, IsOpenable, Streams, Errors, OpensToLast, Stays, lines, last_line, status_of, first_status, status_at}
-use Rattle.wt_tool.specs.Narrow.{IsWide}
+use Rattle.wt_tool.specs.Top.{Went, Telling, IsSo, Tells, IsTold, IsCut, IsOpenable, Streams, Errors, lines, last_line, status_of, first_status, status_at}
+use Rattle.engine_store.specs.Images.{OpensToLast, Stays}
 use Rattle.wt_tool.proofs.Closings.{still_reads, start_opens}
 
 -- ---- the opening
@@ -138,25 +139,25 @@ telling P e result status told each = record { refusals = met_of result; each = 
 
 -- ---- what is told of damage
 
-pub no_damage_so : (honest : Type 0) (bytes : List ℕ) (r : Refusal) → NoDamage r → IsSo honest bytes r
-no_damage_so honest bytes (Corrupt at want found) none = absurd none
-no_damage_so honest bytes _ none = tt
+pub no_damage_so : (honest : Type 0) (before now : List ℕ) (r : Refusal) → NoDamage r → IsSo honest before now r
+no_damage_so honest before now (Corrupt at want found) none = absurd none
+no_damage_so honest before now _ none = tt
 
-pub told_so : (honest : Type 0) (bytes : List ℕ) (e : Errors) (status : ℕ) → Telling NoDamage e status → Telling (IsSo honest bytes) e status
-told_so honest bytes e status t = record { refusals = t.refusals; each = each t.refusals t.each; replies = t.replies; end = t.end; told = t.told }
+pub told_so : (honest : Type 0) (before now : List ℕ) (e : Errors) (status : ℕ) → Telling NoDamage e status → Telling (IsSo honest before now) e status
+told_so honest before now e status t = record { refusals = t.refusals; each = each t.refusals t.each; replies = t.replies; end = t.end; told = t.told }
   where
-    each : (met : List Refusal) → AllByRecursion NoDamage met → AllByRecursion (IsSo honest bytes) met
+    each : (met : List Refusal) → AllByRecursion NoDamage met → AllByRecursion (IsSo honest before now) met
     each [] none = tt
-    each (r ∷ met) none = (no_damage_so honest bytes r none.0, each met none.1)
+    each (r ∷ met) none = (no_damage_so honest before now r none.0, each met none.1)
 
 -- damage that an opening tells is there
-pub opening_so : (fault known : Type 0) (bytes : List ℕ) (r : Refusal) → OpenRefused fault known bytes r → IsSo known bytes r
-opening_so fault known bytes r (inl (inl (is, failed))) = subst (IsSo known bytes) (sym is) tt
-opening_so fault known bytes r (inl (inr (inl is))) = subst (IsSo known bytes) (sym is) tt
-opening_so fault known bytes r (inl (inr (inr (inl (is, why))))) = subst (IsSo known bytes) (sym is) tt
-opening_so fault known bytes r (inl (inr (inr (inr (inl (is, why, shut)))))) = subst (IsSo known bytes) (sym is) tt
-opening_so fault known bytes r (inl (inr (inr (inr (inr (at, want, found, is, why)))))) = subst (IsSo known bytes) (sym is) why
-opening_so fault known bytes r (inr (is, why)) = subst (IsSo known bytes) (sym is) tt
+pub opening_so : (fault known : Type 0) (bytes now : List ℕ) (r : Refusal) → OpenRefused fault known bytes r → IsSo known bytes now r
+opening_so fault known bytes now r (inl (inl (is, failed))) = subst (IsSo known bytes now) (sym is) tt
+opening_so fault known bytes now r (inl (inr (inl is))) = subst (IsSo known bytes now) (sym is) tt
+opening_so fault known bytes now r (inl (inr (inr (inl (is, why))))) = subst (IsSo known bytes now) (sym is) tt
+opening_so fault known bytes now r (inl (inr (inr (inr (inl (is, why, shut)))))) = subst (IsSo known bytes now) (sym is) tt
+opening_so fault known bytes now r (inl (inr (inr (inr (inr (at, want, found, is, why)))))) = subst (IsSo known bytes now) (sym is) (λ k. inl (why k))
+opening_so fault known bytes now r (inr (is, why)) = subst (IsSo known bytes now) (sym is) tt
 
 pub status_some : (r : Refusal) (status : ℕ) → (status ≡ status_of r) ⊎ (status ≡ 12) → status ≡ 0 → ⊥
 status_some r status (inr twelve) none = omega (arith, twelve, none)
@@ -227,26 +228,24 @@ module _ {D : Type 0} (g : Ghosts D) (old new : D) (content : Content) (layered 
     taken = subst (λ (l : List ℕ). Gave w.in_before w.in_now l) (sym went.silent) taken;
     printed = went.printed;
     told = went.told;
-    opens = subst (λ (k : Completed). OpensToLast (g.may_leave new) k went.ran.made) (sym went.same)
-        (subst (λ (l : List Installed). OpensToLast (g.may_leave new) (start content).completed l) (sym went.none) (inl (content, ((λ c left. images c left), layered), start_opens content layered)));
+    opens = subst (λ (k : Completed). OpensToLast (g.may_leave new) (start content).completed k went.ran.made) (sym went.same)
+        (subst (λ (l : List Installed). OpensToLast (g.may_leave new) (start content).completed (start content).completed l) (sym went.none) (inl (content, ((λ c left. images c left), layered), start_opens content layered)));
     ever = λ c left. inl (content, since c left, start_opens content layered);
     stays = subst (λ (l : List Installed). Stays (g.left_since new) l) (sym went.none) tt;
   }
 
--- a run of `script`
-module _ {D : Type 0} (g : Ghosts D) (old new : D) (content : Content) (layered : IsLayered content) (o : Outside) (w : Streams) where
-  pub script_went : (status : ℕ) → Opens (point_of g (start content) old) (point_of g (start content) new) → MayOpen (point_of g (start content) old)
-      → ((c : List ℕ) → g.may_leave new c → Reads c content) → ((c : List ℕ) → g.left_since new (g.moment old) c → Reads c content)
-      → Scripting o (point_of g (start content) new) w status → Went g o script content w old new status
-  script_went status opened may images since went = record {
+-- a run of `script`, on a disk that was looked at before
+module _ {D : Type 0} (g : Ghosts D) (old mid new : D) (content : Content) (layered : IsLayered content) (o : Outside) (w : Streams) where
+  pub script_went : (status : ℕ) → Opens (point_of g (start content) old) (point_of g (start content) mid) → MayOpen (point_of g (start content) old) → LeavesOnly g old mid (λ c. Reads c content)
+      → Scripting g o content w mid new status → Went g o script content w old new status
+  script_went status opened may first went = record {
     ran = went.ran;
-    run = inr (point_of g (start content) new, opened, may, went.run);
+    run = inr (point_of g (start content) mid, opened, may, went.run);
     there = went.there;
     taken = went.taken;
     printed = went.printed;
     told = went.told;
-    opens = subst (λ (k : Completed). OpensToLast (g.may_leave new) k went.ran.made) (sym went.same)
-        (subst (λ (l : List Installed). OpensToLast (g.may_leave new) (start content).completed l) (sym went.none) (inl (content, ((λ c left. images c left), layered), start_opens content layered)));
-    ever = λ c left. inl (content, since c left, start_opens content layered);
-    stays = subst (λ (l : List Installed). Stays (g.left_since new) l) (sym went.none) tt;
+    opens = went.opens;
+    ever = (joined g old mid new _ _ (widened g old mid _ _ first (λ c reads. inl (content, reads, start_opens content layered))) went.ever (λ c is. is)).each;
+    stays = went.stays;
   }

@@ -10,17 +10,23 @@ use Rattle.wt_code.specs.declared.refusals.Refusal.TheVariants.{NoMemory, DiskFa
 use Rattle.wt_code.specs.declared.refusals.Invalid.TheVariants.{Text}
 use Rattle.kv_model.specs.Holds.{Member}
 use Rattle.kv_model.specs.History.{Table, tables, named, value}
-use Rattle.kv_model.specs.Machine.{Machine}
+use Rattle.kv_model.specs.Machine.{Machine, Completed}
 use Rattle.kv_model.specs.Content.{Content}
 use Rattle.kv_model.specs.Decisions.{Demand}
 use Rattle.kv_model.specs.Rows.{key_lt}
-use Rattle.kv_model.specs.Calls.{Actor, Session, System, Call, Begin, PutKey, Commit, Create, CkptStart, CkptStep, CkptFinish, Close, Around, Answers}
+use Rattle.kv_model.specs.Calls.{Session, System, Call, Begin, PutKey, Commit, Create, CkptStart, CkptStep, CkptFinish, Around, Answers}
 use Rattle.stored.specs.Stored.{Reads}
-use Rattle.wt_tool.specs.Writes.{demand_of}
-use Rattle.script_run.specs.declared.script.End.TheVariants.{Through, InputFailed, OutputFailed}
-use Rattle.script_run.specs.Scripts.{Outside}
-use Rattle.wt_tool.specs.Points.{Point, Ran, Installed, IsLater, ends, stops, prints, Calls as ThenCalls, WithSession, Closes}
+use Rattle.script_text.specs.declared.line.Line.{Line}
+use Rattle.script_text.specs.declared.replies.Reply.{Reply}
+use Rattle.script_text.specs.declared.replies.Reply.TheVariants.{Answered}
+use Rattle.engine_store.specs.Answers.{Installs}
+use Rattle.engine_store.specs.Devices.{Installed, IsLater}
+use Rattle.script_run.specs.declared.script.End.TheVariants.{Through, Stopped, InputFailed, OutputFailed}
+use Rattle.script_run.specs.Scripts.{Outside, Replies, Script, StopsBy, ends as no_more}
+use Rattle.wt_tool.specs.Points.{Point, Ran, ends, stops, prints, Calls as ThenCalls, WithSession, Closes}
 use Rattle.wt_tool.specs.Openings.{Named}
+use Rattle.wt_tool.specs.Scripts.{ran_by}
+use Rattle.wt_tool.specs.Writes.{demand_of}
 
 -- what the words ask for
 pub data AskedLater : Type 0 where
@@ -125,68 +131,69 @@ RunsVerify uri p ran =
     ⊎ (((offset want found : ℕ) × (ran ≡ stops (Corrupt offset want found) q) × ((c : Content) → Reads p.device.seen c → ⊥))
     ⊎ ((c : Content) × Reads p.device.seen c × IsThere uri q ran))))
 
--- ---- lines of a script that reach the device
+-- ---- a checkpoint by steps: the line `sys ckpt` takes it in one event
 
--- such a line, or a whole call of an actor
-pub data Line : Type 0 where
-  Whole : (actor : Actor) (call : Call) → Line
-  -- start, steps to the end, finish
-  Ckpt : Line
-  -- and, where it is done, the device is opened anew
-  CloseAndOpen : Line
-  -- memory is forgotten and the device opened, with so many frames
-  Reopen : (frames : ℕ) → Line
+-- Of the engine: what a call of the system rests on, from one state to the next.
+module _ (around : Script → Script → Around) where
+  -- a whole call of the system: exactly what the engine's own call promises
+  pub record Calls (s : Script) (call : Call) (answer : Answer (List ℕ)) (t : Script) : Type 0 where
+    pub later : IsLater s.device t.device
+    pub answers : Answers (around s t) s.world.machine (System 0) call answer t.world.machine
 
--- Of the engine: what it keeps between two lines, the point at which it stands, what a call rests on from one state to the next, and how it is opened at a point, with so many frames.
-module _ (Engine : Type 0) (point : Engine → Point) (around : Engine → Engine → Around) (Opens : Point → ℕ → Engine → Type 0) where
-  -- a whole call: exactly what the engine's own call promises
-  pub record Calls (s : Engine) (actor : Actor) (call : Call) (answer : Answer (List ℕ)) (t : Engine) : Type 0 where
-    pub later : IsLater (point s).device (point t).device
-    pub answers : Answers (around s t) (point s).machine actor call answer (point t).machine
+  -- the same of one that installs nothing
+  pub record CallsOnly (s : Script) (call : Call) (answer : Answer (List ℕ)) (t : Script) : Type 0 where
+    pub calls : Calls s call answer t
+    pub made : t.made ≡ s.made
 
-  -- what a call installed that takes a checkpoint, or was installing at a fault of its gate
-  abbrev pub Installs : Engine → Answer (List ℕ) → Engine → List Installed → Type 0
-  Installs s Done t made = made ≡ record { checkpoint = (point t).machine.completed; refused = None; at = (point t).device.moment } ∷ []
-  Installs s (Refused r) t made = (made ≡ []) ⊎ ((r ≡ DiskFault) × ((k : Installed) × (k.refused ≡ Some DiskFault) × (k.at ≡ (point t).device.moment) × (made ≡ k ∷ [])))
-  Installs s _ t made = made ≡ []
-
-  abbrev pub InstallsBy : Call → Engine → Answer (List ℕ) → Engine → List Installed → Type 0
-  InstallsBy CkptFinish s answer t made = Installs s answer t made
-  InstallsBy Close s answer t made = Installs s answer t made
-  InstallsBy _ s answer t made = made ≡ []
+  -- the finish installs the checkpoint, or was installing it at a fault of its gate
+  pub record Finishes (s : Script) (answer : Answer (List ℕ)) (t : Script) : Type 0 where
+    pub calls : Calls s CkptFinish answer t
+    pub checkpoint : Completed
+    pub taken : answer ≡ Done → t.world.machine.completed ≡ checkpoint
+    pub installs : Installs answer checkpoint t.device t.world.machine s.made t.made
 
   -- the leaves one by one, and the finish; the first refusal ends it
-  abbrev pub Captures : ℕ → Engine → Answer (List ℕ) → List Installed → Engine → Type 0
-  Captures zero s answer made t =
-      ((r : Refusal) × Calls s (System 0) CkptStep (Refused r) t × (answer ≡ Refused r) × (made ≡ []))
-      ⊎ ((mid : Engine) × Calls s (System 0) CkptStep NoneLeft mid × Calls mid (System 0) CkptFinish answer t × Installs mid answer t made)
-  Captures (suc n) s answer made t = (mid : Engine) × Calls s (System 0) CkptStep Left mid × Captures n mid answer made t
+  abbrev pub Captures : ℕ → Script → Answer (List ℕ) → Script → Type 0
+  Captures zero s answer t =
+      ((r : Refusal) × CallsOnly s CkptStep (Refused r) t × (answer ≡ Refused r))
+      ⊎ ((mid : Script) × CallsOnly s CkptStep NoneLeft mid × Finishes mid answer t)
+  Captures (suc n) s answer t = (mid : Script) × CallsOnly s CkptStep Left mid × Captures n mid answer t
 
-  -- the answer to a line
-  abbrev pub Makes : Engine → Line → Answer (List ℕ) → List Installed → Engine → Type 0
-  Makes s (Whole actor call) answer made t = Calls s actor call answer t × InstallsBy call s answer t made
-  Makes s Ckpt answer made t =
-      ((r : Refusal) × (answer ≡ Refused r) × Calls s (System 0) CkptStart (Refused r) t × (made ≡ []))
-      ⊎ ((n : ℕ) × (mid : Engine) × Calls s (System 0) CkptStart Done mid × Captures n mid answer made t)
-  Makes s CloseAndOpen answer made t =
-      ((r : Refusal) × (answer ≡ Refused r) × Calls s (System 0) Close (Refused r) t × Installs s (Refused r) t made)
-      ⊎ ((mid : Engine) × (answer ≡ Done) × Calls s (System 0) Close Done mid × Installs s Done mid made × Opens (point mid) 64 t)
-  Makes s (Reopen frames) answer made t = (answer ≡ Done) × (made ≡ []) × Opens (point s) frames t
+  abbrev pub TakesBySteps : Script → Answer (List ℕ) → Script → Type 0
+  TakesBySteps s answer t =
+      ((r : Refusal) × (answer ≡ Refused r) × CallsOnly s CkptStart (Refused r) t)
+      ⊎ ((n : ℕ) × (mid : Script) × CallsOnly s CkptStart Done mid × Captures n mid answer t)
 
-  -- ---- `stress`: lines that a generator draws
+  -- ---- `stress`: what a generator draws
+
+  -- a line of a script, or a checkpoint by steps
+  pub data Turn : Type 0 where
+    Says : (asked : Line) → Turn
+    BySteps : Turn
+
+  -- the reply to it, and what it leaves
+  abbrev pub Makes : Turn → Script → Reply → Script → Type 0
+  Makes (Says asked) s reply t = (formats : Formats) × Replies asked s formats reply t
+  Makes BySteps s reply t = (answer : Answer (List ℕ)) × (reply ≡ Answered answer) × TakesBySteps s answer t
+
+  -- an opening that is refused ends the run
+  abbrev pub Stops : Turn → Script → Refusal → Script → Type 0
+  Stops (Says asked) s r t = StopsBy asked s r t
+  Stops BySteps s r t = ⊥
 
   -- the next state of the generator; what is drawn is its upper 32 bits
   abbrev pub lcg_next : ℕ → ℕ
   lcg_next x = (x * 6364136223846793005 + 1442695040888963407) % (2 ^ 64)
 
-  -- the line of a turn, by its number, what was drawn and the machine; the answers so far, newest first
-  module _ (turn_line : ℕ → ℕ → Machine → Line) (summary : List (Answer (List ℕ)) → Machine → List ℕ) (Counted : Refusal → Type 0) where
-    abbrev pub Turns : (turns at x : ℕ) → List (Answer (List ℕ)) → Engine → Ran → Type 0
-    Turns zero at x answers s ran = ran ≡ prints (summary answers (point s).machine) (ends Through (point s))
-    Turns (suc n) at x answers s ran =
-        (answer : Answer (List ℕ)) × (made : List Installed) × (t : Engine) × Makes s (turn_line at (lcg_next x / 4294967296) (point s).machine) answer made t
-        × (((r : Refusal) × (answer ≡ Refused r) × (Counted r → ⊥) × (ran ≡ record (stops r (point t)) { made = made }))
-        ⊎ ((rest : Ran) × (ran ≡ record rest { made = made ++ rest.made }) × Turns n (at + 1) (lcg_next x) (answer ∷ answers) t rest))
+  -- the line of a turn, by its number, what was drawn and the machine; the replies so far, newest first
+  module _ (turn_at : ℕ → ℕ → Machine → Turn) (summary : List Reply → Machine → List ℕ) (Counted : Refusal → Type 0) where
+    abbrev pub Turns : (turns at x : ℕ) → List Reply → Script → Ran → Type 0
+    Turns zero at x replies s ran = ran ≡ prints (summary replies s.world.machine) (ran_by [] (no_more Through s))
+    Turns (suc n) at x replies s ran =
+        ((r : Refusal) × (t : Script) × Stops (turn_at at (lcg_next x / 4294967296) s.world.machine) s r t × (ran ≡ ran_by [] (no_more (Stopped r) t)))
+        ⊎ ((reply : Reply) × (t : Script) × Makes (turn_at at (lcg_next x / 4294967296) s.world.machine) s reply t
+        × (((r : Refusal) × (reply ≡ Answered (Refused r)) × (Counted r → ⊥) × (ran ≡ ran_by [] (no_more (Stopped r) t)))
+        ⊎ Turns n (at + 1) (lcg_next x) (reply ∷ replies) t ran))
 
 -- `workload` has the words of `stress`, its run by the history that the threads made: `Reached` leads from the point at which they start to that at which they are joined.
 module _ (Reached : (workers turns : ℕ) → Point → List Installed → Point → Type 0) (text_of_sum : ℕ → ℕ → List ℕ) where

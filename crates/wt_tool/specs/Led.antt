@@ -10,7 +10,8 @@ use Rattle.engine_world.specs.Stands.{Engine, Stands}
 use Rattle.engine_world.specs.Worlds.{World}
 use Rattle.ckpt_step.specs.Plain.{IsPlain, GoesPlain}
 use Rattle.kv_model.specs.Decisions.{Demand}
-use Rattle.wt_tool.specs.Points.{Device, Point, Ran, Did, Calls, stops}
+use Rattle.wt_tool.specs.Points.{Point, Ran, Did, Calls, stops}
+use Rattle.engine_store.specs.Devices.{Device}
 use Rattle.wt_tool.specs.Openings.{formats_at}
 use Rattle.wt_tool.specs.Writes.{PutsPairs, the_put}
 use Rattle.wt_tool.specs.Parts.{IsQuiet, at}

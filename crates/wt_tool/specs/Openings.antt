@@ -10,8 +10,8 @@ use Rattle.wt_code.specs.declared.refusals.Limit.TheVariants.{Image, Tables, Che
 use Rattle.kv_model.specs.History.{tables, named}
 use Rattle.kv_model.specs.Machine.{Machine}
 use Rattle.wt_tool.specs.Words.{formats_asked, name_in, plain_formats}
-use Rattle.wt_tool.specs.Points.{Device, Point, Ran, IsLater, last_number, stops}
-use Rattle.wt_tool.specs.Narrow.{IsWide, IsUsedUp}
+use Rattle.wt_tool.specs.Points.{Point, Ran, stops}
+use Rattle.engine_store.specs.Devices.{Device, IsLater, last_number, IsWide, IsUsedUp}
 
 -- why an opening of a device that reads is refused
 abbrev pub RefusesOpening : Point → Device → Refusal → Type 0

@@ -1,5 +1,5 @@
 -- What the private functions of the commands leave.
-use Rattle.std.specs.Prelude.{◌≡◌, ◌≢◌, ℕ, List, [], ◌∷◌, ◌++◌, Option, None, slice_index_or, Result, Ok, Err, ◌⊎◌, IsTrue}
+use Rattle.std.specs.Prelude.{◌≡◌, ◌≢◌, ℕ, List, [], ◌∷◌, ◌++◌, filter, Option, None, slice_index_or, Result, Ok, Err, ◌⊎◌, IsTrue}
 use Rattle.std.specs.Option.{option_to_list}
 use Rattle.failure.specs.Counts.{Rose}
 use Rattle.disk_model.specs.Crash.{LeavesOnly}
@@ -15,7 +15,7 @@ use Rattle.engine_world.specs.Stands.{Engine, Stands}
 use Rattle.engine_world.specs.Systems.{first_world}
 use Rattle.script_run.specs.declared.script.End.{End}
 use Rattle.script_run.specs.declared.script.End.TheVariants.{Through, Stopped}
-use Rattle.script_run.specs.Scripts.{Outside, outside}
+use Rattle.script_run.specs.Scripts.{Outside, outside, counts}
 use Rattle.engine_world.specs.Worlds.{World, Resting, doing_of}
 use Rattle.stored.specs.Stored.{Stored}
 use Rattle.one_table.specs.Closings.{content_was}
@@ -24,10 +24,12 @@ use Rattle.ckpt_step.specs.Plain.{IsPlain}
 use Rattle.engine_store.specs.declared.store.Store.{Store}
 use Rattle.engine_store.specs.Opened.{HasNumbers}
 use Rattle.wt_line.specs.Line.{Asked}
-use Rattle.wt_tool.specs.Points.{Device, Point, Ran, Installed, point_of, stops}
+use Rattle.wt_tool.specs.Points.{Point, Ran, point_of, stops}
+use Rattle.engine_store.specs.Devices.{Device, Installed, device_of}
 use Rattle.wt_tool.specs.Narrow.{ClosesOne}
 use Rattle.wt_tool.specs.Scripts.{RunsScript, told_at}
-use Rattle.wt_tool.specs.Top.{OpensToLast, OpensToOne, Stays, EachReads, Errors, Streams, errors_of, streams_of, Printed, Tells, lines, last_line, status_at, status_by, Went}
+use Rattle.wt_tool.specs.Top.{Errors, Streams, errors_of, streams_of, Printed, Tells, lines, last_line, status_at, status_by, Went}
+use Rattle.engine_store.specs.Images.{OpensToLast, OpensToOne, Stays, EachReads}
 
 -- it tells of no damage
 abbrev pub NoDamage : Refusal → Type 0
@@ -56,7 +58,7 @@ pub record LeavesAt {D : Type 0} (g : Ghosts D) (Allowed : Point → Ran → Typ
   pub made : List Installed
   pub next : Machine
   pub run : Allowed (point_of g m old) (silent_run result made (point_of g next new))
-  pub opens : OpensToLast (g.may_leave new) next.completed made
+  pub opens : OpensToLast (g.may_leave new) m.completed next.completed made
   pub ever : LeavesOnly g old new (OpensToOne m.completed made)
   pub stays : Stays (g.left_since new) made
 
@@ -129,27 +131,26 @@ ReadsOn k e engine Allowed out out_now err err_now status =
     (content : Content) → Starts content engine → (device : Device)
     → Reading (Allowed (Rose (k.fault_count out) (k.fault_count out_now))) (record { machine = start content; device = device }) (k.written out) (k.written out_now) (errors_of e err err_now) status
 
--- a run of `script`, which makes no call of the disk
-pub record Scripting (o : Outside) (p : Point) (w : Streams) (status : ℕ) : Type 0 where
+-- ---- scripts
+
+-- a run of `script` that the definitions allow, and the device that it left, at each moment and in each image
+pub record Scripting {D : Type 0} (g : Ghosts D) (o : Outside) (content : Content) (w : Streams) (old new : D) (status : ℕ) : Type 0 where
   pub ran : Ran
-  pub run : RunsScript o p ran
+  pub run : RunsScript o (point_of g (start content) old) ran
+  pub there : ran.next.device ≡ device_of g new
   pub taken : Gave w.in_before w.in_now ran.input
   pub printed : Printed w.out_before w.out_now ran.end ran.text
   pub told : Tells w.errors (lines ran.refusals ++ last_line ran.end) (status_by ran) status
-  pub none : ran.made ≡ []
-  pub there : ran.next.device ≡ p.device
-  pub same : ran.next.machine.completed ≡ p.machine.completed
+  pub opens : OpensToLast (g.may_leave new) (start content).completed ran.next.machine.completed ran.made
+  pub ever : LeavesOnly g old new (OpensToOne (start content).completed ran.made)
+  pub stays : Stays (g.left_since new) ran.made
 
--- how a script ended is told, by the first fault that it replied, and this is its status
+-- from an honest disk each of whose images reads with one content, such a run
+abbrev pub ScriptsFrom : {D S K E : Type 0} (g : Ghosts D) (s : SourceGhosts S) (k : SinkGhosts K) (e : SinkGhosts E) → S → S → K → K → E → E → D → D → ℕ → Type 0
+ScriptsFrom g s k e input input_now out out_now err err_now old new status =
+    IsTrue (g.honest old) → (content : Content) → EachReads (g.may_leave old) content
+    → Scripting g (outside s k input input_now out out_now) content (streams_of s k e input input_now out out_now err err_now) old new status
+
+-- how a script ended is told, and its status is that of its end, or else of what its lines met
 abbrev pub TellsEnd : Errors → End → Option Refusal → ℕ → Type 0
-TellsEnd e end met status = Tells e (lines (told_at end) ++ last_line end) (status_at end (told_at end ++ option_to_list met)) status
-
--- what `script` gives and tells, on the machine of this content, whatever the device
-abbrev pub ScriptsAt : {S K E : Type 0} (s : SourceGhosts S) (k : SinkGhosts K) (e : SinkGhosts E) → Content → S → S → K → K → E → E → ℕ → Type 0
-ScriptsAt s k e content input input_now out out_now err err_now status =
-    (device : Device)
-    → Scripting (outside s k input input_now out out_now) (record { machine = start content; device = device }) (streams_of s k e input input_now out out_now err err_now) status
-
--- the same on an engine that has just started
-abbrev pub ScriptsOn : {S K E : Type 0} (s : SourceGhosts S) (k : SinkGhosts K) (e : SinkGhosts E) → Engine → S → S → K → K → E → E → ℕ → Type 0
-ScriptsOn s k e engine input input_now out out_now err err_now status = (content : Content) → Starts content engine → ScriptsAt s k e content input input_now out out_now err err_now status
+TellsEnd e end met status = Tells e (lines (told_at end) ++ last_line end) (status_at end (told_at end ++ filter counts (option_to_list met))) status

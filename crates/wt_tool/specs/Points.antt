@@ -1,5 +1,5 @@
 -- Runs of calls: the points between two calls, what a run gives, and the calls that it makes.
-use Rattle.std.specs.Prelude.{◌≡◌, ◌⊎◌, ℕ, ◌-◌, ◌^◌, ◌≤◌, false, List, [], ◌∷◌, ◌++◌, Option, Some, None}
+use Rattle.std.specs.Prelude.{◌≡◌, ◌⊎◌, ℕ, false, List, [], ◌∷◌, ◌++◌, Option, Some, None}
 use Rattle.failure.specs.Counts.{Rose}
 use Rattle.disk_model.specs.declared.disk.Disk.{Ghosts}
 use Rattle.wt_code.specs.declared.answers.Answer.{Answer}
@@ -8,26 +8,11 @@ use Rattle.wt_code.specs.declared.refusals.Refusal.{Refusal}
 use Rattle.wt_code.specs.declared.refusals.Refusal.TheVariants.{DiskFault}
 use Rattle.failure.specs.declared.Fault.{Fault}
 use Rattle.kv_model.specs.Machine.{Machine, Completed, CheckpointStart, CheckpointFinish}
-use Rattle.kv_model.specs.Outside.{Storing, Stored, NoPlace, ReadFailed, Damaged, WriteFailed}
 use Rattle.kv_model.specs.Closing.{after_all}
 use Rattle.kv_model.specs.Calls.{Actor, System, Call, Close as CloseCall, Around, Answers, OpensSession, rolled_back}
-use Rattle.device_layout.specs.declared.slot.Slot.{Slot}
-use Rattle.turtle.specs.Slots.{Chooses}
-use Rattle.stored.specs.Stored.{Stored as OnDevice, IsBlank}
-use Rattle.checkpoint_core.specs.Stands.{HasStill}
-use Rattle.ckpt_step.specs.Sizes.{HasRoomFor, IsFullFor}
+use Rattle.engine_store.specs.Devices.{Device, Installed, IsLater, KeepsCheckpoint, IsNumberOf, MayTakeAt, device_of}
 use Rattle.script_run.specs.declared.script.End.{End}
 use Rattle.script_run.specs.declared.script.End.TheVariants.{Through, Stopped}
-
--- a device at a point of a run: what a read gives, how much it may hold, how often it has failed, and its moment
-pub record Device : Type 0 where
-  pub seen : List ℕ
-  pub capacity : ℕ
-  pub faults : ℕ
-  pub moment : ℕ
-
-abbrev pub device_of : {D : Type 0} → Ghosts D → D → Device
-device_of g disk = record { seen = g.seen disk; capacity = g.capacity disk; faults = g.faults disk; moment = g.moment disk }
 
 -- a run between two of its calls
 pub record Point : Type 0 where
@@ -37,23 +22,7 @@ pub record Point : Type 0 where
 abbrev pub point_of : {D : Type 0} → Ghosts D → Machine → D → Point
 point_of g m disk = record { machine = m; device = device_of g disk }
 
--- no count falls, and no moment comes back
-pub record IsLater (old new : Device) : Type 0 where
-  pub faults : old.faults ≤ new.faults
-  pub moment : old.moment ≤ new.moment
-
--- The device has the checkpoint that it had, and as much room: any call leaves it so but one that takes a checkpoint.
-pub record KeepsCheckpoint (old new : Device) : Type 0 where
-  pub capacity : new.capacity ≡ old.capacity
-  pub checkpoint : (s : Option OnDevice) → HasStill s old.seen → HasStill s new.seen
-
 -- ---- what a run gives
-
--- A checkpoint that a call installed, or was installing when a fault at its gate stopped it: with what the call answered (None: done), and the moment of that answer.
-pub record Installed : Type 0 where
-  pub checkpoint : Completed
-  pub refused : Option Refusal
-  pub at : ℕ
 
 -- Input is what was read, text what is printed. Refusals are told on the errors, replies stand in the text.
 pub record Ran : Type 0 where
@@ -81,22 +50,6 @@ abbrev pub tells : Refusal → Ran → Ran
 tells r ran = record ran { refusals = r ∷ ran.refusals }
 
 -- ---- what lies outside
-
--- the greatest run, and the greatest number of a checkpoint
-abbrev pub last_number : ℕ
-last_number = 2 ^ 62 - 1
-
--- the device's last completed checkpoint has this number
-abbrev pub IsNumberOf : List ℕ → ℕ → Type 0
-IsNumberOf bytes n = (IsBlank bytes × (n ≡ 0)) ⊎ ((slot : Slot) × Chooses bytes (Some slot) × (slot.sequence ≡ n))
-
--- how a device takes the blocks of a checkpoint: each has a place, or one of them finds none
-abbrev pub MayTakeAt : Device → Device → Machine → Storing → Type 0
-MayTakeAt old new m Stored = HasRoomFor old.seen old.capacity m
-MayTakeAt old new m NoPlace = IsFullFor old.seen old.capacity m
-MayTakeAt old new m ReadFailed = Rose old.faults new.faults
-MayTakeAt old new m (Damaged offset want found) = ⊥
-MayTakeAt old new m (WriteFailed fault) = Rose old.faults new.faults
 
 -- What a call of a command rests on, from one point to another: no other call is unfinished. A page is kept from it only by a fault of the disk.
 abbrev pub around : Device → Device → Around

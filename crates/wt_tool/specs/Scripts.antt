@@ -1,33 +1,27 @@
--- The run of `script`: the lines of the input, each a call or a step of one.
-use Rattle.std.specs.Prelude.{◌≡◌, ℕ, Bool, List, [], ◌∷◌, None, IsTrue}
+-- The run of `script`: the lines of the input, each a call or a step of one, or one that reaches the device.
+use Rattle.std.specs.Prelude.{◌≡◌, ℕ, Bool, false, List, [], ◌∷◌, IsTrue}
 use Rattle.wt_code.specs.declared.refusals.Refusal.{Refusal}
-use Rattle.kv_model.specs.Machine.{Machine}
-use Rattle.engine_world.specs.Worlds.{World}
 use Rattle.script_run.specs.declared.script.End.{End}
 use Rattle.script_run.specs.declared.script.End.TheVariants.{Through, Stopped}
 use Rattle.script_run.specs.Lines.{AreLines}
-use Rattle.script_run.specs.Scripts.{Outside, RunsLines, fresh}
+use Rattle.script_run.specs.Scripts.{Outside, RunsLines, fresh, opened_world}
 use Rattle.script_run.specs.Scripts as script
-use Rattle.wt_tool.specs.Points.{Device, Point, Ran}
-
--- the world of an engine as an opening makes it: no session, and nothing started
-abbrev pub opened_world : Machine → World
-opened_world m = record { machine = m; sessions = []; systems = None ∷ None ∷ None ∷ None ∷ [] }
+use Rattle.wt_tool.specs.Points.{Point, Ran}
 
 -- the refusal that an end tells, if it does
 abbrev pub told_at : End → List Refusal
 told_at (Stopped r) = r ∷ []
 told_at _ = []
 
--- what a run of lines gave and printed, on a device that it does not touch
-abbrev pub ran_by : Device → List ℕ → script.Ran → Ran
-ran_by d given s = record {
+-- what a run of lines gave and printed, and what it installed
+abbrev pub ran_by : List ℕ → script.Ran → Ran
+ran_by given s = record {
   input = given;
   text = s.text;
   refusals = told_at s.end;
   replies = s.replies;
-  made = [];
-  next = record { machine = s.last.world.machine; device = d };
+  made = s.last.made;
+  next = record { machine = s.last.world.machine; device = s.last.device };
   end = s.end;
 }
 
@@ -41,6 +35,6 @@ pub record RunsScript (o : Outside) (p : Point) (ran : Ran) : Type 0 where
   pub at_end : IsTrue ended → o.input_ended
   pub lines : AreLines ended given texts behind
   pub made : script.Ran
-  pub runs : RunsLines o 1 0 texts (fresh (opened_world p.machine)) made
+  pub runs : RunsLines o 1 0 false texts (fresh (opened_world p.machine) p.device) made
   pub whole : made.end ≡ Through → behind ≡ []
-  pub is : ran ≡ ran_by p.device given made
+  pub is : ran ≡ ran_by given made

@@ -2,7 +2,6 @@
 use Rattle.std.specs.Prelude.{◌≡◌, ◌⊎◌, ℕ, ◌<◌, List, [], ◌∷◌, ◌++◌, length, take, filter, Option, Some, None, IsTrue, codes}
 use Rattle.std.specs.List.{flat_map, AllByRecursion}
 use Rattle.failure.specs.Counts.{Rose}
-use Rattle.disk_model.specs.Crash.{Each}
 use Rattle.disk_model.specs.declared.disk.Disk.{Ghosts}
 use Rattle.wt_io.specs.declared.streams.Source.{Ghosts as SourceGhosts}
 use Rattle.wt_io.specs.declared.streams.Sink.{Ghosts as SinkGhosts}
@@ -10,57 +9,23 @@ use Rattle.wt_io.specs.Streams.{Gave, Took, TookFront}
 use Rattle.wt_code.specs.declared.refusals.Refusal.{Refusal}
 use Rattle.wt_code.specs.declared.refusals.Refusal.TheVariants.{NoMemory, DiskFault, Corrupt}
 use Rattle.wt_code.specs.Text.{text_of_refusal}
-use Rattle.kv_model.specs.Machine.{Completed}
-use Rattle.kv_model.specs.Content.{Content, start, IsLayered, OpensAs}
+use Rattle.kv_model.specs.Content.{Content, start}
 use Rattle.stored.specs.Stored.{Reads}
-use Rattle.stored.specs.Opens.{Opens}
 use Rattle.recover_open.specs.Damage.{IsDamage}
 use Rattle.wt_line.specs.Line.{Asked, home_in}
 use Rattle.script_run.specs.declared.script.End.{End}
 use Rattle.script_run.specs.declared.script.End.TheVariants.{Through, Stopped, InputFailed, OutputFailed}
 use Rattle.script_run.specs.Scripts.{Outside, outside, counts}
-use Rattle.wt_tool.specs.Points.{Ran, Installed, device_of, point_of}
+use Rattle.engine_store.specs.Devices.{device_of}
+use Rattle.engine_store.specs.Images.{EachReads, OpensToLast, OpensToOne, Stays}
+use Rattle.wt_tool.specs.Points.{Ran, point_of}
 use Rattle.wt_tool.specs.Commands.{Runs}
 
 -- ---- the disk
 
--- each image reads with one content, which is layered
-abbrev pub EachReads : (List ℕ → Type 0) → Content → Type 0
-EachReads images content = Each images (λ c. Reads c content) × IsLayered content
-
 -- what an opening reads of the device is in its grammar: all of it, while an opening reads all
 abbrev pub IsOpenable : List ℕ → Type 0
 IsOpenable bytes = (content : Content) × Reads bytes content
-
--- none of them was done
-abbrev pub NoneDone : List Installed → Type 0
-NoneDone [] = Unit {0}
-NoneDone (i ∷ made) = (i.refused ≡ None → ⊥) × NoneDone made
-
--- a checkpoint that a fault at its gate stopped, with none done after it
-abbrev pub Pending : List Installed → Completed → Type 0
-Pending [] checkpoint = ⊥
-Pending (i ∷ made) checkpoint = ((i.refused ≡ Some DiskFault) × (i.checkpoint ≡ checkpoint) × NoneDone made) ⊎ Pending made checkpoint
-
--- one of those that were installed, or were being installed
-abbrev pub Among : List Installed → Completed → Type 0
-Among [] checkpoint = ⊥
-Among (i ∷ made) checkpoint = (i.checkpoint ≡ checkpoint) ⊎ Among made checkpoint
-
--- The images read with one content, which opens to the last checkpoint: what the next run asks of them. Only after a fault at a gate each opens to one of two by itself.
-abbrev pub OpensToLast : (List ℕ → Type 0) → Completed → List Installed → Type 0
-OpensToLast images last made =
-    ((content : Content) × EachReads images content × OpensAs content last)
-    ⊎ ((pending : Completed) × Pending made pending × ((c : List ℕ) → images c → Opens c last ⊎ ((k : Completed) × Pending made k × Opens c k)))
-
--- it opens to the last checkpoint before the run, or to one of its own
-abbrev pub OpensToOne : Completed → List Installed → List ℕ → Type 0
-OpensToOne first made c = Opens c first ⊎ ((k : Completed) × Among made k × Opens c k)
-
--- since the moment of one that was done, what a crash left opens to it or to a later one
-abbrev pub Stays : (ℕ → List ℕ → Type 0) → List Installed → Type 0
-Stays since [] = Unit {0}
-Stays since (i ∷ made) = (i.refused ≡ None → (c : List ℕ) → since i.at c → OpensToOne i.checkpoint made c) × Stays since made
 
 -- ---- the streams
 
@@ -151,14 +116,14 @@ pub record Went {D : Type 0} (g : Ghosts D) (o : Outside) (asked : Asked) (conte
   pub taken : Gave w.in_before w.in_now ran.input
   pub printed : Printed w.out_before w.out_now ran.end ran.text
   pub told : Tells w.errors (lines ran.refusals ++ last_line ran.end) (status_by ran) status
-  pub opens : OpensToLast (g.may_leave new) ran.next.machine.completed ran.made
+  pub opens : OpensToLast (g.may_leave new) (start content).completed ran.next.machine.completed ran.made
   pub ever : (c : List ℕ) → g.left_since new (g.moment old) c → OpensToOne (start content).completed ran.made c
   pub stays : Stays (g.left_since new) ran.made
 
--- What a refusal says of the device is so. Damage is told only where the device had it as the run began.
-abbrev pub IsSo : (honest : Type 0) → List ℕ → Refusal → Type 0
-IsSo honest bytes (Corrupt at want found) = honest → IsDamage bytes at want found
-IsSo honest bytes _ = Unit {0}
+-- What a refusal says of the device is so. Damage is told only where the device had it as the run began, or has it as it ended.
+abbrev pub IsSo : (honest : Type 0) → List ℕ → List ℕ → Refusal → Type 0
+IsSo honest before now (Corrupt at want found) = honest → IsDamage before at want found ⊎ IsDamage now at want found
+IsSo honest before now _ = Unit {0}
 
 -- the refusals and the end that the status and the errors tell, whatever the disk; this holds of each refusal
 pub record Telling (Holds : Refusal → Type 0) (e : Errors) (status : ℕ) : Type 0 where
@@ -181,7 +146,7 @@ module _ {D S K E : Type 0} (g : Ghosts D) (s : SourceGhosts S) (k : SinkGhosts 
     -- Words that are no command give the usage line and status 1, or 12 where memory is too short to read them.
     pub usage_told : command_of words ≡ None → Tells (errors_of e err err_now) usage 1 status × Took (k.written out) (k.written out_now) [] × (input_now ≡ input) × (disk_now ≡ disk)
     -- Whatever the disk, the status is that of refusals whose lines are on the errors. Damage that they tell of an honest disk is there.
-    pub told : (asked : Asked) → command_of words ≡ Some asked → Telling (IsSo (IsTrue (g.honest disk)) (g.seen disk)) (errors_of e err err_now) status
+    pub told : (asked : Asked) → command_of words ≡ Some asked → Telling (IsSo (IsTrue (g.honest disk)) (g.seen disk) (g.seen disk_now)) (errors_of e err err_now) status
     -- Status 0 and a printed byte come only where an opening of the device is not refused for what it holds.
     pub opened : IsTrue (g.honest disk) → status ≡ 0 → IsOpenable (g.seen disk)
     pub silent : IsTrue (g.honest disk) → Took (k.written out) (k.written out_now) [] ⊎ IsOpenable (g.seen disk)

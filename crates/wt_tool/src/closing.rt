@@ -3,13 +3,13 @@ ghost use Rattle.std.specs.Prelude.{◌≡◌, Option, IfErr, IsTrue};
 ghost use Rattle.failure.specs.Counts.{Rose};
 ghost use Rattle.disk_model.specs.Crash.{SameDisk};
 ghost use Rattle.engine_world.specs.Worlds.{World};
-ghost use Rattle.ckpt_step.specs.Grounds.{StandsOn};
+ghost use Rattle.ckpt_step.specs.Grounds.{IsSteady, StandsOn};
 ghost use Rattle.one_table.specs.Closings.{content_was};
 ghost use Rattle.stored.specs.Stored.{Stored};
 ghost use Rattle.engine_store.specs.Opened.{IsReady};
 ghost use Rattle.wt_tool.specs.Narrow.{ClosesOne};
 ghost use Rattle.wt_tool.specs.Parts.{IsPlainOn, LeavesAt, NoDamage};
-ghost use Rattle.wt_tool.specs.Top.{EachReads};
+ghost use Rattle.engine_store.specs.Images.{EachReads};
 
 use ckpt_step::{checkpoints_open, plain_stays};
 use disk_model::Disk;
@@ -20,7 +20,7 @@ use wt_code::Refusal;
 // Closes the store of a command that gave no stamp.
 pub(crate) fn close<D: Disk>(alloc: Global, disk: &mut D, store: &mut Store) -> Result<(), Refusal>
     requires ready { IsReady store.old }
-    requires on { IsTrue (D.honest disk.old) → (old : Option Stored) × StandsOn (D.seen disk.old) (D.may_leave disk.old) store.old.engine.hub.tables.tables store.old.ground old }
+    requires on { IsTrue (D.honest disk.old) → IsSteady D.Disk store.old.engine store.old.ground disk.old }
     ensures run { IsTrue (D.honest disk.old) → (old : Option Stored) → StandsOn (D.seen disk.old) (D.may_leave disk.old) store.old.engine.hub.tables.tables store.old.ground old
         → EachReads (D.may_leave disk.old) (content_was old) → (w : World) → IsPlainOn (content_was old) store.old.engine w → LeavesAt D.Disk ClosesOne w.machine disk.old disk.new result }
     ensures sound { IfErr result NoDamage }

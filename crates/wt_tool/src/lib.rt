@@ -5,7 +5,7 @@
 //! tells its cause. Leaves the real file and the real streams to the program. Each command runs on an
 //! engine that starts on the device's checkpoint. Today each table has one leaf: a device with a
 //! larger tree or with a history is refused as `75 limit image`, and so is a close whose rows pass a
-//! leaf. A script writes nothing to the device.
+//! leaf. A script writes to the device only by its lines that take a checkpoint.
 #![tactic(auto)]
 
 mod closing;

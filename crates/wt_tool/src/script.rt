@@ -1,48 +1,48 @@
-// `script`: the lines of the input are run on the engine.
-ghost use Rattle.std.specs.Prelude.{◌≡◌, ◌⊎◌, ◌∷◌, [], Some, IfOk, option_map};
+// `script`: the lines of the input are run on the engine and its device.
+ghost use Rattle.std.specs.Prelude.{◌≡◌, IsTrue, filter, option_map};
 ghost use Rattle.std.specs.Option.{option_to_list};
 ghost use Rattle.failure.specs.Counts.{Rose};
-ghost use Rattle.wt_tool.specs.Parts.{HasStarted, NoDamage, ScriptsOn, TellsEnd};
-ghost use Rattle.wt_tool.specs.Top.{Telling, errors_of, first_status};
+ghost use Rattle.disk_model.specs.Crash.{SameDisk};
+ghost use Rattle.engine_store.specs.Opened.{IsReady};
+ghost use Rattle.script_run.specs.Scripts.{counts};
+ghost use Rattle.wt_tool.specs.Parts.{HasStarted, IsOpenedOn, ScriptsFrom, TellsEnd};
+ghost use Rattle.wt_tool.specs.Top.{IsSo, IsStatus, Telling, errors_of, first_status};
 
-use crate::status::{Status, status_for};
+use crate::status::Status;
 use crate::telling::report;
-use engine::Local;
+use ckpt_step::{calm_stays, plain_stays};
+use disk_model::Disk;
+use engine_store::Store;
 use script_run::{End, ScriptRun, run_script};
 use std::alloc::Global;
 use wt_code::Refusal;
 use wt_io::{Sink, Source, write_all};
 
-pub(crate) fn script<S: Source, K: Sink, E: Sink>(
+pub(crate) fn script<D: Disk, S: Source, K: Sink, E: Sink>(
     alloc: Global,
-    engine: Local,
+    disk: &mut D,
+    store: Store,
     input: &mut S,
     out: &mut K,
     err: &mut E,
 ) -> u8
-    requires started { HasStarted engine }
-    ensures run { ScriptsOn S.Source K.Sink E.Sink engine input.old input.new out.old out.new err.old err.new result }
-    ensures told { Telling NoDamage (errors_of E.Sink err.old err.new) result }
-    ensures status { (result ≡ 0) ⊎ ((result ≡ 1) ⊎ ((result ≡ 5) ⊎ ((result ≡ 6) ⊎ (result ≡ 12)))) }
+    requires ready { IsReady store }
+    requires started { HasStarted store.engine }
+    requires on { IsTrue (D.honest disk.old) → IsOpenedOn D.Disk disk.old store }
+    ensures run { ScriptsFrom D.Disk S.Source K.Sink E.Sink input.old input.new out.old out.new err.old err.new disk.old disk.new result }
+    ensures told { Telling (IsSo (IsTrue (D.honest disk.old)) (D.seen disk.old) (D.seen disk.new)) (errors_of E.Sink err.old err.new) result }
+    ensures statuses { IsStatus result }
+    ensures disk_fault { result ≡ 4 → Rose (D.faults disk.old) (D.faults disk.new) }
     ensures input_fault { result ≡ 5 → Rose (S.fault_count input.old) (S.fault_count input.new) }
     ensures output_fault { result ≡ 6 → Rose (K.fault_count out.old) (K.fault_count out.new) }
+    ensures disk { SameDisk D.Disk disk.old disk.new }
 {
-    run(alloc, engine, input, out, err)
-}
-
-// Runs the script on an engine that has just started.
-fn run<S: Source, K: Sink, E: Sink>(
-    alloc: Global,
-    local: Local,
-    input: &mut S,
-    out: &mut K,
-    err: &mut E,
-) -> u8
-    ensures { ScriptsOn S.Source K.Sink E.Sink local input.old input.new out.old out.new err.old err.new result }
-{
-    let mut local = local;
-    local.actors();
-    let ran = run_script(alloc, &mut local, input, out);
+    plain_stays();
+    calm_stays();
+    let mut store = store;
+    // What the actors of the system have started is known of every engine.
+    store.engine.actors();
+    let ran = run_script(alloc, &mut store, disk, input, out);
     told(alloc, err, &ran)
 }
 
@@ -64,12 +64,14 @@ fn told<E: Sink>(alloc: Global, err: &mut E, ran: &ScriptRun) -> u8
     }
 }
 
-// The status of the first fault that was met, if there is one.
+// The status of what the lines met: a fault of the disk, or want of memory.
 fn status_met(met: Option<&Refusal>) -> u8
-    ensures { result ≡ first_status (option_to_list (option_map (λ r. r.now) met.entry)) }
+    ensures { result ≡ first_status (filter counts (option_to_list (option_map (λ r. r.now) met.entry))) }
 {
-    match met {
-        None => Status::Done as u8,
-        Some(refusal) => status_for(refusal),
-    }
+    let status = match met {
+        Some(Refusal::DiskFault) => Status::DiskFault,
+        Some(Refusal::NoMemory) => Status::NoMemory,
+        _ => Status::Done,
+    };
+    status as u8
 }

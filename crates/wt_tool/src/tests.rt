@@ -5,6 +5,7 @@ mod crashes;
 mod damage;
 mod faults;
 mod formats;
+mod lasting;
 mod openings;
 mod scripts;
 mod slots;

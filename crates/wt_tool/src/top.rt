@@ -73,7 +73,7 @@ fn run<S: Source, K: Sink, E: Sink, D: Home>(
     disk: &mut D,
 ) -> u8
     ensures run { WentFrom D.Disk S.Source K.Sink E.Sink (meaning command.now) input.old input.new out.old out.new err.old err.new disk.old disk.new result }
-    ensures told { Telling (IsSo (IsTrue (D.honest disk.old)) (D.seen disk.old)) (errors_of E.Sink err.old err.new) result }
+    ensures told { Telling (IsSo (IsTrue (D.honest disk.old)) (D.seen disk.old) (D.seen disk.new)) (errors_of E.Sink err.old err.new) result }
     ensures opened { IsTrue (D.honest disk.old) → result ≡ 0 → IsOpenable (D.seen disk.old) }
     ensures silent { IsTrue (D.honest disk.old) → Took (K.written out.old) (K.written out.new) [] ⊎ IsOpenable (D.seen disk.old) }
     ensures home { IsAt D.Disk home.now disk.old disk.new result }
@@ -101,7 +101,7 @@ fn run<S: Source, K: Sink, E: Sink, D: Home>(
             told(alloc, err, &result)
         }
         Command::Read { uri, keys } => read(alloc, out, err, store.engine, uri, keys),
-        Command::Script => script(alloc, store.engine, input, out, err),
+        Command::Script => script(alloc, disk, store, input, out, err),
     }
 }
 

@@ -1,4 +1,4 @@
-// Scripts: what each prints and tells on a device, which stays as it was.
+// Scripts that take no checkpoint: what each prints and tells on a device, which stays as it was.
 use super::{ROOM, Ran, bytes_of, disk_of, expect, new_device, owned, runs, written};
 use crate::wt_plain;
 use disk_model::MemDisk;
@@ -9,16 +9,16 @@ use wt_io::{MemSink, MemSource};
 // A script, the numbers of the reads and the writes that fail, its status, and what it tells and
 // prints.
 #[derive(Clone, Copy)]
-struct Case<'a> {
-    text: &'a str,
-    reads: &'a [u64],
-    writes: &'a [u64],
-    status: u8,
-    told: &'a str,
-    printed: &'a str,
+pub(crate) struct Case<'a> {
+    pub(crate) text: &'a str,
+    pub(crate) reads: &'a [u64],
+    pub(crate) writes: &'a [u64],
+    pub(crate) status: u8,
+    pub(crate) told: &'a str,
+    pub(crate) printed: &'a str,
 }
 
-fn run(rt: &impl Abort, alloc: Global, disk: MemDisk, case: Case<'_>) -> Ran {
+pub(crate) fn run(rt: &impl Abort, alloc: Global, disk: MemDisk, case: Case<'_>) -> Ran {
     let words = owned(rt, alloc, &["script"]);
     let input = MemSource::new(alloc, case.text.as_bytes(), case.reads);
     let mut input = input.expect(rt, "there is memory");

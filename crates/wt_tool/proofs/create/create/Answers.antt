@@ -28,7 +28,7 @@ pub close-requires-clause-ready : goal.close-requires-clause-ready
 close-requires-clause-ready g c = ready_more c.args.store (record c.args.store { engine = c.make_table.new.engine }) c.in-Ok.ensures.grows refl c.requires.ready
 
 pub close-requires-clause-on : goal.close-requires-clause-on
-close-requires-clause-on g c h =
+close-requires-clause-on g c h up =
     let on = c.requires.on h in
     (on.old, on_more (g.D.Disk.seen c.args.disk.now) (g.D.Disk.may_leave c.args.disk.now) c.args.store (record c.args.store { engine = c.make_table.new.engine }) on.old c.in-Ok.ensures.grows refl on.on)
 

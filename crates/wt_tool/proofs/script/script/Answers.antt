@@ -1,20 +1,45 @@
-use Rattle.script_run.specs.Scripts.{outside}
-use Rattle.wt_tool.specs.Top.{errors_of}
-use Rattle.wt_tool.proofs.ScriptRuns.{ScriptTells, script_tells, nowhere}
+use Rattle.std.proofs.Common.{List, [], Option, ap, subst}
+use Rattle.kv_model.specs.Calls.{Call}
+use Rattle.kv_model.specs.Content.{start}
+use Rattle.engine_world.specs.Worlds.{World}
+use Rattle.engine_world.specs.Systems.{first_world}
+use Rattle.script_run.specs.Scripts.{Outside, outside}
+use Rattle.script_run.specs.Runs.{IsRun}
+use Rattle.wt_tool.specs.Top.{Streams, errors_of, streams_of}
+use Rattle.wt_tool.proofs.ScriptRuns.{end_so, first_calm, first_held, four_rest, no_sessions, scripted, tells_end, tells_means}
 use Rattle.wt_tool.proofs.script.script.Goals as goal
 
--- whatever the disk
-tells_all : (g : _) (c : goal.After-run g) → ScriptTells (outside g.S.Source g.K.Sink c.args.input.now c.run.new.input c.args.out.now c.run.new.out) (errors_of g.E.Sink c.args.err.now c.run.new.err) c.run.result
-tells_all g c = script_tells _ _ _ c.run.result (c.run.ensures c.requires.started.0 c.requires.started.1 nowhere)
+pub run_script-ran-requires-clause-steady : goal.run_script-ran-requires-clause-steady
+run_script-ran-requires-clause-steady g c h up = let on = c.requires.on h in (on.old, on.on)
+
+pub returns-clause-run : goal.returns-clause-run
+returns-clause-run g c h content each =
+    let D = g.D.Disk in
+    let o : Outside = outside g.S.Source g.K.Sink c.args.input.now c.run_script-ran.new.input c.args.out.now c.run_script-ran.new.out in
+    let w : Streams = streams_of g.S.Source g.K.Sink g.E.Sink c.args.input.now c.run_script-ran.new.input c.args.out.now c.run_script-ran.new.out c.args.err.now c.told.new.err in
+    let s = c.args.store in
+    let on = c.requires.on h in
+    let reads = each.0 _ (g.met.D.Disk.reads_an_image _ h) in
+    let held = first_held D c.args.disk.now s on content each reads (λ d left. g.met.D.Disk.only_now _ d left) in
+    let calm = first_calm D c.args.disk.now s on content each reads c.plain_stays.ensures.starts c.calm_stays.ensures.starts in
+    let world = ap (λ (l : List (Option Call)). let v : World = record { machine = start content; sessions = []; systems = l } in v) (four_rest s.engine.systems c.actors.ensures.systems) in
+    scripted D o content w c.args.disk.now c.run_script-ran.new.disk c.run_script-ran.new.store c.run_script-ran.result c.told.result
+    (subst (λ (v : World). IsRun D o w.in_before w.in_now w.out_before w.out_now v c.args.disk.now c.run_script-ran.new.disk c.run_script-ran.new.store c.run_script-ran.result) world
+    (c.run_script-ran.ensures.run h (first_world content s.engine) held calm))
+    c.told.ensures
 
 pub returns-clause-told : goal.returns-clause-told
-returns-clause-told g c = (tells_all g c).telling
+returns-clause-told g c = tells_end _ (errors_of g.E.Sink c.args.err.now c.told.new.err) c.run_script-ran.result c.told.result
+    (end_so _ _ _ c.run_script-ran.result.end c.run_script-ran.ensures.damage) c.told.ensures
 
-pub returns-clause-status : goal.returns-clause-status
-returns-clause-status g c = (tells_all g c).means.some
+pub returns-clause-statuses : goal.returns-clause-statuses
+returns-clause-statuses g c = (tells_means (errors_of g.E.Sink c.args.err.now c.told.new.err) c.run_script-ran.result.end c.run_script-ran.result.met c.told.result c.told.ensures).some
+
+pub returns-clause-disk_fault : goal.returns-clause-disk_fault
+returns-clause-disk_fault g c is = c.run_script-ran.ensures.fault (no_sessions c.args.store.engine c.requires.started) ((tells_means (errors_of g.E.Sink c.args.err.now c.told.new.err) c.run_script-ran.result.end c.run_script-ran.result.met c.told.result c.told.ensures).disk is)
 
 pub returns-clause-input_fault : goal.returns-clause-input_fault
-returns-clause-input_fault g c = (tells_all g c).means.input
+returns-clause-input_fault g c is = c.run_script-ran.ensures.input ((tells_means (errors_of g.E.Sink c.args.err.now c.told.new.err) c.run_script-ran.result.end c.run_script-ran.result.met c.told.result c.told.ensures).input is)
 
 pub returns-clause-output_fault : goal.returns-clause-output_fault
-returns-clause-output_fault g c = (tells_all g c).means.output
+returns-clause-output_fault g c is = c.run_script-ran.ensures.output ((tells_means (errors_of g.E.Sink c.args.err.now c.told.new.err) c.run_script-ran.result.end c.run_script-ran.result.met c.told.result c.told.ensures).output is)

@@ -1,4 +1,4 @@
-use Rattle.std.proofs.Common.{refl, inl, inr, ◌≡◌, sym, ◌∙◌, subst, List, ℕ, map, Result, Err}
+use Rattle.std.proofs.Common.{refl, inl, inr, ◌≡◌, sym, ◌∙◌, subst, Bool, IsTrue, List, ℕ, map, Result, Err}
 use Rattle.std.specs.Prelude.{IfErr}
 use Rattle.std.specs.Option.{option_map}
 use Rattle.std.specs.Borrow.{Bor}
@@ -15,7 +15,7 @@ use Rattle.wt_tool.specs.Creates.{RunsCreate}
 use Rattle.wt_tool.specs.Writes.{RunsWrite}
 use Rattle.wt_tool.specs.Reads.{RunsRead}
 use Rattle.wt_tool.specs.Commands.{RunsOpened}
-use Rattle.wt_tool.specs.Top.{Streams, Went, streams_of}
+use Rattle.wt_tool.specs.Top.{Errors, IsSo, Streams, Telling, Went, errors_of, streams_of}
 use Rattle.wt_tool.proofs.Running.{refused_open, may_open, opened_reads, starts_on, opens_of, gave_none, telling, no_damage_so, told_so, opening_so, status_some, untold_at, stopped, left_by_calls, reading_went, script_went}
 use Rattle.wt_tool.proofs.top.run.Goals as goal
 
@@ -37,7 +37,7 @@ returns-in-Err-clause-run g c h content each =
     (λ d left. each.0 d (looked.images d left)) first.each (took_none _) c.report.ensures.told
 
 pub returns-in-Err-clause-told : goal.returns-in-Err-clause-told
-returns-in-Err-clause-told g c = telling _ _ (Err c.in-Err.refusal) c.report.result c.report.ensures.told (opening_so _ _ _ c.in-Err.refusal c.in-Err.ensures.err)
+returns-in-Err-clause-told g c = telling _ _ (Err c.in-Err.refusal) c.report.result c.report.ensures.told (opening_so _ _ _ (g.D.Disk.seen c.reach.new.disk) c.in-Err.refusal c.in-Err.ensures.err)
 
 pub returns-in-Err-clause-opened : goal.returns-in-Err-clause-opened
 returns-in-Err-clause-opened g c h none = absurd (status_some c.in-Err.refusal c.report.result c.report.ensures.status none)
@@ -67,7 +67,7 @@ returns-in-Create-clause-run g c h content each =
     (took_none _) c.told.ensures.told
 
 pub returns-in-Create-clause-told : goal.returns-in-Create-clause-told
-returns-in-Create-clause-told g c = telling _ _ c.create-result.result c.told.result c.told.ensures.told (err_map c.create-result.result c.create-result.ensures.sound (no_damage_so _ _))
+returns-in-Create-clause-told g c = telling _ _ c.create-result.result c.told.result c.told.ensures.told (err_map c.create-result.result c.create-result.ensures.sound (no_damage_so _ _ _))
 
 pub returns-in-Write-clause-run : goal.returns-in-Write-clause-run
 returns-in-Write-clause-run g c h content each =
@@ -86,7 +86,7 @@ returns-in-Write-clause-run g c h content each =
     (took_none _) c.told-in-Write.ensures.told
 
 pub returns-in-Write-clause-told : goal.returns-in-Write-clause-told
-returns-in-Write-clause-told g c = telling _ _ c.write-result.result c.told-in-Write.result c.told-in-Write.ensures.told (err_map c.write-result.result c.write-result.ensures.sound (no_damage_so _ _))
+returns-in-Write-clause-told g c = telling _ _ c.write-result.result c.told-in-Write.result c.told-in-Write.ensures.told (err_map c.write-result.result c.write-result.ensures.sound (no_damage_so _ _ _))
 
 pub returns-in-Read-clause-run : goal.returns-in-Read-clause-run
 returns-in-Read-clause-run g c h content each =
@@ -106,7 +106,7 @@ returns-in-Read-clause-run g c h content each =
     (c.read.ensures.run content (starts_on D c.args.disk.now c.reach.new.disk c.in-Ok.store looked (c.in-Ok.ensures.ok h) content reads) q.device)
 
 pub returns-in-Read-clause-told : goal.returns-in-Read-clause-told
-returns-in-Read-clause-told g c = told_so _ _ _ c.read.result c.read.ensures.told
+returns-in-Read-clause-told g c = told_so _ _ _ _ c.read.result c.read.ensures.told
 
 pub returns-in-Read-clause-silent : goal.returns-in-Read-clause-silent
 returns-in-Read-clause-silent g c h = inr (opened_reads g.D.Disk c.args.disk.now c.reach.new.disk c.in-Ok.store c.reach.ensures.looked (c.in-Ok.ensures.ok h))
@@ -128,15 +128,18 @@ returns-in-Script-clause-run g c h content each =
     let w : Streams = streams_of g.S.Source g.K.Sink g.E.Sink c.args.input.now c.script.new.input c.args.out.now c.script.new.out c.args.err.now c.script.new.err in
     let reads = each.0 _ (g.met.D.Disk.reads_an_image _ h) in
     let first = looked_only D _ _ _ looked (λ d left. each.0 d (g.met.D.Disk.only_now _ d left)) in
-    let q : Point = point_of D (start content) c.reach.new.disk in
-    subst (λ (a : Command). Went D o (meaning a) content w c.args.disk.now c.reach.new.disk c.script.result) (sym c.in-Script.is)
-    (script_went D c.args.disk.now c.reach.new.disk content each.1 o w c.script.result
-    (opens_of D (start content) c.args.disk.now c.reach.new.disk looked) (may_open D c.args.disk.now c.reach.new.disk c.in-Ok.store looked (c.in-Ok.ensures.ok h) content reads)
-    (λ d left. each.0 d (looked.images d left)) first.each
-    (c.script.ensures.run content (starts_on D c.args.disk.now c.reach.new.disk c.in-Ok.store looked (c.in-Ok.ensures.ok h) content reads) q.device))
+    subst (λ (a : Command). Went D o (meaning a) content w c.args.disk.now c.script.new.disk c.script.result) (sym c.in-Script.is)
+    (script_went D c.args.disk.now c.reach.new.disk c.script.new.disk content each.1 o w c.script.result
+    (opens_of D (start content) c.args.disk.now c.reach.new.disk looked) (may_open D c.args.disk.now c.reach.new.disk c.in-Ok.store looked (c.in-Ok.ensures.ok h) content reads) first
+    (c.script.ensures.run (looked.same ∙ h) content ((λ d left. each.0 d (looked.images d left)), each.1)))
 
 pub returns-in-Script-clause-told : goal.returns-in-Script-clause-told
-returns-in-Script-clause-told g c = told_so _ _ _ c.script.result c.script.ensures.told
+returns-in-Script-clause-told g c =
+    let D = g.D.Disk in
+    let looked = c.reach.ensures.looked in
+    let e : Errors = errors_of g.E.Sink c.args.err.now c.script.new.err in
+    subst (λ (b : Bool). Telling (IsSo (IsTrue b) (D.seen c.args.disk.now) (D.seen c.script.new.disk)) e c.script.result) looked.same
+    (subst (λ (l : List ℕ). Telling (IsSo (IsTrue (D.honest c.reach.new.disk)) l (D.seen c.script.new.disk)) e c.script.result) looked.content c.script.ensures.told)
 
 pub returns-in-Script-clause-silent : goal.returns-in-Script-clause-silent
 returns-in-Script-clause-silent g c h = inr (opened_reads g.D.Disk c.args.disk.now c.reach.new.disk c.in-Ok.store c.reach.ensures.looked (c.in-Ok.ensures.ok h))
