@@ -104,6 +104,7 @@ fn undo(piece: &mut FramePiece, view: &View<'_>, state: &mut SessionState, left:
 }
 
 // Edits what the transaction wrote in the leaf that ends the first `left` keys.
+#[inline(always)]
 fn edit(piece: &mut FramePiece, view: &View<'_>, state: &SessionState, edit: Edit, left: usize)
     ensures { piece.new ≡ edits view.now edit state.now left piece.old }
 {

@@ -41,6 +41,7 @@ pub(crate) fn leaf_start(keys: &[WrittenKey], frame: u32, left: usize) -> usize
 
 /// Edits the chain of each key of a frame among those that end the first `left`. Takes no memory.
 /// `O(k)` in these keys.
+#[inline(always)]
 pub(crate) fn edit_leaf(
     chains: &mut LeafChains,
     keys: &[WrittenKey],

@@ -41,25 +41,46 @@ impl SessionState {
         requires { IsSight (sight_of view.now) }
         ensures { LookedBy call view.now target chains.old self.old chains.new self.new }
     {
+        // Beside a get, what is done is not inlined: its locals would be cleared at each look.
         match call {
-            KeyCall::Get | KeyCall::Seek(_) => self.read(chains, view, call, target),
-            KeyCall::Put(demand) => {
-                let value = replace(&mut self.value, Item::new(Vec::new(alloc)));
-                let change = Change::Put(value);
-                self.write(alloc, chains, view, call, target, demand, change);
-            }
-            KeyCall::Remove => {
-                let demand = Demand::Occupied;
-                self.write(alloc, chains, view, call, target, demand, Change::Remove);
-            }
-            KeyCall::Step(cursor, way) => self.step(chains, view, call, target, cursor, way),
+            KeyCall::Get => self.get(chains, view, target),
+            KeyCall::Put(demand) => self.put(alloc, chains, view, target, demand),
+            KeyCall::Remove => self.remove(alloc, chains, view, target),
+            KeyCall::Seek(cursor) => self.seek(chains, view, target, cursor),
+            KeyCall::Step(cursor, way) => self.step(chains, view, target, cursor, way),
         }
     }
 
-    fn read(&mut self, chains: &LeafChains, view: &View<'_>, call: KeyCall, target: Target)
+    // A read that moves no cursor.
+    #[inline(always)]
+    fn get(&mut self, chains: &LeafChains, view: &View<'_>, target: Target)
         requires { IsSight (sight_of view.now) }
-        ensures { ReadBy (read_of view.now (chain_at self.old.key chains.now)) call target self.old self.new }
+        ensures { ReadBy (read_of view.now (chain_at self.old.key chains.now)) KeyCall.Get target self.old self.new }
     {
+        let call = KeyCall::Get;
+        match chains.read(self.key.as_bytes(), view) {
+            Read::Found(value) => match value.copy() {
+                Ok(value) => self.clear(call, target, Answer::Value(value)),
+                Err(_) => self.clear(call, target, Answer::Refused(Refusal::NoMemory)),
+            },
+            Read::Removed => self.clear(call, target, Answer::Refused(Refusal::NotFound)),
+            Read::Conflict(id) => {
+                self.clear(
+                    call,
+                    target,
+                    Answer::Refused(Refusal::PrepareConflict { id }),
+                );
+            }
+            Read::Older => self.go_to(Stage::History(call, target)),
+        }
+    }
+
+    #[inline(never)]
+    fn seek(&mut self, chains: &LeafChains, view: &View<'_>, target: Target, cursor: u32)
+        requires { IsSight (sight_of view.now) }
+        ensures { ReadBy (read_of view.now (chain_at self.old.key chains.now)) (KeyCall.Seek cursor) target self.old self.new }
+    {
+        let call = KeyCall::Seek(cursor);
         match chains.read(self.key.as_bytes(), view) {
             Read::Found(value) => match value.copy() {
                 Ok(value) => self.answer(call, target, Answer::Value(value)),
@@ -77,7 +98,43 @@ impl SessionState {
         }
     }
 
+    #[inline(never)]
+    fn put(
+        &mut self,
+        alloc: Global,
+        chains: &mut LeafChains,
+        view: &View<'_>,
+        target: Target,
+        demand: Demand,
+    )
+        requires { IsSight (sight_of view.now) }
+        ensures { LookedBy (KeyCall.Put demand) view.now target chains.old self.old chains.new self.new }
+    {
+        let value = replace(&mut self.value, Item::new(Vec::new(alloc)));
+        let call = KeyCall::Put(demand);
+        self.write(
+            alloc,
+            chains,
+            view,
+            call,
+            target,
+            demand,
+            Change::Put(value),
+        );
+    }
+
+    #[inline(never)]
+    fn remove(&mut self, alloc: Global, chains: &mut LeafChains, view: &View<'_>, target: Target)
+        requires { IsSight (sight_of view.now) }
+        ensures { LookedBy KeyCall.Remove view.now target chains.old self.old chains.new self.new }
+    {
+        let demand = Demand::Occupied;
+        let call = KeyCall::Remove;
+        self.write(alloc, chains, view, call, target, demand, Change::Remove);
+    }
+
     // A write of a key that need not be there adds it, where it has no slot.
+    #[inline(always)]
     fn write(
         &mut self,
         alloc: Global,
@@ -269,18 +326,12 @@ impl SessionState {
         Ok(())
     }
 
-    fn step(
-        &mut self,
-        chains: &LeafChains,
-        view: &View<'_>,
-        call: KeyCall,
-        target: Target,
-        cursor: u32,
-        way: Way,
-    )
+    #[inline(never)]
+    fn step(&mut self, chains: &LeafChains, view: &View<'_>, target: Target, cursor: u32, way: Way)
         requires { IsSight (sight_of view.now) }
-        ensures { SteppedBy view.now (way_in way) (from_of self.old cursor target.table) call target chains.now self.old self.new }
+        ensures { SteppedBy view.now (way_in way) (from_of self.old cursor target.table) (KeyCall.Step cursor way) target chains.now self.old self.new }
     {
+        let call = KeyCall::Step(cursor, way);
         let from = start_of(self.cursors.as_slice(), cursor, target.table);
         match row_copied(find_row(chains, view, way, from)) {
             Ok(Stepped::Row(key, value, kept)) => {

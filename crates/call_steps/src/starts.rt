@@ -80,6 +80,7 @@ impl SessionState {
     }
 
     // The keys that were written, by leaf, and the first event.
+    #[inline(always)]
     fn arrange(&mut self, stage: Stage)
         ensures { Arranges stage self.old self.new }
     {

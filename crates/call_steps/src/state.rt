@@ -143,6 +143,7 @@ impl SessionState {
     }
 
     // The transaction has ended with this answer.
+    #[inline(always)]
     pub(crate) fn finish(&mut self, answer: Answer<Item>) -> Reply
         ensures { (result, self.new) ≡ finished answer self.old }
     {
@@ -271,6 +272,16 @@ fn unplace(cursors: &mut [Cursor])
     ensures { cursors.new ≡ map (placed None) cursors.old }
 {
     for cursor in cursors.iter_mut() {
+        lift(cursor);
+    }
+}
+
+// It stands nowhere. Most stand nowhere already.
+#[inline(always)]
+fn lift(cursor: &mut Cursor)
+    ensures { cursor.new ≡ placed None cursor.old }
+{
+    if let Some(_) = &cursor.position {
         cursor.position = None;
     }
 }

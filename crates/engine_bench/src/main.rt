@@ -65,7 +65,8 @@ fn item(alloc: Global, bytes: &[u8]) -> Result<Item, NoMemory> {
     Ok(Item::new(Vec::from_slice(alloc, bytes)?))
 }
 
-// A whole call of the one session.
+// A whole call of the one session. Inlined, so that no second move of its items is counted.
+#[inline(always)]
 fn ask(alloc: Global, engine: &mut Local, call: SessionCall) -> Answer<Item> {
     if engine.sessions() == 0 {
         return Answer::Refused(Refusal::Invalid(Invalid::NoCall));

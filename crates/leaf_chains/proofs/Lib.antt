@@ -3,3 +3,4 @@ pub mod Installs
 pub mod Index
 pub mod Pushing
 pub mod Neighbours
+pub mod HeadLemmas

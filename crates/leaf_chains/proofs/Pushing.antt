@@ -73,12 +73,12 @@ contains_new xs i y le = (i, omega (arith, le, length-insert xs i y le), get_or-
 
 -- ---- keys with a new slot
 
-key_pushed : (slots : List KeyChain) (s : KeyChain) (i : ℕ) → i < length slots → key_at (slots ++ s ∷ []) i ≡ key_at slots i
+pub key_pushed : (slots : List KeyChain) (s : KeyChain) (i : ℕ) → i < length slots → key_at (slots ++ s ∷ []) i ≡ key_at slots i
 key_pushed [] s i lt = absurd (omega (arith, lt))
 key_pushed (x ∷ slots) s zero lt = refl
 key_pushed (x ∷ slots) s (suc i) lt = key_pushed slots s i (omega (arith, lt))
 
-key_new : (slots : List KeyChain) (s : KeyChain) → key_at (slots ++ s ∷ []) (length slots) ≡ s.key
+pub key_new : (slots : List KeyChain) (s : KeyChain) → key_at (slots ++ s ∷ []) (length slots) ≡ s.key
 key_new [] s = refl
 key_new (x ∷ slots) s = key_new slots s
 

@@ -3,3 +3,4 @@ pub mod Nearest
 pub mod Order
 pub mod SlotLaws
 pub mod Adds
+pub mod Heads

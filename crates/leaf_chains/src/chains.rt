@@ -14,6 +14,7 @@ ghost use Rattle.leaf_chains.specs.Nearest.{IsWayUp, NextAbove, NextBelow, NoneP
 ghost use Rattle.leaf_chains.specs.Slots.{chain_at, slot_changed, slot_of, with_update};
 
 use crate::added::Added;
+use crate::heads::Heads;
 use crate::places::{place_from_last, slot_above, slot_below, slot_with, walk_above};
 use crate::slot::KeyChain;
 use failure::NoMemory;
@@ -31,19 +32,21 @@ pub struct LeafChains {
     slots: Vec<KeyChain>,
     // The slots in the order of their keys.
     order: OrderedGroups<u32>,
+    heads: Heads,
 }
 
 impl Model for LeafChains {
     ghost use Rattle.std.specs.Prelude.{List};
     ghost use Rattle.leaf_chains.specs.declared.slot.KeyChain.{KeyChain};
     ghost use Rattle.ordered_groups.specs.Groups.{entries};
+    ghost use Rattle.leaf_chains.specs.Heads.{AreHeads};
     ghost use Rattle.leaf_chains.specs.Order.{IsIndex};
 
     ghost Value = { List KeyChain };
 
     ghost view = { λ a. a.slots.items };
 
-    ghost invariant = { λ a. IsIndex a.slots.items (entries a.order) };
+    ghost invariant = { λ a. IsIndex a.slots.items (entries a.order) × AreHeads a.heads.front.items a.heads.words.items a.slots.items };
 }
 
 impl LeafChains {
@@ -54,6 +57,7 @@ impl LeafChains {
         LeafChains {
             slots: Vec::new(alloc),
             order: OrderedGroups::new(alloc),
+            heads: Heads::new(alloc),
         }
     }
 
@@ -71,11 +75,12 @@ impl LeafChains {
         self.slots.is_empty()
     }
 
-    /// The slot of a key, none where it has none. `O(log n)` comparisons with n keys.
+    /// The slot of a key, none where it has none. `O(log n)` comparisons with n keys, most of them
+    /// of one number.
     pub fn find(&self, key: &[u8]) -> Option<u32>
         ensures { result ≡ slot_of key.now self.now }
     {
-        slot_with(self.slots.as_slice(), &self.order, key)
+        slot_with(self.slots.as_slice(), &self.order, &self.heads, key)
     }
 
     /// The key and the chain in a slot, none where there is no such slot. `O(1)`.
@@ -133,7 +138,8 @@ impl LeafChains {
     /// Puts an update on top of the chain of a key, as `Chain::install`, and gives the slot. A new
     /// key gets a slot behind all others, and its bytes are copied once. Where memory is short, or
     /// there are 2^32 slots, nothing is changed. One comparison where the key is above all others,
-    /// `O(log n)` elsewhere; a new key moves at most 255 names of slots.
+    /// `O(log n)` elsewhere; a new key moves at most 255 names of slots. Where a key has no head,
+    /// those of all keys are taken anew once their number has doubled: `O(n)` then.
     pub fn install(&mut self, alloc: Global, key: &[u8], update: Update) -> Result<u32, NoMemory>
         ensures installed { OnOk result (self.new ≡ with_update key.now update self.old) }
         ensures slot { IfOk result (λ i. slot_of key.now self.new ≡ Some i) }
@@ -155,7 +161,8 @@ impl LeafChains {
         ensures added { IfOk result (IsAdded key.now update self.old self.new) }
         ensures kept { OnErr result (self.new ≡ self.old) }
     {
-        match place_from_last(self.slots.as_slice(), &self.order, key) {
+        let head = self.heads.of(key);
+        match place_from_last(self.slots.as_slice(), &self.order, &self.heads, key, head) {
             Ok(place) => {
                 let slot = self.order.get(place);
                 Ok(Added::There(slot, update))
@@ -163,6 +170,7 @@ impl LeafChains {
             Err(gap) => {
                 let added = first_of(alloc, key, update)?;
                 let slot = add(&mut self.slots, &mut self.order, gap, added)?;
+                self.heads.keep(self.slots.as_slice(), &self.order, head);
                 Ok(Added::New(slot))
             }
         }
@@ -262,8 +270,7 @@ fn first_of(alloc: Global, key: &[u8], update: Update) -> Result<KeyChain, NoMem
     ensures { IfOk result (λ s. s ≡ record { key = key.now; chain = installed update [] }) }
 {
     let key = Item::new(Vec::from_slice(alloc, key)?);
-    let mut chain = Chain::new(alloc);
-    chain.install(update)?;
+    let chain = Chain::of(alloc, update);
     Ok(KeyChain { key, chain })
 }
 

@@ -5,12 +5,15 @@
 //! of its key, that an install puts its update on the chain of its key alone, where a new key gets
 //! a slot behind all others, that a change in a slot touches no other, and that the next key above
 //! or below a bound is the nearest. A search takes `O(log n)` comparisons with n keys, and what is
-//! done in a known slot `O(1)`, so a commit that kept its slots finds nothing twice. Leaves to the
-//! caller which update belongs to which key, and that a leaf with an unresolved update stays.
+//! done in a known slot `O(1)`, so a commit that kept its slots finds nothing twice. The head of a
+//! key, eight bytes behind a front that the keys have in common, is kept as a number beside it, and
+//! decides most comparisons. Leaves to the caller which update belongs to which key, and that a leaf
+//! with an unresolved update stays.
 #![tactic(auto)]
 
 mod added;
 mod chains;
+mod heads;
 mod laws;
 mod places;
 mod slot;

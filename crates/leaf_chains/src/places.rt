@@ -1,20 +1,22 @@
 // Where keys stand in the order of a leaf's slots.
 
-ghost use Rattle.std.specs.Prelude.{◌≡◌, MatchOption, MatchResult, option_map};
+ghost use Rattle.std.specs.Prelude.{◌≡◌, IfSome, MatchOption, MatchResult, option_map};
 ghost use Rattle.kv_model.specs.Rows.{Up, Down};
 ghost use Rattle.ordered_groups.specs.Groups.{entries};
 ghost use Rattle.ordered_groups.specs.Places.{rank, Finds, IsGap, IsPlace, PartsAt};
+ghost use Rattle.leaf_chains.specs.Heads.{AreHeads, IsHead};
 ghost use Rattle.leaf_chains.specs.Nearest.{IsWayUp, NextAbove, NextBelow, NonePast};
 ghost use Rattle.leaf_chains.specs.Order.{IsIndex, key_order, not_above, not_below};
 ghost use Rattle.leaf_chains.specs.Slots.{key_at, slot_of};
 
+use crate::heads::Heads;
 use crate::slot::KeyChain;
 use ordered_groups::{OrderedGroups, Place, Walk};
 use std::cmp::Ordering;
 
 // The key in a slot, the empty one where there is no such slot.
 #[inline(always)]
-fn key_in(slots: &[KeyChain], slot: u32) -> &[u8]
+pub(crate) fn key_in(slots: &[KeyChain], slot: u32) -> &[u8]
     ensures { result.now ≡ key_at slots.now slot }
 {
     match slots.get(slot as usize) {
@@ -52,32 +54,93 @@ fn not_below(order: Ordering) -> Ordering
     }
 }
 
+// Not inlined, so that a comparison of heads alone is.
+#[inline(never)]
+fn compare_whole(slots: &[KeyChain], slot: u32, key: &[u8]) -> Ordering
+    ensures { result ≡ key_order slots.now key.now slot }
+{
+    compare(slots, slot, key)
+}
+
+// Compares by heads, where they differ.
+#[inline(always)]
+fn compare_heads(slots: &[KeyChain], heads: &Heads, slot: u32, key: &[u8], head: u64) -> Ordering
+    requires kept { AreHeads heads.now.front.items heads.now.words.items slots.now }
+    requires head { IsHead heads.now.front.items key.now head }
+    ensures { result ≡ key_order slots.now key.now slot }
+{
+    match heads.at(slot) {
+        None => compare_whole(slots, slot, key),
+        Some(kept) => {
+            if kept < head {
+                return Ordering::Less;
+            }
+            if head < kept {
+                return Ordering::Greater;
+            }
+            compare_whole(slots, slot, key)
+        }
+    }
+}
+
 // Where the slot of a key is named, or would be.
-fn place_of(slots: &[KeyChain], order: &OrderedGroups<u32>, key: &[u8]) -> Result<Place, Place>
+fn place_of(
+    slots: &[KeyChain],
+    order: &OrderedGroups<u32>,
+    heads: &Heads,
+    key: &[u8],
+) -> Result<Place, Place>
+    requires { AreHeads heads.now.front.items heads.now.words.items slots.now }
     ensures place { MatchResult result (IsPlace order.now) (IsGap order.now) }
     ensures found { Finds (key_order slots.now key.now) order.now result }
 {
-    order.find(|slot: u32| compare(slots, slot, key))
+    match heads.of(key) {
+        None => order.find(|slot: u32| compare(slots, slot, key)),
+        Some(head) => order.find(
+            |slot: u32|
+                requires { AreHeads heads.now.front.items heads.now.words.items slots.now × IsHead heads.now.front.items key.now head }
+            { compare_heads(slots, heads, slot, key, head) },
+        ),
+    }
 }
 
 // As `place_of`, but asks for the greatest key first.
 pub(crate) fn place_from_last(
     slots: &[KeyChain],
     order: &OrderedGroups<u32>,
+    heads: &Heads,
     key: &[u8],
+    head: Option<u64>,
 ) -> Result<Place, Place>
+    requires kept { AreHeads heads.now.front.items heads.now.words.items slots.now }
+    requires head { IfSome head (IsHead heads.now.front.items key.now) }
     ensures place { MatchResult result (IsPlace order.now) (IsGap order.now) }
     ensures found { Finds (key_order slots.now key.now) order.now result }
 {
-    order.find_from_last(|slot: u32| compare(slots, slot, key))
+    match head {
+        None => order.find_from_last(|slot: u32| compare(slots, slot, key)),
+        Some(head) => {
+            order.find_from_last(
+                |slot: u32|
+                    requires { AreHeads heads.now.front.items heads.now.words.items slots.now × IsHead heads.now.front.items key.now head }
+                { compare_heads(slots, heads, slot, key, head) },
+            )
+        }
+    }
 }
 
 // The slot of a key.
-pub(crate) fn slot_with(slots: &[KeyChain], order: &OrderedGroups<u32>, key: &[u8]) -> Option<u32>
-    requires { IsIndex slots.now (entries order.now) }
+pub(crate) fn slot_with(
+    slots: &[KeyChain],
+    order: &OrderedGroups<u32>,
+    heads: &Heads,
+    key: &[u8],
+) -> Option<u32>
+    requires index { IsIndex slots.now (entries order.now) }
+    requires heads { AreHeads heads.now.front.items heads.now.words.items slots.now }
     ensures { result ≡ slot_of key.now slots.now }
 {
-    match place_of(slots, order, key) {
+    match place_of(slots, order, heads, key) {
         Ok(place) => Some(order.get(place)),
         Err(_) => None,
     }

@@ -2,6 +2,7 @@
 
 ghost use Rattle.std.specs.Prelude.{[], replicate, vec_capacity, ◌≡◌, ◌<◌, ◌≤◌, ◌⊎◌, ◌^◌, ℕ, true, false, length, IfOk, OnOk, OnErr, IfErr, IfSome, option_map, option_copied, IsNone, ◌↔◌};
 ghost use Rattle.snapshot.specs.Sight.{Ascends, IsSight, Sight, sight_at, sight_of};
+ghost use Rattle.std.specs.List.{remove};
 ghost use Rattle.kv_model.specs.Refusals.{stamp_of};
 ghost use Rattle.txn_table.specs.SessionData.{is_busy, is_resolving, is_unreleased, opened, unended_id};
 ghost use Rattle.txn_table.specs.Tabled.{
@@ -258,6 +259,7 @@ impl Txns {
         }
     }
 
+    #[inline(always)]
     fn release_to(&mut self, session: u32, phase: Phase)
         requires open { session < length self.old.sessions }
         requires unreleased { is_unreleased (phase_of self.old session) ≡ true }
@@ -449,12 +451,27 @@ fn lower(value: u64, other: Option<u64>) -> u64
 }
 
 // Takes an id out, where it is among these, which ascend.
+#[inline(always)]
 fn take_out(ids: &mut Vec<u64>, id: u64)
     requires { (high : ℕ) × Ascends 1 ids.old.items high }
     ensures items { ids.new.items ≡ without id ids.old.items }
     ensures room { vec_capacity ids.old ≤ vec_capacity ids.new }
 {
     if let Ok(place) = ids.binary_search(&id) {
+        remove_at(ids, place);
+    }
+}
+
+// The newest id, which is the last, goes without a move of others.
+#[inline(always)]
+fn remove_at(ids: &mut Vec<u64>, place: usize)
+    requires { place < length ids.old.items }
+    ensures items { ids.new.items ≡ remove ids.old.items place }
+    ensures room { vec_capacity ids.old ≤ vec_capacity ids.new }
+{
+    if place + 1 == ids.len() {
+        let _last = ids.pop();
+    } else {
         ids.remove(place);
     }
 }

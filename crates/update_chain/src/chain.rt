@@ -1,6 +1,6 @@
 //! Chains of updates.
 
-ghost use Rattle.std.specs.Prelude.{◌≡◌, ◌↔◌, [], length, take, slice_get, option_copied, IsTrue, OnOk, OnErr, if◌then◌else◌};
+ghost use Rattle.std.specs.Prelude.{◌≡◌, ◌↔◌, [], ◌∷◌, length, take, slice_get, option_copied, IsTrue, OnOk, OnErr, if◌then◌else◌};
 ghost use Rattle.snapshot.specs.Sight.{IsSight, sight_of};
 ghost use Rattle.update_chain.specs.Looks.{reply_in};
 ghost use Rattle.update_chain.specs.Updates.{does_front_stay, front_changed, installed, is_led_by, is_named, stamped, marked, undone, read_of, rolled_back, trimmed};
@@ -43,6 +43,16 @@ impl Chain {
     {
         Chain {
             newest: None,
+            older: VecDeque::new(alloc),
+        }
+    }
+
+    /// A chain of this update alone. Takes no memory. `O(1)`.
+    pub fn of(alloc: Global, update: Update) -> Chain
+        ensures { result ≡ update ∷ [] }
+    {
+        Chain {
+            newest: Some(update),
             older: VecDeque::new(alloc),
         }
     }
@@ -102,6 +112,7 @@ impl Chain {
 
     /// Puts an update on top, in place of the newest one where that is of the same transaction.
     /// Takes memory where the chain has an update of another. `O(1)`.
+    #[inline(always)]
     pub fn install(&mut self, update: Update) -> Result<(), NoMemory>
         ensures installed { OnOk result (self.new ≡ installed update self.old) }
         ensures kept { OnErr result (self.new ≡ self.old) }
@@ -151,6 +162,7 @@ impl Chain {
     /// What a read of the key answers by this chain: by its own update; else by the newest update
     /// that the view sees and its read stamp admits, a conflict where that is prepared. Takes no
     /// memory. `O(k log r)`, with k updates down to that one and r ids that the view lists.
+    #[inline(always)]
     pub fn read(&self, view: &View<'_>) -> Read<'_>
         requires { IsSight (sight_of view.now) }
         ensures { reply_in result ≡ read_of view.now self.now }

@@ -8,4 +8,5 @@ pub loop-cursor-preserved : goal.loop-cursor-preserved
 loop-cursor-preserved c =
     let f = placed None in
     let fact = map_over_more f c.args.cursors.now c.loop-cursor.cursors c.loop-cursor.cursor-index c.cursor-item.result (omega arith) c.loop-cursor.invariant c.cursor-item.is in
-    ap (λ (z : Cursor). slice_set c.loop-cursor.cursors c.loop-cursor.cursor-index (f z)) (sym c.cursor-item.is) ∙ fact
+    ap (λ (z : Cursor). slice_set c.loop-cursor.cursors c.loop-cursor.cursor-index z) c.lift.ensures
+    ∙ (ap (λ (z : Cursor). slice_set c.loop-cursor.cursors c.loop-cursor.cursor-index (f z)) (sym c.cursor-item.is) ∙ fact)

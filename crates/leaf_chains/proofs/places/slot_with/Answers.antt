@@ -8,11 +8,11 @@ pub returns-in-Ok : goal.returns-in-Ok
 returns-in-Ok c =
     let gs = c.args.order.now in
     let p = c.in-Ok.place in
-    sym (found_slot c.args.slots.now (entries gs) c.args.key.now (rank gs p) c.get.result c.requires (place_within gs p c.in-Ok.ensures.place) c.get.ensures c.in-Ok.ensures.found)
+    sym (found_slot c.args.slots.now (entries gs) c.args.key.now (rank gs p) c.get.result c.requires.index (place_within gs p c.in-Ok.ensures.place) c.get.ensures c.in-Ok.ensures.found)
 
 pub returns-in-Err : goal.returns-in-Err
 returns-in-Err c =
     let gs = c.args.order.now in
     let slots = c.args.slots.now in
     let key = c.args.key.now in
-    sym (no_slot slots (entries gs) key (rank gs c.in-Err.field-0) c.requires (c.in-Err.ensures.found (rises slots (entries gs) key c.requires)))
+    sym (no_slot slots (entries gs) key (rank gs c.in-Err.field-0) c.requires.index (c.in-Err.ensures.found (rises slots (entries gs) key c.requires.index)))

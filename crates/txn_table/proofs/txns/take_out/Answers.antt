@@ -20,7 +20,7 @@ returns-in-Ok-clause-items c =
     let up : Ascends 1 c.deref.result.now c.requires.0 = rw c.deref.ensures.value c.requires.1 in
     let m = taken c.deref.result.now c.args.id c.requires.0 c.binary_search.result up (searched c.deref.result.now c.args.id c.binary_search.result c.binary_search.ensures.position (ascends-order 1 c.requires.0 c.deref.result.now up)) in
     let found : remove c.deref.result.now c.in-Ok.place ≡ without c.args.id c.deref.result.now = subst (λ r. MatchResult r (λ i. remove c.deref.result.now i ≡ without c.args.id c.deref.result.now) (λ i. c.deref.result.now ≡ without c.args.id c.deref.result.now)) c.in-Ok.is m in
-    c.remove.ensures.items ∙ (ap (λ l. remove l c.in-Ok.place) (sym c.deref.ensures.value) ∙ (found ∙ ap (without c.args.id) c.deref.ensures.value))
+    c.remove_at.ensures.items ∙ (ap (λ l. remove l c.in-Ok.place) (sym c.deref.ensures.value) ∙ (found ∙ ap (without c.args.id) c.deref.ensures.value))
 
 pub returns-in_default-clause-items : goal.returns-in_default-clause-items
 returns-in_default-clause-items c =

@@ -10,4 +10,4 @@ pub returns-clause-own : goal.returns-clause-own
 returns-clause-own c =
     let slots = c.self.inside.slots.items in
     let there = c.slot_in.ensures ∙ ap (λ (xs : List KeyChain). slice_get xs c.args.slot) c.as_slice.ensures.value in
-    subst (λ (xs : List KeyChain). IfSome c.slot_in.result (λ s. slot_of s.now.key xs ≡ Some c.args.slot)) c.self.view_is (own_slot slots (entries c.self.inside.order) c.args.slot c.slot_in.result c.self.invariant there)
+    subst (λ (xs : List KeyChain). IfSome c.slot_in.result (λ s. slot_of s.now.key xs ≡ Some c.args.slot)) c.self.view_is (own_slot slots (entries c.self.inside.order) c.args.slot c.slot_in.result c.self.invariant.0 there)

@@ -1,7 +1,12 @@
 use Rattle.ordered_groups.specs.Groups.{entries}
 use Rattle.update_chain.specs.Updates.{undone}
+use Rattle.leaf_chains.proofs.HeadLemmas.{heads_changed}
 use Rattle.leaf_chains.proofs.Index.{index_changed}
 use Rattle.leaf_chains.proofs.chains.LeafChains.undo.Goals as goal
 
 pub invariant_of-self : goal.invariant_of-self
-invariant_of-self c = rw c.undo_in.ensures (index_changed c.args.slot (undone c.args.name) c.self.inside.slots.items (entries c.self.inside.order) c.self.invariant)
+invariant_of-self c =
+    let slots = c.self.inside.slots.items in
+    let heads = c.self.inside.heads in
+    let change = undone c.args.name in
+    rw c.undo_in.ensures (index_changed c.args.slot change slots (entries c.self.inside.order) c.self.invariant.0, heads_changed c.args.slot change heads.front.items heads.words.items slots c.self.invariant.1)
