@@ -2,4 +2,3 @@ pub mod Holding
 pub mod Installing
 pub mod Recording
 pub mod Capturing
-pub mod Rooms

@@ -1,9 +1,7 @@
--- The room that a device has for further blocks.
-use Rattle.std.specs.Prelude.{◌≡◌, ◌⊎◌, ℕ, ◌+◌, ◌<◌, ◌≤◌, max, List, [], ◌∷◌, Option}
-use Rattle.extent_list.specs.Space.{Space, IsFree, Taken, HasNoRoom, end_of as space_end}
+-- What is free on a device beside its blocks.
+use Rattle.std.specs.Prelude.{◌≡◌, ◌⊎◌, ℕ, ◌+◌, ◌<◌, ◌≤◌, max, List, [], ◌∷◌}
+use Rattle.extent_list.specs.Space.{Space, IsFree, end_of as space_end}
 use Rattle.stored.specs.Blocks.{Block}
-use Rattle.stored.specs.Stored.{Stored}
-use Rattle.checkpoint_core.specs.Stands.{HasStill, blocks_of}
 
 -- the byte at an offset lies in one of the blocks
 abbrev pub InBlocks : List Block → ℕ → Type 0
@@ -20,12 +18,3 @@ pub record IsSpaceOf (blocks : List Block) (space : Space) : Type 0 where
   pub end_is : space_end space ≡ end_of blocks
   pub free : (b : ℕ) → IsFree space b → (8192 ≤ b) × (b < space_end space) × (InBlocks blocks b → ⊥)
   pub rest : (b : ℕ) → 8192 ≤ b → b < space_end space → (InBlocks blocks b → ⊥) → IsFree space b
-
--- blocks of these sizes, written one after the other: one of them finds no free extent, and the end plus its size passes the capacity
-abbrev pub NoRoomFor : Space → ℕ → List ℕ → Type 0
-NoRoomFor space capacity [] = ⊥
-NoRoomFor space capacity (n ∷ sizes) = HasNoRoom space n capacity ⊎ ((after : Space) × (at : ℕ) × Taken space after n capacity at × NoRoomFor after capacity sizes)
-
--- the device is full for such blocks
-abbrev pub IsFull : List ℕ → ℕ → List ℕ → Type 0
-IsFull bytes capacity sizes = (old : Option Stored) × HasStill old bytes × ((space : Space) × IsSpaceOf (blocks_of old) space × NoRoomFor space capacity sizes)

@@ -29,7 +29,7 @@ use Rattle.stored.specs.Tree.{join}
 use Rattle.catalog.specs.Known.{by_name}
 use Rattle.catalog.proofs.InOrder.{order_keeps}
 use Rattle.catalog.proofs.Turning.{turn_one}
-use Rattle.one_session.proofs.Keyed.{of_key_descending, of_key_elsewhere, of_key_rows}
+use Rattle.rows_shown.proofs.Keyed.{of_key_descending, of_key_elsewhere, of_key_rows}
 use Rattle.leaf_capture.proofs.Sifting.{cut_core, keys_sifted, one_stable, passes, stable_one}
 use Rattle.recover_open.specs.Flat.{flat_stored, leaf_tree}
 use Rattle.ckpt_step.specs.Checkpoints.{AreLeavesOf, IsRecordOf}

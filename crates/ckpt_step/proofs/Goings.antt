@@ -32,8 +32,8 @@ use Rattle.checkpoint_core.specs.Finishes.{IsOld}
 use Rattle.checkpoint_core.proofs.Holding.{holds_kept}
 use Rattle.engine_world.proofs.Appended.{append-finds}
 use Rattle.engine_world.proofs.EditedLeaves.{got-member}
-use Rattle.one_table.specs.Leaves.{LeafIs, blocks_at}
-use Rattle.one_table.proofs.Leaves.{block_at, leaf_there, no_block, stored_block}
+use Rattle.device_leaf.specs.Leaves.{LeafIs, blocks_at}
+use Rattle.device_leaf.proofs.Leaves.{block_at, leaf_there, no_block, stored_block}
 use Rattle.ckpt_step.specs.declared.leaf_error.LeafError.{LeafError}
 use Rattle.ckpt_step.specs.Checkpoints.{AreLeavesOf, IsLeafOf}
 use Rattle.ckpt_step.specs.Goings.{Going, NotOneMore, OneMore}

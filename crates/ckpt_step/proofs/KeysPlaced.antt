@@ -10,7 +10,7 @@ use Rattle.stored.specs.Records.{TableRoot}
 use Rattle.stored.specs.Stored.{cells_in, placed_in, tables_of}
 use Rattle.stored.specs.TableTree.{TableTree}
 use Rattle.stored.specs.Tree.{join}
-use Rattle.one_session.proofs.Keyed.{of_key_elsewhere}
+use Rattle.rows_shown.proofs.Keyed.{of_key_elsewhere}
 
 pub both_keys : (table : ℕ) (key : List ℕ) (xs ys : List Placed) → of_key table key (xs ++ ys) ≡ of_key table key xs ++ of_key table key ys
 both_keys table key [] ys = refl

@@ -20,8 +20,8 @@ use Rattle.stored.specs.Stored.{AreTrees, tables_blocks, history_blocks, tables_
 use Rattle.stored.specs.Tree.{tree_blocks}
 use Rattle.stored.proofs.EmptyTrees.{history_empty}
 use Rattle.checkpoint_core.specs.Stands.{AreInUse, IsReady, body_blocks}
-use Rattle.one_table.specs.Leaves.{LeafIs, blocks_at}
-use Rattle.one_table.proofs.Shapes.{leaf_tree as leaf_is_tree}
+use Rattle.device_leaf.specs.Leaves.{LeafIs, blocks_at}
+use Rattle.device_leaf.proofs.Shapes.{leaf_tree as leaf_is_tree}
 use Rattle.recover_open.specs.Flat.{IsFlat, leaf_tree}
 use Rattle.ckpt_step.specs.Checkpoints.{AreLeavesOf, IsLeafOf, IsCheckpointOf, IsRecordOf}
 use Rattle.ckpt_step.specs.Grounds.{leaf_root}

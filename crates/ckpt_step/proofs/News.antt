@@ -36,9 +36,9 @@ use Rattle.checkpoint_core.specs.Stands.{HasStill, Stands, AreInUse}
 use Rattle.checkpoint_core.specs.Finishes.{IsOld}
 use Rattle.checkpoint_core.proofs.Capturing.{captured as stands_added, has_new, live_added}
 use Rattle.checkpoint_core.proofs.Recording.{image_still, wrote_old}
-use Rattle.one_table.specs.Leaves.{LeafIs, blocks_at}
-use Rattle.one_table.proofs.Leaves.{block_at, leaf_bytes, leaf_of_page, leaf_there, length_block, page_there, place_is, stored_block}
-use Rattle.one_table.proofs.Writes.{empty_leaf, link_to, stands_captured, still_in_use, written_in_use}
+use Rattle.device_leaf.specs.Leaves.{LeafIs, blocks_at}
+use Rattle.device_leaf.proofs.Leaves.{block_at, leaf_bytes, leaf_of_page, leaf_there, length_block, page_there, place_is, stored_block}
+use Rattle.device_leaf.proofs.Writes.{empty_leaf, link_to, stands_captured, still_in_use, written_in_use}
 use Rattle.ckpt_step.specs.declared.leaf_error.LeafError.TheVariants.{Over, Store}
 use Rattle.ckpt_step.specs.Halves.{IsSafe, with_link}
 use Rattle.ckpt_step.specs.Ones.{Captures, Fails, IsPlaced, MayWrite, StandsThere, WritesNew, WritesRows}

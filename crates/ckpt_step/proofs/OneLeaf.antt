@@ -4,7 +4,7 @@ use Rattle.kv_model.specs.History.{Table}
 use Rattle.kv_model.specs.Machine.{Machine}
 use Rattle.kv_model.specs.Valid.{Valid}
 use Rattle.row_page.specs.Rows.{Row}
-use Rattle.one_session.proofs.Telling.{ones}
+use Rattle.rows_shown.proofs.Telling.{ones}
 use Rattle.snapshot.specs.Matters.{NoneResolves, SeesCommitted}
 use Rattle.snapshot.specs.Sight.{Sight}
 use Rattle.leaf_chains.specs.declared.slot.KeyChain.{KeyChain}

@@ -23,8 +23,8 @@ use Rattle.stored.specs.TableTree.{table_kind, TableTree, root_entry}
 use Rattle.stored.specs.Stored.{Stored, AreTrees, IsOn, history_blocks, record_block, tables_blocks}
 use Rattle.checkpoint_core.specs.Stands.{AreInUse, HasStill, Stands, blocks_of}
 use Rattle.checkpoint_core.specs.Room.{InBlocks, end_of}
-use Rattle.one_table.specs.Leaves.{blocks_at}
-use Rattle.one_table.proofs.Shapes.{one_leaf}
+use Rattle.device_leaf.specs.Leaves.{blocks_at}
+use Rattle.device_leaf.proofs.Shapes.{one_leaf}
 use Rattle.recover_open.specs.Damage.{blocks_found, leaf_found_of}
 use Rattle.recover_open.specs.Flat.{AreLeaves, IsFlat, leaf_tree}
 use Rattle.recover_open.proofs.Places.{Matches, tables_match}

@@ -21,9 +21,9 @@ use Rattle.stored.specs.Records.{TableRoot}
 use Rattle.stored.specs.TableTree.{TableTree}
 use Rattle.stored.specs.Stored.{Stored, history_blocks, stored_blocks, tables_blocks}
 use Rattle.checkpoint_core.specs.Stands.{Stands}
-use Rattle.one_table.specs.Damage.{record_found}
-use Rattle.one_table.specs.Leaves.{LeafIs, blocks_at}
-use Rattle.one_table.proofs.Leaves.{block_at, stored_block}
+use Rattle.device_leaf.specs.Damage.{record_found}
+use Rattle.device_leaf.specs.Leaves.{LeafIs, blocks_at}
+use Rattle.device_leaf.proofs.Leaves.{block_at, stored_block}
 use Rattle.recover_open.specs.Flat.{AreLeaves, leaf_tree}
 use Rattle.ckpt_step.specs.Grounds.{AreRoots, HasRoots, found_in, leaf_root}
 use Rattle.ckpt_step.specs.Halves.{AreOldLeaves, IsOldLeaf, leaf_cell, record_cell}

@@ -13,7 +13,7 @@ use Rattle.kv_model.specs.Holds.{Member}
 use Rattle.kv_model.specs.History.{Entry, Commit, Prepare, Resolve, Undo, Write, core, is_by, line, version_of, writes_at}
 use Rattle.kv_model.specs.Machine.{Machine, Transaction, Phase, Running, Failed, Prepared, Resolving, Leaving, Event, OpenSession, BeginAt, DrawId, AcceptWrite, RefuseWrite, PrepareAt, CommitAt, StartLeaving, EndTransaction, PlaceCursor, CreateTable, SetStamps, RollbackToStable, CheckpointStart, CheckpointFinish, CheckpointDrop, GoDown, Nothing, after, appended, decided, left, name_of, of_some, prepared, stamped, transaction_of}
 use Rattle.kv_model.proofs.Ordering.{line-writes}
-use Rattle.one_session.proofs.Telling.{core_one}
+use Rattle.rows_shown.proofs.Telling.{core_one}
 use Rattle.leaf_capture.specs.CutLaws.{NewestSuffices}
 use Rattle.leaf_capture.proofs.Sifting.{alone}
 use Rattle.ckpt_step.specs.Calm.{IsUnstampedEvent}

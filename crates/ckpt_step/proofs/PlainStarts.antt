@@ -18,10 +18,10 @@ use Rattle.stored.specs.Records.{NumbersOnce, Root, TableRoot}
 use Rattle.stored.specs.Stored.{AreTrees, Stored, IsOn, cells_in, content_of, placed_in}
 use Rattle.stored.specs.TableTree.{Entry, TableTree, root_entry, table_kind}
 use Rattle.stored.specs.Tree.{AllBear, IsTree, Layer, bottom, join}
-use Rattle.one_session.proofs.Keyed.{of_key_descending, of_key_elsewhere, of_key_one}
-use Rattle.one_session.proofs.Telling.{core_one}
+use Rattle.rows_shown.proofs.Keyed.{of_key_descending, of_key_elsewhere, of_key_one}
+use Rattle.rows_shown.proofs.Telling.{core_one}
 use Rattle.leaf_capture.specs.CutLaws.{NewestSuffices}
-use Rattle.one_table.specs.OneTable.{no_root}
+use Rattle.device_leaf.specs.NoHistory.{no_root}
 use Rattle.recover_open.specs.Flat.{IsFlat}
 use Rattle.ckpt_step.specs.Plain.{IsPlain, StartsPlain}
 use Rattle.ckpt_step.proofs.KeysPlaced.{both_keys, none_away, once_away}

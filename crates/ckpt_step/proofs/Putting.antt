@@ -24,7 +24,7 @@ use Rattle.catalog.specs.Known.{NumbersAscend}
 use Rattle.row_page.specs.Rows.{Row}
 use Rattle.stored.specs.Records.{Record, record_image}
 use Rattle.stored.specs.Stored.{Stored}
-use Rattle.one_table.proofs.Opens.{record_bytes}
+use Rattle.device_leaf.proofs.Opens.{record_bytes}
 use Rattle.checkpoint_core.specs.Stands.{HasStill, IsReady, chosen_of}
 use Rattle.checkpoint_core.specs.Finishes.{IsOld, IsEither, Finishes, Fails, IsLastNow, ReadsAfter, AreBack, units_of}
 use Rattle.ckpt_step.specs.Checkpoints.{IsCheckpointOf, IsRecordOf}

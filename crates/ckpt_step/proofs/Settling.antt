@@ -11,7 +11,7 @@ use Rattle.block_mgr.proofs.OpenLemmas.{here, elsewhere}
 use Rattle.device_layout.specs.declared.link.Link.{Link}
 use Rattle.kv_model.specs.Holds.{Member}
 use Rattle.stored.specs.Records.{TableRoot}
-use Rattle.one_table.specs.Damage.{leaf_found}
+use Rattle.device_leaf.specs.Damage.{leaf_found}
 use Rattle.recover_open.specs.Damage.{leaf_found_of}
 use Rattle.ckpt_step.specs.Halves.{leaf_cell, with_last, with_link}
 

@@ -27,9 +27,9 @@ use Rattle.stored.specs.Links.{nowhere}
 use Rattle.stored.specs.Records.{TableRoot, Record}
 use Rattle.stored.specs.Stored.{Stored, IsOn}
 use Rattle.checkpoint_core.specs.Stands.{AreInUse, body_blocks}
-use Rattle.one_table.specs.Damage.{record_found}
-use Rattle.one_table.specs.Leaves.{blocks_at}
-use Rattle.one_table.proofs.Leaves.{no_block, stored_block}
+use Rattle.device_leaf.specs.Damage.{record_found}
+use Rattle.device_leaf.specs.Leaves.{blocks_at}
+use Rattle.device_leaf.proofs.Leaves.{no_block, stored_block}
 use Rattle.recover_open.specs.Damage.{blocks_found, leaf_found_of}
 use Rattle.recover_open.specs.Flat.{IsFlat}
 use Rattle.ckpt_step.specs.declared.ground.Ground.{Ground}

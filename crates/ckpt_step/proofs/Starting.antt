@@ -13,7 +13,7 @@ use Rattle.catalog.specs.Known.{NumbersAscend}
 use Rattle.stored.specs.Stored.{Stored}
 use Rattle.checkpoint_core.specs.Stands.{blocks_of}
 use Rattle.checkpoint_core.proofs.Holding.{in_use_same, still_long}
-use Rattle.one_table.proofs.Writes.{stands_begun}
+use Rattle.device_leaf.proofs.Writes.{stands_begun}
 use Rattle.ckpt_step.specs.declared.ground.Ground.{Ground}
 use Rattle.ckpt_step.specs.Grounds.{AreRoots, StandsOn, found_in}
 use Rattle.ckpt_step.specs.Halves.{AreOldLeaves, Half}

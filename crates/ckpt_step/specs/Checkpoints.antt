@@ -5,7 +5,7 @@ use Rattle.kv_model.specs.History.{Table, line, tables}
 use Rattle.kv_model.specs.Machine.{Machine}
 use Rattle.row_page.specs.Rows.{Row}
 use Rattle.leaf_rows.specs.Rows.{AreFit}
-use Rattle.one_session.specs.Shows.{shown_at}
+use Rattle.rows_shown.specs.Shows.{shown_at}
 use Rattle.snapshot.specs.Matters.{AreUnended, SeesCommitted}
 use Rattle.stored.specs.Records.{Record}
 use Rattle.stored.specs.Stored.{Stored, tables_of}

@@ -21,7 +21,7 @@ use Rattle.stored.specs.Links.{nowhere}
 use Rattle.stored.specs.Stored.{Stored}
 use Rattle.checkpoint_core.specs.Stands.{Stands, AreInUse, blocks_of}
 use Rattle.checkpoint_core.specs.Finishes.{IsOld}
-use Rattle.one_table.specs.Leaves.{LeafIs, blocks_at}
+use Rattle.device_leaf.specs.Leaves.{LeafIs, blocks_at}
 use Rattle.ckpt_step.specs.Checkpoints.{AreLeavesOf, IsLeafOf}
 use Rattle.ckpt_step.specs.Grounds.{found_in, link_in}
 use Rattle.ckpt_step.specs.Sizes.{PlacesLeaves, LeavesLack, IsOver}

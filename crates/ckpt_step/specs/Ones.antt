@@ -15,7 +15,7 @@ use Rattle.stored.specs.Links.{nowhere}
 use Rattle.stored.specs.Stored.{Stored}
 use Rattle.checkpoint_core.specs.Stands.{Stands, AreInUse}
 use Rattle.checkpoint_core.specs.Finishes.{IsOld}
-use Rattle.one_table.specs.Leaves.{LeafIs, blocks_at}
+use Rattle.device_leaf.specs.Leaves.{LeafIs, blocks_at}
 use Rattle.ckpt_step.specs.declared.leaf_error.LeafError.{LeafError}
 use Rattle.ckpt_step.specs.declared.leaf_error.LeafError.TheVariants.{Over, Store}
 use Rattle.ckpt_step.specs.Halves.{IsSafe, with_link}

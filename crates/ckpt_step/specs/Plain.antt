@@ -7,7 +7,7 @@ use Rattle.kv_model.specs.Machine.{Machine}
 use Rattle.kv_model.specs.Valid.{Valid}
 use Rattle.stored.specs.Stored.{Stored}
 use Rattle.checkpoint_core.specs.Stands.{HasStill}
-use Rattle.one_table.specs.Closings.{content_was}
+use Rattle.device_leaf.specs.Closings.{content_was}
 use Rattle.recover_open.specs.Flat.{IsFlat}
 use Rattle.engine_world.specs.Whole.{nothing_around}
 use Rattle.ckpt_step.specs.Laws.{AllNewestSuffice}

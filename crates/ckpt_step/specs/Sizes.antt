@@ -13,7 +13,7 @@ use Rattle.stored.specs.Records.{Record, record_image}
 use Rattle.stored.specs.Stored.{Stored}
 use Rattle.checkpoint_core.specs.Stands.{HasStill, blocks_of}
 use Rattle.checkpoint_core.specs.Room.{InBlocks, end_of}
-use Rattle.one_table.specs.Leaves.{LeafIs}
+use Rattle.device_leaf.specs.Leaves.{LeafIs}
 use Rattle.ckpt_step.specs.Checkpoints.{IsLeafOf, IsRecordOf}
 use Rattle.ckpt_step.specs.Grounds.{link_in, number_of}
 

@@ -1,6 +1,6 @@
 // On what the next checkpoint of an engine stands.
 use device_layout::Link;
-use one_table::Place;
+use device_leaf::Place;
 
 /// Where the last completed checkpoint of an engine's device stands, and its leaves.
 #[derive(Drop)]

@@ -10,7 +10,7 @@ ghost use Rattle.row_page.specs.Rows.{Row, IsPage};
 ghost use Rattle.leaf_rows.specs.Rows.{image_length};
 ghost use Rattle.stored.specs.Links.{SaysOf};
 ghost use Rattle.stored.specs.Stored.{Stored};
-ghost use Rattle.one_table.specs.Leaves.{LeafIs};
+ghost use Rattle.device_leaf.specs.Leaves.{LeafIs};
 ghost use Rattle.block_mgr.specs.Places.{IsThere};
 ghost use Rattle.disk_model.specs.Ranges.{range};
 ghost use Rattle.ckpt_step.specs.Halves.{IsOfDisk};

@@ -19,8 +19,8 @@ use Rattle.stored.specs.Stored.{placed_in}
 use Rattle.leaf_rows.specs.declared.marks.Marks.{Marks}
 use Rattle.leaf_rows.specs.Contents.{is_seen_row, seen_rows}
 use Rattle.leaf_rows.specs.Rows.{AreFit}
-use Rattle.one_session.specs.Shows.{shown_at}
-use Rattle.one_session.proofs.Keyed.{of_key_rows, of_key_elsewhere, of_key_descending}
+use Rattle.rows_shown.specs.Shows.{shown_at}
+use Rattle.rows_shown.proofs.Keyed.{of_key_rows, of_key_elsewhere, of_key_descending}
 use Rattle.engine_start.specs.declared.table_leaf.TableLeaf.{TableLeaf}
 use Rattle.engine_start.specs.Contents.{cells_in, kept_leaves, leaves_content, leaves_content_with, seen_leaves, tables_in}
 

@@ -18,7 +18,7 @@ use Rattle.leaf_chains.specs.Slots.{chain_at, slot_of, with_update}
 use Rattle.leaf_chains.proofs.Changes.{same_key}
 use Rattle.leaf_capture.specs.Capture.{ChainsFit}
 use Rattle.leaf_capture.specs.Cells.{cell_change, cell_version}
-use Rattle.one_session.specs.Shows.{shown_at}
+use Rattle.rows_shown.specs.Shows.{shown_at}
 use Rattle.engine_start.specs.Chains.{chains_in, row_chain}
 use Rattle.engine_start.proofs.Inserting.{reverse_last}
 

@@ -1,15 +1,8 @@
--- Contents of devices with several tables, and with one.
-use Rattle.std.specs.Prelude.{◌≡◌, ℕ, List, [], ◌∷◌}
-use Rattle.kv_model.specs.History.{Table}
-use Rattle.row_page.specs.Rows.{Row}
+-- What of a device an opening keeps.
+use Rattle.std.specs.Prelude.{◌≡◌, ℕ, List}
 use Rattle.leaf_rows.specs.declared.marks.Marks.{Marks}
-use Rattle.leaf_rows.specs.Contents.{leaf_content}
 use Rattle.engine_start.specs.declared.table_leaf.TableLeaf.{TableLeaf}
-use Rattle.engine_start.specs.Contents.{kept_leaves, leaves_content, seen_leaves}
-
--- with one table the content is that of a device with one leaf
-abbrev pub LeavesAreOne : Type 0
-LeavesAreOne = (m : Marks) (t : Table) (rows : List Row) → leaves_content m (record { table = t; rows = rows } ∷ []) ≡ leaf_content m t rows
+use Rattle.engine_start.specs.Contents.{kept_leaves, seen_leaves}
 
 -- what an opening keeps, a second one keeps
 abbrev pub KeptStay : Type 0

@@ -1,11 +1,6 @@
 //! Laws of the contents of devices.
 
-ghost use Rattle.engine_start.specs.ContentLaws.{KeptStay, LeavesAreOne, SeenStay};
-
-/// With one table the content is that of a device with one leaf.
-pub fn leaves_are_one()
-    ensures { LeavesAreOne }
-{}
+ghost use Rattle.engine_start.specs.ContentLaws.{KeptStay, SeenStay};
 
 /// What an opening keeps, a second one keeps.
 pub fn kept_stay()

@@ -16,6 +16,6 @@ mod table_leaf;
 mod tests;
 
 pub use failure::NoMemory;
-pub use laws::{kept_stay, leaves_are_one, seen_stay};
+pub use laws::{kept_stay, seen_stay};
 pub use opening::start;
 pub use table_leaf::TableLeaf;

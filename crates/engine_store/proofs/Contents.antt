@@ -6,7 +6,7 @@ use Rattle.kv_model.specs.Content.{Content, IsLayered, OpensAs, start}
 use Rattle.stored.specs.Stored.{Stored, Reads}
 use Rattle.stored.proofs.Device.{one_choice}
 use Rattle.checkpoint_core.specs.Stands.{HasStill}
-use Rattle.one_table.specs.Closings.{content_was}
+use Rattle.device_leaf.specs.Closings.{content_was}
 use Rattle.ckpt_step.specs.Grounds.{number_of}
 use Rattle.engine_store.specs.Devices.{IsNumberOf, last_number}
 

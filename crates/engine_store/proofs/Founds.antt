@@ -9,8 +9,8 @@ use Rattle.kv_model.proofs.Finishing.{tables-base}
 use Rattle.stored.specs.Records.{Record, IsRecord}
 use Rattle.stored.specs.Stored.{Stored, IsOn, tables_of}
 use Rattle.checkpoint_core.specs.Stands.{HasStill}
-use Rattle.one_table.specs.declared.place.Place.{Place}
-use Rattle.one_table.specs.Closings.{content_was}
+use Rattle.device_leaf.specs.declared.place.Place.{Place}
+use Rattle.device_leaf.specs.Closings.{content_was}
 use Rattle.recover_open.specs.declared.opening.Kept.{Kept}
 use Rattle.recover_open.specs.declared.opening.Recovered.{Recovered}
 use Rattle.recover_open.specs.Flat.{flat_stored, kept_of, marks_of}

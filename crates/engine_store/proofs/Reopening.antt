@@ -16,7 +16,7 @@ use Rattle.kv_model.specs.Machine.{Completed}
 use Rattle.stored.specs.Stored.{Stored, Reads, IsBlank, IsOn}
 use Rattle.stored.proofs.Device.{one_content}
 use Rattle.checkpoint_core.specs.Stands.{HasStill}
-use Rattle.one_table.specs.Closings.{content_was}
+use Rattle.device_leaf.specs.Closings.{content_was}
 use Rattle.recover_open.specs.Damage.{IsDamage}
 use Rattle.recover_open.specs.Flat.{IsFlat}
 use Rattle.recover_open.proofs.Devices.{damage_no_content}

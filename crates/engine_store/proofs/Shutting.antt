@@ -22,7 +22,7 @@ use Rattle.kv_model.specs.Outside.{Storing, Stored as StoredWhole, NoPlace, Unfi
 use Rattle.kv_model.proofs.Closes.{close-ends}
 use Rattle.stored.specs.Stored.{Stored}
 use Rattle.checkpoint_core.specs.Stands.{HasStill}
-use Rattle.one_table.specs.Closings.{content_was}
+use Rattle.device_leaf.specs.Closings.{content_was}
 use Rattle.engine_world.specs.Stands.{Engine, Stands}
 use Rattle.engine_world.specs.Systems.{DownsGo}
 use Rattle.engine_world.specs.Worlds.{World}

@@ -16,7 +16,7 @@ use Rattle.stored.specs.Opens.{Opens}
 use Rattle.stored.specs.Stored.{Stored, Reads, IsOn, content_of}
 use Rattle.stored.proofs.Device.{one_content}
 use Rattle.checkpoint_core.specs.Finishes.{IsOld, IsEither}
-use Rattle.one_table.specs.Closings.{content_was}
+use Rattle.device_leaf.specs.Closings.{content_was}
 use Rattle.engine_world.specs.Stands.{Engine, Stands}
 use Rattle.engine_world.specs.Systems.{DownsGo, checkpointed, with_fault}
 use Rattle.engine_world.specs.Worlds.{World}

@@ -8,8 +8,8 @@ use Rattle.wt_code.specs.declared.refusals.Limit.TheVariants.{Tables}
 use Rattle.kv_model.specs.History.{Table}
 use Rattle.stored.specs.Records.{Record}
 use Rattle.stored.specs.Stored.{Stored}
-use Rattle.one_table.specs.Closings.{content_was}
-use Rattle.one_table.specs.Openings.{Serves}
+use Rattle.device_leaf.specs.Closings.{content_was}
+use Rattle.device_leaf.specs.Openings.{Serves}
 use Rattle.recover_open.specs.declared.opening.Kept.{Kept}
 use Rattle.recover_open.specs.Recoveries.{Counts}
 use Rattle.engine_world.specs.Stands.{Stands}

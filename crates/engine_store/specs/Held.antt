@@ -9,7 +9,7 @@ use Rattle.kv_model.specs.Content.{Content, OpensAs, start}
 use Rattle.kv_model.specs.Holds.{Member}
 use Rattle.kv_model.specs.Machine.{Machine, Completed}
 use Rattle.stored.specs.Stored.{Stored, Reads}
-use Rattle.one_table.specs.Closings.{content_was}
+use Rattle.device_leaf.specs.Closings.{content_was}
 use Rattle.engine_world.specs.Stands.{Stands}
 use Rattle.engine_world.specs.Systems.{checkpointed, first_world}
 use Rattle.engine_world.specs.Worlds.{World}

@@ -10,8 +10,8 @@ use Rattle.engine_world.specs.Stands.{Stands}
 use Rattle.engine_world.specs.Systems.{first_world}
 use Rattle.stored.specs.Stored.{Stored, IsOn}
 use Rattle.recover_open.specs.Recoveries.{RecoveryRefused}
-use Rattle.one_table.specs.Openings.{last_number}
-use Rattle.one_table.specs.Closings.{content_was}
+use Rattle.device_leaf.specs.Openings.{last_number}
+use Rattle.device_leaf.specs.Closings.{content_was}
 use Rattle.ckpt_step.specs.Grounds.{StandsOn}
 use Rattle.engine_store.specs.declared.store.Store.{Store}
 

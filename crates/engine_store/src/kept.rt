@@ -19,7 +19,7 @@ use engine_start::{seen_stay, start};
 use failure::NoMemory;
 use leaf_rows::Marks;
 use limits::TABLES_MAX;
-use one_table::Place;
+use device_leaf::Place;
 use recover_open::Kept;
 use std::alloc::Global;
 use wt_code::{Limit, Refusal};

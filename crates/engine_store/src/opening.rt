@@ -15,7 +15,7 @@ use ckpt_step::Ground;
 use disk_model::Disk;
 use engine::Local;
 use failure::NoMemory;
-use one_table::Place;
+use device_leaf::Place;
 use recover_open::{Recovered, recover};
 use std::alloc::Global;
 use wt_code::Refusal;

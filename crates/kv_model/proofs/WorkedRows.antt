@@ -400,8 +400,8 @@ overtaken-follows = refl
 
 -- ---- openings
 
-abbrev one_table : Table
-one_table = record { number = 1; name = 116 ∷ []; formats = record { key = U; value = U } }
+abbrev device_leaf : Table
+device_leaf = record { number = 1; name = 116 ∷ []; formats = record { key = U; value = U } }
 
 -- a version of a by this run and id, at this stamp
 abbrev put_at : ℕ → ℕ → ℕ → ℕ → Placed
@@ -409,7 +409,7 @@ put_at runs id stamp v = record { table = 1; key = a; version = record { window 
 
 -- at stable 10 the cell of 20 is hidden, and the record of 10 is what stands
 abbrev hidden : Content
-hidden = record { run = 1; oldest = 0; stable = 10; snapshot = record { min = 3; max = 3; ids = [] }; tables = one_table ∷ []; cells = put_at 1 2 20 9 ∷ []; records = put_at 1 1 10 8 ∷ [] }
+hidden = record { run = 1; oldest = 0; stable = 10; snapshot = record { min = 3; max = 3; ids = [] }; tables = device_leaf ∷ []; cells = put_at 1 2 20 9 ∷ []; records = put_at 1 1 10 8 ∷ [] }
 
 hidden-sees : sees_at (run (start hidden) (OpenSession ∷ OpenSession ∷ OpenSession ∷ OpenSession ∷ [])) 0 ≡ Some (8 ∷ [])
 hidden-sees = refl
@@ -419,14 +419,14 @@ hidden-cut = refl
 
 -- a listed id is hidden, and an earlier run is seen at any id
 abbrev listed : Content
-listed = record { run = 2; oldest = 0; stable = 0; snapshot = record { min = 1; max = 3; ids = 1 ∷ [] }; tables = one_table ∷ []; cells = put_at 2 1 0 9 ∷ []; records = put_at 1 77 0 8 ∷ [] }
+listed = record { run = 2; oldest = 0; stable = 0; snapshot = record { min = 1; max = 3; ids = 1 ∷ [] }; tables = device_leaf ∷ []; cells = put_at 2 1 0 9 ∷ []; records = put_at 1 77 0 8 ∷ [] }
 
 listed-hidden : kept listed ≡ put_at 1 77 0 8 ∷ []
 listed-hidden = refl
 
 -- a record that is the cell again counts once
 abbrev twice : Content
-twice = record { run = 2; oldest = 0; stable = 0; snapshot = record { min = 3; max = 3; ids = [] }; tables = one_table ∷ []; cells = put_at 1 77 0 8 ∷ []; records = put_at 1 77 0 8 ∷ [] }
+twice = record { run = 2; oldest = 0; stable = 0; snapshot = record { min = 3; max = 3; ids = [] }; tables = device_leaf ∷ []; cells = put_at 1 77 0 8 ∷ []; records = put_at 1 77 0 8 ∷ [] }
 
 twice-once : kept twice ≡ put_at 1 77 0 8 ∷ []
 twice-once = refl

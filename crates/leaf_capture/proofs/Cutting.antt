@@ -18,8 +18,8 @@ use Rattle.kv_model.specs.Machine.{Machine}
 use Rattle.kv_model.proofs.ContentKeys.{of-key-into}
 use Rattle.kv_model.proofs.Opening.{at-placed}
 use Rattle.kv_model.proofs.Finishing.{first-start, line-base, line-cut}
-use Rattle.one_session.specs.Shows.{shown_at}
-use Rattle.one_session.proofs.Keyed.{of_key_descending, of_key_rows}
+use Rattle.rows_shown.specs.Shows.{shown_at}
+use Rattle.rows_shown.proofs.Keyed.{of_key_descending, of_key_rows}
 use Rattle.snapshot.specs.Sight.{Sight, is_seen}
 use Rattle.leaf_chains.specs.Slots.{chain_at}
 use Rattle.leaf_capture.specs.CutLaws.{CapturesAreCut, HoldsRows, NewestSuffices}

@@ -14,7 +14,7 @@ use Rattle.kv_model.specs.Rows.{key_lt}
 use Rattle.row_page.specs.Rows.{Row, RowFits, Ascends, comes_after, is_below, key_most}
 use Rattle.row_page.proofs.Ascending.{above_differs, below_differs}
 use Rattle.leaf_rows.specs.Rows.{AreFit}
-use Rattle.one_session.specs.Shows.{shown_at}
+use Rattle.rows_shown.specs.Shows.{shown_at}
 use Rattle.snapshot.specs.Sight.{Sight}
 use Rattle.update_chain.proofs.Below.{member-append-left, member-append-right}
 use Rattle.leaf_chains.specs.declared.slot.KeyChain.{KeyChain}

@@ -9,7 +9,7 @@ use Rattle.stamp.specs.declared.Version.{Version}
 use Rattle.row_page.specs.Rows.{Row, cell, cells, value_of}
 use Rattle.row_page.proofs.Leaves.{length-cell}
 use Rattle.leaf_rows.specs.Rows.{image_length}
-use Rattle.one_session.proofs.Telling.{ones}
+use Rattle.rows_shown.proofs.Telling.{ones}
 use Rattle.snapshot.specs.Sight.{Sight}
 use Rattle.leaf_chains.specs.declared.slot.KeyChain.{KeyChain}
 use Rattle.leaf_chains.specs.Slots.{chain_at, slot_of}

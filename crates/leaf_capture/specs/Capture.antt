@@ -7,7 +7,7 @@ use Rattle.snapshot.specs.Sight.{Sight, is_seen}
 use Rattle.update_chain.specs.declared.update.Update.{Update}
 use Rattle.row_page.specs.Rows.{Row, RowFits, key_most}
 use Rattle.leaf_rows.specs.Rows.{AreFit}
-use Rattle.one_session.specs.Shows.{shown_at}
+use Rattle.rows_shown.specs.Shows.{shown_at}
 use Rattle.leaf_chains.specs.declared.slot.KeyChain.{KeyChain}
 use Rattle.leaf_chains.specs.Slots.{chain_at}
 use Rattle.leaf_capture.specs.Cells.{cell_version}

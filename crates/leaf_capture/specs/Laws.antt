@@ -12,7 +12,7 @@ use Rattle.update_chain.specs.declared.update.Update.{Update}
 use Rattle.update_chain.specs.EventLaws.{StandsFor}
 use Rattle.leaf_chains.specs.declared.slot.KeyChain.{KeyChain}
 use Rattle.leaf_chains.specs.Slots.{chain_at}
-use Rattle.one_session.specs.Shows.{shown_at}
+use Rattle.rows_shown.specs.Shows.{shown_at}
 use Rattle.leaf_capture.specs.Capture.{captured, IsCaptured}
 
 -- Of who wrote the key and is resolving none is committed. Until it is stamped, the update of one that is has not the stamps of its version.

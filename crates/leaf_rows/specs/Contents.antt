@@ -1,23 +1,9 @@
--- What a device with one table of one leaf holds.
-use Rattle.std.specs.Prelude.{ℕ, Bool, ◌&&◌, ◌||◌, ◌==◌, nat_le, List, [], ◌∷◌, filter}
+-- What an opening keeps of the rows of a leaf.
+use Rattle.std.specs.Prelude.{ℕ, Bool, ◌&&◌, ◌||◌, ◌==◌, nat_le, List, [], filter}
 use Rattle.stamp.specs.declared.version.Window.{Window}
-use Rattle.kv_model.specs.History.{Table}
-use Rattle.kv_model.specs.Content.{Content, sees_name}
+use Rattle.kv_model.specs.Content.{sees_name}
 use Rattle.row_page.specs.Rows.{Row}
-use Rattle.stored.specs.Stored.{placed_in}
 use Rattle.leaf_rows.specs.declared.marks.Marks.{Marks}
-
--- a table with these rows, and no history
-abbrev pub leaf_content : Marks → Table → List Row → Content
-leaf_content m t rows = record {
-  run = m.run;
-  oldest = m.oldest;
-  stable = m.stable;
-  snapshot = record { min = m.min; max = m.max; ids = [] };
-  tables = t ∷ [];
-  cells = placed_in t.number rows;
-  records = [];
-}
 
 -- an opening keeps the version: the recorded snapshot sees its name, and it is durable at the recorded stable stamp
 abbrev pub is_kept_window : Marks → Window → Bool

@@ -1,9 +1,9 @@
-//! The rows of a table that has one leaf, in memory: a map from keys to their newest versions, in
-//! the order of the keys.
+//! The rows of a table that has one leaf, in memory: each key with its newest version, in the order
+//! of the keys.
 //!
-//! Promises that a look-up gives the version that the list of rows has at the key, that a put
-//! changes that key alone, and that the image of the rows is the leaf's. Leaves to the crates above
-//! which versions are put, and where the leaf stands.
+//! Promises that the rows are those of a leaf, or those that were pushed, without what an opening
+//! does not keep, and that their image is the leaf's. Leaves to the crates above which versions are
+//! pushed, and where the leaf stands.
 #![tactic(auto)]
 
 mod marks;

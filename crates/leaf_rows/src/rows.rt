@@ -1,12 +1,12 @@
 // The rows, and what is asked of them.
-ghost use Rattle.std.specs.Prelude.{◌≡◌, ◌≤◌, ◌<◌, ◌||◌, ◌==◌, ◌++◌, nat_le, true, max, List, [], ◌∷◌, length, map, take, drop, bytes_eq, slice_index_or, vec_len, vec_capacity, IfOk, OnOk, OnErr, IsTrue, ◌↔◌, None, option_map};
+ghost use Rattle.std.specs.Prelude.{◌≡◌, ◌≤◌, ◌<◌, ◌||◌, ◌==◌, ◌++◌, nat_le, max, List, [], ◌∷◌, length, map, IfOk, OnOk, OnErr, IsTrue, ◌↔◌};
 ghost use Rattle.kv_model.specs.Content.{sees_id, sees_name};
-ghost use Rattle.row_page.specs.Rows.{Row, RowFits, IsImage, Ascends, cell, key_most, is_below};
+ghost use Rattle.row_page.specs.Rows.{Row, RowFits, IsImage, cell, key_most};
 ghost use Rattle.row_page.specs.Greatest.{name_lt, later, greatest_in, most_in};
 ghost use Rattle.row_page.specs.Views.{row_seen};
-ghost use Rattle.leaf_rows.specs.Rows.{AreFit, IsAboveLast, SplitsAt, version_at, put_row, image_length};
+ghost use Rattle.leaf_rows.specs.Rows.{AreFit, IsAboveLast, image_length};
 ghost use Rattle.std.specs.List.{list_any};
-ghost use Rattle.leaf_rows.specs.Contents.{is_kept_window, kept_rows, is_seen_window, seen_rows};
+ghost use Rattle.leaf_rows.specs.Contents.{is_seen_window, seen_rows};
 
 use crate::Marks;
 use failure::NoMemory;
@@ -66,49 +66,13 @@ impl Rows {
     }
 
     /// Takes out what an opening does not keep: versions that the recorded snapshot does not see,
-    /// or that are not durable at the recorded stable stamp. `O(n)`, and it takes no memory.
-    pub fn keep(&mut self, marks: Marks)
-        ensures { self.new ≡ kept_rows marks self.old }
-    {
-        keep(&mut self.rows, marks);
-    }
-
-    /// Takes out what an opening does not keep after a checkpoint that had running transactions, of
-    /// these ids: their versions too. `O(n)` in the rows, times the ids, and it takes no memory.
+    /// those of the transactions that were running, of these ids, among them, or that are not
+    /// durable at the recorded stable stamp. `O(n)` in the rows, times the ids, and it takes no
+    /// memory.
     pub fn keep_seen(&mut self, marks: Marks, running: &[u64])
         ensures { self.new ≡ seen_rows marks running.now self.old }
     {
         keep_seen(&mut self.rows, marks, running);
-    }
-
-    /// The version of a key. `O(log n)` in the number of rows.
-    pub fn version(&self, key: &[u8]) -> Option<&Version<CellChange<Item>>>
-        ensures { option_map (λ v. v.now) result ≡ version_at key.now self.now }
-    {
-        let i = first_not_below(&self.rows, key);
-        if is_there(&self.rows, i, key) {
-            Some(&self.rows[i].1)
-        } else {
-            None
-        }
-    }
-
-    /// Puts a version of a key in place of the one that it had. `O(log n)` in the number of rows to
-    /// find its place, and a move of those behind it where the key is new. Where memory is short
-    /// nothing is changed.
-    pub fn put(&mut self, key: Item, version: Version<CellChange<Item>>) -> Result<(), NoMemory>
-        requires { RowFits [] key_most (key, version) }
-        ensures put { OnOk result (self.new ≡ put_row key version self.old) }
-        ensures same { OnErr result (self.new ≡ self.old) }
-    {
-        let i = first_not_below(&self.rows, key.as_bytes());
-        if is_there(&self.rows, i, key.as_bytes()) {
-            self.rows[i] = (key, version);
-            return Ok(());
-        }
-        self.rows.reserve(1)?;
-        insert_at(&mut self.rows, i, (key, version));
-        Ok(())
     }
 
     /// Puts a row behind all others: its key is above that of the last. `O(1)`, and no memory where
@@ -267,69 +231,10 @@ fn greater(a: u64, b: u64) -> u64
     a.max(b)
 }
 
-// Whether the i-th row has the key.
-fn is_there(rows: &[(Item, Version<CellChange<Item>>)], i: usize, key: &[u8]) -> bool
-    ensures within { result ≡ true → i < length rows.now }
-    ensures same { (d : Row) → i < length rows.now → result ≡ bytes_eq (slice_index_or rows.now i d).0 key.now }
+fn keep_seen(rows: &mut Vec<(Item, Version<CellChange<Item>>)>, marks: Marks, running: &[u64])
+    ensures { rows.new.items ≡ seen_rows marks running.now rows.old.items }
 {
-    i < rows.len() && rows[i].0.as_bytes() == key
-}
-
-// How many rows, from the first on, have keys below this one, by halving.
-fn first_not_below(rows: &[(Item, Version<CellChange<Item>>)], key: &[u8]) -> usize
-    requires { Ascends None rows.now }
-    ensures { SplitsAt rows.now key.now result }
-{
-    let mut low = 0;
-    let mut high = rows.len();
-    while low < high {
-        let middle = low + (high - low) / 2;
-        if is_below(rows[middle].0.as_bytes(), key) {
-            low = middle + 1;
-        } else {
-            high = middle;
-        }
-    }
-    low
-}
-
-fn is_below(key: &[u8], other: &[u8]) -> bool
-    ensures { result ≡ is_below key.now other.now }
-{
-    key.cmp(other).is_lt()
-}
-
-// There is room for the row, so it takes no memory.
-fn insert_at(
-    rows: &mut Vec<(Item, Version<CellChange<Item>>)>,
-    i: usize,
-    row: (Item, Version<CellChange<Item>>),
-)
-    requires within { i ≤ vec_len rows.old }
-    requires room { vec_len rows.old < vec_capacity rows.old }
-    ensures { rows.new.items ≡ take i rows.old.items ++ row ∷ drop i rows.old.items }
-{
-    let _inserted = rows.insert(i, row);
-}
-
-fn keep(rows: &mut Vec<(Item, Version<CellChange<Item>>)>, marks: Marks)
-    ensures { rows.new.items ≡ kept_rows marks rows.old.items }
-{
-    rows.retain(|row| is_kept(&marks, &row.1.window));
-}
-
-// An opening keeps the version: the recorded snapshot sees its name, and it is durable at the
-// recorded stable stamp.
-fn is_kept(marks: &Marks, window: &Window) -> bool
-    ensures { result ≡ is_kept_window marks.now window.now }
-{
-    sees(marks, window.name) && is_stable(marks, window.durable)
-}
-
-fn sees(marks: &Marks, name: Name) -> bool
-    ensures { result ≡ sees_name marks.now.run (record { min = marks.now.min; max = marks.now.max; ids = [] }) name }
-{
-    name.run < marks.run || (name.run == marks.run && (name.id < marks.min || name.id < marks.max))
+    rows.retain(|row| is_seen(&marks, running, &row.1.window));
 }
 
 fn is_stable(marks: &Marks, durable: u64) -> bool
@@ -338,13 +243,8 @@ fn is_stable(marks: &Marks, durable: u64) -> bool
     marks.stable == 0 || durable <= marks.stable
 }
 
-fn keep_seen(rows: &mut Vec<(Item, Version<CellChange<Item>>)>, marks: Marks, running: &[u64])
-    ensures { rows.new.items ≡ seen_rows marks running.now rows.old.items }
-{
-    rows.retain(|row| is_seen(&marks, running, &row.1.window));
-}
-
-// An opening keeps the version, where these ids had not ended.
+// An opening keeps the version: the recorded snapshot, in which these ids were running, sees its
+// name, and it is durable at the recorded stable stamp.
 fn is_seen(marks: &Marks, running: &[u64], window: &Window) -> bool
     ensures { result ≡ is_seen_window marks.now running.now window.now }
 {

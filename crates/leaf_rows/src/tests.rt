@@ -25,22 +25,19 @@ fn window(id: u64, durable: u64) -> Window
 }
 
 #[test]
-fn rows_are_kept_in_the_order_of_their_keys(rt: HostRuntime) {
+fn the_greatest_marks_of_rows_are_told(rt: HostRuntime) {
     let alloc = rt.alloc();
     let mut rows = Rows::new(alloc);
-    for (key, id) in [(b"b\0", 1u64), (b"a\0", 2), (b"c\0", 3), (b"a\0", 4)] {
+    for (key, id, durable) in [(b"a\0", 1u64, 5u64), (b"b\0", 4, 7), (b"c\0", 3, 6)] {
         let version = Version {
-            window: window(id, 0),
+            window: window(id, durable),
             change: CellChange::Put(item(&rt, alloc, b"1\0")),
         };
-        rows.put(item(&rt, alloc, key), version)
+        rows.push(item(&rt, alloc, key), version)
             .expect(&rt, "there is memory");
     }
-    assert_eq!(rt; rows.version(b"a\0").map(|v| v.window.name.id), Some(4));
-    assert_eq!(rt; rows.version(b"b\0").map(|v| v.window.name.id), Some(1));
-    assert!(&rt; rows.version(b"a").is_none());
     assert_eq!(rt; rows.greatest().id, 4);
-    assert_eq!(rt; rows.durable(), 0);
+    assert_eq!(rt; rows.durable(), 7);
 }
 
 #[test]
@@ -52,7 +49,7 @@ fn the_image_of_one_row_is_these_bytes(rt: HostRuntime) {
         window: window(1, 0),
         change: CellChange::Put(item(&rt, alloc, b"1\0")),
     };
-    rows.put(item(&rt, alloc, b"a\0"), version)
+    rows.push(item(&rt, alloc, b"a\0"), version)
         .expect(&rt, "there is memory");
     assert!(&rt; !rows.is_empty());
     if !rows.fit_a_leaf() {

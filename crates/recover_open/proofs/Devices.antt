@@ -21,13 +21,13 @@ use Rattle.stored.proofs.EmptyTrees.{history_empty}
 use Rattle.stored.proofs.OneTree.{holds_front, holds_back}
 use Rattle.checkpoint_core.specs.Stands.{AreInUse}
 use Rattle.checkpoint_core.specs.Room.{IsSpaceOf}
-use Rattle.one_table.specs.declared.place.Place.{Place}
-use Rattle.one_table.specs.Damage.{IsChosen}
-use Rattle.one_table.specs.Leaves.{LeafIs, blocks_at}
-use Rattle.one_table.specs.Openings.{Serves, HasBooks}
-use Rattle.one_table.proofs.Leaves.{length_block}
-use Rattle.one_table.proofs.Shapes.{all_front, all_join, one_leaf, leaf_tree as leaf_is_tree}
-use Rattle.one_table.proofs.Opens.{slot_is, no_blank, spoilt_no_content, corrupt_no_content, record_bytes, range_length}
+use Rattle.device_leaf.specs.declared.place.Place.{Place}
+use Rattle.device_leaf.specs.Damage.{IsChosen}
+use Rattle.device_leaf.specs.Leaves.{LeafIs, blocks_at}
+use Rattle.device_leaf.specs.Openings.{Serves, HasBooks}
+use Rattle.device_leaf.proofs.Leaves.{length_block}
+use Rattle.device_leaf.proofs.Shapes.{all_front, all_join, one_leaf, leaf_tree as leaf_is_tree}
+use Rattle.device_leaf.proofs.Opens.{slot_is, no_blank, spoilt_no_content, corrupt_no_content, record_bytes, range_length}
 use Rattle.recover_open.specs.Flat.{IsFlat, leaf_tree, flat_stored, AreLeaves}
 use Rattle.recover_open.specs.Damage.{Names, HasNoRecord, IsAmong, IsDamage, LeafSpoils, BlocksMeet, blocks_found}
 use Rattle.recover_open.proofs.Places.{Matches, tables_match, tables_long, found_last, stored_of, apart_of, told_of}

@@ -20,11 +20,11 @@ use Rattle.stored.specs.Records.{TableRoot}
 use Rattle.stored.specs.Stored.{tables_blocks}
 use Rattle.checkpoint_core.specs.Stands.{AreInUse}
 use Rattle.checkpoint_core.specs.Room.{InBlocks, end_of}
-use Rattle.one_table.specs.Leaves.{blocks_at}
-use Rattle.one_table.specs.Openings.{HasBooks}
-use Rattle.one_table.proofs.Leaves.{place_is, leaf_bytes}
-use Rattle.one_table.proofs.Shapes.{all_join}
-use Rattle.one_table.proofs.Books.{ends, Inside, Told, found_used, not_free, free_or_found}
+use Rattle.device_leaf.specs.Leaves.{blocks_at}
+use Rattle.device_leaf.specs.Openings.{HasBooks}
+use Rattle.device_leaf.proofs.Leaves.{place_is, leaf_bytes}
+use Rattle.device_leaf.proofs.Shapes.{all_join}
+use Rattle.device_leaf.proofs.Books.{ends, Inside, Told, found_used, not_free, free_or_found}
 use Rattle.recover_open.specs.Flat.{leaf_tree}
 use Rattle.recover_open.specs.Damage.{leaf_found_of, blocks_found}
 

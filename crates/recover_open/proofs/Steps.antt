@@ -22,11 +22,11 @@ use Rattle.stored.specs.Records.{TableRoot, Record, record_image, IsRecord}
 use Rattle.wt_code.specs.declared.refusals.Refusal.{Refusal}
 use Rattle.wt_code.specs.declared.refusals.Refusal.TheVariants.{DiskFault, Corrupt}
 use Rattle.checkpoint_record.proofs.Lists.{take_step}
-use Rattle.one_table.specs.OneTable.{no_root}
-use Rattle.one_table.specs.Damage.{FoundNoLeaf, IsChosen}
-use Rattle.one_table.specs.Leaves.{LeafIs}
-use Rattle.one_table.specs.Openings.{LeafRefused, Serves, last_number}
-use Rattle.one_table.proofs.Opens.{IsRecordBlock, no_blank}
+use Rattle.device_leaf.specs.NoHistory.{no_root}
+use Rattle.device_leaf.specs.Damage.{FoundNoLeaf, IsChosen}
+use Rattle.device_leaf.specs.Leaves.{LeafIs}
+use Rattle.device_leaf.specs.Openings.{LeafRefused, Serves, last_number}
+use Rattle.device_leaf.proofs.Opens.{IsRecordBlock, no_blank}
 use Rattle.recover_open.specs.declared.opening.Kept.{Kept}
 use Rattle.recover_open.specs.declared.opening.Recovered.{Recovered}
 use Rattle.recover_open.specs.Flat.{IsFlat, is_leaf, flat_stored, kept_of, AreLeaves}

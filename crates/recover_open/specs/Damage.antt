@@ -10,7 +10,7 @@ use Rattle.block_mgr.specs.Places.{IsThere, Spoils}
 use Rattle.block_mgr.specs.Open.{Fits, Agree, found_at}
 use Rattle.stored.specs.Links.{is_nowhere}
 use Rattle.stored.specs.Records.{TableRoot, Record, record_image, IsRecord}
-use Rattle.one_table.specs.Damage.{FoundNoLeaf, IsChosen, SlotSpoils, record_found, leaf_found}
+use Rattle.device_leaf.specs.Damage.{FoundNoLeaf, IsChosen, SlotSpoils, record_found, leaf_found}
 use Rattle.recover_open.specs.Flat.{IsFlat}
 
 -- the block of a table's leaf, where it is stored

@@ -8,8 +8,8 @@ use Rattle.leaf_rows.specs.Contents.{seen_rows}
 use Rattle.stored.specs.Records.{TableRoot, Record}
 use Rattle.stored.specs.TableTree.{TableTree}
 use Rattle.stored.specs.Stored.{Stored}
-use Rattle.one_table.specs.OneTable.{no_root}
-use Rattle.one_table.specs.Leaves.{LeafIs}
+use Rattle.device_leaf.specs.NoHistory.{no_root}
+use Rattle.device_leaf.specs.Leaves.{LeafIs}
 
 -- each tree is one leaf, and the history has no records
 pub record IsFlat (r : Record) : Type 0 where

@@ -15,8 +15,8 @@ use Rattle.kv_model.specs.Content.{Content}
 use Rattle.row_page.specs.Rows.{Row}
 use Rattle.stored.specs.Records.{TableRoot, Record, record_image, IsRecord}
 use Rattle.stored.specs.Stored.{Stored, Reads, IsOn, IsBlank}
-use Rattle.one_table.specs.declared.place.Place.{Place}
-use Rattle.one_table.specs.Openings.{HasBooks, LeafRefused, Serves, last_number}
+use Rattle.device_leaf.specs.declared.place.Place.{Place}
+use Rattle.device_leaf.specs.Openings.{HasBooks, LeafRefused, Serves, last_number}
 use Rattle.recover_open.specs.declared.opening.Kept.{Kept}
 use Rattle.recover_open.specs.declared.opening.Recovered.{Recovered}
 use Rattle.recover_open.specs.Flat.{IsFlat, flat_stored, kept_of}

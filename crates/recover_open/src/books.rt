@@ -1,7 +1,7 @@
 // The books of the blocks in use.
 ghost use Rattle.std.specs.Prelude.{◌≡◌, ◌≤◌, ◌++◌, [], ◌∷◌, false, length, IfOk, IfErr, OnOk};
 ghost use Rattle.block_mgr.specs.Open.{AreStored};
-ghost use Rattle.one_table.specs.Openings.{HasBooks};
+ghost use Rattle.device_leaf.specs.Openings.{HasBooks};
 ghost use Rattle.recover_open.specs.Damage.{blocks_found, leaf_found_of};
 ghost use Rattle.recover_open.specs.Recoveries.{RefusesBlocks};
 

@@ -9,7 +9,7 @@ use checkpoint_record::{Record, TableRoot};
 use device_layout::Link;
 use disk_model::Disk;
 use leaf_rows::{Marks, Rows};
-use one_table::load;
+use device_leaf::load;
 use std::alloc::Global;
 use wt_code::Refusal;
 

@@ -2,7 +2,7 @@
 ghost use Rattle.std.specs.Prelude.{◌≡◌, length, IfOk, IfErr, IsTrue};
 ghost use Rattle.failure.specs.Counts.{Rose};
 ghost use Rattle.disk_model.specs.Crash.{Looked};
-ghost use Rattle.one_table.specs.Damage.{IsChosen};
+ghost use Rattle.device_leaf.specs.Damage.{IsChosen};
 ghost use Rattle.recover_open.specs.Recoveries.{IsRecovered, InForm, RefusesRecovery, IsNothing, IsAssembled};
 
 use crate::books::books;
@@ -12,7 +12,7 @@ use block_mgr::Blocks;
 use checkpoint_record::Record;
 use disk_model::Disk;
 use leaf_rows::Rows;
-use one_table::Place;
+use device_leaf::Place;
 use std::alloc::Global;
 use turtle::{Slot, choose};
 use wt_code::Refusal;

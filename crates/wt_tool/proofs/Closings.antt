@@ -35,7 +35,7 @@ use Rattle.stored.specs.Opens.{Opens}
 use Rattle.stored.proofs.Device.{one_choice}
 use Rattle.checkpoint_core.specs.Stands.{HasStill}
 use Rattle.checkpoint_core.specs.Finishes.{IsOld, IsEither}
-use Rattle.one_table.specs.Closings.{content_was}
+use Rattle.device_leaf.specs.Closings.{content_was}
 use Rattle.engine_world.specs.Stands.{Engine, Stands}
 use Rattle.engine_world.specs.Worlds.{World, Resting}
 use Rattle.engine_world.proofs.HubMoves.{decided-up}

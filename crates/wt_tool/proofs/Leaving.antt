@@ -12,7 +12,7 @@ use Rattle.kv_model.specs.Machine.{Machine, Completed}
 use Rattle.stored.specs.Stored.{Stored, Reads}
 use Rattle.stored.proofs.Device.{one_content}
 use Rattle.checkpoint_core.specs.Stands.{HasStill}
-use Rattle.one_table.specs.Closings.{content_was}
+use Rattle.device_leaf.specs.Closings.{content_was}
 use Rattle.engine_world.specs.Stands.{Engine}
 use Rattle.engine_world.specs.Systems.{first_world}
 use Rattle.engine_world.specs.Worlds.{World}

@@ -17,7 +17,7 @@ use Rattle.device_layout.specs.declared.link.Link.{Link}
 use Rattle.turtle.proofs.Choice.{chooses_one}
 use Rattle.kv_model.specs.History.{Table}
 use Rattle.checkpoint_core.specs.Stands.{HasStill}
-use Rattle.one_table.specs.Closings.{content_was}
+use Rattle.device_leaf.specs.Closings.{content_was}
 use Rattle.recover_open.specs.Flat.{IsFlat}
 use Rattle.recover_open.proofs.Devices.{damage_no_content}
 use Rattle.recover_open.proofs.Steps.{refused_further}

@@ -18,7 +18,7 @@ use Rattle.script_run.specs.declared.script.End.TheVariants.{Through, Stopped}
 use Rattle.script_run.specs.Scripts.{Outside, outside, counts}
 use Rattle.engine_world.specs.Worlds.{World, Resting, doing_of}
 use Rattle.stored.specs.Stored.{Stored}
-use Rattle.one_table.specs.Closings.{content_was}
+use Rattle.device_leaf.specs.Closings.{content_was}
 use Rattle.ckpt_step.specs.Grounds.{StandsOn}
 use Rattle.ckpt_step.specs.Plain.{IsPlain}
 use Rattle.engine_store.specs.declared.store.Store.{Store}

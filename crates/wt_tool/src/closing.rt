@@ -4,7 +4,7 @@ ghost use Rattle.failure.specs.Counts.{Rose};
 ghost use Rattle.disk_model.specs.Crash.{SameDisk};
 ghost use Rattle.engine_world.specs.Worlds.{World};
 ghost use Rattle.ckpt_step.specs.Grounds.{IsSteady, StandsOn};
-ghost use Rattle.one_table.specs.Closings.{content_was};
+ghost use Rattle.device_leaf.specs.Closings.{content_was};
 ghost use Rattle.stored.specs.Stored.{Stored};
 ghost use Rattle.engine_store.specs.Opened.{IsReady};
 ghost use Rattle.wt_tool.specs.Narrow.{ClosesOne};

@@ -7,7 +7,7 @@ ghost use Rattle.wt_tool.specs.Words.{formats_in, formats_asked, name_in, after_
 
 use failure::NoMemory;
 use item::{Format, Formats, Item};
-use one_table::is_table_name;
+use device_leaf::is_table_name;
 use std::alloc::Global;
 
 // Items that are stored as they are.

@@ -1,6 +1,6 @@
 use Rattle.std.proofs.Common.{refl, sym, subst}
 use Rattle.device_layout.specs.declared.link.Link.{Link}
-use Rattle.one_table.proofs.Writes.{link_made}
+use Rattle.device_leaf.proofs.Writes.{link_made}
 use Rattle.ckpt_step.specs.Ones.{WritesNew}
 use Rattle.std.specs.Prelude.{Ok}
 use Rattle.ckpt_step.proofs.News.{captures_new, fails_new, page_most, page_some, placed_new}

@@ -1,5 +1,5 @@
 use Rattle.std.proofs.Common.{ap, length, arith}
-use Rattle.one_table.proofs.Opens.{record_bytes}
+use Rattle.device_leaf.proofs.Opens.{record_bytes}
 use Rattle.ckpt_step.proofs.Putting.{if_ok_map}
 use Rattle.ckpt_step.proofs.writing.image_of.Goals as goal
 

@@ -1,6 +1,6 @@
 use Rattle.std.proofs.Common.{inl, subst, sym, IsTrue, List, ℕ}
 use Rattle.failure.specs.Counts.{Rose}
-use Rattle.one_table.proofs.Opens.{err_map, ok_map}
+use Rattle.device_leaf.proofs.Opens.{err_map, ok_map}
 use Rattle.recover_open.specs.Recoveries.{IsRecovered}
 use Rattle.engine_store.proofs.Founds.{opened_of, refused_of}
 use Rattle.engine_store.proofs.opening.open_on.Goals as goal

@@ -1,8 +1,8 @@
 use Rattle.std.proofs.Common.{◌∙◌, ap, subst, length, List, arith}
 use Rattle.block_mgr.specs.declared.found.Found.{Found}
 use Rattle.block_mgr.specs.Open.{AreStored}
-use Rattle.one_table.specs.Openings.{HasBooks}
-use Rattle.one_table.proofs.Opens.{ok_map, err_map}
+use Rattle.device_leaf.specs.Openings.{HasBooks}
+use Rattle.device_leaf.proofs.Opens.{ok_map, err_map}
 use Rattle.recover_open.specs.Recoveries.{RefusesBlocks}
 use Rattle.recover_open.proofs.Places.{found_few}
 use Rattle.recover_open.proofs.books.books.Goals as goal

@@ -1,6 +1,6 @@
 use Rattle.std.proofs.Common.{◌∷◌, ◌++◌, ◌∙◌, ap, sym, List}
 use Rattle.block_mgr.specs.declared.found.Found.{Found}
-use Rattle.one_table.specs.Damage.{record_found}
+use Rattle.device_leaf.specs.Damage.{record_found}
 use Rattle.recover_open.specs.Damage.{leaf_found_of}
 use Rattle.recover_open.proofs.Steps.{found_more}
 use Rattle.recover_open.proofs.books.found_of.Goals as goal

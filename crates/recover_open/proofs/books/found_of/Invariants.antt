@@ -1,6 +1,6 @@
 use Rattle.std.proofs.Common.{◌≡◌, ◌∷◌, take}
 use Rattle.std.specs.List.{flat_map}
-use Rattle.one_table.specs.Damage.{record_found}
+use Rattle.device_leaf.specs.Damage.{record_found}
 use Rattle.recover_open.specs.Damage.{leaf_found_of}
 use Rattle.recover_open.proofs.books.found_of.Given as goal
 

@@ -5,9 +5,9 @@ use Rattle.row_page.specs.Rows.{Row}
 use Rattle.stored.specs.Records.{TableRoot}
 use Rattle.failure.specs.Counts.{Rose}
 use Rattle.device_layout.specs.declared.link.Link.{Link}
-use Rattle.one_table.specs.Leaves.{LeafIs}
-use Rattle.one_table.specs.Openings.{LeafRefused}
-use Rattle.one_table.proofs.Opens.{rose_sooner}
+use Rattle.device_leaf.specs.Leaves.{LeafIs}
+use Rattle.device_leaf.specs.Openings.{LeafRefused}
+use Rattle.device_leaf.proofs.Opens.{rose_sooner}
 use Rattle.recover_open.specs.Flat.{AreLeaves}
 use Rattle.recover_open.proofs.Steps.{looked_none, leaf_later, leaves_more}
 use Rattle.recover_open.proofs.leaves.load_all.Goals as goal

@@ -3,8 +3,8 @@ use Rattle.failure.specs.Counts.{Rose}
 use Rattle.disk_model.proofs.Crash.{looked_then}
 use Rattle.device_layout.specs.declared.slot.Slot.{Slot}
 use Rattle.turtle.specs.Slots.{Chooses}
-use Rattle.one_table.specs.Damage.{IsChosen}
-use Rattle.one_table.proofs.Opens.{err_map, ok_map, rose_sooner}
+use Rattle.device_leaf.specs.Damage.{IsChosen}
+use Rattle.device_leaf.proofs.Opens.{err_map, ok_map, rose_sooner}
 use Rattle.recover_open.specs.Recoveries.{IsRecovered, RecoveryRefused}
 use Rattle.recover_open.proofs.Steps.{slot_refused, nothing_is, none_in_form, refused_further}
 use Rattle.recover_open.proofs.opening.recover.Goals as goal

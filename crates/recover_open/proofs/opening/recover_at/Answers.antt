@@ -1,7 +1,7 @@
 use Rattle.std.proofs.Common.{inl, inr, refl, ◌≡◌, ◌∙◌, ap, subst, arith, List, ℕ, length}
 use Rattle.disk_model.proofs.Crash.{looked_then}
 use Rattle.block_mgr.specs.Open.{AreStored}
-use Rattle.one_table.proofs.Opens.{rose_sooner}
+use Rattle.device_leaf.proofs.Opens.{rose_sooner}
 use Rattle.stored.specs.Records.{TableRoot}
 use Rattle.recover_open.specs.Flat.{AreLeaves}
 use Rattle.recover_open.specs.Damage.{IsAmong, blocks_found}

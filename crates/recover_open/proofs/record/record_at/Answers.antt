@@ -1,5 +1,5 @@
 use Rattle.std.proofs.Common.{inl, inr}
-use Rattle.one_table.proofs.Opens.{block_there, ok_map, err_map}
+use Rattle.device_leaf.proofs.Opens.{block_there, ok_map, err_map}
 use Rattle.recover_open.proofs.Steps.{recorded, record_refused, record_spoilt}
 use Rattle.recover_open.proofs.record.record_at.Goals as goal
 

@@ -2,7 +2,7 @@ use Rattle.std.specs.Prelude.{IfSome, IfNone}
 use Rattle.std.proofs.Common.{◌≡◌, inl, inr, ◌∙◌, ap, sym, subst, Option}
 use Rattle.le_codec.specs.Images.{block_of}
 use Rattle.stored.specs.Records.{Record, record_image, IsRecord}
-use Rattle.one_table.proofs.Opens.{ok_map, err_map}
+use Rattle.device_leaf.proofs.Opens.{ok_map, err_map}
 use Rattle.recover_open.proofs.Steps.{why_refused}
 use Rattle.recover_open.proofs.record.record_of.Goals as goal
 

@@ -1,4 +1,4 @@
-use Rattle.one_table.proofs.Opens.{err_map}
+use Rattle.device_leaf.proofs.Opens.{err_map}
 use Rattle.wt_tool.proofs.Closings.{ran_close, close_sound}
 use Rattle.wt_tool.proofs.closing.close.Goals as goal
 

@@ -1,7 +1,7 @@
 use Rattle.std.proofs.Common.{◌∙◌, subst, List, ℕ, IsTrue}
 use Rattle.failure.specs.Counts.{Rose}
 use Rattle.engine_store.specs.Opened.{OpenRefused}
-use Rattle.one_table.proofs.Opens.{err_map, rose_sooner}
+use Rattle.device_leaf.proofs.Opens.{err_map, rose_sooner}
 use Rattle.wt_tool.proofs.Running.{ok_map, open_further, opened_on}
 use Rattle.wt_tool.proofs.opening.reach.Goals as goal
 

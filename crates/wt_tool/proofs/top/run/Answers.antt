@@ -8,7 +8,7 @@ use Rattle.kv_model.specs.Content.{start}
 use Rattle.wt_io.specs.StreamLemmas.{took_none}
 use Rattle.wt_line.specs.declared.command.Command.{Command}
 use Rattle.wt_line.specs.Line.{meaning, pair_texts, write, read}
-use Rattle.one_table.proofs.Opens.{err_map}
+use Rattle.device_leaf.proofs.Opens.{err_map}
 use Rattle.script_run.specs.Scripts.{Outside, outside}
 use Rattle.wt_tool.specs.Points.{Point, point_of}
 use Rattle.wt_tool.specs.Creates.{RunsCreate}

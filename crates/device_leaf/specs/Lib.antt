@@ -1,0 +1,5 @@
+pub mod NoHistory
+pub mod Leaves
+pub mod Damage
+pub mod Openings
+pub mod Closings

@@ -1,5 +1,0 @@
-pub mod OneTable
-pub mod Leaves
-pub mod Damage
-pub mod Openings
-pub mod Closings
