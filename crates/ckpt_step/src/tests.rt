@@ -1,6 +1,5 @@
 // Checkpoints of an engine on a disk in memory: the bytes that they write, the room that they take,
 // and what a failing call leaves.
-mod plain_disk;
 
 use crate::{Ground, checkpoint};
 use block_sum::sum;

@@ -3,7 +3,6 @@ ghost use Rattle.std.specs.Prelude.{◌≡◌};
 
 mod checkpoints;
 mod closings;
-mod plain_disk;
 
 use crate::open_on;
 use block_sum::sum;

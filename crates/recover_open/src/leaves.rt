@@ -7,9 +7,9 @@ ghost use Rattle.recover_open.specs.Recoveries.{LeavesRefused};
 
 use checkpoint_record::{Record, TableRoot};
 use device_layout::Link;
+use device_leaf::load;
 use disk_model::Disk;
 use leaf_rows::{Marks, Rows};
-use device_leaf::load;
 use std::alloc::Global;
 use wt_code::Refusal;
 

@@ -12,9 +12,9 @@ ghost use Rattle.recover_open.specs.Recoveries.{RefusesRecovery, IsSound, IsReco
 use block_mgr::read_block;
 use checkpoint_record::{Record, Root, TableRoot, decode};
 use device_layout::Addr;
+use device_leaf::is_nowhere;
 use disk_model::Disk;
 use limits::NUMBER_MAX;
-use device_leaf::is_nowhere;
 use std::alloc::Global;
 use turtle::Slot;
 use wt_code::{Limit, Refusal};

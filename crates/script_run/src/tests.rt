@@ -1,7 +1,6 @@
 // Scripts, with what each prints and how it ends, on a device on which nothing was done.
 mod bad_lines;
 mod devices;
-mod plain_disk;
 mod steps;
 mod stories;
 
@@ -197,12 +196,21 @@ fn oks(alloc: Global, count: u32, behind: &str) -> Result<String, Fail> {
     Ok(text)
 }
 
+// What is asked of 1,024 tables: a row in one of them, a checkpoint, and one more after another row.
+const OF_MANY: &str =
+    "s1 begin\ns1 put t7 a x\ns1 commit\nsys ckpt\ns1 begin\ns1 put t1000 a y\ns1 commit\nsys ckpt\nsys crash\ns1 begin\n";
+
+const OF_MANY_TOLD: &str =
+    "75 limit tables\nok\nok\nok\nok\nok\nok\nok\nok\nok\nok\nok x\nok y\n-31803 not found\nThrough None";
+
 #[test]
-fn there_are_1024_tables_at_most(rt: HostRuntime) -> Result<(), Fail> {
+fn there_are_1024_tables_at_most_and_a_checkpoint_has_them(rt: HostRuntime) -> Result<(), Fail> {
     let alloc = rt.alloc();
-    let text = tables(alloc, 1_025)?;
+    let mut text = tables(alloc, 1_025)?;
+    text.push_str(OF_MANY)?;
+    text.push_str("s1 get t7 a\ns1 get t1000 a\ns1 get t1023 a\n")?;
     let told = outcome(&rt, alloc, plain(text.as_str()))?;
-    let wanted = oks(alloc, 1_024, "75 limit tables\nThrough None")?;
+    let wanted = oks(alloc, 1_024, OF_MANY_TOLD)?;
     assert_eq!(rt; told.as_str(), wanted.as_str());
     Ok(())
 }

@@ -5,9 +5,9 @@ ghost use Rattle.kv_model.specs.Decisions.{is_name};
 ghost use Rattle.item_forms.specs.Forms.{stored_as};
 ghost use Rattle.wt_tool.specs.Words.{formats_in, formats_asked, name_in, after_scheme, plain_formats};
 
+use device_leaf::is_table_name;
 use failure::NoMemory;
 use item::{Format, Formats, Item};
-use device_leaf::is_table_name;
 use std::alloc::Global;
 
 // Items that are stored as they are.

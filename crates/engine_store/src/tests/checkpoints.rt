@@ -1,8 +1,8 @@
 // What an opening finds of what two checkpoints left, where a call of the disk fails.
 use super::closings::{ask, begin, commit, create, new_device, put};
 use super::item;
-use super::plain_disk::PlainDisk;
 use crate::{Store, open_on};
+use plain_disk::PlainDisk;
 use std::alloc::Global;
 use std::process::Abort;
 use wt_calls::SessionCall;

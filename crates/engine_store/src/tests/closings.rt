@@ -1,10 +1,10 @@
 // What an opening finds of what a close left, on a disk in memory.
 use super::item;
-use super::plain_disk::PlainDisk;
 use crate::{Store, open_on};
 use disk_model::MemDisk;
 use engine::Local;
 use item::{Format, Formats, Item};
+use plain_disk::PlainDisk;
 use std::alloc::Global;
 use std::process::Abort;
 use wt_calls::{Call, Demand, SessionCall, SystemCall};

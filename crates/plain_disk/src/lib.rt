@@ -1,14 +1,20 @@
-// A disk in memory, of which nothing is promised.
+//! A disk in memory of which nothing is promised, for tests of the crates above.
+//!
+//! Its calls are those of a `MemDisk`, and fail where that fails. It is not honest, so who calls with
+//! it need not prove what stands there: a test says what it expects.
+#![tactic(auto)]
+
 ghost use Rattle.std.specs.Prelude.{[], false, None};
 ghost use Rattle.std.proofs.lemmas.Bool.{false≢true};
 
 use disk_model::{Disk, Failed, MemDisk};
 
-// A disk in memory that is not `honest`: whoever calls with it need not prove what stands there. A
-// read or write that begins or ends outside does nothing.
+/// A disk in memory that is not `honest`. A read that ends outside, or a write that begins there,
+/// does nothing.
 #[derive(Drop)]
-pub(crate) struct PlainDisk {
-    pub(crate) medium: MemDisk,
+pub struct PlainDisk {
+    /// What stands on it, and which of its calls fail.
+    pub medium: MemDisk,
 }
 
 impl Disk for PlainDisk {
