@@ -10,3 +10,4 @@ pub mod Looks
 pub mod FrameEvents
 pub mod SlotLooks
 pub mod Lengths
+pub mod Texts

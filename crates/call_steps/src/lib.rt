@@ -15,6 +15,7 @@ mod frame_events;
 mod hub;
 mod hub_events;
 mod leaves;
+mod lent;
 mod looks;
 mod next;
 mod reply;
@@ -22,6 +23,7 @@ mod rows;
 mod stage;
 mod starts;
 mod state;
+mod text;
 mod words;
 mod written;
 

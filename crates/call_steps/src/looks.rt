@@ -335,7 +335,7 @@ impl SessionState {
         let from = start_of(self.cursors.as_slice(), cursor, target.table);
         match row_copied(find_row(chains, view, way, from)) {
             Ok(Stepped::Row(key, value, kept)) => {
-                self.key = kept;
+                self.key.give(kept);
                 self.answer(call, target, Answer::Row(key, value));
             }
             Ok(Stepped::Conflict(id)) => {

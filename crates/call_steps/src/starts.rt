@@ -25,7 +25,7 @@ impl SessionState {
                 self.begin_call(alloc, call);
                 Reply::Started
             }
-            _ => Reply::Answer(Answer::Refused(Refusal::Invalid(Invalid::InCall))),
+            _ => in_call(),
         }
     }
 
@@ -74,8 +74,8 @@ impl SessionState {
         ensures { self.new ≡ asks call name key value self.old }
     {
         self.stage = Stage::Find(call);
-        self.name = name;
-        self.key = key;
+        self.name.give(name);
+        self.key.give(key);
         self.value = value;
     }
 
@@ -89,7 +89,14 @@ impl SessionState {
     }
 }
 
-fn empty(alloc: Global) -> Item
+// A call that is not finished is in the way.
+pub(crate) fn in_call() -> Reply
+    ensures { result ≡ Reply.Answer (Answer.Refused (Refusal.Invalid Invalid.InCall)) }
+{
+    Reply::Answer(Answer::Refused(Refusal::Invalid(Invalid::InCall)))
+}
+
+pub(crate) fn empty(alloc: Global) -> Item
     ensures { result ≡ [] }
 {
     Item::new(Vec::new(alloc))

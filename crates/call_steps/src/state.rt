@@ -7,6 +7,7 @@ ghost use Rattle.call_steps.specs.State.{opened, at_stage, refuses, clears, land
 use crate::cursor::Cursor;
 use crate::reply::Reply;
 use crate::stage::{CommitStamps, KeyCall, Stage, Target, stamps_then, undoes};
+use crate::text::CallText;
 use crate::written::WrittenKey;
 use failure::NoMemory;
 use item::Item;
@@ -21,8 +22,8 @@ use wt_code::{Answer, Refusal};
 pub struct SessionState {
     pub(crate) phase: Phase,
     pub(crate) stage: Stage,
-    pub(crate) name: Item,
-    pub(crate) key: Item,
+    pub(crate) name: CallText,
+    pub(crate) key: CallText,
     pub(crate) value: Item,
     pub(crate) answer: Answer<Item>,
     pub(crate) written: Vec<WrittenKey>,
@@ -32,10 +33,11 @@ pub struct SessionState {
 
 impl Model for SessionState {
     ghost use Rattle.call_steps.specs.State.{State};
+    ghost use Rattle.call_steps.specs.Texts.{text_of};
 
     ghost Value = { State };
 
-    ghost view = { λ s. record { phase = s.phase; stage = s.stage; name = s.name; key = s.key; value = s.value; answer = s.answer; written = s.written.items; cursors = s.cursors.items; word = s.word } };
+    ghost view = { λ s. record { phase = s.phase; stage = s.stage; name = text_of s.name.given s.name.copied.items; key = text_of s.key.given s.key.copied.items; value = s.value; answer = s.answer; written = s.written.items; cursors = s.cursors.items; word = s.word } };
 }
 
 impl SessionState {
@@ -47,8 +49,8 @@ impl SessionState {
         Ok(SessionState {
             phase: Phase::Idle,
             stage: Stage::Rest,
-            name: Item::new(Vec::new(alloc)),
-            key: Item::new(Vec::new(alloc)),
+            name: CallText::new(alloc),
+            key: CallText::new(alloc),
             value: Item::new(Vec::new(alloc)),
             answer: Answer::Done,
             written: Vec::new(alloc),

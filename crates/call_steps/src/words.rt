@@ -12,9 +12,7 @@ use crate::reply::Reply;
 use crate::stage::{KeyCall, Stage, Target};
 use crate::state::{SessionState, first_pinned};
 use crate::written::WrittenKey;
-use item::Item;
 use std::alloc::Global;
-use std::mem::replace;
 use txn_table::Phase;
 use wt_code::{Answer, Invalid, Refusal};
 
@@ -142,7 +140,7 @@ impl SessionState {
     {
         match &self.answer {
             Answer::Value(_) | Answer::Row(_, _) => {
-                let key = replace(&mut self.key, Item::new(Vec::new(alloc)));
+                let key = self.key.take(alloc);
                 let position = Position {
                     table: target.table,
                     key,

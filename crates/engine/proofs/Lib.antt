@@ -19,3 +19,4 @@ pub mod Bases
 pub mod Running
 pub mod Unended
 pub mod Idle
+pub mod LentCalls

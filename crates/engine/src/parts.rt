@@ -3,6 +3,7 @@
 
 ghost use Rattle.std.specs.Prelude.{◌≡◌, ◌<◌, length, slice_get, slice_set, slice_index_or, Some};
 ghost use Rattle.snapshot.specs.Sight.{IsSight, sight_of};
+ghost use Rattle.kv_model.specs.Calls.{Call};
 ghost use Rattle.wt_calls.specs.Calls.{session_call_in};
 ghost use Rattle.call_steps.specs.HubEvents.{IsSeated, hub_made};
 ghost use Rattle.call_steps.specs.Starts.{Starts};
@@ -122,8 +123,20 @@ impl Parts {
         ensures answer { (w : World) → Stands self.old w → (later : World) × MayCall w session (session_call_in call) result later × Stands self.new later }
         ensures kept { Keeps self.old self.new }
     {
+        let told = self.start(alloc, session, call);
+        self.go_through(alloc, session, told)
+    }
+
+    // The answer to a call whose start was told so.
+    #[inline(always)]
+    pub(crate) fn go_through(&mut self, alloc: Global, session: u32, told: Reply) -> Answer<Item>
+        requires open { session < length self.old.sessions }
+        requires world { HasWorld self.old }
+        ensures answer { (w begun : World) (asked : Call) → session < length w.sessions → MayBegin w session asked told begun → Stands self.old begun → (later : World) × MayCall w session asked result later × Stands self.new later }
+        ensures kept { Keeps self.old self.new }
+    {
         steps_reach();
-        match self.start(alloc, session, call) {
+        match told {
             Reply::Answer(answer) => answer,
             _ => self.finish(alloc, session),
         }

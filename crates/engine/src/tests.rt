@@ -1,4 +1,5 @@
-// What a close and a checkpoint in one go do to an engine with two transactions under way.
+// What a close and a checkpoint in one go do to an engine with two transactions under way; and calls
+// whose items are lent.
 use crate::{EngineMarks, Local};
 use catalog::Catalog;
 use failure::{Fault, NoMemory};
@@ -6,7 +7,7 @@ use item::{Format, Formats, Item};
 use std::alloc::Global;
 use std::process::Abort;
 use wt_calls::{Call, Demand, SessionCall, SystemCall};
-use wt_code::{Answer, Busy, Refusal};
+use wt_code::{Answer, Busy, Invalid, Refusal};
 
 const BYTES: Formats = Formats {
     key: Format::U,
@@ -77,6 +78,23 @@ fn get(
     Ok(ask(alloc, engine, session, call))
 }
 
+// A put by session 0 of items that are lent, and a get.
+fn put_lent(alloc: Global, engine: &mut Local, key: &[u8], value: &[u8]) -> Option<Answer<Item>> {
+    if engine.sessions() > 0 {
+        Some(engine.put(alloc, 0, b"t", key, value, Demand::Anything))
+    } else {
+        None
+    }
+}
+
+fn get_lent(alloc: Global, engine: &mut Local, table: &[u8], key: &[u8]) -> Option<Answer<Item>> {
+    if engine.sessions() > 0 {
+        Some(engine.get(alloc, 0, table, key))
+    } else {
+        None
+    }
+}
+
 // How many ids the snapshot of a checkpoint lists.
 fn listed(alloc: Global, engine: &Local) -> Result<usize, NoMemory> {
     let snapshot = engine.checkpoint_snapshot(alloc)?;
@@ -129,5 +147,25 @@ fn a_close_rolls_back_all(rt: HostRuntime) -> Result<(), NoMemory> {
     engine.go_down(Fault::Sync);
     let down = Err(Refusal::Panic { fault: Fault::Sync });
     assert!(rt; engine.may_checkpoint(1) == down);
+    Ok(())
+}
+
+#[test]
+fn items_that_are_lent_are_kept(rt: HostRuntime) -> Result<(), NoMemory> {
+    let alloc = rt.alloc();
+    let mut engine = engine(alloc)?;
+    let no_txn = Some(Answer::Refused(Refusal::Invalid(Invalid::NoTxn)));
+    assert!(rt; put_lent(alloc, &mut engine, b"longer", b"0") == no_txn);
+    assert!(rt; ask(alloc, &mut engine, 0, SessionCall::Begin(None)) == Some(Answer::Done));
+    assert!(rt; put_lent(alloc, &mut engine, b"longer", b"1") == Some(Answer::Done));
+    assert!(rt; put_lent(alloc, &mut engine, b"k", b"22") == Some(Answer::Done));
+    let one = Some(Answer::Value(item(alloc, b"1")?));
+    let two = Some(Answer::Value(item(alloc, b"22")?));
+    assert!(rt; get_lent(alloc, &mut engine, b"t", b"k") == two);
+    assert!(rt; get(alloc, &mut engine, 0, b"longer")? == one);
+    let no_table = Some(Answer::Refused(Refusal::NoTable));
+    assert!(rt; get_lent(alloc, &mut engine, b"tt", b"k") == no_table);
+    let absent = Some(Answer::Refused(Refusal::NotFound));
+    assert!(rt; get_lent(alloc, &mut engine, b"t", b"longe") == absent);
     Ok(())
 }

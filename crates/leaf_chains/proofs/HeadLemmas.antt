@@ -1,10 +1,10 @@
 -- Heads of keys: how they compare, and what a change of the slots leaves of them.
 use lib.Dec.{T, eqb_refl}
-use Rattle.std.proofs.Common.{◌≡◌, ◌≢◌, ℕ, Bool, ◌+◌, ◌<◌, ◌≤◌, ◌⊎◌, true, false, not, eqb, List, [], ◌∷◌, ◌++◌, length, length-append, get_or, take, Option, Some, None, refl, sym, ap, subst, ◌∙◌, inl, inr, arith, Fits, w8}
-use Rattle.std.specs.Prelude.{slice_get, IfSome}
+use Rattle.std.proofs.Common.{◌≡◌, ◌≢◌, ℕ, Bool, ◌+◌, ◌<◌, ◌≤◌, true, false, not, eqb, List, [], ◌∷◌, ◌++◌, length, length-append, get_or, take, Option, Some, None, refl, sym, ap, subst, ◌∙◌, inl, inr, arith, Fits, w8}
+use Rattle.std.specs.Prelude.{IfSome}
 use Rattle.std.specs.Ordering.{nat_cmp}
 use Rattle.std.specs.Cmp.Lexicographic.{slice_cmp}
-use Rattle.std.specs.Slice.Scan.{differ, HoldsNowhere, Settles}
+use Rattle.std.specs.Slice.Scan.{differ, HoldsNowhere}
 use Rattle.std.proofs.lemmas.Bool.{cases_lt}
 use Rattle.std.proofs.lemmas.List.{get_or-take, get_or_append_left}
 use Rattle.std.proofs.lemmas.Option.{slice_get_within, slice_get-get_or, get_or_from_slice_get}

@@ -4,3 +4,4 @@ pub mod Index
 pub mod Pushing
 pub mod Neighbours
 pub mod HeadLemmas
+pub mod NameLemmas

@@ -4,3 +4,4 @@ pub mod Order
 pub mod SlotLaws
 pub mod Adds
 pub mod Heads
+pub mod Names

@@ -10,11 +10,13 @@ ghost use Rattle.update_chain.specs.Writing.{judgement_of};
 ghost use Rattle.ordered_groups.specs.Groups.{entries};
 ghost use Rattle.ordered_groups.specs.Places.{IsGap, rank};
 ghost use Rattle.leaf_chains.specs.Adds.{IsAdded};
+ghost use Rattle.leaf_chains.specs.Names.{NoneAbove};
 ghost use Rattle.leaf_chains.specs.Nearest.{IsWayUp, NextAbove, NextBelow, NonePast};
 ghost use Rattle.leaf_chains.specs.Slots.{chain_at, slot_changed, slot_of, with_update};
 
 use crate::added::Added;
 use crate::heads::Heads;
+use crate::names::later;
 use crate::places::{place_from_last, slot_above, slot_below, slot_with, walk_above};
 use crate::slot::KeyChain;
 use failure::NoMemory;
@@ -33,6 +35,8 @@ pub struct LeafChains {
     // The slots in the order of their keys.
     order: OrderedGroups<u32>,
     heads: Heads,
+    // No update is of a later name.
+    greatest: Name,
 }
 
 impl Model for LeafChains {
@@ -40,13 +44,14 @@ impl Model for LeafChains {
     ghost use Rattle.leaf_chains.specs.declared.slot.KeyChain.{KeyChain};
     ghost use Rattle.ordered_groups.specs.Groups.{entries};
     ghost use Rattle.leaf_chains.specs.Heads.{AreHeads};
+    ghost use Rattle.leaf_chains.specs.Names.{NoneAbove};
     ghost use Rattle.leaf_chains.specs.Order.{IsIndex};
 
     ghost Value = { List KeyChain };
 
     ghost view = { λ a. a.slots.items };
 
-    ghost invariant = { λ a. IsIndex a.slots.items (entries a.order) × AreHeads a.heads.front.items a.heads.words.items a.slots.items };
+    ghost invariant = { λ a. IsIndex a.slots.items (entries a.order) × AreHeads a.heads.front.items a.heads.words.items a.slots.items × NoneAbove a.greatest a.slots.items };
 }
 
 impl LeafChains {
@@ -58,6 +63,7 @@ impl LeafChains {
             slots: Vec::new(alloc),
             order: OrderedGroups::new(alloc),
             heads: Heads::new(alloc),
+            greatest: Name { run: 0, id: 0 },
         }
     }
 
@@ -73,6 +79,14 @@ impl LeafChains {
         ensures { IsTrue result ↔ (length self.now ≡ 0) }
     {
         self.slots.is_empty()
+    }
+
+    /// A name that none of its updates is above: the greatest of those that were ever installed.
+    /// `O(1)`.
+    pub fn greatest(&self) -> Name
+        ensures { NoneAbove result self.now }
+    {
+        self.greatest
     }
 
     /// The slot of a key, none where it has none. `O(log n)` comparisons with n keys, most of them
@@ -113,6 +127,7 @@ impl LeafChains {
 
     /// What a read of a key answers by its chain, as `Chain::read`; a key without a slot has an
     /// empty chain. Takes no memory. `O(log n)` comparisons, and the read of the chain.
+    #[inline(always)]
     pub fn read(&self, key: &[u8], view: &View<'_>) -> Read<'_>
         requires { IsSight (sight_of view.now) }
         ensures { reply_in result ≡ read_of view.now (chain_at key.now self.now) }
@@ -168,8 +183,10 @@ impl LeafChains {
                 Ok(Added::There(slot, update))
             }
             Err(gap) => {
+                let name = update.version.window.name;
                 let added = first_of(alloc, key, update)?;
                 let slot = add(&mut self.slots, &mut self.order, gap, added)?;
+                self.greatest = later(self.greatest, name);
                 self.heads.keep(self.slots.as_slice(), &self.order, head);
                 Ok(Added::New(slot))
             }
@@ -182,7 +199,9 @@ impl LeafChains {
         ensures installed { OnOk result (self.new ≡ slot_changed slot (installed update) self.old) }
         ensures kept { OnErr result (self.new ≡ self.old) }
     {
+        let name = update.version.window.name;
         install_in(&mut self.slots, slot, update)?;
+        self.greatest = later(self.greatest, name);
         Ok(())
     }
 

@@ -7,7 +7,8 @@
 //! or below a bound is the nearest. A search takes `O(log n)` comparisons with n keys, and what is
 //! done in a known slot `O(1)`, so a commit that kept its slots finds nothing twice. The head of a
 //! key, eight bytes behind a front that the keys have in common, is kept as a number beside it, and
-//! decides most comparisons. Leaves to the caller which update belongs to which key, and that a leaf
+//! decides most comparisons. A name that no update is above is kept too, so that a leaf without newer
+//! updates is known at once. Leaves to the caller which update belongs to which key, and that a leaf
 //! with an unresolved update stays.
 #![tactic(auto)]
 
@@ -15,6 +16,7 @@ mod added;
 mod chains;
 mod heads;
 mod laws;
+mod names;
 mod places;
 mod slot;
 #[cfg(test)]

@@ -263,6 +263,7 @@ fn keys_stand_in_order_and_keep_their_slots(rt: HostRuntime) -> Result<(), NoMem
     assert!(rt; chains.is_empty());
     take_all(alloc, &mut chains, &STEPS)?;
     assert!(rt; chains.len() == 4);
+    assert!(rt; chains.greatest() == Name { run: 1, id: 2 });
     let up = rows(alloc, &chains, true)?;
     assert!(rt; up.as_slice() == b"31e10.02v21z".as_slice());
     let down = rows(alloc, &chains, false)?;

@@ -12,6 +12,7 @@ use Rattle.leaf_chains.specs.Order.{key_order}
 use Rattle.leaf_chains.proofs.HeadLemmas.{heads_pushed, last_head}
 use Rattle.leaf_chains.proofs.Installs.{installed_new, pushed_slot}
 use Rattle.leaf_chains.proofs.Index.{found_slot, no_slot, place_within, gap_within, rises}
+use Rattle.leaf_chains.proofs.NameLemmas.{AreUpTo, none_later, none_pushed}
 use Rattle.leaf_chains.proofs.Pushing.{index_pushed}
 use Rattle.leaf_chains.proofs.chains.LeafChains.add.Goals as goal
 use Rattle.leaf_chains.proofs.chains.LeafChains.add.Goals.{After-keep}
@@ -46,8 +47,15 @@ invariant_of-self-in-Err c =
     let here = subst (λ (k : List ℕ). IsPartitionPoint (λ y. key_order slots k y ≡ Less) (λ y. key_order slots k y ≡ Greater) (entries gs) r) (sym key) (parts c) in
     let after = c.as_slice-in-Err.ensures.value ∙ c.in_ok-slot-in-Err.ensures.slots in
     let kept = subst (λ (xs : List KeyChain). AreHeads c.keep.new.self.front.items c.keep.new.self.words.items xs) after c.keep.ensures in
-    rw (c.in_ok-slot-in-Err.ensures.slots, c.in_ok-slot-in-Err.ensures.named)
-    (index_pushed slots (entries gs) r c.in_ok-added-in-Err.added c.self.invariant.0 (gap_within gs c.in-Err.gap c.in-Err.ensures.place) here, kept)
+    let name = c.later-self-inside.result in
+    let chain = ap (λ (s : KeyChain). s.chain) c.in_ok-added-in-Err.ensures in
+    let its = subst (AreUpTo name) (sym chain) (c.later-self-inside.ensures.second, tt) in
+    let raised = none_later c.self.inside.greatest name slots c.later-self-inside.ensures.first c.self.invariant.2 in
+    rw (c.in_ok-slot-in-Err.ensures.slots, c.in_ok-slot-in-Err.ensures.named) (
+      index_pushed slots (entries gs) r c.in_ok-added-in-Err.added c.self.invariant.0 (gap_within gs c.in-Err.gap c.in-Err.ensures.place) here,
+      kept,
+      none_pushed name c.in_ok-added-in-Err.added slots its raised,
+    )
 
 pushed : (c : After-keep) → c.self.inside.slots.items ++ c.in_ok-added-in-Err.added ∷ [] ≡ with_update c.args.key.now c.args.update c.self.inside.slots.items
 pushed c =
