@@ -1,7 +1,7 @@
 -- What the writing of one leaf leaves.
-use Rattle.std.specs.Prelude.{◌≡◌, ◌≢◌, ◌⊎◌, ℕ, ◌+◌, ◌*◌, ◌/◌, ◌<◌, ◌≤◌, ◌==◌, Bool, true, false, List, [], length, Option, Some, None, Result, Ok, Err, IfOk, IsTrue, refl}
+use Rattle.std.specs.Prelude.{◌≡◌, ◌≢◌, ◌⊎◌, ℕ, ◌+◌, ◌*◌, ◌/◌, ◌≤◌, ◌==◌, Bool, true, List, [], length, Option, Some, None, Result, Ok, Err, IfOk, refl}
 use Rattle.std.proofs.Common.{inl, inr, sym, ◌∙◌, ap, subst, arith}
-use Rattle.std.proofs.lemmas.Bool.{cases_Bool, cases_lt, cases_eq, eq-eqb, false≢true}
+use Rattle.std.proofs.lemmas.Bool.{cases_Bool, cases_eq, eq-eqb, false≢true}
 use Rattle.std.proofs.lemmas.List.{get_or-set_same, get_or-set_other}
 use Rattle.block_sum.specs.Sum.{sum_of}
 use Rattle.le_codec.specs.Images.{block_size}
@@ -323,12 +323,6 @@ not_over same = cc
 
 pub over_store : {x : StoreError} → Over ≡ Store x → ⊥
 over_store same = cc
-
-pub passes : (fits : Bool) (rows : List Row) → fits ≡ false → (IsTrue fits → image_length rows ≤ 32768) × (image_length rows ≤ 32768 → IsTrue fits) → 32768 < image_length rows
-passes fits rows isnt is = elim (cases_lt 32768 (image_length rows)) [
-  | inl lt ↦ lt
-  | inr small ↦ absurd (false≢true (sym isnt ∙ is.1 small))
-]
 
 pub if_ok_map : {T E : Type 0} {P Q : T → Type 0} (r : Result T E) → IfOk r P → ((x : T) → P x → Q x) → IfOk r Q
 if_ok_map (Ok x) is more = more x is

@@ -1,13 +1,14 @@
 // One leaf of a checkpoint.
-ghost use Rattle.std.specs.Prelude.{◌≡◌, ◌≢◌, ◌⊎◌, ◌↔◌, ◌≤◌, Option, List, [], length, map, true, false, ℕ, IfErr, IfOk, OnOk, IsTrue};
+ghost use Rattle.std.specs.Prelude.{◌≡◌, ◌⊎◌, ◌↔◌, ◌≤◌, Option, List, length, true, false, IfErr, IfOk, OnOk, IsTrue};
 ghost use Rattle.failure.specs.Counts.{Rose};
 ghost use Rattle.wt_code.specs.StoreErrors.{IsOfDisk as IsOfDiskStore};
 ghost use Rattle.wt_code.specs.declared.store_error.StoreError.TheVariants.{NoMemory as WantOfMemory, Read as FailedRead};
 ghost use Rattle.disk_model.specs.Crash.{SameDisk, Looked};
 ghost use Rattle.extent_list.specs.Space.{end_of};
 ghost use Rattle.block_mgr.specs.Blocks.{HasLive};
-ghost use Rattle.row_page.specs.Rows.{Row, IsPage};
-ghost use Rattle.leaf_rows.specs.Rows.{image_length};
+ghost use Rattle.row_page.specs.Rows.{Row};
+ghost use Rattle.row_page.specs.Greatest.{names_of, durables_of};
+ghost use Rattle.leaf_capture.specs.Leaf.{HasRows, SpellsRows};
 ghost use Rattle.stored.specs.Links.{SaysOf};
 ghost use Rattle.stored.specs.Stored.{Stored};
 ghost use Rattle.device_leaf.specs.Leaves.{LeafIs};
@@ -21,40 +22,37 @@ use crate::links::nowhere;
 use block_mgr::Blocks;
 use device_layout::{Addr, Link};
 use disk_model::Disk;
-use failure::NoMemory;
-use leaf_rows::Rows;
+use leaf_capture::{Captured, CapturedLeaf};
 use std::alloc::Global;
 use wt_code::{Refusal, StoreError};
 
-// Writes and captures the leaf with these rows, and gives what leads to it. `was` is the link of the
-// checkpoint before: where the same leaf stands there, it is captured as it is. No rows need no
-// block. Where the greatest name and the greatest durable stamp are those of before, the block of
-// before is read; one is written unless it has the same bytes.
+// Writes and captures the leaf that was captured of a table, and gives what leads to it. `was` is
+// the link of the checkpoint before: where the same leaf stands there, it is captured as it is. No
+// rows need no block. Where the greatest name and the greatest durable stamp are those of before,
+// the block of before is read; one is written unless it has the same bytes.
 pub(crate) fn write_leaf<D: Disk>(
     alloc: Global,
     disk: &mut D,
     blocks: &mut Blocks,
     was: Link,
-    rows: &Rows,
+    captured: &Captured,
 ) -> Result<Link, LeafError>
+    requires rows { (rows : List Row) × HasRows captured.now rows }
     requires held { blocks.old.is_held ≡ true }
     requires ready { IsTrue (D.honest disk.old) → end_of blocks.old.space ≤ length (D.seen disk.old) }
-    ensures one { IsTrue (D.honest disk.old) → (old : Option Stored) → MayWrite (D.seen disk.old) (D.may_leave disk.old) blocks.old old → WritesOne D.Disk old was rows.now blocks.old blocks.new disk.old disk.new result }
+    ensures one { (rows : List Row) → HasRows captured.now rows → IsTrue (D.honest disk.old) → (old : Option Stored) → MayWrite (D.seen disk.old) (D.may_leave disk.old) blocks.old old → WritesOne D.Disk old was rows blocks.old blocks.new disk.old disk.new result }
     ensures ready { IsTrue (D.honest disk.old) → end_of blocks.old.space ≤ length (D.seen disk.old) → OnOk result (end_of blocks.new.space ≤ length (D.seen disk.new)) }
     ensures held { blocks.new.is_held ≡ true }
     ensures fault { IfErr result (λ e. IsOfDisk e → Rose (D.faults disk.old) (D.faults disk.new)) }
     ensures disk { SameDisk D.Disk disk.old disk.new }
 {
-    if rows.is_empty() {
-        return Ok(nowhere());
-    }
-    if rows.fit_a_leaf() {
-        match write_rows(alloc, disk, blocks, was, rows) {
+    match captured {
+        Captured::Nothing => Ok(nowhere()),
+        Captured::Leaf(leaf) => match write_rows(alloc, disk, blocks, was, leaf) {
             Ok(link) => Ok(link),
             Err(error) => Err(LeafError::Store(error)),
-        }
-    } else {
-        Err(LeafError::Over)
+        },
+        Captured::TooLarge => Err(LeafError::Over),
     }
 }
 
@@ -64,102 +62,82 @@ fn write_rows<D: Disk>(
     disk: &mut D,
     blocks: &mut Blocks,
     was: Link,
-    rows: &Rows,
+    leaf: &CapturedLeaf,
 ) -> Result<Link, StoreError>
-    requires some { rows.now ≢ [] }
-    requires small { image_length rows.now ≤ 32768 }
+    requires rows { (rows : List Row) × SpellsRows leaf.now rows }
     requires held { blocks.old.is_held ≡ true }
     requires ready { IsTrue (D.honest disk.old) → end_of blocks.old.space ≤ length (D.seen disk.old) }
-    ensures rows { IsTrue (D.honest disk.old) → (old : Option Stored) → MayWrite (D.seen disk.old) (D.may_leave disk.old) blocks.old old → WritesRows D.Disk old was rows.now blocks.old blocks.new disk.old disk.new result }
+    ensures rows { (rows : List Row) → SpellsRows leaf.now rows → IsTrue (D.honest disk.old) → (old : Option Stored) → MayWrite (D.seen disk.old) (D.may_leave disk.old) blocks.old old → WritesRows D.Disk old was rows blocks.old blocks.new disk.old disk.new result }
     ensures ready { IsTrue (D.honest disk.old) → OnOk result (end_of blocks.new.space ≤ length (D.seen disk.new)) }
     ensures held { blocks.new.is_held ≡ true }
     ensures fault { IfErr result (λ e. IsOfDiskStore e → Rose (D.faults disk.old) (D.faults disk.new)) }
     ensures disk { SameDisk D.Disk disk.old disk.new }
 {
-    let Ok(block) = block_of(alloc, rows) else {
-        return Err(StoreError::NoMemory);
-    };
-    match has_leaf(alloc, disk, blocks, was, rows, &block) {
+    match has_leaf(alloc, disk, blocks, was, leaf) {
         Err(error) => Err(error),
         Ok(true) => {
             blocks.capture(was.addr);
             Ok(was)
         }
-        Ok(false) => write_new(disk, blocks, rows, &block),
+        Ok(false) => write_new(disk, blocks, leaf),
     }
 }
 
-// Writes and captures a new leaf, of which this is the block.
+// Writes and captures a new leaf.
 fn write_new<D: Disk>(
     disk: &mut D,
     blocks: &mut Blocks,
-    rows: &Rows,
-    block: &[u8],
+    leaf: &CapturedLeaf,
 ) -> Result<Link, StoreError>
-    requires some { rows.now ≢ [] }
-    requires page { IsPage block.now rows.now }
+    requires rows { (rows : List Row) × SpellsRows leaf.now rows }
     requires held { blocks.old.is_held ≡ true }
     requires ready { IsTrue (D.honest disk.old) → end_of blocks.old.space ≤ length (D.seen disk.old) }
-    ensures new { IsTrue (D.honest disk.old) → (old : Option Stored) → MayWrite (D.seen disk.old) (D.may_leave disk.old) blocks.old old → WritesNew D.Disk old rows.now blocks.old blocks.new disk.old disk.new result }
+    ensures new { (rows : List Row) → SpellsRows leaf.now rows → IsTrue (D.honest disk.old) → (old : Option Stored) → MayWrite (D.seen disk.old) (D.may_leave disk.old) blocks.old old → WritesNew D.Disk old rows blocks.old blocks.new disk.old disk.new result }
     ensures ready { IsTrue (D.honest disk.old) → OnOk result (end_of blocks.new.space ≤ length (D.seen disk.new)) }
     ensures held { blocks.new.is_held ≡ true }
     ensures fault { IfErr result (λ e. IsOfDiskStore e → Rose (D.faults disk.old) (D.faults disk.new)) }
     ensures disk { SameDisk D.Disk disk.old disk.new }
 {
-    match blocks.write_block(disk, block) {
+    match blocks.write_block(disk, &leaf.block) {
         Err(error) => Err(error),
         Ok(addr) => {
             blocks.capture(addr);
             Ok(Link {
                 addr,
-                greatest: rows.greatest(),
-                durable: rows.durable(),
+                greatest: leaf.greatest,
+                durable: leaf.durable,
             })
         }
     }
 }
 
-// The bytes of the leaf's block.
-fn block_of(alloc: Global, rows: &Rows) -> Result<Vec<u8>, NoMemory>
-    requires { image_length rows.now ≤ 32768 }
-    ensures { IfOk result (λ v. IsPage v.items rows.now) }
-{
-    let mut block = rows.encode(alloc)?;
-    let size = (block.len() + 4095) / 4096 * 4096;
-    block.resize(size, 0)?;
-    Ok(block)
-}
-
-// Whether the live tree has the leaf of the link, and it is that with these rows and this block.
+// Whether the live tree has the leaf of the link, and it is this one.
 fn has_leaf<D: Disk>(
     alloc: Global,
     disk: &mut D,
     blocks: &Blocks,
     link: Link,
-    rows: &Rows,
-    block: &[u8],
+    leaf: &CapturedLeaf,
 ) -> Result<bool, StoreError>
-    requires some { rows.now ≢ [] }
-    requires page { IsPage block.now rows.now }
     ensures live { IfOk result (λ b. IsTrue b → HasLive blocks.now.cells link.addr.offset link.addr.size) }
-    ensures is { IsTrue (D.honest disk.old) → IfOk result (λ b. IsTrue b → LeafIs (D.seen disk.old) link rows.now) }
-    ensures isnt { IsTrue (D.honest disk.old) → IfOk result (λ b. b ≡ false → LeafIs (D.seen disk.old) link rows.now → HasLive blocks.now.cells link.addr.offset link.addr.size → ⊥) }
+    ensures is { (rows : List Row) → SpellsRows leaf.now rows → IsTrue (D.honest disk.old) → IfOk result (λ b. IsTrue b → LeafIs (D.seen disk.old) link rows) }
+    ensures isnt { (rows : List Row) → SpellsRows leaf.now rows → IsTrue (D.honest disk.old) → IfOk result (λ b. b ≡ false → LeafIs (D.seen disk.old) link rows → HasLive blocks.now.cells link.addr.offset link.addr.size → ⊥) }
     ensures err { IfErr result (λ e. (e ≡ WantOfMemory) ⊎ ((e ≡ FailedRead) × Rose (D.faults disk.old) (D.faults disk.new))) }
     ensures looked { Looked D.Disk disk.old disk.new }
     ensures home { D.home disk.new ≡ D.home disk.old }
 {
-    if says(link, rows) && blocks.is_live(link.addr) {
-        has_block(alloc, disk, blocks, link.addr, block)
+    if says(link, leaf) && blocks.is_live(link.addr) {
+        has_block(alloc, disk, blocks, link.addr, &leaf.block)
     } else {
         Ok(false)
     }
 }
 
-// Whether the link says the greatest of these rows.
-fn says(link: Link, rows: &Rows) -> bool
-    ensures { IsTrue result ↔ SaysOf link (map {A = Row} (λ r. r.1.window.name) rows.now) (map {A = Row} (λ r. r.1.window.durable) rows.now) }
+// Whether the link says the greatest of the leaf's rows.
+fn says(link: Link, leaf: &CapturedLeaf) -> bool
+    ensures { (rows : List Row) → SpellsRows leaf.now rows → (IsTrue result ↔ SaysOf link (names_of rows) (durables_of rows)) }
 {
-    link.greatest == rows.greatest() && link.durable == rows.durable()
+    link.greatest == leaf.greatest && link.durable == leaf.durable
 }
 
 // Whether the device has these bytes at an address, with the sum that it says. A block that is

@@ -84,13 +84,13 @@ fn write_table<D: Disk>(
     let Some(chains) = engine.leaf(place) else {
         return Err(LeafError::Store(StoreError::NoMemory));
     };
-    let Ok(rows) = capture(alloc, chains, snapshot) else {
+    let Ok(captured) = capture(alloc, chains, snapshot) else {
         return Err(LeafError::Store(StoreError::NoMemory));
     };
     let Ok(()) = links.reserve(1) else {
         return Err(LeafError::Store(StoreError::NoMemory));
     };
-    match write_leaf(alloc, disk, blocks, was, &rows) {
+    match write_leaf(alloc, disk, blocks, was, &captured) {
         Ok(link) => {
             links.push_reserved(link);
             Ok(())

@@ -4,4 +4,5 @@ pub mod Newest
 pub mod Fitting
 pub mod Sifting
 pub mod Cutting
+pub mod Filling
 pub mod Measuring

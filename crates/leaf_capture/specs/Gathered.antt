@@ -1,10 +1,14 @@
 -- Rows as they are gathered, key by key.
-use Rattle.std.specs.Prelude.{ℕ, List, [], ◌∷◌, ◌++◌, Option, Some, None}
+use Rattle.std.specs.Prelude.{◌≡◌, ◌↔◌, ◌≤◌, ℕ, List, [], ◌∷◌, ◌++◌, Option, Some, None, IsTrue}
 use Rattle.item.specs.declared.Change.{Change}
 use Rattle.stamp.specs.declared.Version.{Version}
 use Rattle.row_page.specs.Rows.{Row}
+use Rattle.row_page.specs.Greatest.{greatest_in, most_in, names_of, durables_of}
+use Rattle.row_page.specs.Writing.{Wrote}
+use Rattle.leaf_rows.specs.Rows.{image_length}
 use Rattle.snapshot.specs.Sight.{Sight}
 use Rattle.leaf_chains.specs.declared.slot.KeyChain.{KeyChain}
+use Rattle.leaf_capture.specs.declared.gathered.Gathered.{Gathered}
 use Rattle.leaf_capture.specs.Cells.{cell_version}
 use Rattle.leaf_capture.specs.Capture.{captured}
 
@@ -17,3 +21,12 @@ row_of key (Some v) = (key, cell_version v) ∷ []
 abbrev pub rows_of : Sight → List KeyChain → List Row
 rows_of s [] = []
 rows_of s (c ∷ chains) = row_of c.key (captured s c.chain) ++ rows_of s chains
+
+-- these rows are gathered, and they fit one leaf
+pub record HasGathered (g : Gathered) (rows : List Row) : Type 0 where
+  pub wrote : Wrote g.writer rows
+  pub limit : g.writer.limit ≡ 32768
+  pub small : image_length rows ≤ 32768
+  pub greatest : g.greatest ≡ greatest_in (names_of rows)
+  pub durable : g.durable ≡ most_in (durables_of rows)
+  pub empty : IsTrue g.is_empty ↔ (rows ≡ [])

@@ -8,7 +8,7 @@ ghost use Rattle.leaf_capture.specs.Cells.{cell_change};
 ghost use Rattle.leaf_capture.specs.Capture.{ChainFits, ChainsFit, IsCaptured};
 ghost use Rattle.leaf_capture.specs.Gathered.{rows_of};
 
-use crate::rows::captured;
+use crate::version::pick;
 use item::Change;
 use leaf_chains::{KeyChain, LeafChains};
 use snapshot::Snapshot;
@@ -56,7 +56,7 @@ fn row_len(there: &KeyChain, snapshot: &Snapshot) -> u64
     ensures is { result ≡ length (cells (rows_of snapshot.now.sight (there.now ∷ []))) }
     ensures small { result ≤ 17447 }
 {
-    match captured(&there.chain, snapshot) {
+    match pick(&there.chain, snapshot) {
         None => 0,
         Some(version) => NUMBERS_LEN + there.key.len() as u64 + value_len(&version.change),
     }

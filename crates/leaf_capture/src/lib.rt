@@ -1,22 +1,26 @@
-//! The rows of a leaf that a checkpoint writes: of each key the newest version that the
-//! checkpoint's snapshot sees.
+//! The leaf that a checkpoint writes: of each key the newest version that the checkpoint's snapshot
+//! sees.
 //!
-//! Stands for what is captured of each key's chain (`specs/Capture`). Promises that the rows have
-//! that of each key and no other key, a removal too, in the order of the keys; whether they fit one
-//! leaf (`fits_a_leaf`); and what this is to the machine: where chains stand for their keys, and no
-//! commit is being resolved, the rows have each key's newest version (`captures_are_newest`,
-//! `captured_rows_are_newest`), and a device that holds them opens as the machine's checkpoint
-//! (`captures_are_cut`). Leaves to the caller which snapshot that is, that keys and updates fit a
-//! row, and where the rows go.
+//! Stands for what is captured of each key's chain (`specs/Capture`). Promises that the leaf has
+//! that of each key and no other key, a removal too, in the order of the keys; that it is told
+//! where there are no rows, and where they do not fit one leaf (`fits_a_leaf`, `capture`); and what
+//! this is to the machine: where chains stand for their keys, and no commit is being resolved, the
+//! rows have each key's newest version (`captures_are_newest`, `captured_rows_are_newest`), and a
+//! device that holds them opens as the machine's checkpoint (`captures_are_cut`). Leaves to the
+//! caller which snapshot that is, that keys and updates fit a row, and where the leaf goes.
 #![tactic(auto)]
 
+mod capturing;
 mod fits;
+mod gathered;
 mod laws;
-mod rows;
+mod leaf;
 #[cfg(test)]
 mod tests;
+mod version;
 
+pub use capturing::capture;
 pub use failure::NoMemory;
 pub use fits::fits_a_leaf;
 pub use laws::{captured_rows_are_newest, captures_are_cut, captures_are_newest};
-pub use rows::capture;
+pub use leaf::{Captured, CapturedLeaf};

@@ -5,11 +5,10 @@ ghost use Rattle.row_page.specs.Rows.{RowFits, key_most, value_of};
 ghost use Rattle.leaf_capture.specs.Cells.{cell_change, cell_version};
 ghost use Rattle.leaf_capture.specs.Capture.{ChainsFit};
 
-use crate::{NoMemory, capture, fits_a_leaf};
+use crate::{Captured, NoMemory, capture, fits_a_leaf};
 use item::{Change, Item};
 use leaf_chains::LeafChains;
-use leaf_rows::Rows;
-use row_page::CellChange;
+use row_page::{CellChange, Leaf};
 use snapshot::Snapshot;
 use stamp::{Name, Version, Window};
 use std::alloc::Global;
@@ -172,9 +171,9 @@ fn built(alloc: Global, writes: &[Write]) -> Result<LeafChains, NoMemory>
     Ok(chains)
 }
 
-fn letter_in(change: &CellChange<Item>) -> u8 {
+fn letter_in(change: &CellChange<&[u8]>) -> u8 {
     match change {
-        CellChange::Put(value) => match value.as_bytes().first() {
+        CellChange::Put(value) => match value.first() {
             Some(letter) => *letter,
             None => b'?',
         },
@@ -186,14 +185,21 @@ fn digit(id: u64) -> u8 {
     if id < 10 { b'0' + id as u8 } else { b'?' }
 }
 
-fn shown(alloc: Global, rows: &Rows, keys: &[u8]) -> Result<Vec<u8>, NoMemory> {
+// The row of a key.
+fn shown_at(leaf: &Leaf, key: u8) -> [u8; 2] {
+    match leaf.find(&[key]) {
+        Ok(i) if i < leaf.len() => {
+            let cell = leaf.cell(i);
+            [letter_in(&cell.change), digit(cell.window.name.id)]
+        }
+        _ => [b'.', b'.'],
+    }
+}
+
+fn shown(alloc: Global, leaf: &Leaf, keys: &[u8]) -> Result<Vec<u8>, NoMemory> {
     let mut text = Vec::new(alloc);
     for key in keys {
-        let cell = match rows.version(&[*key]) {
-            None => [b'.', b'.'],
-            Some(version) => [letter_in(&version.change), digit(version.window.name.id)],
-        };
-        text.extend_from_slice(cell.as_slice())?;
+        text.extend_from_slice(shown_at(leaf, *key).as_slice())?;
     }
     Ok(text)
 }
@@ -204,10 +210,19 @@ fn each_key_has_the_newest_version_that_is_seen(rt: HostRuntime) -> Result<(), N
     let mut snapshot = Snapshot::new(alloc, 2, 8)?;
     snapshot.fill(2, 6, &[3, 5]);
     let none = capture(alloc, &LeafChains::new(alloc), &snapshot)?;
-    assert!(rt; none.is_empty());
+    assert!(rt; matches!(&none, Captured::Nothing));
     let chains = built(alloc, &WRITES)?;
     assert!(rt; fits_a_leaf(&chains, &snapshot));
-    let rows = capture(alloc, &chains, &snapshot)?;
-    assert!(rt; shown(alloc, &rows, b"abcdef")?.as_slice() == b"y1u2t4-2..o9".as_slice());
+    let Captured::Leaf(captured) = capture(alloc, &chains, &snapshot)? else {
+        panic!(rt; "there are rows");
+    };
+    assert!(rt; captured.block.len() == 4_096);
+    assert!(rt; captured.greatest.run == 2);
+    assert!(rt; captured.greatest.id == 4);
+    assert!(rt; captured.durable == 8);
+    let Some(leaf) = Leaf::of_block(alloc, captured.block)? else {
+        panic!(rt; "the block spells a leaf");
+    };
+    assert!(rt; shown(alloc, &leaf, b"abcdef")?.as_slice() == b"y1u2t4-2..o9".as_slice());
     Ok(())
 }

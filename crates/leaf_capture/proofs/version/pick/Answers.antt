@@ -1,7 +1,7 @@
 use Rattle.std.proofs.Common.{◌≡◌, ◌+◌, ◌∙◌, ℕ, suc, drop, sym, ap, arith}
 use Rattle.leaf_capture.specs.Capture.{captured}
 use Rattle.leaf_capture.proofs.Picking.{captured_at, captured_past}
-use Rattle.leaf_capture.proofs.rows.captured.Goals as goal
+use Rattle.leaf_capture.proofs.version.pick.Goals as goal
 
 pub returns-then-sees : goal.returns-then-sees
 returns-then-sees c = sym (c.loop-place.invariant

@@ -1,0 +1,11 @@
+use Rattle.std.proofs.Common.{length}
+use Rattle.leaf_capture.specs.Gathered.{rows_of}
+use Rattle.leaf_capture.proofs.Filling.{GatheredTo}
+use Rattle.leaf_capture.proofs.Gathering.{slots_at}
+use Rattle.leaf_capture.proofs.capturing.capture.Given as goal
+
+abbrev pub invariant-loop-slot : goal.invariant-loop-slot
+invariant-loop-slot l = GatheredTo l.snapshot.sight l.chains l.walk (rows_of l.snapshot.sight (slots_at l.chains l.initial.walk)) l.gathered
+
+abbrev pub decreases-loop-slot : goal.decreases-loop-slot
+decreases-loop-slot l = length l.walk

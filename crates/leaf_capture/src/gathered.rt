@@ -1,0 +1,82 @@
+//! The rows of a leaf, as they are gathered.
+
+ghost use Rattle.std.specs.Prelude.{◌≡◌, ◌<◌, ◌++◌, List, [], ◌∷◌, max, IfOk};
+ghost use Rattle.std.specs.Bool.{MatchBool};
+ghost use Rattle.row_page.specs.Rows.{Row, RowFits, key_most};
+ghost use Rattle.row_page.specs.Views.{row_seen};
+ghost use Rattle.row_page.specs.Greatest.{name_lt, later};
+ghost use Rattle.leaf_rows.specs.Rows.{AreFit, image_length};
+ghost use Rattle.leaf_capture.specs.Gathered.{HasGathered};
+ghost use Rattle.leaf_capture.specs.Leaf.{HasRows};
+
+use crate::leaf::{Captured, CapturedLeaf};
+use failure::NoMemory;
+use row_page::{Cell, LeafWriter};
+use stamp::Name;
+use std::alloc::Global;
+
+const IMAGE_MAX: usize = 32_768; // bytes
+
+// The block of the rows so far, and what is greatest in them.
+#[derive(Drop)]
+pub(crate) struct Gathered {
+    pub writer: LeafWriter,
+    pub greatest: Name,
+    pub durable: u64,
+    pub is_empty: bool,
+}
+
+impl Gathered {
+    // One allocation, of the bytes of the largest leaf. None of them is written.
+    pub(crate) fn new(alloc: Global) -> Result<Gathered, NoMemory>
+        ensures { IfOk result (λ g. HasGathered g []) }
+    {
+        Ok(Gathered {
+            writer: LeafWriter::new(alloc, IMAGE_MAX)?,
+            greatest: Name { run: 0, id: 0 },
+            durable: 0,
+            is_empty: true,
+        })
+    }
+
+    // Puts a row behind the others. False where one leaf has no room for it. Its bytes are copied
+    // once.
+    pub(crate) fn push(&mut self, cell: &Cell<'_>) -> bool
+        requires { RowFits [] key_most (row_seen cell.now) }
+        ensures { (rows : List Row) → HasGathered self.old rows → MatchBool result (HasGathered self.new (rows ++ row_seen cell.now ∷ [])) (32768 < image_length (rows ++ row_seen cell.now ∷ [])) }
+    {
+        if !self.writer.push(cell) {
+            return false;
+        }
+        self.greatest = later(self.greatest, cell.window.name);
+        self.durable = self.durable.max(cell.window.durable);
+        self.is_empty = false;
+        true
+    }
+
+    // The leaf of the rows.
+    pub(crate) fn finish(self) -> Captured
+        ensures { (rows : List Row) → HasGathered self rows → AreFit rows → HasRows result rows }
+    {
+        if self.is_empty {
+            return Captured::Nothing;
+        }
+        Captured::Leaf(CapturedLeaf {
+            block: self.writer.finish(),
+            greatest: self.greatest,
+            durable: self.durable,
+        })
+    }
+}
+
+fn later(a: Name, b: Name) -> Name
+    ensures { result ≡ later a b }
+{
+    if is_before(a, b) { b } else { a }
+}
+
+fn is_before(a: Name, b: Name) -> bool
+    ensures { result ≡ name_lt a b }
+{
+    a.run < b.run || (a.run == b.run && a.id < b.id)
+}
