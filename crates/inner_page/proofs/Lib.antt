@@ -1,0 +1,9 @@
+pub mod Lists
+pub mod Halving
+pub mod Grammars
+pub mod PageHeads
+pub mod TablePages
+pub mod MarkOrder
+pub mod HistoryPages
+pub mod NamesOnce
+pub mod HistoryLeaves

@@ -1,0 +1,25 @@
+use Rattle.std.proofs.Common.{◌≡◌, List, [], Some, None, sym, subst, ◌∙◌, arith}
+use Rattle.std.specs.Prelude.{IfSome, IfNone}
+use Rattle.stored.specs.HistoryTree.{HistoryEntry}
+use Rattle.inner_page.specs.HistoryReading.{history_entries_at}
+use Rattle.inner_page.proofs.HistoryPages.{no_history_image, no_history_head, no_history_page, history_page}
+use Rattle.inner_page.proofs.history_reading.decode_history.Goals as goal
+
+pub returns-in_default-clause-none : goal.returns-in_default-clause-none
+returns-in_default-clause-none c = no_history_image c.args.block.now c.in_default.ensures.none
+
+pub returns-then-not-page_fits-clause-none : goal.returns-then-not-page_fits-clause-none
+returns-then-not-page_fits-clause-none c =
+    let i = c.in-Some.image in
+    no_history_head c.args.block.now i.count i.level i.text.now c.in-Some.ensures.found (sym c.page_fits.ensures ∙ c.if-not-page_fits.true)
+
+pub returns-in_default-2-clause-none : goal.returns-in_default-2-clause-none
+returns-in_default-2-clause-none c =
+    let i = c.in-Some.image in
+    no_history_page c.args.block.now i.count i.level i.text.now c.in-Some.ensures.found (subst (λ o. IfNone o ((es : List HistoryEntry) → history_entries_at i.count None i.text.now ≡ Some (es, []) → ⊥)) c.in_default-2.is c.in_ok-entries.ensures.none)
+
+pub returns-clause-found : goal.returns-clause-found
+returns-clause-found c =
+    let i = c.in-Some.image in
+    history_page c.args.block.now i.count i.level i.text.now c.in-Some-2.entries.items (λ k. omega (arith, c.type_inv.block k)) c.in-Some.ensures.found (sym c.page_fits.ensures ∙ c.if-not-page_fits.false)
+    (subst (λ o. IfSome o (λ v. history_entries_at i.count None i.text.now ≡ Some (v.items, []))) c.in-Some-2.is c.in_ok-entries.ensures.found)
