@@ -276,10 +276,11 @@ fn changed_after(rt: &impl Abort, alloc: Global, count: u8, failing: &[u64]) -> 
 fn value_on(rt: &impl Abort, alloc: Global, mut disk: MemDisk) -> Option<u8> {
     let Recovered { place: _, kept } = recover(alloc, &mut disk).expect(rt, "it opens");
     let Kept { record: _, leaves } = kept?;
-    let first = leaves.get(0).expect(rt, "table a");
-    assert!(rt; first.version(b"k").is_some());
-    let second = leaves.get(1).expect(rt, "table b");
-    match &second.version(b"k")?.change {
+    let mut leaves = leaves.into_iter();
+    let first = leaves.next().expect(rt, "table a").into_rows();
+    assert!(rt; !first.is_empty());
+    let second = leaves.next().expect(rt, "table b").into_rows();
+    match &second.get(0)?.1.change {
         CellChange::Put(value) => Some(*value.as_bytes().get(0)?),
         CellChange::Remove => None,
     }

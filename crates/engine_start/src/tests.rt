@@ -1,8 +1,8 @@
 // Two tables whose order by name is not that by number, read by a session.
-ghost use Rattle.std.specs.Prelude.{◌≡◌, ◌≤◌, length};
+ghost use Rattle.std.specs.Prelude.{◌≡◌, ◌≤◌, ◌++◌, ◌∷◌, [], length};
 ghost use Rattle.item.specs.declared.Format.TheVariants.{U};
 ghost use Rattle.row_page.specs.Rows.{value_of};
-ghost use Rattle.leaf_rows.specs.Rows.{put_row};
+ghost use Rattle.leaf_rows.specs.Rows.{IsAboveLast};
 
 use crate::{TableLeaf, start};
 use catalog::Table;
@@ -25,14 +25,15 @@ fn item(rt: &impl Abort, alloc: Global, bytes: &[u8]) -> Item
 fn put(rt: &impl Abort, rows: &mut Rows, key: Item, change: CellChange<Item>)
     requires key { length key ≤ 1024 }
     requires value { length (value_of change) ≤ 16384 }
-    ensures { rows.new ≡ put_row key (record { window = record { name = record { run = 3; id = 1 }; commit = 0; durable = 0 }; change = change }) rows.old }
+    requires above { IsAboveLast key rows.old }
+    ensures { rows.new ≡ rows.old ++ (key, record { window = record { name = record { run = 3; id = 1 }; commit = 0; durable = 0 }; change = change }) ∷ [] }
 {
     let window = Window {
         name: Name { run: 3, id: 1 },
         commit: 0,
         durable: 0,
     };
-    rows.put(key, Version { window, change })
+    rows.push(key, Version { window, change })
         .expect(rt, "there is memory");
 }
 

@@ -1,5 +1,5 @@
 -- A row behind rows that ascend, and the first of them.
-use Rattle.std.proofs.Common.{◌≡◌, ℕ, List, [], ◌∷◌, ◌++◌, Option, Some, None, refl}
+use Rattle.std.proofs.Common.{ℕ, List, [], ◌∷◌, ◌++◌, Option, Some, None, refl}
 use Rattle.std.specs.List.{AllByRecursion}
 use Rattle.row_page.specs.Rows.{Row, Ascends, RowFits, key_most}
 use Rattle.leaf_rows.specs.Rows.{AreFit, IsAboveLast}

@@ -2,8 +2,7 @@
 //! of the keys.
 //!
 //! Promises that the rows are those of a leaf, or those that were pushed, without what an opening
-//! does not keep, and that their image is the leaf's. Leaves to the crates above which versions are
-//! pushed, and where the leaf stands.
+//! does not keep. Leaves to the crates above where the leaf stands.
 #![tactic(auto)]
 
 mod marks;

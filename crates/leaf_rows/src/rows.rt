@@ -1,26 +1,19 @@
 // The rows, and what is asked of them.
-ghost use Rattle.std.specs.Prelude.{◌≡◌, ◌≤◌, ◌<◌, ◌||◌, ◌==◌, ◌++◌, nat_le, max, List, [], ◌∷◌, length, map, IfOk, OnOk, OnErr, IsTrue, ◌↔◌};
+ghost use Rattle.std.specs.Prelude.{◌≡◌, ◌||◌, ◌==◌, ◌++◌, nat_le, List, [], ◌∷◌, IfOk, OnOk, OnErr};
 ghost use Rattle.kv_model.specs.Content.{sees_id, sees_name};
-ghost use Rattle.row_page.specs.Rows.{Row, RowFits, IsImage, cell, key_most};
-ghost use Rattle.row_page.specs.Greatest.{name_lt, later, greatest_in, most_in};
+ghost use Rattle.row_page.specs.Rows.{Row, RowFits, key_most};
 ghost use Rattle.row_page.specs.Views.{row_seen};
-ghost use Rattle.leaf_rows.specs.Rows.{AreFit, IsAboveLast, image_length};
+ghost use Rattle.leaf_rows.specs.Rows.{AreFit, IsAboveLast};
 ghost use Rattle.std.specs.List.{list_any};
 ghost use Rattle.leaf_rows.specs.Contents.{is_seen_window, seen_rows};
 
 use crate::Marks;
 use failure::NoMemory;
 use item::Item;
-use row_page::{Cell, CellChange, Leaf, encode};
+use row_page::{Cell, CellChange, Leaf};
 use stamp::{Name, Version, Window};
 use std::alloc::{AllocError, Global};
 use std::marker::Model;
-
-const IMAGE_MAX: u64 = 32_768; // bytes
-
-const HEADER_LEN: u64 = 16; // bytes
-
-const NUMBERS_LEN: u64 = 39; // bytes of a cell beside its key and its value
 
 /// Rows in the order of their keys: each key with its newest version. It is seen as their list.
 #[derive(Drop)]
@@ -44,15 +37,6 @@ impl Rows {
         Rows {
             rows: Vec::new(alloc),
         }
-    }
-
-    /// No rows, with room for this many. One allocation. The error is want of memory.
-    pub fn with_capacity(alloc: Global, rows: usize) -> Result<Self, NoMemory>
-        ensures { IfOk result (λ s. s ≡ []) }
-    {
-        Ok(Rows {
-            rows: Vec::with_capacity(alloc, rows)?,
-        })
     }
 
     /// The rows of a leaf, each key and value copied once. The error is want of memory.
@@ -88,68 +72,12 @@ impl Rows {
         Ok(())
     }
 
-    /// Whether one leaf has room for them: their image, with its header, is at most 32,768 bytes
-    /// long. `O(n)`, and it stops at the first row that has no room.
-    pub fn fit_a_leaf(&self) -> bool
-        ensures { IsTrue result ↔ (image_length self.now ≤ 32768) }
-    {
-        let mut size = HEADER_LEN;
-        for row in &self.rows {
-            size += cell_len(row);
-            if size > IMAGE_MAX {
-                return false;
-            }
-        }
-        true
-    }
-
     /// The rows themselves. None is copied.
     pub fn into_rows(self) -> Vec<(Item, Version<CellChange<Item>>)>
         ensures rows { result.items ≡ self }
         ensures fit { AreFit result.items }
     {
         self.rows
-    }
-
-    /// Whether there are no rows.
-    pub fn is_empty(&self) -> bool
-        ensures { IsTrue result ↔ (self.now ≡ []) }
-    {
-        self.rows.is_empty()
-    }
-
-    /// The image of the leaf. The error is want of memory. `O(bytes)`.
-    pub fn encode(&self, alloc: Global) -> Result<Vec<u8>, NoMemory>
-        requires { image_length self.now ≤ 32768 }
-        ensures { IfOk result (λ v. IsImage v.items self.now) }
-    {
-        encode(alloc, &self.rows)
-    }
-
-    /// The greatest name of a version, 0 and 0 where there is none. `O(n)`.
-    pub fn greatest(&self) -> Name
-        ensures { result ≡ greatest_in (map {A = Row} (λ r. r.1.window.name) self.now) }
-    {
-        let mut greatest = Name { run: 0, id: 0 };
-        let mut i = self.rows.len();
-        while i > 0 {
-            i -= 1;
-            greatest = later(self.rows[i].1.window.name, greatest);
-        }
-        greatest
-    }
-
-    /// The greatest durable stamp of a version, 0 where there is none. `O(n)`.
-    pub fn durable(&self) -> u64
-        ensures { result ≡ most_in (map {A = Row} (λ r. r.1.window.durable) self.now) }
-    {
-        let mut durable = 0;
-        let mut i = self.rows.len();
-        while i > 0 {
-            i -= 1;
-            durable = greater(self.rows[i].1.window.durable, durable);
-        }
-        durable
     }
 }
 
@@ -200,35 +128,6 @@ fn copied(alloc: Global, leaf: &Leaf) -> Result<Vec<(Item, Version<CellChange<It
         push(&mut rows, row)?;
     }
     Ok(rows)
-}
-
-fn cell_len(row: &(Item, Version<CellChange<Item>>)) -> u64
-    requires { RowFits [] key_most row.now }
-    ensures { result ≡ length (cell row.now) }
-{
-    let value = match &row.1.change {
-        CellChange::Put(value) => value.len(),
-        CellChange::Remove => 0,
-    };
-    NUMBERS_LEN + row.0.len() as u64 + value as u64
-}
-
-fn later(a: Name, b: Name) -> Name
-    ensures { result ≡ later a b }
-{
-    if is_before(a, b) { b } else { a }
-}
-
-fn is_before(a: Name, b: Name) -> bool
-    ensures { result ≡ name_lt a b }
-{
-    a.run < b.run || (a.run == b.run && a.id < b.id)
-}
-
-fn greater(a: u64, b: u64) -> u64
-    ensures { result ≡ max a b }
-{
-    a.max(b)
 }
 
 fn keep_seen(rows: &mut Vec<(Item, Version<CellChange<Item>>)>, marks: Marks, running: &[u64])
