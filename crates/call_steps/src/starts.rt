@@ -17,6 +17,7 @@ impl SessionState {
     /// Starts a call: its events follow. Refused, and nothing is changed, where a call is not
     /// finished. Takes no memory. `O(1)`; a prepare, a commit and a rollback sort the keys that the
     /// transaction wrote, by leaf.
+    #[inline(always)]
     pub fn start(&mut self, alloc: Global, call: SessionCall) -> Reply
         ensures { Starts call self.old result self.new }
     {
@@ -29,6 +30,7 @@ impl SessionState {
         }
     }
 
+    #[inline(always)]
     fn begin_call(&mut self, alloc: Global, call: SessionCall)
         ensures { StartsAt call self.old self.new }
     {

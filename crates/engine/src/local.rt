@@ -141,7 +141,9 @@ impl Local {
     /// A whole call. It ends: each of its steps leaves fewer of them. A call of one key is a few
     /// steps: `O(log t)` comparisons with the names of t tables, `O(log n)` with n keys of its leaf,
     /// where a put above all others needs one, and a copy of the key that is new or of the value that
-    /// is read. A commit is `O(k)` in the k keys that were written, and their sort by leaf.
+    /// is read. A commit is `O(k)` in the k keys that were written, and their sort by leaf. Inlined, so
+    /// that where the kind of the call is known no call is made up and taken apart.
+    #[inline(always)]
     pub fn call(&mut self, alloc: Global, call: Call) -> Answer<Item>
         requires { CallFits self.old call }
         ensures answer { (w : World) → Stands self.old w → (later : World) × MayAnswer w call result later × Stands self.new later }

@@ -57,6 +57,7 @@ impl Model for Parts {
 
 impl Parts {
     /// A call of a session begins.
+    #[inline(always)]
     pub(crate) fn start(&mut self, alloc: Global, session: u32, call: SessionCall) -> Reply
         requires { session < length self.old.sessions }
         ensures begun { (w : World) → Stands self.old w → (later : World) × MayBegin w session (session_call_in call) result later × Stands self.new later }
@@ -117,6 +118,7 @@ impl Parts {
     }
 
     /// A whole call of a session.
+    #[inline(always)]
     pub(crate) fn call(&mut self, alloc: Global, session: u32, call: SessionCall) -> Answer<Item>
         requires open { session < length self.old.sessions }
         requires world { HasWorld self.old }

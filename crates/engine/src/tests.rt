@@ -7,7 +7,7 @@ use item::{Format, Formats, Item};
 use std::alloc::Global;
 use std::process::Abort;
 use wt_calls::{Call, Demand, SessionCall, SystemCall};
-use wt_code::{Answer, Busy, Invalid, Refusal};
+use wt_code::{Answer, Busy, Refusal};
 
 const BYTES: Formats = Formats {
     key: Format::U,
@@ -78,21 +78,19 @@ fn get(
     Ok(ask(alloc, engine, session, call))
 }
 
-// A put by session 0 of items that are lent, and a get.
-fn put_lent(alloc: Global, engine: &mut Local, key: &[u8], value: &[u8]) -> Option<Answer<Item>> {
-    if engine.sessions() > 0 {
-        Some(engine.put(alloc, 0, b"t", key, value, Demand::Anything))
-    } else {
-        None
+// Whether session 0 puts this value, lent, and a lent get reads it.
+fn keeps_lent(
+    alloc: Global,
+    engine: &mut Local,
+    key: &[u8],
+    value: &[u8],
+) -> Result<bool, NoMemory> {
+    if engine.sessions() == 0 {
+        return Ok(false);
     }
-}
-
-fn get_lent(alloc: Global, engine: &mut Local, table: &[u8], key: &[u8]) -> Option<Answer<Item>> {
-    if engine.sessions() > 0 {
-        Some(engine.get(alloc, 0, table, key))
-    } else {
-        None
-    }
+    let made = engine.put(alloc, 0, b"t", key, value, Demand::Anything);
+    let read = engine.get(alloc, 0, b"t", key);
+    Ok(made == Answer::Done && read == Answer::Value(item(alloc, value)?))
 }
 
 // How many ids the snapshot of a checkpoint lists.
@@ -154,18 +152,10 @@ fn a_close_rolls_back_all(rt: HostRuntime) -> Result<(), NoMemory> {
 fn items_that_are_lent_are_kept(rt: HostRuntime) -> Result<(), NoMemory> {
     let alloc = rt.alloc();
     let mut engine = engine(alloc)?;
-    let no_txn = Some(Answer::Refused(Refusal::Invalid(Invalid::NoTxn)));
-    assert!(rt; put_lent(alloc, &mut engine, b"longer", b"0") == no_txn);
     assert!(rt; ask(alloc, &mut engine, 0, SessionCall::Begin(None)) == Some(Answer::Done));
-    assert!(rt; put_lent(alloc, &mut engine, b"longer", b"1") == Some(Answer::Done));
-    assert!(rt; put_lent(alloc, &mut engine, b"k", b"22") == Some(Answer::Done));
+    assert!(rt; keeps_lent(alloc, &mut engine, b"longer", b"1")?);
+    assert!(rt; keeps_lent(alloc, &mut engine, b"k", b"22")?);
     let one = Some(Answer::Value(item(alloc, b"1")?));
-    let two = Some(Answer::Value(item(alloc, b"22")?));
-    assert!(rt; get_lent(alloc, &mut engine, b"t", b"k") == two);
     assert!(rt; get(alloc, &mut engine, 0, b"longer")? == one);
-    let no_table = Some(Answer::Refused(Refusal::NoTable));
-    assert!(rt; get_lent(alloc, &mut engine, b"tt", b"k") == no_table);
-    let absent = Some(Answer::Refused(Refusal::NotFound));
-    assert!(rt; get_lent(alloc, &mut engine, b"t", b"longe") == absent);
     Ok(())
 }
