@@ -204,7 +204,7 @@ half_looked seen later images left books old was links leaves same fewer half = 
 
 -- ---- one after the other
 
-holds_of : (old : Option Stored) (bytes : List ℕ) (b : Block) → HasStill old bytes → Member b (blocks_of old) → IsAt bytes b
+pub holds_of : (old : Option Stored) (bytes : List ℕ) (b : Block) → HasStill old bytes → Member b (blocks_of old) → IsAt bytes b
 holds_of None bytes b still there = absurd there
 holds_of (Some s) bytes b on there = all_of (λ (x : Block). IsAt bytes x) (stored_blocks s) b on.holds there
 

@@ -29,3 +29,6 @@ pub mod OrderedByName
 pub mod Goings
 pub mod Tables
 pub mod Bases
+pub mod Floors
+mod CleanLeaves
+mod Following

@@ -63,7 +63,7 @@ module _ (L : Table → Link) (W : Table → List Row) where
   held_each bytes [] all = tt
   held_each bytes (t ∷ tables) all = (all.0.holds, held_each bytes tables all.1)
 
-  rows_each : (m : Machine) (tables : List Table) → AreLeavesOf m tables (map W tables) → AllByRecursion (λ (t : Table). IsLeafOf m t (W t)) tables
+  pub rows_each : (m : Machine) (tables : List Table) → AreLeavesOf m tables (map W tables) → AllByRecursion (λ (t : Table). IsLeafOf m t (W t)) tables
   rows_each m [] are = tt
   rows_each m (t ∷ tables) are = (are.0, rows_each m tables are.1)
 

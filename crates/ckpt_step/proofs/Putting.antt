@@ -33,6 +33,7 @@ use Rattle.ckpt_step.specs.Halves.{AllWritten, SomeWritten, Half, IsFresh, done_
 use Rattle.ckpt_step.specs.Runs.{AllPut, IsImageOf, Runs, SomePut, made_of}
 use Rattle.ckpt_step.specs.declared.leaf_error.LeafError.{LeafError}
 use Rattle.ckpt_step.specs.declared.leaf_error.LeafError.TheVariants.{Store}
+use Rattle.ckpt_step.proofs.Following.{follows_new}
 use Rattle.ckpt_step.proofs.Made.{count_leaves, made_is, made_ready}
 
 pub if_ok_map : {T E : Type 0} {P Q : T → Type 0} (r : Result T E) → IfOk r P → ((x : T) → P x → Q x) → IfOk r Q
@@ -180,6 +181,7 @@ module _ {D : Type 0} (g : Ghosts D) (old : Option Stored) (was : List Link) (m 
           idle = idle;
           within = within;
         };
+        follows = follows_new known next ascend links all.leaves count rows img.r a img.is.flat img.tables (g.seen mid) all.half.there m all.rows;
       }
 
       -- the record was not installed

@@ -11,11 +11,13 @@ use Rattle.stored.specs.Links.{nowhere}
 use Rattle.stored.specs.Records.{TableRoot, Record}
 use Rattle.stored.specs.Stored.{Stored}
 use Rattle.disk_model.specs.declared.disk.Disk.{Ghosts}
-use Rattle.engine_world.specs.Stands.{Engine}
+use Rattle.engine_world.specs.Stands.{Engine, Stands as Stands_engine}
+use Rattle.engine_world.specs.Worlds.{World}
 use Rattle.checkpoint_core.specs.Stands.{Stands, chosen_of}
 use Rattle.recover_open.specs.Damage.{blocks_found}
 use Rattle.recover_open.specs.Flat.{IsFlat}
 use Rattle.ckpt_step.specs.declared.ground.Ground.{Ground}
+use Rattle.ckpt_step.specs.Floors.{Follows}
 
 -- the number of a checkpoint, 0 where there is none
 abbrev pub number_of : Option Stored → ℕ
@@ -62,6 +64,15 @@ pub record StandsOn (seen : List ℕ) (images : List ℕ → Type 0) (known : Li
   pub within : end_of g.place.blocks.space ≤ length seen
   pub roots : AreRoots known g.leaves.items old
 
--- where the engine is up, the ground is that of the last completed checkpoint of the disk
+-- The engine stands for a world in which no checkpoint runs. The ground is that of the last completed checkpoint of the disk, whose clean leaves are those of the machine.
+pub record IsOnGround (seen : List ℕ) (images : List ℕ → Type 0) (e : Engine) (g : Ground) : Type 0 where
+  pub world : World
+  pub stands : Stands_engine e world
+  pub idle : world.machine.checkpoint ≡ None
+  pub old : Option Stored
+  pub on : StandsOn seen images e.hub.tables.tables g old
+  pub follows : Follows old e.hub.tables.tables g.leaves.items g.floor world.machine
+
+-- so where the engine is up
 abbrev pub IsSteady : {D : Type 0} → Ghosts D → Engine → Ground → D → Type 0
-IsSteady g e stand disk = e.hub.fault ≡ None → (old : Option Stored) × StandsOn (g.seen disk) (g.may_leave disk) e.hub.tables.tables stand old
+IsSteady g e stand disk = e.hub.fault ≡ None → IsOnGround (g.seen disk) (g.may_leave disk) e stand

@@ -12,3 +12,4 @@ pub mod Ones
 pub mod Goings
 pub mod Calm
 pub mod Keeps
+pub mod Floors

@@ -14,6 +14,7 @@ use Rattle.wt_code.specs.declared.refusals.Refusal.TheVariants.{DiskFault, Limit
 use Rattle.wt_code.specs.declared.refusals.Limit.TheVariants.{Image}
 use Rattle.wt_code.specs.declared.store_error.StoreError.TheVariants.{NoSpace, Down}
 use Rattle.wt_code.specs.StoreErrors.{refusal_of}
+use Rattle.stamp.specs.declared.Name.{Name}
 use Rattle.kv_model.specs.History.{Table}
 use Rattle.kv_model.specs.Machine.{Machine}
 use Rattle.row_page.specs.Rows.{Row}
@@ -25,6 +26,7 @@ use Rattle.recover_open.specs.Flat.{flat_stored}
 use Rattle.engine_world.specs.Stands.{Engine}
 use Rattle.engine_world.specs.Systems.{with_fault}
 use Rattle.ckpt_step.specs.Checkpoints.{IsCheckpointOf, IsRecordOf}
+use Rattle.ckpt_step.specs.Floors.{Follows, Respects}
 use Rattle.ckpt_step.specs.Grounds.{StandsOn, number_of}
 use Rattle.ckpt_step.specs.Halves.{AreOwn, IsFresh, IsSafe, KeepSame, blocks_at_all, done_at, half_cell}
 use Rattle.ckpt_step.specs.Records.{leaves_by_name, roots_by_name}
@@ -85,6 +87,7 @@ module _ {D : Type 0} (g : Ghosts D) (old : Option Stored) (was : List Link) (m 
     pub places : HasPlaces (g.seen before) (g.capacity before) old m books.space known
     pub same : KeepSame (g.seen before) old m known links
     pub done : IsDone (g.seen after) books' old was known links leaves r a
+    pub follows : (floor : Name) → Respects m floor → Follows (Some (made_of r known leaves a)) known links floor m
 
   -- they are not
   pub record SomePut (e : LeafError) : Type 0 where
@@ -106,6 +109,7 @@ module _ {D : Type 0} (g : Ghosts D) (old : Option Stored) (m : Machine) (known 
     pub left : LeavesOnly g before after (IsEither (g.may_leave before) old new)
     pub each : Each (g.may_leave after) (λ c. IsOn c new)
     pub on : StandsOn (g.seen after) (g.may_leave after) known stand' (Some new)
+    pub follows : Follows (Some new) known stand'.leaves.items stand'.floor m
     pub had_room : HasRoomFor (g.seen before) (g.capacity before) m
     pub kept : KeepsLeaves (g.seen before) old m new
 
@@ -114,6 +118,7 @@ module _ {D : Type 0} (g : Ghosts D) (old : Option Stored) (m : Machine) (known 
     pub left : LeavesOne g old m before after
     pub kept : IsSafe e → LeavesOnly g before after (IsOld (g.may_leave before) old)
     pub on : IsSafe e → StandsOn (g.seen after) (g.may_leave after) known stand' old
+    pub follows : Follows old known stand'.leaves.items stand'.floor m
     pub full : e ≡ Store NoSpace → IsFullFor (g.seen before) (g.capacity before) m
     pub over : e ≡ Over → IsOver m
 

@@ -17,6 +17,7 @@ use Rattle.engine_world.specs.Worlds.{World}
 use Rattle.engine.specs.Checkpoints.{MayStart}
 use Rattle.ckpt_step.specs.declared.ground.Ground.{Ground}
 use Rattle.ckpt_step.specs.Checkpoints.{IsCheckpointOf}
+use Rattle.ckpt_step.specs.Floors.{Follows}
 use Rattle.ckpt_step.specs.Grounds.{StandsOn, number_of}
 use Rattle.ckpt_step.specs.Sizes.{IsFullFor, HasRoomFor, IsOver, KeepsLeaves}
 
@@ -41,6 +42,7 @@ module _ {D : Type 0} (g : Ghosts D) (old : Option Stored) (w : World) (stand st
     pub leaves : LeavesOnly g before after (IsEither (g.may_leave before) old new)
     pub each : Each (g.may_leave after) (λ c. IsOn c new)
     pub on : StandsOn (g.seen after) (g.may_leave after) e.hub.tables.tables stand' (Some new)
+    pub follows : Follows (Some new) e.hub.tables.tables stand'.leaves.items stand'.floor (checkpointed w.machine)
     pub had_room : HasRoomFor (g.seen before) (g.capacity before) w.machine
     pub kept : KeepsLeaves (g.seen before) old w.machine new
     pub fit : IsOver w.machine → ⊥
@@ -53,6 +55,7 @@ module _ {D : Type 0} (g : Ghosts D) (old : Option Stored) (w : World) (stand st
     pub why : WhyNot (Rose (g.faults before) (g.faults after)) (g.seen before) (g.capacity before) w.machine (number_of old) r
     pub leaves : LeavesOnly g before after (IsOld (g.may_leave before) old)
     pub on : StandsOn (g.seen after) (g.may_leave after) e.hub.tables.tables stand' old
+    pub follows : Follows old e.hub.tables.tables stand'.leaves.items stand'.floor w.machine
     pub same : e' ≡ e
 
   -- a write or sync failed, and the engine is down; the device has the checkpoint before, or at a fault of its gate the new one

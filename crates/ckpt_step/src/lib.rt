@@ -9,6 +9,7 @@
 #![tactic(auto)]
 
 mod books;
+mod clean;
 mod fitting;
 mod ground;
 mod laws;

@@ -6,6 +6,7 @@ ghost use Rattle.disk_model.specs.Crash.{SameDisk};
 ghost use Rattle.stored.specs.Stored.{Stored};
 ghost use Rattle.engine_world.specs.Stands.{Stands};
 ghost use Rattle.engine_world.specs.Worlds.{World};
+ghost use Rattle.ckpt_step.specs.Floors.{Follows};
 ghost use Rattle.ckpt_step.specs.Grounds.{IsSteady, StandsOn};
 ghost use Rattle.engine_world.specs.Systems.{checkpointed, with_fault};
 ghost use Rattle.snapshot.specs.Matters.{NoneResolves};
@@ -31,8 +32,9 @@ use wt_code::{Limit, Refusal, StoreError};
 /// back. A failed read leaves the engine up; a failed write or sync takes it down, and the device has
 /// the checkpoint before or, where the gate of the slot was being opened, the new one.
 ///
-/// `O(rows)`, each leaf captured once. The block of before is read where it may be the same, and one
-/// is written where it is not.
+/// `O(1)` for a clean leaf, to which nothing was committed since the last checkpoint of this engine:
+/// it keeps its block. `O(rows)` for any other, captured once; the block of before is read where it
+/// may be the same, and one is written where it is not.
 pub fn checkpoint<D: Disk>(
     alloc: Global,
     disk: &mut D,
@@ -43,7 +45,7 @@ pub fn checkpoint<D: Disk>(
     requires leaves { length ground.old.leaves.items ≤ length engine.old.hub.tables.tables }
     requires steady { IsTrue (D.honest disk.old) → IsSteady D.Disk engine.old ground.old disk.old }
     ensures takes { IsTrue (D.honest disk.old) → (w : World) → Stands engine.old w → w.machine.checkpoint ≡ None → (old : Option Stored) → StandsOn (D.seen disk.old) (D.may_leave disk.old) engine.old.hub.tables.tables ground.old old
-        → Takes D.Disk old w ground.old ground.new engine.old engine.new disk.old disk.new result }
+        → Follows old engine.old.hub.tables.tables ground.old.leaves.items ground.old.floor w.machine → Takes D.Disk old w ground.old ground.new engine.old engine.new disk.old disk.new result }
     ensures down { (fault : AFault) → engine.old.hub.fault ≡ Some fault → (result ≡ Err (Refusal.Panic fault)) × (engine.new ≡ engine.old) × (ground.new ≡ ground.old) × (disk.new ≡ disk.old) }
     ensures steady { IsTrue (D.honest disk.old) → IsSteady D.Disk engine.new ground.new disk.new }
     ensures refusals { IfErr result IsOfCheckpoint }
@@ -62,7 +64,7 @@ pub fn checkpoint<D: Disk>(
     let Ok(snapshot) = engine.checkpoint_snapshot(alloc) else {
         return Err(Refusal::NoMemory);
     };
-    if !fit_leaves(engine, &snapshot) {
+    if !fit_leaves(engine, &snapshot, &ground.leaves, ground.floor) {
         return Err(Refusal::Limit(Limit::Image));
     }
     let outcome = write(alloc, disk, ground, engine, &snapshot);

@@ -12,11 +12,13 @@ ghost use Rattle.txn_table.specs.Tabled.{unended};
 ghost use Rattle.stored.specs.Stored.{Stored};
 ghost use Rattle.engine_world.specs.Stands.{Stands};
 ghost use Rattle.engine_world.specs.Worlds.{World};
+ghost use Rattle.ckpt_step.specs.Floors.{Follows};
 ghost use Rattle.ckpt_step.specs.Grounds.{AreRoots, StandsOn, number_of};
 ghost use Rattle.ckpt_step.specs.Halves.{Half, AreOldLeaves, AreOwn, IsFresh, IsOfDisk, done_at, settled_at};
 ghost use Rattle.ckpt_step.specs.Runs.{IsImageOf, Puts, Wrote};
 
 use crate::books::{give_up, let_go};
+use crate::clean::floor_of;
 use crate::ground::Ground;
 use crate::leaf_error::LeafError;
 use crate::leaves::write_leaves;
@@ -29,6 +31,7 @@ use disk_model::Disk;
 use engine::Local;
 use failure::NoMemory;
 use snapshot::Snapshot;
+use stamp::Name;
 use std::alloc::Global;
 use wt_code::StoreError;
 
@@ -45,9 +48,9 @@ pub(crate) fn write<D: Disk>(
     requires run { engine.now.hub.txns.run ≤ ground.old.number + 1 }
     requires sight { snapshot.now.sight ≡ sight_at engine.now.hub.txns.run engine.now.hub.txns.next (unended engine.now.hub.txns) }
     requires leaves { length ground.old.leaves.items ≤ length engine.now.hub.tables.tables }
-    requires ready { IsTrue (D.honest disk.old) → (w : World) × Stands engine.now w × NoneResolves w.machine × SeesCommitted w.machine (length w.machine.history) snapshot.now.sight × ((old : Option Stored) × StandsOn (D.seen disk.old) (D.may_leave disk.old) engine.now.hub.tables.tables ground.old old) }
+    requires ready { IsTrue (D.honest disk.old) → (w : World) × Stands engine.now w × NoneResolves w.machine × SeesCommitted w.machine (length w.machine.history) snapshot.now.sight × ((old : Option Stored) × StandsOn (D.seen disk.old) (D.may_leave disk.old) engine.now.hub.tables.tables ground.old old × Follows old engine.now.hub.tables.tables ground.old.leaves.items ground.old.floor w.machine) }
     ensures wrote { IsTrue (D.honest disk.old) → (w : World) → Stands engine.now w → NoneResolves w.machine → SeesCommitted w.machine (length w.machine.history) snapshot.now.sight → (old : Option Stored)
-        → StandsOn (D.seen disk.old) (D.may_leave disk.old) engine.now.hub.tables.tables ground.old old
+        → StandsOn (D.seen disk.old) (D.may_leave disk.old) engine.now.hub.tables.tables ground.old old → Follows old engine.now.hub.tables.tables ground.old.leaves.items ground.old.floor w.machine
         → Wrote D.Disk old w.machine engine.now.hub.tables.tables ground.old ground.new disk.old disk.new result }
     ensures number { ground.old.number ≤ ground.new.number }
     ensures leaves { length ground.new.leaves.items ≤ length engine.now.hub.tables.tables }
@@ -58,7 +61,7 @@ pub(crate) fn write<D: Disk>(
     let mut links = Vec::new(alloc);
     match write_blocks(alloc, disk, ground, engine, snapshot, &mut links) {
         Ok(addr) => {
-            settle(ground, links, addr);
+            settle(ground, links, addr, floor_of(snapshot));
             Ok(())
         }
         Err(error) => {
@@ -95,20 +98,31 @@ fn write_blocks<D: Disk>(
     requires sight { snapshot.now.sight ≡ sight_at engine.now.hub.txns.run engine.now.hub.txns.next (unended engine.now.hub.txns) }
     requires held { ground.old.place.blocks.is_held ≡ true }
     requires none { links.old.items ≡ [] }
-    requires ready { IsTrue (D.honest disk.old) → (w : World) × Stands engine.now w × NoneResolves w.machine × SeesCommitted w.machine (length w.machine.history) snapshot.now.sight × ((old : Option Stored) × Half (D.seen disk.old) (D.may_leave disk.old) ground.old.place.blocks old ground.old.leaves.items [] [] × AreRoots engine.now.hub.tables.tables ground.old.leaves.items old) }
+    requires ready { IsTrue (D.honest disk.old) → (w : World) × Stands engine.now w × NoneResolves w.machine × SeesCommitted w.machine (length w.machine.history) snapshot.now.sight × ((old : Option Stored) × Half (D.seen disk.old) (D.may_leave disk.old) ground.old.place.blocks old ground.old.leaves.items [] [] × AreRoots engine.now.hub.tables.tables ground.old.leaves.items old × Follows old engine.now.hub.tables.tables ground.old.leaves.items ground.old.floor w.machine) }
     ensures puts { IsTrue (D.honest disk.old) → (w : World) → Stands engine.now w → NoneResolves w.machine → SeesCommitted w.machine (length w.machine.history) snapshot.now.sight → (old : Option Stored)
         → Half (D.seen disk.old) (D.may_leave disk.old) ground.old.place.blocks old ground.old.leaves.items [] [] → AreRoots engine.now.hub.tables.tables ground.old.leaves.items old → ground.old.number ≡ number_of old
+        → Follows old engine.now.hub.tables.tables ground.old.leaves.items ground.old.floor w.machine
         → Puts D.Disk old ground.old.leaves.items w.machine engine.now.hub.tables.tables ground.old.place.blocks ground.new.place.blocks links.new.items disk.old disk.new result }
     ensures count { OnOk result (length links.new.items ≡ length engine.now.hub.tables.tables) }
     ensures held { IfErr result (λ e. ground.new.place.blocks.is_held ≡ true) }
     ensures slot { ground.new.place.slot ≡ ground.old.place.slot }
     ensures number { ground.new.number ≡ ground.old.number }
     ensures leaves { ground.new.leaves ≡ ground.old.leaves }
+    ensures floor { ground.new.floor ≡ ground.old.floor }
     ensures fault { IfErr result (λ e. IsOfDisk e → Rose (D.faults disk.old) (D.faults disk.new)) }
     ensures disk { SameDisk D.Disk disk.old disk.new }
 {
     let blocks = &mut ground.place.blocks;
-    match write_leaves(alloc, disk, blocks, &ground.leaves, engine, snapshot, links) {
+    match write_leaves(
+        alloc,
+        disk,
+        blocks,
+        &ground.leaves,
+        ground.floor,
+        engine,
+        snapshot,
+        links,
+    ) {
         Ok(()) => {}
         Err(error) => return Err(error),
     }
@@ -140,11 +154,13 @@ fn image_of(
     encode(alloc, &record)
 }
 
-// The ground is that of the checkpoint with these leaves, whose record stands at the address.
-fn settle(ground: &mut Ground, links: Vec<Link>, addr: Addr)
+// The ground is that of the checkpoint with these leaves and this floor, whose record stands at the
+// address.
+fn settle(ground: &mut Ground, links: Vec<Link>, addr: Addr, floor: Name)
     requires number { ground.old.number < 2 ^ 62 - 1 }
     ensures number { ground.new.number ≡ ground.old.number + 1 }
     ensures leaves { ground.new.leaves.items ≡ links.items }
+    ensures floor { ground.new.floor ≡ floor }
     ensures slot { ground.new.place.slot ≡ Some (slot_at (ground.old.number + 1) addr) }
     ensures cells { (old : Option Stored) (a : AnAddr) → AreOldLeaves old ground.old.leaves.items → AreOwn old ground.old.leaves.items links.items → IsFresh old links.items a → ((u : ℕ) → cell_at ground.old.place.blocks.cells u ≡ done_at old links.items a u) → (u : ℕ) → cell_at ground.new.place.blocks.cells u ≡ settled_at links.items a u }
     ensures end { end_of ground.new.place.blocks.space ≡ end_of ground.old.place.blocks.space }
@@ -153,6 +169,7 @@ fn settle(ground: &mut Ground, links: Vec<Link>, addr: Addr)
 {
     let_go(&mut ground.place.blocks, &ground.leaves, &links);
     ground.leaves = links;
+    ground.floor = floor;
     ground.number += 1;
     ground.place.slot = Some(Slot::new(ground.number, addr));
 }

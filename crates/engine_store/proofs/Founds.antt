@@ -6,6 +6,7 @@ use Rattle.limits.specs.declared.TheConstants.{TABLES_MAX}
 use Rattle.wt_code.specs.declared.refusals.Refusal.{Refusal}
 use Rattle.kv_model.specs.Content.{Content, descending, kept, nothing, placed_lt, table_lt}
 use Rattle.kv_model.proofs.Finishing.{tables-base}
+use Rattle.row_page.specs.Greatest.{no_name}
 use Rattle.stored.specs.Records.{Record, IsRecord}
 use Rattle.stored.specs.Stored.{Stored, IsOn, tables_of}
 use Rattle.checkpoint_core.specs.Stands.{HasStill}
@@ -55,9 +56,9 @@ seen_kept bytes place k keeps =
     seen_with (marks_of k.record) k.record.snapshot.ids k.record.tables keeps.leaves
     ∙ ap (with_leaves k.record.tables) (sym keeps.kept)
 
-pub found_kept : (bytes : List ℕ) (k : Kept) (s : Store) (keeps : Keeps bytes s.ground.place k) → KeptInForm k → k.record.next_table + TABLES_MAX < 2 ^ 32 + length k.record.tables → s.ground.number ≡ k.record.sequence → s.ground.leaves.items ≡ links_in k.record.tables
+pub found_kept : (bytes : List ℕ) (k : Kept) (s : Store) (keeps : Keeps bytes s.ground.place k) → KeptInForm k → k.record.next_table + TABLES_MAX < 2 ^ 32 + length k.record.tables → s.ground.number ≡ k.record.sequence → s.ground.leaves.items ≡ links_in k.record.tables → s.ground.floor ≡ no_name
     → Stands s.engine (first_world (leaves_content_with (marks_of k.record) k.record.snapshot.ids (with_leaves k.record.tables keeps.leaves)) s.engine) → IsFound bytes s
-found_kept bytes k s keeps form numbers number links st =
+found_kept bytes k s keeps form numbers number links floor st =
     let old : Stored = flat_stored keeps.slot k.record keeps.leaves in
     let same = content_is keeps.slot k.record keeps.leaves (count_kept bytes s.ground.place k keeps form) in
     let world = subst (λ (c : Content). Stands s.engine (first_world c s.engine)) same st in
@@ -69,17 +70,18 @@ found_kept bytes k s keeps form numbers number links st =
         books = keeps.books;
         number = number;
         roots = subst (λ l. AreRoots s.engine.hub.tables.tables l (Some old)) (sym links) (has_roots k.record s.engine.hub.tables.tables form.flat (known_of s.engine (content_was (Some old)) world));
+        floor = floor;
       };
       world = world;
     }
 
 -- ---- without one
 
-pub found_none : (bytes : List ℕ) (s : Store) → KeepsNone bytes s.ground.place → s.ground.number ≡ 0 → s.ground.leaves.items ≡ [] → Stands s.engine (first_world nothing s.engine) → IsFound bytes s
-found_none bytes s keeps number links st = record {
+pub found_none : (bytes : List ℕ) (s : Store) → KeepsNone bytes s.ground.place → s.ground.number ≡ 0 → s.ground.leaves.items ≡ [] → s.ground.floor ≡ no_name → Stands s.engine (first_world nothing s.engine) → IsFound bytes s
+found_none bytes s keeps number links floor st = record {
   old = None;
   numbers = tt;
-  on = record { serves = keeps.serves; books = keeps.books; number = number; roots = links };
+  on = record { serves = keeps.serves; books = keeps.books; number = number; roots = links; floor = floor };
   world = st;
 }
 
@@ -113,6 +115,7 @@ opened_of bytes images s found = record {
     within = found.on.serves.within;
     roots = found.on.roots;
   };
+  floor = found.on.floor;
   world = found.world;
 }
 

@@ -9,6 +9,7 @@ use Rattle.device_layout.specs.declared.link.Link.{Link}
 use Rattle.wt_code.specs.declared.refusals.Refusal.{Refusal}
 use Rattle.wt_code.specs.declared.refusals.Refusal.TheVariants.{Corrupt, DiskFault, NoMemory, Limit as Refusal_Limit}
 use Rattle.wt_code.specs.declared.refusals.Limit.TheVariants.{Checkpoints, Image, Tables}
+use Rattle.stamp.specs.declared.Name.{Name}
 use Rattle.kv_model.specs.Content.{Content, OpensAs, start}
 use Rattle.kv_model.specs.History.{Table}
 use Rattle.kv_model.specs.Holds.{Member}
@@ -23,8 +24,10 @@ use Rattle.recover_open.proofs.Devices.{damage_no_content}
 use Rattle.engine_world.specs.Systems.{first_world}
 use Rattle.engine_world.specs.Worlds.{World}
 use Rattle.ckpt_step.specs.declared.ground.Ground.{Ground}
-use Rattle.ckpt_step.specs.Grounds.{AreRoots, StandsOn}
+use Rattle.ckpt_step.specs.Floors.{Follows}
+use Rattle.ckpt_step.specs.Grounds.{AreRoots, IsOnGround, StandsOn}
 use Rattle.ckpt_step.specs.Plain.{IsFlatStill, StartsPlain}
+use Rattle.ckpt_step.proofs.Floors.{follows_none}
 use Rattle.engine_store.specs.declared.store.Store.{Store}
 use Rattle.engine_store.specs.Answers.{RefusesReopening}
 use Rattle.engine_store.specs.Devices.{Installed, IsWide, device_of, may_open_to}
@@ -57,6 +60,14 @@ flat_still : (known : List Table) (links : List Link) (old : Option Stored) → 
 flat_still known links None roots = tt
 flat_still known links (Some s) roots = roots.flat
 
+-- no leaf is clean at first
+pub follows_opened : {seen : List ℕ} {images : List ℕ → Type 0} (s : Store) (is : IsOpened seen images s) → Follows is.old s.engine.hub.tables.tables s.ground.leaves.items s.ground.floor (first_world (content_was is.old) s.engine).machine
+follows_opened s is = subst (λ (n : Name). Follows is.old s.engine.hub.tables.tables s.ground.leaves.items n (first_world (content_was is.old) s.engine).machine) (sym is.floor)
+    (follows_none is.old s.engine.hub.tables.tables s.ground.leaves.items (first_world (content_was is.old) s.engine).machine)
+
+pub steady_opened : {seen : List ℕ} {images : List ℕ → Type 0} (s : Store) → IsOpened seen images s → IsOnGround seen images s.engine s.ground
+steady_opened s is = record { world = first_world (content_was is.old) s.engine; stands = is.world; idle = refl; old = is.old; on = is.on; follows = follows_opened s is }
+
 module _ {D : Type 0} (g : Ghosts D) (start_disk before after : D) (looked : Looked g before after) (image : g.may_leave before (g.seen before)) (s : Store) (w : World) (first : Completed) (made : List Installed) (held : IsHeld g start_disk s before w first made) where
   images_looked : Each (g.may_leave after) (OpensToAny (may_open_to (first ∷ []) made))
   images_looked c left = held.images c (looked.images c left)
@@ -76,6 +87,7 @@ module _ {D : Type 0} (g : Ghosts D) (start_disk before after : D) (looked : Loo
     on = λ up. let on = held.on up in record {
       old = on.old;
       on = stands_looked (g.seen before) (g.seen after) (g.may_leave before) (g.may_leave after) s.engine.hub.tables.tables s.ground on.old looked.content looked.images on.on;
+      follows = on.follows;
       opens = on.opens;
       one = on.one;
     };
@@ -118,7 +130,7 @@ module _ {D : Type 0} (g : Ghosts D) (start_disk before after : D) (looked : Loo
     held_reopened = record {
       stands = is.world;
       idle = refl;
-      on = λ up. record { old = is.old; on = is.on; opens = opens; one = one };
+      on = λ up. record { old = is.old; on = is.on; follows = follows_opened s' is; opens = opens; one = one };
       images = images_looked;
       last = last_reopened held.last;
       ever = ever_looked;

@@ -29,9 +29,12 @@ use Rattle.engine_world.specs.Worlds.{World}
 use Rattle.engine_world.proofs.HubMoves.{decided-up}
 use Rattle.engine.specs.Checkpoints.{MayStart, started_as}
 use Rattle.engine.specs.Closes.{MayClose, busy_in, close_told, unfinished_in}
-use Rattle.ckpt_step.specs.Grounds.{StandsOn}
+use Rattle.ckpt_step.specs.Floors.{Follows}
+use Rattle.ckpt_step.specs.Grounds.{IsOnGround, StandsOn}
+use Rattle.ckpt_step.specs.declared.ground.Ground.{Ground}
 use Rattle.ckpt_step.specs.Laws.{CheckpointsOpen}
 use Rattle.ckpt_step.specs.Plain.{GoesPlain, IsPlain}
+use Rattle.ckpt_step.proofs.Floors.{follows_goes, goes_rolled}
 use Rattle.ckpt_step.specs.Takes.{Takes}
 use Rattle.engine_store.specs.declared.store.Store.{Store}
 use Rattle.engine_store.specs.Answers.{CheckpointTakes, CloseTakes, StartedAs, answer_of}
@@ -39,7 +42,7 @@ use Rattle.engine_store.specs.Closes.{rolled}
 use Rattle.engine_store.specs.Devices.{Device, Installed, IsNumberOf, device_of, last_number, may_open_to}
 use Rattle.engine_store.specs.Held.{Checkpoints, IsGrounded, IsHeld, Shuts}
 use Rattle.engine_store.specs.Images.{OpensToLast}
-use Rattle.engine_store.proofs.Closings.{free_of, up_of}
+use Rattle.engine_store.proofs.Closings.{stays_rolled, free_of, up_of}
 use Rattle.engine_store.proofs.Contents.{most_number, not_last}
 use Rattle.engine_store.proofs.Taking.{by_takes, number_held}
 
@@ -199,6 +202,23 @@ refused_takes old new w r number counted why = inr (inr (
     decided : (storing : Storing) → close_decision w.machine (unfinished_in w) number storing ≡ close_refused r
     decided storing = refused_at_once w.machine.fault (busy_in w) (closing w.machine (last_checkpoint number storing)) r why
 
+-- ---- what the rolling back leaves of the ground
+
+pub follows_rolled : (old : Option Stored) (w : World) (ground : Ground) (e middle : Engine) → middle.hub.tables.tables ≡ e.hub.tables.tables → Follows old e.hub.tables.tables ground.leaves.items ground.floor w.machine → Follows old middle.hub.tables.tables ground.leaves.items ground.floor (rolled_back w.machine)
+follows_rolled old w ground e middle same follows =
+    subst (λ (l : List Table). Follows old l ground.leaves.items ground.floor (rolled_back w.machine)) (sym same)
+    (follows_goes old e.hub.tables.tables ground.leaves.items ground.floor w.machine (rolled_back w.machine) (goes_rolled w.machine) follows)
+
+pub steady_rolled : (seen : List ℕ) (images : List ℕ → Type 0) (e middle : Engine) (ground : Ground) (on : IsOnGround seen images e ground) → Stands middle (rolled on.world) → middle.hub.tables.tables ≡ e.hub.tables.tables → IsOnGround seen images middle ground
+steady_rolled seen images e middle ground on stands same = record {
+  world = rolled on.world;
+  stands = stands;
+  idle = (stays_rolled on.world.machine).checkpoint ∙ on.idle;
+  old = on.old;
+  on = subst (λ (l : List Table). StandsOn seen images l ground on.old) (sym same) on.on;
+  follows = follows_rolled on.old on.world ground e middle same on.follows;
+}
+
 -- ---- what it leaves
 
 module _ {D : Type 0} (g : Ghosts D) (start_disk before : D) (image : g.may_leave before (g.seen before)) (s : Store) (w : World) (first : Completed) (made : List Installed) (held : IsHeld g start_disk s before w first made) (plain : IsPlain w.machine) where
@@ -222,15 +242,16 @@ module _ {D : Type 0} (g : Ghosts D) (start_disk before : D) (image : g.may_leav
     abbrev s1 : Store
     s1 = record { engine = middle; ground = s.ground }
 
-    grounded_rolled : IsGrounded (g.seen before) (g.may_leave before) s w.machine.completed (may_open_to (first ∷ []) made) → IsGrounded (g.seen before) (g.may_leave before) s1 (rolled_back w.machine).completed (may_open_to (first ∷ []) made)
+    grounded_rolled : IsGrounded (g.seen before) (g.may_leave before) s w.machine (may_open_to (first ∷ []) made) → IsGrounded (g.seen before) (g.may_leave before) s1 (rolled_back w.machine) (may_open_to (first ∷ []) made)
     grounded_rolled on = record {
       old = on.old;
       on = subst (λ (l : List Table). StandsOn (g.seen before) (g.may_leave before) l s.ground on.old) (sym tables_are) on.on;
+      follows = follows_rolled on.old w s.ground s.engine middle tables_are on.follows;
       opens = subst (λ (k : Completed). OpensAs (content_was on.old) k) (sym goes.completed) on.opens;
       one = on.one;
     }
 
-    on_rolled : IsGrounded (g.seen before) (g.may_leave before) s1 (rolled_back w.machine).completed (may_open_to (first ∷ []) made)
+    on_rolled : IsGrounded (g.seen before) (g.may_leave before) s1 (rolled_back w.machine) (may_open_to (first ∷ []) made)
     on_rolled = grounded_rolled (held.on (up_of w may))
 
     held_rolled : IsHeld g start_disk s1 before (rolled w) first made
@@ -258,5 +279,5 @@ module _ {D : Type 0} (g : Ghosts D) (start_disk before : D) (image : g.may_leav
         plain = t.plain;
       }
 
-      pub shuts_by : ((old : Option Stored) → StandsOn (g.seen before) (g.may_leave before) middle.hub.tables.tables s.ground old → Takes g old (rolled w) s.ground s'.ground middle s'.engine before after result) → Shuts g start_disk w first made s s' before after result
-      shuts_by takes = from_checkpoint (by_takes g start_disk before after counts only image s1 s' (rolled w) first made held_rolled on_rolled count room law downs goes.plain result (takes on_rolled.old on_rolled.on))
+      pub shuts_by : ((old : Option Stored) → StandsOn (g.seen before) (g.may_leave before) middle.hub.tables.tables s.ground old → Follows old middle.hub.tables.tables s.ground.leaves.items s.ground.floor (rolled_back w.machine) → Takes g old (rolled w) s.ground s'.ground middle s'.engine before after result) → Shuts g start_disk w first made s s' before after result
+      shuts_by takes = from_checkpoint (by_takes g start_disk before after counts only image s1 s' (rolled w) first made held_rolled on_rolled count room law downs goes.plain result (takes on_rolled.old on_rolled.on on_rolled.follows))

@@ -24,6 +24,7 @@ use Rattle.engine_world.proofs.HubMoves.{decided-down}
 use Rattle.engine.specs.Checkpoints.{MayStart}
 use Rattle.ckpt_step.specs.declared.ground.Ground.{Ground}
 use Rattle.ckpt_step.specs.Checkpoints.{IsCheckpointOf}
+use Rattle.ckpt_step.specs.Floors.{Follows}
 use Rattle.ckpt_step.specs.Grounds.{StandsOn, number_of}
 use Rattle.ckpt_step.specs.Laws.{CheckpointsOpen}
 use Rattle.ckpt_step.specs.Plain.{IsPlain}
@@ -42,7 +43,7 @@ use Rattle.engine_store.proofs.Installing.{any_last, any_more, any_one, last_ope
 module _ {D : Type 0} (g : Ghosts D) (start_disk before after : D)
     (counts : g.moment before ≤ g.moment after → (c : List ℕ) → g.may_leave after c → g.left_since after (g.moment before) c) (only : (c : List ℕ) → g.left_since after (g.moment after) c → g.may_leave after c)
     (image : g.may_leave before (g.seen before)) (s s' : Store) (w : World) (first : Completed) (made : List Installed) (held : IsHeld g start_disk s before w first made)
-    (grounded : IsGrounded (g.seen before) (g.may_leave before) s w.machine.completed (may_open_to (first ∷ []) made)) where
+    (grounded : IsGrounded (g.seen before) (g.may_leave before) s w.machine (may_open_to (first ∷ []) made)) where
   abbrev Old : List ℕ → Type 0
   Old = IsOld (g.may_leave before) grounded.old
 
@@ -69,11 +70,11 @@ module _ {D : Type 0} (g : Ghosts D) (start_disk before after : D)
 
   -- nothing was installed
   kept_held : (next : World) → Stands s'.engine next → next.machine.checkpoint ≡ None → next.machine.completed ≡ w.machine.completed → KeptAll
-      → (next.machine.fault ≡ None → StandsOn (g.seen after) (g.may_leave after) s'.engine.hub.tables.tables s'.ground grounded.old) → IsHeld g start_disk s' after next first made
+      → (next.machine.fault ≡ None → StandsOn (g.seen after) (g.may_leave after) s'.engine.hub.tables.tables s'.ground grounded.old × Follows grounded.old s'.engine.hub.tables.tables s'.ground.leaves.items s'.ground.floor next.machine) → IsHeld g start_disk s' after next first made
   kept_held next stands idle same kept on = record {
     stands = stands;
     idle = idle;
-    on = λ up. record { old = grounded.old; on = on up; opens = subst (λ (k : Completed). OpensAs (content_was grounded.old) k) (sym same) grounded.opens; one = grounded.one };
+    on = λ up. record { old = grounded.old; on = (on up).0; follows = (on up).1; opens = subst (λ (k : Completed). OpensAs (content_was grounded.old) k) (sym same) grounded.opens; one = grounded.one };
     images = λ c left. old_opens c (old_now kept c left);
     last = subst (λ (k : Completed). OpensToLast (g.may_leave after) first k made) (sym same) (last_on kept held.last);
     ever = joined g start_disk before after (OpensToOne first made) Old held.ever kept (λ c old. any_one first made c (old_opens c old));
@@ -102,13 +103,14 @@ module _ {D : Type 0} (g : Ghosts D) (start_disk before after : D)
 
     -- each image has it
     done_held : (next : World) → Stands s'.engine next → next.machine.checkpoint ≡ None → own.at ≡ g.moment after → next.machine.completed ≡ own.checkpoint → Each (g.may_leave after) (λ c. IsOn c new)
-        → StandsOn (g.seen after) (g.may_leave after) s'.engine.hub.tables.tables s'.ground (Some new) → OpensAs (content_of new) own.checkpoint → IsHeld g start_disk s' after next first (made ++ own ∷ [])
-    done_held next stands idle now same each on new_opens = record {
+        → StandsOn (g.seen after) (g.may_leave after) s'.engine.hub.tables.tables s'.ground (Some new) → Follows (Some new) s'.engine.hub.tables.tables s'.ground.leaves.items s'.ground.floor next.machine → OpensAs (content_of new) own.checkpoint → IsHeld g start_disk s' after next first (made ++ own ∷ [])
+    done_held next stands idle now same each on follows new_opens = record {
       stands = stands;
       idle = idle;
       on = λ up. record {
         old = Some new;
         on = on;
+        follows = follows;
         opens = subst (λ (k : Completed). OpensAs (content_of new) k) (sym same) new_opens;
         one = (own.checkpoint, last_opens (first ∷ []) made own, new_opens);
       };
@@ -175,7 +177,8 @@ module _ {D : Type 0} (g : Ghosts D) (start_disk before after : D)
       takes = inr (number, Ok tt, counted, t.may, inr (t.fit, record { storing = StoredWhole; takes = t.had_room; told = refl; leaves = refl }));
       installs = refl;
       held = done_held t.new (installed None) (opens_new t.new t.is) t.leaves (record w { machine = checkpointed m }) t.stands refl refl refl t.each
-          (subst (λ (e : Engine). StandsOn (g.seen after) (g.may_leave after) e.hub.tables.tables s'.ground (Some t.new)) (sym t.same) t.on) (new_opens t.new t.is (g.seen after) t.on.stands.seen_has);
+          (subst (λ (e : Engine). StandsOn (g.seen after) (g.may_leave after) e.hub.tables.tables s'.ground (Some t.new)) (sym t.same) t.on)
+          (subst (λ (e : Engine). Follows (Some t.new) e.hub.tables.tables s'.ground.leaves.items s'.ground.floor (checkpointed m)) (sym t.same) t.follows) (new_opens t.new t.is (g.seen after) t.on.stands.seen_has);
       plain = record { idle = refl; suffice = λ table key. record { reached = (plain.suffice table key).reached } };
     }
 
@@ -194,7 +197,10 @@ module _ {D : Type 0} (g : Ghosts D) (start_disk before after : D)
       takes = refused_by r n.why;
       installs = inl refl;
       held = kept_held w (subst (λ (e : Engine). Stands e w) (sym n.same) held.stands) held.idle refl n.leaves
-          (λ up. subst (λ (e : Engine). StandsOn (g.seen after) (g.may_leave after) e.hub.tables.tables s'.ground grounded.old) (sym n.same) n.on);
+          (λ up. (
+            subst (λ (e : Engine). StandsOn (g.seen after) (g.may_leave after) e.hub.tables.tables s'.ground grounded.old) (sym n.same) n.on,
+            subst (λ (e : Engine). Follows grounded.old e.hub.tables.tables s'.ground.leaves.items s'.ground.floor m) (sym n.same) n.follows,
+          ));
       plain = plain;
     }
 
@@ -296,12 +302,12 @@ module _ {D : Type 0} (g : Ghosts D) (start_disk before after : D)
     (counts : g.moment before ≤ g.moment after → (c : List ℕ) → g.may_leave after c → g.left_since after (g.moment before) c) (only : (c : List ℕ) → g.left_since after (g.moment after) c → g.may_leave after c)
     (image : g.may_leave before (g.seen before)) (s s' : Store) (w : World) (first : Completed) (made : List Installed) (held : IsHeld g start_disk s before w first made)
     (count : g.faults before ≤ g.faults after) (room : g.capacity after ≡ g.capacity before) (law : CheckpointsOpen) (downs : DownsGo) (plain : IsPlain w.machine) (result : Result (Unit {0}) Refusal)
-    (takes : (old : Option Stored) → StandsOn (g.seen before) (g.may_leave before) s.engine.hub.tables.tables s.ground old → Takes g old w s.ground s'.ground s.engine s'.engine before after result)
+    (takes : (old : Option Stored) → StandsOn (g.seen before) (g.may_leave before) s.engine.hub.tables.tables s.ground old → Follows old s.engine.hub.tables.tables s.ground.leaves.items s.ground.floor w.machine → Takes g old w s.ground s'.ground s.engine s'.engine before after result)
     (down : (fault : Fault) → s.engine.hub.fault ≡ Some fault → (result ≡ Err (Panic fault)) × (s'.engine ≡ s.engine) × (s'.ground ≡ s.ground) × (after ≡ before)) where
   by_fault : (f : Option Fault) → w.machine.fault ≡ f → Checkpoints g start_disk w first made s s' before after result
   by_fault None up =
       let on = held.on up in
-      by_takes g start_disk before after counts only image s s' w first made held on count room law downs plain result (takes on.old on.on)
+      by_takes g start_disk before after counts only image s s' w first made held on count room law downs plain result (takes on.old on.on on.follows)
   by_fault (Some fault) is =
       let told = down fault (held.stands.fault ∙ is) in
       by_down g start_disk before image s w first made held s' after result fault is plain told.0 (same_store s s' told.1 told.2) told.3

@@ -6,6 +6,7 @@ use Rattle.wt_code.specs.declared.refusals.Refusal.{Refusal}
 use Rattle.wt_code.specs.declared.refusals.Refusal.TheVariants.{NoMemory, Limit as Refusal_Limit}
 use Rattle.wt_code.specs.declared.refusals.Limit.TheVariants.{Tables}
 use Rattle.kv_model.specs.History.{Table}
+use Rattle.row_page.specs.Greatest.{no_name}
 use Rattle.stored.specs.Records.{Record}
 use Rattle.stored.specs.Stored.{Stored}
 use Rattle.device_leaf.specs.Closings.{content_was}
@@ -25,6 +26,7 @@ pub record IsGroundOf (bytes : List ℕ) (known : List Table) (g : Ground) (old 
   pub books : Counts (found_in old) g.place.blocks
   pub number : g.number ≡ number_of old
   pub roots : AreRoots known g.leaves.items old
+  pub floor : g.floor ≡ no_name
 
 -- the engine begins with what the device holds
 pub record IsFound (bytes : List ℕ) (s : Store) : Type 0 where

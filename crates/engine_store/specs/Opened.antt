@@ -6,6 +6,7 @@ use Rattle.disk_model.specs.declared.disk.Disk.{Ghosts}
 use Rattle.wt_code.specs.declared.refusals.Refusal.{Refusal}
 use Rattle.wt_code.specs.declared.refusals.Refusal.TheVariants.{Limit as Refusal_Limit}
 use Rattle.wt_code.specs.declared.refusals.Limit.TheVariants.{Tables}
+use Rattle.row_page.specs.Greatest.{no_name}
 use Rattle.engine_world.specs.Stands.{Stands}
 use Rattle.engine_world.specs.Systems.{first_world}
 use Rattle.stored.specs.Stored.{Stored, IsOn}
@@ -30,6 +31,7 @@ pub record IsOpened (seen : List ℕ) (images : List ℕ → Type 0) (s : Store)
   pub old : Option Stored
   pub numbers : HasNumbers old
   pub on : StandsOn seen images s.engine.hub.tables.tables s.ground old
+  pub floor : s.ground.floor ≡ no_name
   pub world : Stands s.engine (first_world (content_was old) s.engine)
 
 -- Why an opening is refused: as a recovery is, or since the record's next number leaves none for as many tables as an engine may have.

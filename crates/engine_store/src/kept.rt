@@ -21,6 +21,7 @@ use failure::NoMemory;
 use leaf_rows::Marks;
 use limits::TABLES_MAX;
 use recover_open::Kept;
+use stamp::Name;
 use std::alloc::Global;
 use wt_code::{Limit, Refusal};
 
@@ -66,6 +67,7 @@ fn begin(alloc: Global, place: Place, kept: Kept) -> Result<Store, NoMemory>
             place,
             number,
             leaves: links,
+            floor: Name { run: 0, id: 0 },
         },
     })
 }

@@ -17,6 +17,7 @@ use disk_model::Disk;
 use engine::Local;
 use failure::NoMemory;
 use recover_open::{Recovered, recover};
+use stamp::Name;
 use std::alloc::Global;
 use wt_code::Refusal;
 
@@ -70,6 +71,7 @@ fn store_on_nothing(alloc: Global, place: Place) -> Result<Store, NoMemory>
             place,
             number: 0,
             leaves: Vec::new(alloc),
+            floor: Name { run: 0, id: 0 },
         },
     })
 }

@@ -1,7 +1,8 @@
 // What a recovery answers on devices in memory.
-use crate::{Recovered, recover};
+use crate::{Kept, Recovered, recover};
 use block_sum::sum;
 use disk_model::MemDisk;
+use leaf_rows::Rows;
 use std::alloc::Global;
 use std::process::Abort;
 use wt_code::{Limit, Refusal};
@@ -203,15 +204,22 @@ fn answer_of(alloc: Global, disk: &mut MemDisk) -> Told {
         Err(refusal) => Told::Refused(refusal),
         Ok(Recovered { place: _, kept }) => match kept {
             None => Told::Nothing,
-            Some(kept) => match (kept.leaves.get(0), kept.leaves.get(1)) {
-                (Some(first), Some(second)) => Told::Rows(
-                    first.version(b"a\0").is_some(),
-                    second.version(b"b\0").is_some(),
-                ),
-                _ => Told::Nothing,
-            },
+            Some(Kept { record: _, leaves }) => {
+                let mut leaves = leaves.into_iter();
+                match (leaves.next(), leaves.next()) {
+                    (Some(first), Some(second)) => {
+                        Told::Rows(has(first, b"a\0"), has(second, b"b\0"))
+                    }
+                    _ => Told::Nothing,
+                }
+            }
         },
     }
+}
+
+// Whether a leaf has a row of the key.
+fn has(rows: Rows, key: &[u8]) -> bool {
+    rows.into_rows().iter().any(|row| row.0.as_bytes() == key)
 }
 
 #[test]

@@ -12,7 +12,7 @@ use Rattle.wt_code.specs.declared.answers.Answer.TheVariants.{Refused}
 use Rattle.wt_code.specs.declared.refusals.Refusal.TheVariants.{DiskFault, NoMemory}
 use Rattle.kv_model.specs.Content.{OpensAs}
 use Rattle.kv_model.specs.History.{Table}
-use Rattle.kv_model.specs.Machine.{Completed}
+use Rattle.kv_model.specs.Machine.{Completed, Machine}
 use Rattle.stored.specs.Stored.{Stored}
 use Rattle.device_leaf.specs.Closings.{content_was}
 use Rattle.wt_calls.specs.declared.call.Call.{Call}
@@ -36,7 +36,9 @@ use Rattle.engine.specs.Runs.{StepsOut}
 use Rattle.engine.specs.Sound.{AreBuilt}
 use Rattle.engine.specs.Whole.{with_session_more}
 use Rattle.ckpt_step.specs.Calm.{IsCalm, IsUnstampedCall, AnswersCalm, OpensCalm, StepsCalm}
+use Rattle.ckpt_step.specs.Floors.{Follows, GoesOn}
 use Rattle.ckpt_step.specs.Grounds.{AreRoots, StandsOn}
+use Rattle.ckpt_step.proofs.Floors.{follows_goes}
 use Rattle.engine_store.specs.declared.store.Store.{Store}
 use Rattle.engine_store.specs.Devices.{Installed, device_of}
 use Rattle.engine_store.specs.Held.{IsHeld}
@@ -102,19 +104,51 @@ on_more seen images s e old grows on = record {
   roots = subst (λ (l : List Table). AreRoots l s.ground.leaves.items old) (sym grows.tables) (roots_more s.engine.hub.tables.tables grows.more s.ground.leaves.items old on.roots);
 }
 
+-- so are its clean leaves
+follows_more : (s : Store) (e : Engine) (old : Option Stored) (m next : Machine) → length s.ground.leaves.items ≤ length s.engine.hub.tables.tables → Grows s.engine e → GoesOn m next
+    → Follows old s.engine.hub.tables.tables s.ground.leaves.items s.ground.floor m → Follows old e.hub.tables.tables s.ground.leaves.items s.ground.floor next
+follows_more s e old m next few grows goes follows =
+    let known = s.engine.hub.tables.tables in
+    let links = s.ground.leaves.items in
+    follows_goes old e.hub.tables.tables links s.ground.floor m next goes
+    (record {
+      respects = follows.respects;
+      leaves = λ place t link at leads below.
+          let there : slice_get (known ++ grows.more) place ≡ Some t = subst (λ (l : List Table). slice_get l place ≡ Some t) grows.tables at in
+          follows.leaves place t link (get_more known grows.more place t (omega (arith, has_place links place link leads, few)) there) leads below;
+    })
+
+few_roots : (known : List Table) (links : List Link) (old : Option Stored) → AreRoots known links old → length links ≤ length known
+few_roots known links None none = omega (arith, ap length none)
+few_roots known links (Some s) roots = roots.few
+
 -- ---- the store, whatever the disk
 
-pub fit_goes : {D : Type 0} (g : Ghosts D) (disk : D) (s : Store) (e : Engine) (w later : World) → Stands s.engine w → Stands e later → Keeps w.machine later.machine → IsFit g s disk → IsFit g (record s { engine = e }) disk
-fit_goes g disk s e w later stands stands' keeps fit =
-    let grows = grows s.engine e w later stands stands' keeps in
+-- what the engine stands for goes on from any world for which it stood
+abbrev LedOn : Engine → Engine → Type 0
+LedOn e e' = (w : World) → Stands e w → (later : World) × Stands e' later × Keeps w.machine later.machine
+
+fit_goes : {D : Type 0} (g : Ghosts D) (disk : D) (s : Store) (e : Engine) (w : World) → Stands s.engine w → LedOn s.engine e → IsFit g s disk → IsFit g (record s { engine = e }) disk
+fit_goes g disk s e w stands led fit =
+    let first = led w stands in
+    let keeps = first.2 in
+    let grows = grows s.engine e w first.0 stands first.1 keeps in
     record {
       ready = record {
         run = subst (λ (n : ℕ). n ≤ s.ground.number + 1) (sym grows.run) fit.ready.run;
         leaves = omega (arith, fit.ready.leaves, ap length grows.tables, length-append s.engine.hub.tables.tables grows.more);
       };
       steady = λ honest up.
-          let x = fit.steady honest (stands.fault ∙ sym keeps.fault ∙ sym stands'.fault ∙ up) in
-          (x.0, on_more (g.seen disk) (g.may_leave disk) s e x.0 grows x.1);
+          let x = fit.steady honest (stands.fault ∙ sym keeps.fault ∙ sym first.1.fault ∙ up) in
+          let on = led x.world x.stands in
+          record {
+            world = on.0;
+            stands = on.1;
+            idle = on.2.checkpoint ∙ x.idle;
+            old = x.old;
+            on = on_more (g.seen disk) (g.may_leave disk) s e x.old grows x.on;
+            follows = follows_more s e x.old x.world.machine on.0.machine fit.ready.leaves grows on.2.goes x.follows;
+          };
     }
 
 held_goes : {D : Type 0} (g : Ghosts D) (first disk : D) (s : Store) (e : Engine) (w later : World) (before : Completed) (made : List Installed) → Stands e later → Keeps w.machine later.machine → IsHeld g first s disk w before made → IsHeld g first (record s { engine = e }) disk later before made
@@ -128,6 +162,7 @@ held_goes g first disk s e w later before made stands' keeps held =
           record {
             old = x.old;
             on = on_more (g.seen disk) (g.may_leave disk) s e x.old grows x.on;
+            follows = follows_more s e x.old w.machine later.machine (few_roots s.engine.hub.tables.tables s.ground.leaves.items x.old x.on.roots) grows keeps.goes x.follows;
             opens = subst (λ (c : Completed). OpensAs (content_was x.old) c) (sym keeps.completed) x.opens;
             one = x.one;
           };
@@ -249,15 +284,20 @@ module _ {D : Type 0} (g : Ghosts D) (disk : D) (store : Store) (e : Engine) (as
 
   -- of any world for which the engine stands
   module _ (s : Script) (told : LineTold) (kept : List Formats) (stands : Stands store.engine s.world) (r : IsReplied asked s told e kept) where
-    pub actor_fit : IsFit g store disk → IsFit g (record store { engine = e }) disk
-    actor_fit fit =
-        fit_goes g disk store e s.world r.later.world stands r.stands (calm-line asked s told.formats told.reply r.later now (calm-first store.engine s.world stands built) r.replies).keeps fit
-
     pub actor_quiet : s.world.machine.checkpoint ≡ None → AreStill s.world.sessions → NoFault e × IsReplyQuiet told.reply
     actor_quiet idle still =
         let keeps = (calm-line asked s told.formats told.reply r.later now (calm-first store.engine s.world stands built) r.replies).keeps in
         let quiet = replies_calm s told.formats told.reply r.later asked now (unfaulted_by store.engine s.world stands built still) r.replies in
         ((r.later.world, r.stands, keeps.checkpoint ∙ idle, quiet.1.sessions), quiet.0)
+
+  pub actor_fit : (told : LineTold) (before kept : List Formats) → ((s : Script) → s.formats ≡ before → Stands store.engine s.world → IsReplied asked s told e kept) → (w : World) → Stands store.engine w → IsFit g store disk → IsFit g (record store { engine = e }) disk
+  actor_fit told before kept replied w stands fit = fit_goes g disk store e w stands led fit
+    where
+      led : LedOn store.engine e
+      led v st =
+          let s = some_script g disk v before in
+          let r = replied s refl st in
+          (r.later.world, r.stands, (calm-line asked s told.formats told.reply r.later now (calm-first store.engine v st built) r.replies).keeps)
 
   pub actor_fault : (told : LineTold) (before kept : List Formats) → ((s : Script) → s.formats ≡ before → Stands store.engine s.world → IsReplied asked s told e kept) → NoFault store.engine → NoFault e × IsReplyQuiet told.reply
   actor_fault told before kept replied (w, stands, idle, still) = let s = some_script g disk w before in actor_quiet s told kept stands (replied s refl stands) idle still

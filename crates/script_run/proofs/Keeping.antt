@@ -52,19 +52,72 @@ use Rattle.engine.specs.declared.step.Step.TheVariants.{Start, Go}
 use Rattle.engine.specs.Runs.{AsksIn, IsBuilt, MakesIn, MayStep, StepsOut}
 use Rattle.engine.specs.Sound.{AreBuilt}
 use Rattle.engine.specs.Whole.{CallsIn, MakesAt, MayAnswer, with_session_more}
+use Rattle.ckpt_step.specs.Floors.{GoesOn as MachineGoesOn}
+use Rattle.ckpt_step.specs.Keeps.{IsOrdinaryEvent}
+use Rattle.ckpt_step.proofs.Floors.{goes_after, goes_on, goes_same}
 use Rattle.script_run.specs.Runs.{IsOfActor}
 use Rattle.script_run.specs.Scripts.{Answers, Begins, Ends, Goes, IsLaterCall, Opens, Refuses, Replies, Script, actor_in, caller, missing, opened_more}
 
 -- ---- events
 
--- the event takes no checkpoint, and is no fault
-abbrev pub Spares : Event → Type 0
-Spares RollbackToStable = ⊥
-Spares CheckpointStart = ⊥
-Spares CheckpointFinish = ⊥
-Spares CheckpointDrop = ⊥
-Spares (GoDown fault) = ⊥
-Spares _ = Unit {0}
+-- of what a line of an actor keeps all but the newest versions of keys
+record KeepsRest (m next : Machine) : Type 0 where
+  completed : next.completed ≡ m.completed
+  checkpoint : next.checkpoint ≡ m.checkpoint
+  fault : next.fault ≡ m.fault
+  run : next.run ≡ m.run
+  more : List Table
+  tables : tables next.history ≡ more ++ tables m.history
+
+rest-none : (m : Machine) → KeepsRest m m
+rest-none m = record { completed = refl; checkpoint = refl; fault = refl; run = refl; more = []; tables = refl }
+
+-- where its history has the same tables
+rest-known : (m next : Machine) → next.completed ≡ m.completed → next.checkpoint ≡ m.checkpoint → next.fault ≡ m.fault → next.run ≡ m.run → tables next.history ≡ tables m.history → KeepsRest m next
+rest-known m next completed checkpoint fault run known = record { completed = completed; checkpoint = checkpoint; fault = fault; run = run; more = []; tables = known }
+
+appended-tables : (writes : List Write) (entry : Entry) (history : List Entry) → tables (entry ∷ history) ≡ tables history → tables (appended writes entry history) ≡ tables history
+appended-tables [] entry history is = refl
+appended-tables (w ∷ writes) entry history is = is
+
+rest-of : (m : Machine) (f : Transaction → Machine) → ((t : Transaction) → KeepsRest m (f t)) → (o : Option Transaction) → KeepsRest m (of_some m f o)
+rest-of m f each None = rest-none m
+rest-of m f each (Some t) = each t
+
+rest-decided : (p : Phase) (m : Machine) (session commit durable : ℕ) (t : Transaction) → KeepsRest m (decided p m session commit durable t)
+rest-decided (Prepared at) m session commit durable t = rest-known m _ refl refl refl refl (appended-tables t.writes (Resolve (name_of m t) (stamped commit durable t.writes)) m.history refl)
+rest-decided Running m session commit durable t = rest-known m _ refl refl refl refl (appended-tables t.writes (CommitEntry (name_of m t) (stamped commit durable t.writes)) m.history refl)
+rest-decided Failed m session commit durable t = rest-known m _ refl refl refl refl (appended-tables t.writes (CommitEntry (name_of m t) (stamped commit durable t.writes)) m.history refl)
+rest-decided Resolving m session commit durable t = rest-known m _ refl refl refl refl (appended-tables t.writes (CommitEntry (name_of m t) (stamped commit durable t.writes)) m.history refl)
+rest-decided Leaving m session commit durable t = rest-known m _ refl refl refl refl (appended-tables t.writes (CommitEntry (name_of m t) (stamped commit durable t.writes)) m.history refl)
+
+rest-left : (p : Phase) (m : Machine) (session : ℕ) (t : Transaction) → KeepsRest m (left p m session t)
+rest-left (Prepared at) m session t = rest-known m _ refl refl refl refl (appended-tables t.writes (UndoEntry (name_of m t)) m.history refl)
+rest-left Running m session t = rest-known m _ refl refl refl refl refl
+rest-left Failed m session t = rest-known m _ refl refl refl refl refl
+rest-left Resolving m session t = rest-none m
+rest-left Leaving m session t = rest-known m _ refl refl refl refl refl
+
+rest-after : (m : Machine) (event : Event) → IsOrdinaryEvent event → KeepsRest m (after m event)
+rest-after m OpenSession spares = rest-known m _ refl refl refl refl refl
+rest-after m (BeginAt session read) spares = rest-known m _ refl refl refl refl refl
+rest-after m (DrawId session) spares = rest-known m _ refl refl refl refl refl
+rest-after m (AcceptWrite session table key change) spares = rest-known m _ refl refl refl refl refl
+rest-after m (RefuseWrite session) spares = rest-known m _ refl refl refl refl refl
+rest-after m (PrepareAt session stamp) spares =
+    rest-of m (prepared m session stamp) (λ t. rest-known m _ refl refl refl refl (appended-tables t.writes (PrepareEntry (name_of m t) stamp) m.history refl)) (transaction_of m session)
+rest-after m (CommitAt session commit durable) spares = rest-of m (λ t. decided t.phase m session commit durable t) (λ t. rest-decided t.phase m session commit durable t) (transaction_of m session)
+rest-after m (StartLeaving session) spares = rest-of m (λ t. left t.phase m session t) (λ t. rest-left t.phase m session t) (transaction_of m session)
+rest-after m (EndTransaction session) spares = rest-known m _ refl refl refl refl refl
+rest-after m (PlaceCursor session cursor position) spares = rest-known m _ refl refl refl refl refl
+rest-after m (CreateTable table) spares = record { completed = refl; checkpoint = refl; fault = refl; run = refl; more = table ∷ []; tables = refl }
+rest-after m (SetStamps oldest stable) spares = rest-known m _ refl refl refl refl refl
+rest-after m Nothing spares = rest-none m
+rest-after m RollbackToStable spares = absurd spares
+rest-after m CheckpointStart spares = absurd spares
+rest-after m CheckpointFinish spares = absurd spares
+rest-after m CheckpointDrop spares = absurd spares
+rest-after m (GoDown fault) spares = absurd spares
 
 pub record Keeps (m next : Machine) : Type 0 where
   pub completed : next.completed ≡ m.completed
@@ -73,9 +126,10 @@ pub record Keeps (m next : Machine) : Type 0 where
   pub run : next.run ≡ m.run
   pub more : List Table
   pub tables : tables next.history ≡ more ++ tables m.history
+  pub goes : MachineGoesOn m next
 
 keeps-none : (m : Machine) → Keeps m m
-keeps-none m = record { completed = refl; checkpoint = refl; fault = refl; run = refl; more = []; tables = refl }
+keeps-none m = record { completed = refl; checkpoint = refl; fault = refl; run = refl; more = []; tables = refl; goes = goes_same m }
 
 keeps-then : (l m n : Machine) → Keeps l m → Keeps m n → Keeps l n
 keeps-then l m n a b = record {
@@ -85,85 +139,44 @@ keeps-then l m n a b = record {
   run = b.run ∙ a.run;
   more = b.more ++ a.more;
   tables = b.tables ∙ ap (λ (l : List Table). b.more ++ l) a.tables ∙ sym (append_assoc b.more a.more (tables l.history));
+  goes = goes_on l m n a.goes b.goes;
 }
 
 keeps-as : (m n next : Machine) → next ≡ n → Keeps m n → Keeps m next
 keeps-as m n next is keeps = subst (λ (x : Machine). Keeps m x) (sym is) keeps
 
--- where its history has the same tables
-keeps-known : (m next : Machine) → next.completed ≡ m.completed → next.checkpoint ≡ m.checkpoint → next.fault ≡ m.fault → next.run ≡ m.run → tables next.history ≡ tables m.history → Keeps m next
-keeps-known m next completed checkpoint fault run known = record { completed = completed; checkpoint = checkpoint; fault = fault; run = run; more = []; tables = known }
-
-appended-tables : (writes : List Write) (entry : Entry) (history : List Entry) → tables (entry ∷ history) ≡ tables history → tables (appended writes entry history) ≡ tables history
-appended-tables [] entry history is = refl
-appended-tables (w ∷ writes) entry history is = is
-
-keeps-of : (m : Machine) (f : Transaction → Machine) → ((t : Transaction) → Keeps m (f t)) → (o : Option Transaction) → Keeps m (of_some m f o)
-keeps-of m f each None = keeps-none m
-keeps-of m f each (Some t) = each t
-
-keeps-decided : (p : Phase) (m : Machine) (session commit durable : ℕ) (t : Transaction) → Keeps m (decided p m session commit durable t)
-keeps-decided (Prepared at) m session commit durable t = keeps-known m _ refl refl refl refl (appended-tables t.writes (Resolve (name_of m t) (stamped commit durable t.writes)) m.history refl)
-keeps-decided Running m session commit durable t = keeps-known m _ refl refl refl refl (appended-tables t.writes (CommitEntry (name_of m t) (stamped commit durable t.writes)) m.history refl)
-keeps-decided Failed m session commit durable t = keeps-known m _ refl refl refl refl (appended-tables t.writes (CommitEntry (name_of m t) (stamped commit durable t.writes)) m.history refl)
-keeps-decided Resolving m session commit durable t = keeps-known m _ refl refl refl refl (appended-tables t.writes (CommitEntry (name_of m t) (stamped commit durable t.writes)) m.history refl)
-keeps-decided Leaving m session commit durable t = keeps-known m _ refl refl refl refl (appended-tables t.writes (CommitEntry (name_of m t) (stamped commit durable t.writes)) m.history refl)
-
-keeps-left : (p : Phase) (m : Machine) (session : ℕ) (t : Transaction) → Keeps m (left p m session t)
-keeps-left (Prepared at) m session t = keeps-known m _ refl refl refl refl (appended-tables t.writes (UndoEntry (name_of m t)) m.history refl)
-keeps-left Running m session t = keeps-known m _ refl refl refl refl refl
-keeps-left Failed m session t = keeps-known m _ refl refl refl refl refl
-keeps-left Resolving m session t = keeps-none m
-keeps-left Leaving m session t = keeps-known m _ refl refl refl refl refl
-
-pub keeps-after : (m : Machine) (event : Event) → Spares event → Keeps m (after m event)
-keeps-after m OpenSession spares = keeps-known m _ refl refl refl refl refl
-keeps-after m (BeginAt session read) spares = keeps-known m _ refl refl refl refl refl
-keeps-after m (DrawId session) spares = keeps-known m _ refl refl refl refl refl
-keeps-after m (AcceptWrite session table key change) spares = keeps-known m _ refl refl refl refl refl
-keeps-after m (RefuseWrite session) spares = keeps-known m _ refl refl refl refl refl
-keeps-after m (PrepareAt session stamp) spares =
-    keeps-of m (prepared m session stamp) (λ t. keeps-known m _ refl refl refl refl (appended-tables t.writes (PrepareEntry (name_of m t) stamp) m.history refl)) (transaction_of m session)
-keeps-after m (CommitAt session commit durable) spares = keeps-of m (λ t. decided t.phase m session commit durable t) (λ t. keeps-decided t.phase m session commit durable t) (transaction_of m session)
-keeps-after m (StartLeaving session) spares = keeps-of m (λ t. left t.phase m session t) (λ t. keeps-left t.phase m session t) (transaction_of m session)
-keeps-after m (EndTransaction session) spares = keeps-known m _ refl refl refl refl refl
-keeps-after m (PlaceCursor session cursor position) spares = keeps-known m _ refl refl refl refl refl
-keeps-after m (CreateTable table) spares = record { completed = refl; checkpoint = refl; fault = refl; run = refl; more = table ∷ []; tables = refl }
-keeps-after m (SetStamps oldest stable) spares = keeps-known m _ refl refl refl refl refl
-keeps-after m Nothing spares = keeps-none m
-keeps-after m RollbackToStable spares = absurd spares
-keeps-after m CheckpointStart spares = absurd spares
-keeps-after m CheckpointFinish spares = absurd spares
-keeps-after m CheckpointDrop spares = absurd spares
-keeps-after m (GoDown fault) spares = absurd spares
+pub keeps-after : (m : Machine) (event : Event) → IsOrdinaryEvent event → Keeps m (after m event)
+keeps-after m event ordinary =
+    let rest = rest-after m event ordinary in
+    record { completed = rest.completed; checkpoint = rest.checkpoint; fault = rest.fault; run = rest.run; more = rest.more; tables = rest.tables; goes = goes_after m event ordinary }
 
 -- ---- decisions
 
-spares-of : {A : Type 0} (go : Outcome × Event) (f : A → Outcome × Event) → Spares go.1 → ((a : A) → Spares (f a).1) → (o : Option A) → Spares (of_some go f o).1
+spares-of : {A : Type 0} (go : Outcome × Event) (f : A → Outcome × Event) → IsOrdinaryEvent go.1 → ((a : A) → IsOrdinaryEvent (f a).1) → (o : Option A) → IsOrdinaryEvent (of_some go f o).1
 spares-of go f first each None = first
 spares-of go f first each (Some a) = each a
 
-spares-either : (b : Bool) (x y : Outcome × Event) → Spares x.1 → Spares y.1 → Spares (if b then x else y).1
+spares-either : (b : Bool) (x y : Outcome × Event) → IsOrdinaryEvent x.1 → IsOrdinaryEvent y.1 → IsOrdinaryEvent (if b then x else y).1
 spares-either true x y p q = p
 spares-either false x y p q = q
 
-spares-ruled : (rules : List (Bool × Invalid)) (event refusal : Event) → Spares event → Spares refusal → Spares (ruled rules event refusal).1
+spares-ruled : (rules : List (Bool × Invalid)) (event refusal : Event) → IsOrdinaryEvent event → IsOrdinaryEvent refusal → IsOrdinaryEvent (ruled rules event refusal).1
 spares-ruled rules event refusal p q = spares-of (Done, event) (λ (reason : Invalid). (Refused (told.Invalid reason), refusal)) p (λ reason. q) (first_of rules)
 
-spares-checked : (checks : List (Bool × Refusal)) (go : Outcome × Event) → Spares go.1 → Spares (checked checks go).1
+spares-checked : (checks : List (Bool × Refusal)) (go : Outcome × Event) → IsOrdinaryEvent go.1 → IsOrdinaryEvent (checked checks go).1
 spares-checked checks go p = spares-of go refused p (λ r. tt) (first_of checks)
 
-spares-state : (p : Phase) (go : Outcome × Event) → Spares go.1 → Spares (in_state p go).1
+spares-state : (p : Phase) (go : Outcome × Event) → IsOrdinaryEvent go.1 → IsOrdinaryEvent (in_state p go).1
 spares-state Running go first = first
 spares-state Failed go first = tt
 spares-state Leaving go first = tt
 spares-state (Prepared stamp) go first = tt
 spares-state Resolving go first = tt
 
-spares-running : (m : Machine) (session : ℕ) (go : Transaction → Outcome × Event) → ((t : Transaction) → Spares (go t).1) → Spares (running_session m session go).1
+spares-running : (m : Machine) (session : ℕ) (go : Transaction → Outcome × Event) → ((t : Transaction) → IsOrdinaryEvent (go t).1) → IsOrdinaryEvent (running_session m session go).1
 spares-running m session go each = spares-of (invalid why.NoTxn) (λ (t : Transaction). in_state t.phase (go t)) tt (λ t. spares-state t.phase (go t) (each t)) (transaction_of m session)
 
-spares-commit : (p : Phase) (m : Machine) (session : ℕ) (t : Transaction) (commit durable : Option ℕ) → Spares (commit_decision p m session t commit durable).1
+spares-commit : (p : Phase) (m : Machine) (session : ℕ) (t : Transaction) (commit durable : Option ℕ) → IsOrdinaryEvent (commit_decision p m session t commit durable).1
 spares-commit Running m session t commit durable =
     spares-ruled (commit_rules m.oldest m.stable commit durable (durable_below m t.writes)) (CommitAt session (stamp_of commit) (stamp_of commit)) (StartLeaving session) tt tt
 spares-commit (Prepared p) m session t commit durable =
@@ -172,18 +185,18 @@ spares-commit Failed m session t commit durable = tt
 spares-commit Resolving m session t commit durable = tt
 spares-commit Leaving m session t commit durable = tt
 
-spares-rollback : (p : Phase) (session : ℕ) → Spares (rollback_decision p session).1
+spares-rollback : (p : Phase) (session : ℕ) → IsOrdinaryEvent (rollback_decision p session).1
 spares-rollback Running session = tt
 spares-rollback Failed session = tt
 spares-rollback (Prepared at) session = tt
 spares-rollback Resolving session = tt
 spares-rollback Leaving session = tt
 
-spares-drawn : (m : Machine) (session : ℕ) (t : Transaction) → Spares (id_drawn m session t).1
+spares-drawn : (m : Machine) (session : ℕ) (t : Transaction) → IsOrdinaryEvent (id_drawn m session t).1
 spares-drawn m session t =
     spares-either (t.id == 0) (checked ((nat_lt NUMBER_MAX m.next, told.Limit counted.Ids) ∷ []) (Done, DrawId session)) (Done, Nothing) (spares-checked ((nat_lt NUMBER_MAX m.next, told.Limit counted.Ids) ∷ []) (Done, DrawId session) tt) tt
 
-spares-create : (known : List Table) (table : Table) (old : Option Table) → Spares (create_decision known table old).1
+spares-create : (known : List Table) (table : Table) (old : Option Table) → IsOrdinaryEvent (create_decision known table old).1
 spares-create known table None = spares-checked ((nat_le TABLES_MAX (length known), told.Limit counted.Tables) ∷ []) (Done, CreateTable table) tt
 spares-create known table (Some old) = spares-either (same_formats table.formats old.formats) (Done, Nothing) (refused Exists) tt tt
 
@@ -201,7 +214,7 @@ IsAsked (CreateCall table) = Unit {0}
 IsAsked (SetCall oldest stable) = Unit {0}
 IsAsked _ = ⊥
 
-spares-judged : (m : Machine) (session : ℕ) (request : Request) → IsAsked request → Spares (judged m session request).1
+spares-judged : (m : Machine) (session : ℕ) (request : Request) → IsAsked request → IsOrdinaryEvent (judged m session request).1
 spares-judged m session (BeginCall read) asked =
     spares-of (ruled (begin_rules m.oldest read) (BeginAt session (stamp_of read)) Nothing) (λ (t : Transaction). invalid why.InTxn) (spares-ruled (begin_rules m.oldest read) (BeginAt session (stamp_of read)) Nothing tt tt) (λ t. tt) (transaction_of m session)
 spares-judged m session (PrepareCall stamp) asked =
@@ -223,34 +236,34 @@ spares-judged m session (SetCall oldest stable) asked =
     spares-ruled (set_rules m.oldest m.stable oldest stable) (SetStamps (stamp_of oldest) (stamp_of stable)) Nothing tt tt
 spares-judged m session _ asked = absurd asked
 
-spares-decision : (m : Machine) (session : ℕ) (request : Request) → IsAsked request → Spares (decision m session request).1
+spares-decision : (m : Machine) (session : ℕ) (request : Request) → IsAsked request → IsOrdinaryEvent (decision m session request).1
 spares-decision m session request asked = let spares = spares-judged m session request asked in
     spares-either (is_on_page m session request) (judged m session request) (while_up m (judged m session request)) spares
     (spares-of (judged m session request) (λ (fault : Fault). refused (Panic fault)) spares (λ fault. tt) m.fault)
 
-spares-reset : (m : Machine) (session cursor : ℕ) → Spares (reset_decision m session cursor).1
+spares-reset : (m : Machine) (session cursor : ℕ) → IsOrdinaryEvent (reset_decision m session cursor).1
 spares-reset m session cursor = spares-running m session (λ t. (Done, PlaceCursor session cursor None)) (λ t. tt)
 
 -- the event of a decision that is known
-spares-by : (decides : Outcome × Event) (outcome : Outcome) (event : Event) → Spares decides.1 → decides ≡ (outcome, event) → Spares event
-spares-by decides outcome event spares is = subst (λ (d : Outcome × Event). Spares d.1) is spares
+spares-by : (decides : Outcome × Event) (outcome : Outcome) (event : Event) → IsOrdinaryEvent decides.1 → decides ≡ (outcome, event) → IsOrdinaryEvent event
+spares-by decides outcome event spares is = subst (λ (d : Outcome × Event). IsOrdinaryEvent d.1) is spares
 
 -- ---- events of looks
 
-spares-is : (event other : Event) → event ≡ other → Spares other → Spares event
-spares-is event other is spares = subst (λ (e : Event). Spares e) (sym is) spares
+spares-is : (event other : Event) → event ≡ other → IsOrdinaryEvent other → IsOrdinaryEvent event
+spares-is event other is spares = subst (λ (e : Event). IsOrdinaryEvent e) (sym is) spares
 
-spares-seek : (session cursor table : ℕ) (key : List ℕ) (outcome : Outcome) → Spares (seek_event session cursor table key outcome)
+spares-seek : (session cursor table : ℕ) (key : List ℕ) (outcome : Outcome) → IsOrdinaryEvent (seek_event session cursor table key outcome)
 spares-seek session cursor table key (Gives v) = tt
 spares-seek session cursor table key (Refused NotFound) = tt
 spares-seek session cursor table key _ = tt
 
-spares-row : (session cursor table : ℕ) (outcome : Outcome) → Spares (row_event session cursor table outcome)
+spares-row : (session cursor table : ℕ) (outcome : Outcome) → IsOrdinaryEvent (row_event session cursor table outcome)
 spares-row session cursor table (GivesRow key v) = tt
 spares-row session cursor table (Refused NotFound) = tt
 spares-row session cursor table _ = tt
 
-spares-write : (m : Machine) (session : ℕ) (t : Transaction) (table : ℕ) (key : List ℕ) (change : Change) (demand : Demand) (outcome : Outcome) (event : Event) → WriteAnswer m session t table key change demand outcome event → Spares event
+spares-write : (m : Machine) (session : ℕ) (t : Transaction) (table : ℕ) (key : List ℕ) (change : Change) (demand : Demand) (outcome : Outcome) (event : Event) → WriteAnswer m session t table key change demand outcome event → IsOrdinaryEvent event
 spares-write m session t table key change demand Done event may = spares-is event (AcceptWrite session table key change) may.2 tt
 spares-write m session t table key change demand (Refused (Conflicts run id)) event must = spares-is event (RefuseWrite session) must.1 tt
 spares-write m session t table key change demand (Refused r) event may = spares-is event Nothing may.2 tt
@@ -271,7 +284,7 @@ keeps-ended : (m : Machine) (session : ℕ) (outcome : Outcome) (o : Option Tran
 keeps-ended m session outcome None = keeps-none m
 keeps-ended m session outcome (Some t) = keeps-after m (decision m session (EndCall outcome)).1 (spares-decision m session (EndCall outcome) tt)
 
-keeps-settled : (m : Machine) (session : ℕ) (outcome : Outcome) (event : Event) → Spares event → Keeps m (settled m session outcome event).1
+keeps-settled : (m : Machine) (session : ℕ) (outcome : Outcome) (event : Event) → IsOrdinaryEvent event → Keeps m (settled m session outcome event).1
 keeps-settled m session outcome (StartLeaving s) spares =
     keeps-then m (after m (StartLeaving s)) _ (keeps-after m (StartLeaving s) tt) (keeps-ended (after m (StartLeaving s)) session outcome (transaction_of (after m (StartLeaving s)) session))
 keeps-settled m session outcome (CommitAt s commit durable) spares =
@@ -283,7 +296,7 @@ keeps-settles m session request outcome next asked is =
     subst (λ (made : Outcome × Machine). Keeps m made.1) is (keeps-settled m session (decision m session request).0 (decision m session request).1 (spares-decision m session request asked))
 
 keeps-placed : (m : Machine) (session : ℕ) (name : List ℕ) (request : Request) (LooksSo : Machine → Transaction → Table → Outcome → Event → Type 0) (outcome : Outcome) (next : Machine)
-    → IsAsked request → ((n : Machine) (t : Transaction) (table : Table) (o : Outcome) (event : Event) → LooksSo n t table o event → Spares event) → AtPlace m session name request LooksSo outcome next → Keeps m next
+    → IsAsked request → ((n : Machine) (t : Transaction) (table : Table) (o : Outcome) (event : Event) → LooksSo n t table o event → IsOrdinaryEvent event) → AtPlace m session name request LooksSo outcome next → Keeps m next
 keeps-placed m session name request LooksSo outcome next asked each (inl (r, e, is, told, same)) = keeps-as m m next same (keeps-none m)
 keeps-placed m session name request LooksSo outcome next asked each (inr (e, t, table, event, is, finds, looks, leaves)) =
     keeps-as m (after (after m e) event) next leaves
@@ -353,7 +366,7 @@ keeps-system m _ answer next is answers = absurd is
 
 -- the event that comes with its answer leaves it
 abbrev IsCalm : Doing → Type 0
-IsCalm (Decided answer event left) = Spares event
+IsCalm (Decided answer event left) = IsOrdinaryEvent event
 IsCalm _ = Unit {0}
 
 record MadeCalm (m : Machine) (made : Made) : Type 0 where
@@ -370,7 +383,7 @@ calm-finishes : (answer : Answer (List ℕ)) (left : ℕ) (next m : Machine) (ma
 calm-finishes answer left next m made keeps (inl ends) = calm-ends answer next m made keeps ends
 calm-finishes answer left next m made keeps (inr goes) = calm-goes (Decided answer Nothing) left next m made keeps (λ n. tt) goes
 
-calm-found : (outcome : Outcome) (event : Event) (m : Machine) (made : Call) (name : List ℕ) (left : ℕ) (x : Made) → Spares event → FoundBy outcome event m made name left x → MadeCalm m x
+calm-found : (outcome : Outcome) (event : Event) (m : Machine) (made : Call) (name : List ℕ) (left : ℕ) (x : Made) → IsOrdinaryEvent event → FoundBy outcome event m made name left x → MadeCalm m x
 calm-found (Refused r) event m made name left x spares ends = calm-ends (answers.Refused r) m m x (keeps-none m) ends
 calm-found Done event m made name left x spares (table, is, goes) = calm-goes (Placed made table.number) left (after m event) m x (keeps-after m event spares) (λ n. tt) goes
 calm-found _ event m made name left x spares there = absurd there
@@ -384,7 +397,7 @@ calm-transaction (Some t) answer next m session left x keeps (inl goes) = calm-g
 calm-transaction (Some t) answer next m session left x keeps (inr (up, none, finishes)) =
     calm-finishes answer left (after next (EndTransaction session)) m x (keeps-then m next (after next (EndTransaction session)) keeps (keeps-after next (EndTransaction session) tt)) finishes
 
-calm-settled : (outcome : Outcome) (event : Event) (m : Machine) (session left : ℕ) (x : Made) → Spares event → SettledBy outcome event m session left x → MadeCalm m x
+calm-settled : (outcome : Outcome) (event : Event) (m : Machine) (session left : ℕ) (x : Made) → IsOrdinaryEvent event → SettledBy outcome event m session left x → MadeCalm m x
 calm-settled outcome Nothing m session left x spares (answer, tells, ends) = calm-ends answer m m x (keeps-none m) ends
 calm-settled outcome event m session left x spares (answer, tells, ends) = calm-transaction (transaction_of (after m event) session) answer (after m event) m session left x (keeps-after m event spares) ends
 
@@ -392,7 +405,7 @@ calm-settles : (m : Machine) (session : ℕ) (request : Request) (left : ℕ) (x
 calm-settles m session request left x asked settles =
     calm-settled (decision m session request).0 (decision m session request).1 m session left x (spares-decision m session request asked) settles
 
-calm-by : (decides : Outcome × Event) (m : Machine) (x : Made) → Spares decides.1 → JudgedBy decides m x → MadeCalm m x
+calm-by : (decides : Outcome × Event) (m : Machine) (x : Made) → IsOrdinaryEvent decides.1 → JudgedBy decides m x → MadeCalm m x
 calm-by decides m x spares (answer, tells, ends) = calm-ends answer (after m decides.1) m x (keeps-after m decides.1 spares) ends
 
 calm-judges : (made : Call) (m : Machine) (session left : ℕ) (x : Made) → Judges made m session left x → MadeCalm m x
@@ -408,7 +421,7 @@ calm-judges (Commit commit durable) m session left x j = calm-settles m session 
 calm-judges Rollback m session left x j = calm-settles m session RollbackCall left x tt j
 calm-judges _ m session left x j = absurd j
 
-spares-look : (made : Call) (m : Machine) (session : ℕ) (t : Transaction) (table : ℕ) (outcome : Outcome) (event : Event) → LookAnswer made m session t table outcome event → Spares event
+spares-look : (made : Call) (m : Machine) (session : ℕ) (t : Transaction) (table : ℕ) (outcome : Outcome) (event : Event) → LookAnswer made m session t table outcome event → IsOrdinaryEvent event
 spares-look (GetKey name key) m session t table outcome event looks = spares-is event Nothing looks.1 tt
 spares-look (PutKey name key value demand) m session t table outcome event looks = spares-write m session t table key (PutOf value) demand outcome event looks
 spares-look (RemoveKey name key) m session t table outcome event looks = spares-write m session t table key RemoveOf Occupied outcome event looks
@@ -416,7 +429,7 @@ spares-look (SeekKey cursor name key) m session t table outcome event looks = sp
 spares-look (NextRow cursor name way) m session t table outcome event looks = spares-is event (row_event session cursor table outcome) looks.1 (spares-row session cursor table outcome)
 spares-look _ m session t table outcome event looks = absurd looks
 
-calm-looks : (made : Call) (m : Machine) (answer : Answer (List ℕ)) (event : Event) (left : ℕ) (x : Made) → Spares event → LooksOn made m answer event left x → MadeCalm m x
+calm-looks : (made : Call) (m : Machine) (answer : Answer (List ℕ)) (event : Event) (left : ℕ) (x : Made) → IsOrdinaryEvent event → LooksOn made m answer event left x → MadeCalm m x
 calm-looks (PutKey name key value demand) m answer event left x spares goes = calm-goes (Decided answer Nothing) left (after m event) m x (keeps-after m event spares) (λ n. tt) goes
 calm-looks (RemoveKey name key) m answer event left x spares goes = calm-goes (Decided answer Nothing) left (after m event) m x (keeps-after m event spares) (λ n. tt) goes
 calm-looks _ m answer event left x spares goes = calm-goes (Decided answer event) left m m x (keeps-none m) (λ n. spares) goes
@@ -621,13 +634,13 @@ calm-line (line.Control asked) s formats reply later now calm replies = absurd n
 
 -- ---- the engine at first
 
-spares-landing : (session cursor : ℕ) (target : Target) (key : List ℕ) (answer : Answer (List ℕ)) → Spares (landing session cursor target key answer)
+spares-landing : (session cursor : ℕ) (target : Target) (key : List ℕ) (answer : Answer (List ℕ)) → IsOrdinaryEvent (landing session cursor target key answer)
 spares-landing session cursor target key (answers.Value v) = tt
 spares-landing session cursor target key (answers.Row k v) = tt
 spares-landing session cursor target key (answers.Refused NotFound) = tt
 spares-landing session cursor target key _ = tt
 
-spares-cursor : (session : ℕ) (target : Target) (key : List ℕ) (answer : Answer (List ℕ)) (o : Option ℕ) → Spares (of_some Nothing (λ cursor. landing session cursor target key answer) o)
+spares-cursor : (session : ℕ) (target : Target) (key : List ℕ) (answer : Answer (List ℕ)) (o : Option ℕ) → IsOrdinaryEvent (of_some Nothing (λ cursor. landing session cursor target key answer) o)
 spares-cursor session target key answer None = tt
 spares-cursor session target key answer (Some cursor) = spares-landing session cursor target key answer
 

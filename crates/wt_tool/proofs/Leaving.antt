@@ -6,6 +6,8 @@ use Rattle.disk_model.specs.declared.disk.Disk.{Ghosts}
 use Rattle.disk_model.proofs.Crash.{started, widened}
 use Rattle.device_layout.specs.declared.link.Link.{Link}
 use Rattle.wt_code.specs.declared.refusals.Refusal.{Refusal}
+use Rattle.stamp.specs.declared.Name.{Name}
+use Rattle.row_page.specs.Greatest.{no_name}
 use Rattle.kv_model.specs.Content.{Content, start, OpensAs}
 use Rattle.kv_model.specs.History.{Table}
 use Rattle.kv_model.specs.Machine.{Machine, Completed}
@@ -16,7 +18,10 @@ use Rattle.device_leaf.specs.Closings.{content_was}
 use Rattle.engine_world.specs.Stands.{Engine}
 use Rattle.engine_world.specs.Systems.{first_world}
 use Rattle.engine_world.specs.Worlds.{World}
-use Rattle.ckpt_step.specs.Grounds.{AreRoots, HasRoots, StandsOn}
+use Rattle.ckpt_step.specs.declared.ground.Ground.{Ground}
+use Rattle.ckpt_step.specs.Floors.{Follows}
+use Rattle.ckpt_step.specs.Grounds.{AreRoots, HasRoots, IsOnGround, StandsOn}
+use Rattle.ckpt_step.proofs.Floors.{follows_none}
 use Rattle.ckpt_step.specs.Plain.{IsPlain, IsFlatStill, StartsPlain}
 use Rattle.engine_store.specs.declared.store.Store.{Store}
 use Rattle.engine_store.specs.Opened.{IsReady}
@@ -47,6 +52,13 @@ opened_plain g disk s law on = record {
 -- the device has one content
 pub opened_reads : {D : Type 0} (g : Ghosts D) (disk : D) (s : Store) (on : IsOpenedOn g disk s) (content : Content) → Reads (g.seen disk) content → content_was on.old ≡ content
 opened_reads g disk s on content reads = one_content (g.seen disk) (content_was on.old) content (still_reads on.old (g.seen disk) on.on.stands.seen_has) reads
+
+-- no leaf is clean before the first checkpoint, whatever the machine
+pub follows_opened : {D : Type 0} (g : Ghosts D) (disk : D) (s : Store) (on : IsOpenedOn g disk s) (m : Machine) → Follows on.old s.engine.hub.tables.tables s.ground.leaves.items s.ground.floor m
+follows_opened g disk s on m = subst (λ (n : Name). Follows on.old s.engine.hub.tables.tables s.ground.leaves.items n m) (sym on.floor) (follows_none on.old s.engine.hub.tables.tables s.ground.leaves.items m)
+
+follows_at : (t : Store) (old : Option Stored) (floor : Name) (m : Machine) → t.ground.floor ≡ floor → floor ≡ no_name → Follows old t.engine.hub.tables.tables t.ground.leaves.items t.ground.floor m
+follows_at t old floor m same none = subst (λ (n : Name). Follows old t.engine.hub.tables.tables t.ground.leaves.items n m) (sym (same ∙ none)) (follows_none old t.engine.hub.tables.tables t.ground.leaves.items m)
 
 -- ---- tables that are more
 
@@ -145,10 +157,25 @@ module _ {D : Type 0} (g : Ghosts D) (old : D) (s : Store) (on : IsOpenedOn g ol
 
   -- and the close
   pub closed_after : (t : Store) (new : D) (result : Result (Unit {0}) Refusal) → Grows s.engine t.engine → t.ground ≡ s.ground → MadeAll t.engine (Ok tt)
-      → ((o : Option Stored) → StandsOn (g.seen old) (g.may_leave old) t.engine.hub.tables.tables t.ground o → EachReads (g.may_leave old) (content_was o) → (w : World) → IsPlainOn (content_was o) t.engine w → LeavesAt g ClosesOne w.machine old new result)
+      → ((o : Option Stored) → StandsOn (g.seen old) (g.may_leave old) t.engine.hub.tables.tables t.ground o → EachReads (g.may_leave old) (content_was o) → (w : World) → IsPlainOn (content_was o) t.engine w
+      → Follows o t.engine.hub.tables.tables t.ground.leaves.items t.ground.floor w.machine → LeavesAt g ClosesOne w.machine old new result)
       → LeavesAt g Run (start content) old new result
   closed_after t new result grows ground makes closes =
       let m = made t.engine (Ok tt) makes in
       subst (λ (c : Content). LeavesAt g Run (start c) old new result) same
       (closed_behind g (content_was on.old) Run old new result m.0.machine m.1.completed m.2
-      (closes on.old (on_more (g.seen old) (g.may_leave old) s t on.old grows ground on.on) (subst (λ (c : Content). EachReads (g.may_leave old) c) (sym same) each) m.0 m.1))
+      (closes on.old (on_more (g.seen old) (g.may_leave old) s t on.old grows ground on.on) (subst (λ (c : Content). EachReads (g.may_leave old) c) (sym same) each) m.0 m.1 (follows_at t on.old s.ground.floor m.0.machine (ap (λ (k : Ground). k.floor) ground) on.floor)))
+
+-- what the close asks of the ground, behind the calls
+pub steady_after : {D : Type 0} (g : Ghosts D) (old : D) (s : Store) (on : IsOpenedOn g old s) (law : StartsPlain) (Run : Point → Ran → Type 0) (t : Store) → Grows s.engine t.engine → t.ground ≡ s.ground → ((c : Content) (w : World) → IsPlainOn c s.engine w → Makes c Run w t.engine (Ok tt))
+    → IsOnGround (g.seen old) (g.may_leave old) t.engine t.ground
+steady_after g old s on law Run t grows ground makes =
+    let m = makes (content_was on.old) (first_world (content_was on.old) s.engine) (opened_plain g old s law on) in
+    record {
+      world = m.0;
+      stands = m.1.stands;
+      idle = m.1.plain.idle;
+      old = on.old;
+      on = on_more (g.seen old) (g.may_leave old) s t on.old grows ground on.on;
+      follows = follows_at t on.old s.ground.floor m.0.machine (ap (λ (k : Ground). k.floor) ground) on.floor;
+    }

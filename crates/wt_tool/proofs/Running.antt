@@ -81,7 +81,7 @@ ok_map (Ok x) is more = more x is
 ok_map (Err e) is more = tt
 
 pub opened_on : {D : Type 0} (g : Ghosts D) (disk : D) (s : Store) → IsOpened (g.seen disk) (g.may_leave disk) s → IsOpenedOn g disk s
-opened_on g disk s opened = record { old = opened.old; numbers = opened.numbers; on = opened.on; starts = opened.world }
+opened_on g disk s opened = record { old = opened.old; numbers = opened.numbers; on = opened.on; floor = opened.floor; starts = opened.world }
 
 -- a refusal of an opening that began later
 pub open_further : (fault later : Type 0) (h k : Type 0) (bytes : List ℕ) (r : Refusal) → OpenRefused later k bytes r → (later → fault) → (h → k) → OpenRefused fault h bytes r

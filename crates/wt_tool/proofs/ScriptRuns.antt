@@ -28,7 +28,7 @@ use Rattle.wt_tool.specs.Scripts.{told_at, ran_by}
 use Rattle.wt_tool.specs.Parts.{HasStarted, IsOpenedOn, Scripting, TellsEnd}
 use Rattle.wt_tool.specs.Top.{Errors, IsSo, IsStatus, Streams, Telling, Tells, lines, last_line, status_at, status_of, first_status}
 use Rattle.wt_tool.proofs.Closings.{start_opens}
-use Rattle.wt_tool.proofs.Leaving.{opened_plain, opened_reads}
+use Rattle.wt_tool.proofs.Leaving.{follows_opened, opened_plain, opened_reads}
 
 -- ---- before the first line
 
@@ -46,7 +46,7 @@ module _ {D : Type 0} (g : Ghosts D) (disk : D) (s : Store) (on : IsOpenedOn g d
       record {
         stands = subst (λ (c : Content). Stands s.engine (first_world c s.engine)) same on.starts;
         idle = refl;
-        on = λ up. record { old = on.old; on = on.on; opens = opens; one = (first.machine.completed, inl refl, opens) };
+        on = λ up. record { old = on.old; on = on.on; follows = follows_opened g disk s on first.machine; opens = opens; one = (first.machine.completed, inl refl, opens) };
         images = λ c image. (first.machine.completed, inl refl, (content, each.0 c image, start_opens content each.1));
         last = inl (content, each, start_opens content each.1);
         ever = widened g disk disk _ _ (started g disk (λ c. Reads c content) (λ c left. each.0 c (now c left))) (λ c reads. inl (content, reads, start_opens content each.1));

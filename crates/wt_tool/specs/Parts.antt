@@ -11,6 +11,7 @@ use Rattle.kv_model.specs.Content.{Content, start}
 use Rattle.wt_io.specs.Streams.{Gave}
 use Rattle.wt_io.specs.declared.streams.Source.{Ghosts as SourceGhosts}
 use Rattle.wt_io.specs.declared.streams.Sink.{Ghosts as SinkGhosts}
+use Rattle.row_page.specs.Greatest.{no_name}
 use Rattle.engine_world.specs.Stands.{Engine, Stands}
 use Rattle.engine_world.specs.Systems.{first_world}
 use Rattle.script_run.specs.declared.script.End.{End}
@@ -100,6 +101,7 @@ pub record IsOpenedOn {D : Type 0} (g : Ghosts D) (disk : D) (s : Store) : Type 
   pub old : Option Stored
   pub numbers : HasNumbers old
   pub on : StandsOn (g.seen disk) (g.may_leave disk) s.engine.hub.tables.tables s.ground old
+  pub floor : s.ground.floor ≡ no_name
   pub starts : Starts (content_was old) s.engine
 
 -- ---- quiet engines

@@ -3,6 +3,7 @@ ghost use Rattle.std.specs.Prelude.{◌≡◌, Option, IfErr, IsTrue};
 ghost use Rattle.failure.specs.Counts.{Rose};
 ghost use Rattle.disk_model.specs.Crash.{SameDisk};
 ghost use Rattle.engine_world.specs.Worlds.{World};
+ghost use Rattle.ckpt_step.specs.Floors.{Follows};
 ghost use Rattle.ckpt_step.specs.Grounds.{IsSteady, StandsOn};
 ghost use Rattle.device_leaf.specs.Closings.{content_was};
 ghost use Rattle.stored.specs.Stored.{Stored};
@@ -22,7 +23,8 @@ pub(crate) fn close<D: Disk>(alloc: Global, disk: &mut D, store: &mut Store) -> 
     requires ready { IsReady store.old }
     requires on { IsTrue (D.honest disk.old) → IsSteady D.Disk store.old.engine store.old.ground disk.old }
     ensures run { IsTrue (D.honest disk.old) → (old : Option Stored) → StandsOn (D.seen disk.old) (D.may_leave disk.old) store.old.engine.hub.tables.tables store.old.ground old
-        → EachReads (D.may_leave disk.old) (content_was old) → (w : World) → IsPlainOn (content_was old) store.old.engine w → LeavesAt D.Disk ClosesOne w.machine disk.old disk.new result }
+        → EachReads (D.may_leave disk.old) (content_was old) → (w : World) → IsPlainOn (content_was old) store.old.engine w
+        → Follows old store.old.engine.hub.tables.tables store.old.ground.leaves.items store.old.ground.floor w.machine → LeavesAt D.Disk ClosesOne w.machine disk.old disk.new result }
     ensures sound { IfErr result NoDamage }
     ensures fault { IfErr result (λ r. r ≡ Refusal.DiskFault → Rose (D.faults disk.old) (D.faults disk.new)) }
     ensures disk { SameDisk D.Disk disk.old disk.new }

@@ -184,10 +184,10 @@ pub(super) const FAILING: &[Failing<'static>] = &[
         told: "ok\nok\nok\nok\n5 disk fault\n-31804 panic\n-31804 panic\n-31804 panic\nok\nok\nok 1\nThrough Some(DiskFault)",
     },
     Failing {
-        text: CHECKPOINT,
-        calls: &[14],
+        text: "sys create t S S\ns1 begin\ns1 put t a 1\ns1 commit\nsys ckpt\nsys crash\nsys ckpt\ns1 begin\ns1 get t a\n",
+        calls: &[21],
         room: 1 << 20,
-        told: "ok\nok\nok\nok\nok\nok\n5 disk fault\nok\nok\nok\nok 1\nThrough Some(DiskFault)",
+        told: "ok\nok\nok\nok\nok\nok\n5 disk fault\nok\nok 1\nThrough Some(DiskFault)",
     },
     Failing {
         text: CHECKPOINT,

@@ -7,7 +7,7 @@ use Rattle.catalog.specs.Known.{Known}
 use Rattle.engine_world.proofs.EditedLeaves.{some-at}
 use Rattle.kv_model.specs.History.{tables}
 use Rattle.stored.specs.Links.{nowhere}
-use Rattle.ckpt_step.specs.Goings.{Going, NotOneMore, OneMore}
+use Rattle.ckpt_step.specs.Goings.{Going, OneMore}
 use Rattle.ckpt_step.proofs.Goings.{begun, ended, failed, may_of, more}
 use Rattle.ckpt_step.proofs.Tables.{made_known}
 use Rattle.ckpt_step.proofs.leaves.write_leaves.Goals as goal
@@ -18,18 +18,18 @@ loop-place-init g c = record {
   disk = record { same = refl; room = refl; home = refl; later = omega arith };
   ready = λ h. (c.requires.ready h).1;
   count = ap length c.requires.none;
-  going = λ h w stands none sees old half roots.
+  going = λ h w stands none sees old half roots follows.
       subst (λ (l : List Link). Going g.D.Disk old c.args.was.now w.machine c.args.engine.now.hub.tables.tables c.args.blocks.now c.args.blocks.now l 0 c.args.disk.now c.args.disk.now) (sym c.requires.none)
       (begun g.D.Disk old c.args.was.now w.machine c.args.engine.now.hub.tables.tables 1 c.args.engine.now.hub.tables.next c.args.blocks.now c.args.disk.now half roots stands.catalog.numbers (λ d left. g.met.D.Disk.only_now _ d left));
 }
 
 pub loop-place-preserved : goal.loop-place-preserved
 loop-place-preserved g c = record {
-  held = c.write_table.ensures.held;
-  disk = same_disk_then g.D.Disk c.args.disk.now c.loop-place.disk c.write_table.new.disk c.loop-place.invariant.disk c.write_table.ensures.disk;
-  ready = λ h. c.in_ok-write_table.ensures.ready (sym c.write_table.ensures.disk.same ∙ h);
-  count = c.in_ok-write_table.ensures.count ∙ ap (λ (k : ℕ). k + 1) c.loop-place.invariant.count;
-  going = λ h w stands none sees old half roots.
+  held = c.take_table.ensures.held;
+  disk = same_disk_then g.D.Disk c.args.disk.now c.loop-place.disk c.take_table.new.disk c.loop-place.invariant.disk c.take_table.ensures.disk;
+  ready = λ h. c.in_ok-take_table.ensures.ready (sym c.take_table.ensures.disk.same ∙ h);
+  count = c.in_ok-take_table.ensures.count ∙ ap (λ (k : ℕ). k + 1) c.loop-place.invariant.count;
+  going = λ h w stands none sees old half roots follows.
       let D = g.D.Disk in
       let known = c.args.engine.now.hub.tables.tables in
       let was = c.args.was.now in
@@ -37,24 +37,23 @@ loop-place-preserved g c = record {
       let mid = c.loop-place.disk in
       let books = c.loop-place.blocks in
       let links = c.loop-place.links.items in
-      let going : Going D old was w.machine known c.args.blocks.now books links place c.args.disk.now mid = c.loop-place.invariant.going h w stands none sees old half roots in
+      let going : Going D old was w.machine known c.args.blocks.now books links place c.args.disk.now mid = c.loop-place.invariant.going h w stands none sees old half roots follows in
       let hm : IsTrue (D.honest mid) = c.loop-place.invariant.disk.same ∙ h in
       let lt : place < length known = omega (arith, c.loop-place-test.true, c.len-count.ensures.count, ap (λ (k : Known). length k.tables) c.tables.ensures.are) in
       let t = some-at known place lt in
-      let one : OneMore D old (slice_index_or was place nowhere) w.machine t.0 books c.write_table.new.blocks links c.write_table.new.links.items mid c.write_table.new.disk =
-      subst (λ (l : Link). OneMore D old l w.machine t.0 books c.write_table.new.blocks links c.write_table.new.links.items mid c.write_table.new.disk) c.link_at-before.ensures
-      (c.in_ok-write_table.ensures.goes hm w stands none sees t.0 t.1 old (may_of (D.seen mid) (D.may_leave mid) books old was links going.leaves going.half)) in
+      let one : OneMore D old (slice_index_or was place nowhere) w.machine t.0 books c.take_table.new.blocks links c.take_table.new.links.items mid c.take_table.new.disk =
+      c.in_ok-take_table.ensures.goes hm w stands none sees t.0 t.1 old (may_of (D.seen mid) (D.may_leave mid) books old was links going.leaves going.half) follows in
       more D old was w.machine known 1 c.args.engine.now.hub.tables.next c.args.blocks.now c.args.disk.now half roots stands.catalog.numbers place t.0 books links mid going t.1 c.loop-place.invariant.disk.room
-      c.write_table.new.blocks c.write_table.new.links.items c.write_table.new.disk c.write_table.ensures.held (c.in_ok-write_table.ensures.ready hm) one (place + 1) (omega arith);
+      c.take_table.new.blocks c.take_table.new.links.items c.take_table.new.disk c.take_table.ensures.held (c.in_ok-take_table.ensures.ready hm) one (place + 1) (omega arith);
 }
 
 pub returns-clause-writes : goal.returns-clause-writes
-returns-clause-writes g c h w stands none sees old half roots =
+returns-clause-writes g c h w stands none sees old half roots follows =
     ended g.D.Disk old c.args.was.now w.machine c.args.engine.now.hub.tables.tables 1 c.args.engine.now.hub.tables.next c.args.blocks.now c.args.disk.now half roots stands.catalog.numbers c.loop-place.place c.loop-place.blocks c.loop-place.links.items c.loop-place.disk
-    (c.loop-place.invariant.going h w stands none sees old half roots) (omega (arith, c.loop-place-test.false, c.len-count.ensures.count, ap (λ (k : Known). length k.tables) c.tables.ensures.are))
+    (c.loop-place.invariant.going h w stands none sees old half roots follows) (omega (arith, c.loop-place-test.false, c.len-count.ensures.count, ap (λ (k : Known). length k.tables) c.tables.ensures.are))
 
-pub returns-in_err-write_table-clause-writes : goal.returns-in_err-write_table-clause-writes
-returns-in_err-write_table-clause-writes g c h w stands none sees old half roots =
+pub returns-in_err-take_table-clause-writes : goal.returns-in_err-take_table-clause-writes
+returns-in_err-take_table-clause-writes g c h w stands none sees old half roots follows =
     let D = g.D.Disk in
     let known = c.args.engine.now.hub.tables.tables in
     let was = c.args.was.now in
@@ -62,12 +61,11 @@ returns-in_err-write_table-clause-writes g c h w stands none sees old half roots
     let mid = c.loop-place.disk in
     let books = c.loop-place.blocks in
     let links = c.loop-place.links.items in
-    let going : Going D old was w.machine known c.args.blocks.now books links place c.args.disk.now mid = c.loop-place.invariant.going h w stands none sees old half roots in
+    let going : Going D old was w.machine known c.args.blocks.now books links place c.args.disk.now mid = c.loop-place.invariant.going h w stands none sees old half roots follows in
     let hm : IsTrue (D.honest mid) = c.loop-place.invariant.disk.same ∙ h in
     let lt : place < length known = omega (arith, c.loop-place-test.true, c.len-count.ensures.count, ap (λ (k : Known). length k.tables) c.tables.ensures.are) in
     let t = some-at known place lt in
     let p = err_from_is_err_and c.from_residual.result c.from_residual.ensures.1 in
     rw (p.1, p.2) (failed D old was w.machine known 1 c.args.engine.now.hub.tables.next c.args.blocks.now c.args.disk.now half roots stands.catalog.numbers place t.0 books links mid going t.1 c.loop-place.invariant.disk.room
-    c.write_table.new.blocks c.write_table.new.links.items c.write_table.new.disk c.in_err-write_table.field-0.0 (made_known known (tables w.machine.history) stands.made)
-    (subst (λ (l : Link). NotOneMore D old l w.machine t.0 books c.write_table.new.blocks links c.write_table.new.links.items mid c.write_table.new.disk c.in_err-write_table.field-0.0) c.link_at-before.ensures
-    (c.in_err-write_table.ensures.goes hm w stands none sees t.0 t.1 old (may_of (D.seen mid) (D.may_leave mid) books old was links going.leaves going.half))))
+    c.take_table.new.blocks c.take_table.new.links.items c.take_table.new.disk c.in_err-take_table.field-0.0 (made_known known (tables w.machine.history) stands.made)
+    (c.in_err-take_table.ensures.goes hm w stands none sees t.0 t.1 old (may_of (D.seen mid) (D.may_leave mid) books old was links going.leaves going.half) follows))

@@ -5,6 +5,7 @@ use Rattle.snapshot.specs.Matters.{NoneResolves, SeesCommitted}
 use Rattle.stored.specs.Stored.{Stored}
 use Rattle.engine_world.specs.Stands.{Stands}
 use Rattle.engine_world.specs.Worlds.{World}
+use Rattle.ckpt_step.specs.Floors.{Follows}
 use Rattle.ckpt_step.specs.Goings.{Going}
 use Rattle.ckpt_step.specs.Grounds.{AreRoots}
 use Rattle.ckpt_step.specs.Halves.{Half}
@@ -17,6 +18,6 @@ invariant-loop-place g l = record {
   ready : IsTrue (g.D.Disk.honest l.disk) → end_of l.blocks.space ≤ length (g.D.Disk.seen l.disk);
   count : length l.links.items ≡ l.place;
   going : IsTrue (g.D.Disk.honest l.fn.disk) → (w : World) → Stands l.engine w → NoneResolves w.machine → SeesCommitted w.machine (length w.machine.history) l.snapshot.sight → (old : Option Stored)
-      → Half (g.D.Disk.seen l.fn.disk) (g.D.Disk.may_leave l.fn.disk) l.fn.blocks old l.was [] [] → AreRoots l.engine.hub.tables.tables l.was old
+      → Half (g.D.Disk.seen l.fn.disk) (g.D.Disk.may_leave l.fn.disk) l.fn.blocks old l.was [] [] → AreRoots l.engine.hub.tables.tables l.was old → Follows old l.engine.hub.tables.tables l.was l.floor w.machine
       → Going g.D.Disk old l.was w.machine l.engine.hub.tables.tables l.fn.blocks l.blocks l.links.items l.place l.fn.disk l.disk;
 }

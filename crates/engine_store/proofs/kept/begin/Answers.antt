@@ -1,5 +1,6 @@
-use Rattle.std.proofs.Common.{◌≡◌, ◌∙◌, ap, length, subst, sym, ℕ, List, arith}
+use Rattle.std.proofs.Common.{◌≡◌, ◌∙◌, ap, length, refl, subst, sym, ℕ, List, arith}
 use Rattle.kv_model.specs.History.{Table}
+use Rattle.row_page.specs.Greatest.{no_name}
 use Rattle.row_page.specs.Rows.{Row}
 use Rattle.leaf_rows.specs.declared.marks.Marks.{Marks}
 use Rattle.stored.specs.Records.{TableRoot}
@@ -52,13 +53,13 @@ returns-clause-found c = λ bytes keeps.
     let e = c.in_ok-engine.engine in
     let tables = c.in_ok-tables.tables.items in
     let seen : seen_leaves (marks_of r) ids all ≡ tables = seen_kept bytes c.args.place c.args.kept keeps ∙ sym (tables_are c.in_ok-tables.tables.items c.into_tables.result.items c.args.kept.record.tables c.args.kept.leaves.items c.in_ok-tables.ensures c.into_tables.ensures) in
-    let s : Store = record { engine = e; ground = record { place = c.args.place; number = c.number_of-number.result; leaves = c.in_ok-links.links } } in
-    found_kept bytes c.args.kept s keeps c.requires.form c.requires.numbers c.number_of-number.ensures (c.in_ok-links.ensures ∙ ap links_in c.tables_of.ensures)
+    let s : Store = record { engine = e; ground = record { place = c.args.place; number = c.number_of-number.result; leaves = c.in_ok-links.links; floor = no_name } } in
+    found_kept bytes c.args.kept s keeps c.requires.form c.requires.numbers c.number_of-number.ensures (c.in_ok-links.ensures ∙ ap links_in c.tables_of.ensures) refl
     (subst (λ (m : Marks). Stands e (first_world (leaves_content_with m ids all) e)) c.marks_of-marks.ensures
     (c.in_ok-engine.ensures.seen ids all (subst (λ (m : Marks). seen_leaves m ids all ≡ tables) (sym c.marks_of-marks.ensures) seen)))
 
 pub returns-clause-ready : goal.returns-clause-ready
 returns-clause-ready c =
-    let s : Store = record { engine = c.in_ok-engine.engine; ground = record { place = c.args.place; number = c.number_of-number.result; leaves = c.in_ok-links.links } } in
+    let s : Store = record { engine = c.in_ok-engine.engine; ground = record { place = c.args.place; number = c.number_of-number.result; leaves = c.in_ok-links.links; floor = no_name } } in
     ready_kept s c.args.kept.record (leaves_content c.marks_of-marks.result c.in_ok-tables.tables.items) c.requires.form.is_record c.in_ok-engine.ensures.stands
     (ap (λ (m : Marks). m.run) c.marks_of-marks.ensures) (named_so c.in_ok-tables.tables.items c.args.kept.record.tables c.args.kept.leaves.items (tables_are c.in_ok-tables.tables.items c.into_tables.result.items c.args.kept.record.tables c.args.kept.leaves.items c.in_ok-tables.ensures c.into_tables.ensures) c.requires.form.count) c.number_of-number.ensures (c.in_ok-links.ensures ∙ ap links_in c.tables_of.ensures)

@@ -1,10 +1,10 @@
-use Rattle.std.proofs.Common.{refl, sym, subst, ◌∙◌}
+use Rattle.std.proofs.Common.{sym, subst, ◌∙◌}
 use Rattle.script_text.specs.declared.line.Line.{Line}
 use Rattle.script_run.specs.Runs.{RepliedAs}
-use Rattle.script_run.specs.Scripts.{IsLater, Script, gives_stamp}
+use Rattle.script_run.specs.Scripts.{IsLater, gives_stamp}
 use Rattle.std.specs.Prelude.{false, ◌||◌}
 use Rattle.script_run.proofs.Devices.{gives_none, same_disk}
-use Rattle.script_run.proofs.Holding.{actor_fault, actor_fit, actor_told, of_actor, reply_other, some_script}
+use Rattle.script_run.proofs.Holding.{actor_fault, actor_fit, actor_told, of_actor, reply_other}
 use Rattle.script_run.proofs.one_line.reply_to.Goals as goal
 
 pub returns-in-Control-clause-replies : goal.returns-in-Control-clause-replies
@@ -18,8 +18,6 @@ returns-in_default g c =
     let now = of_actor c.args.line false c.requires.now c.in_default.not-Control in
     let before = c.as_mut_slice.result.now in
     let w = c.has_world.ensures in
-    let s : Script = some_script g.D.Disk c.args.disk.now w.0 before in
-    let r = c.reply_of.ensures s refl w.1 in
     record {
       replies = λ honest first stamped s later at same.
           actor_told g.D.Disk c.args.disk.now c.args.store.now c.reply_of.new.local c.args.line now c.actors.ensures.built (record { steps = c.calm_stays.ensures.steps; answers = c.calm_stays.ensures.answers; opens = c.calm_stays.ensures.opens })
@@ -29,6 +27,6 @@ returns-in_default g c =
           absurd (reply_other c.reply_of.result.reply quiet.1 is);
       quiet = λ none. (actor_fault g.D.Disk c.args.disk.now c.args.store.now c.reply_of.new.local c.args.line now c.actors.ensures.built c.reply_of.result before c.reply_of.new.formats c.reply_of.ensures none).0;
       damage = tt;
-      fit = actor_fit g.D.Disk c.args.disk.now c.args.store.now c.reply_of.new.local c.args.line now c.actors.ensures.built s c.reply_of.result c.reply_of.new.formats w.1 r c.requires.fit;
+      fit = actor_fit g.D.Disk c.args.disk.now c.args.store.now c.reply_of.new.local c.args.line now c.actors.ensures.built c.reply_of.result before c.reply_of.new.formats c.reply_of.ensures w.0 w.1 c.requires.fit;
       disk = same_disk g.D.Disk c.args.disk.now;
     }

@@ -11,7 +11,7 @@ use Rattle.wt_tool.specs.Narrow.{ClosesOne}
 use Rattle.wt_tool.specs.Openings.{Configured}
 use Rattle.wt_tool.specs.Creates.{MakesTable, RunsCreate}
 use Rattle.wt_tool.proofs.Naming.{named_goes, named_none, configured_goes, configured_none}
-use Rattle.wt_tool.proofs.Leaving.{leaves_as, untouched, refused_before, closed_after, on_more, ready_more}
+use Rattle.wt_tool.proofs.Leaving.{leaves_as, untouched, refused_before, closed_after, ready_more, steady_after}
 use Rattle.wt_tool.proofs.create.create.Goals as goal
 
 abbrev words : Option (Bor (List ℕ)) → Option (List ℕ)
@@ -30,7 +30,7 @@ close-requires-clause-ready g c = ready_more c.args.store (record c.args.store {
 pub close-requires-clause-on : goal.close-requires-clause-on
 close-requires-clause-on g c h up =
     let on = c.requires.on h in
-    (on.old, on_more (g.D.Disk.seen c.args.disk.now) (g.D.Disk.may_leave c.args.disk.now) c.args.store (record c.args.store { engine = c.make_table.new.engine }) on.old c.in-Ok.ensures.grows refl on.on)
+    steady_after g.D.Disk c.args.disk.now c.args.store on c.plain_stays.ensures.starts (MakesTable c.in-Some.name.now c.in-Some-formats_asked.formats ClosesOne) (record c.args.store { engine = c.make_table.new.engine }) c.in-Ok.ensures.grows refl c.in-Ok.ensures.makes
 
 pub returns-in_default-clause-run : goal.returns-in_default-clause-run
 returns-in_default-clause-run g c h content each =

@@ -1,16 +1,21 @@
-use Rattle.std.proofs.Common.{List, [], Option, ap, subst}
+use Rattle.std.proofs.Common.{List, [], Option, ap, refl, subst}
 use Rattle.kv_model.specs.Calls.{Call}
 use Rattle.kv_model.specs.Content.{start}
+use Rattle.device_leaf.specs.Closings.{content_was}
 use Rattle.engine_world.specs.Worlds.{World}
 use Rattle.engine_world.specs.Systems.{first_world}
 use Rattle.script_run.specs.Scripts.{Outside, outside}
 use Rattle.script_run.specs.Runs.{IsRun}
 use Rattle.wt_tool.specs.Top.{Streams, errors_of, streams_of}
+use Rattle.wt_tool.proofs.Leaving.{follows_opened}
 use Rattle.wt_tool.proofs.ScriptRuns.{end_so, first_calm, first_held, four_rest, no_sessions, scripted, tells_end, tells_means}
 use Rattle.wt_tool.proofs.script.script.Goals as goal
 
 pub run_script-ran-requires-clause-steady : goal.run_script-ran-requires-clause-steady
-run_script-ran-requires-clause-steady g c h up = let on = c.requires.on h in (on.old, on.on)
+run_script-ran-requires-clause-steady g c h up =
+    let on = c.requires.on h in
+    let world = first_world (content_was on.old) c.args.store.engine in
+    record { world = world; stands = on.starts; idle = refl; old = on.old; on = on.on; follows = follows_opened g.D.Disk c.args.disk.now c.args.store on world.machine }
 
 pub returns-clause-run : goal.returns-clause-run
 returns-clause-run g c h content each =

@@ -8,7 +8,7 @@ use Rattle.wt_tool.specs.Points.{Point, Ran, WithSession, point_of}
 use Rattle.wt_tool.specs.Writes.{PutsPairs, RunsWrite, WritesPairs, demand_of}
 use Rattle.wt_tool.proofs.Naming.{named_goes, named_none}
 use Rattle.wt_tool.proofs.Putting.{Words, writes_none, writes_some}
-use Rattle.wt_tool.proofs.Leaving.{leaves_as, untouched, refused_before, closed_after, on_more, ready_more}
+use Rattle.wt_tool.proofs.Leaving.{leaves_as, untouched, refused_before, closed_after, ready_more, steady_after}
 use Rattle.wt_tool.proofs.write.write.Goals as goal
 
 abbrev Written : Bool → Words → List ℕ → Point → Ran → Type 0
@@ -23,7 +23,7 @@ close-requires-clause-ready g c = ready_more c.args.store (record c.args.store {
 pub close-requires-clause-on : goal.close-requires-clause-on
 close-requires-clause-on g c h up =
     let on = c.requires.on h in
-    (on.old, on_more (g.D.Disk.seen c.args.disk.now) (g.D.Disk.may_leave c.args.disk.now) c.args.store (record c.args.store { engine = c.put_all.new.engine }) on.old c.in-Ok.ensures.grows refl on.on)
+    steady_after g.D.Disk c.args.disk.now c.args.store on c.plain_stays.ensures.starts (Put c.args.overwrite c.args.pairs.now c.in-Some.name.now) (record c.args.store { engine = c.put_all.new.engine }) c.in-Ok.ensures.grows refl c.in-Ok.ensures.makes
 
 pub returns-in_default-clause-run : goal.returns-in_default-clause-run
 returns-in_default-clause-run g c h content each =

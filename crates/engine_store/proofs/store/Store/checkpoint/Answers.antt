@@ -8,7 +8,7 @@ pub returns-clause-takes : goal.returns-clause-takes
 returns-clause-takes g c = λ h first_disk w first made held plain.
     checkpoints_by g.D.Disk first_disk c.args.disk.now c.checkpoint.new.disk (λ later d left. g.met.D.Disk.counts_now _ _ d later left) (λ d left. g.met.D.Disk.only_now _ d left) (g.met.D.Disk.reads_an_image c.args.disk.now h)
     c.args.self.now (record { engine = c.checkpoint.new.engine; ground = c.checkpoint.new.ground }) w first made held c.checkpoint.ensures.disk.later c.checkpoint.ensures.disk.room c.checkpoints_open.ensures c.downs_go.ensures plain c.checkpoint.result
-    (λ old on. c.checkpoint.ensures.takes h w held.stands held.idle old on) c.checkpoint.ensures.down
+    (λ old on follows. c.checkpoint.ensures.takes h w held.stands held.idle old on follows) c.checkpoint.ensures.down
 
 pub returns-clause-doings : goal.returns-clause-doings
 returns-clause-doings g c = λ w stands free. goes_on c.downs_go.ensures c.args.self.now.engine c.checkpoint.new.engine c.checkpoint.ensures.engine w stands free

@@ -2,7 +2,7 @@ use Rattle.std.proofs.Common.{IsTrue, refl, subst, sym, List, ℕ}
 use Rattle.failure.specs.Counts.{Rose}
 use Rattle.disk_model.proofs.Crash.{looked_same}
 use Rattle.recover_open.specs.Damage.{IsDamage}
-use Rattle.engine_store.proofs.Reopening.{damage_of, fault_of, not_reopened, reopened, stands_looked}
+use Rattle.engine_store.proofs.Reopening.{damage_of, fault_of, not_reopened, reopened, stands_looked, steady_opened}
 use Rattle.engine_store.proofs.store.Store.reopen.Goals as goal
 
 pub returns-in-Ok-clause-opens : goal.returns-in-Ok-clause-opens
@@ -10,7 +10,7 @@ returns-in-Ok-clause-opens g c = λ h first_disk w first made held.
     reopened g.D.Disk first_disk c.args.disk.now c.open_on.new.disk c.open_on.ensures.looked (g.met.D.Disk.reads_an_image c.args.disk.now h) c.args.self.now w first made held c.in-Ok.opened (c.in-Ok.ensures.ok h) c.plain_stays.ensures.starts
 
 pub returns-in-Ok-clause-steady : goal.returns-in-Ok-clause-steady
-returns-in-Ok-clause-steady g c = λ h up. let is = c.in-Ok.ensures.ok h in (is.old, is.on)
+returns-in-Ok-clause-steady g c = λ h up. steady_opened c.in-Ok.opened (c.in-Ok.ensures.ok h)
 
 pub returns-in-Err-clause-opens : goal.returns-in-Err-clause-opens
 returns-in-Err-clause-opens g c = λ h first_disk w first made held.
@@ -22,7 +22,14 @@ returns-in-Err-clause-steady g c = λ h up.
     let before = c.args.disk.now in
     let later = c.open_on.new.disk in
     let on = c.requires.steady h up in
-    (on.0, stands_looked (D.seen before) (D.seen later) (D.may_leave before) (D.may_leave later) c.args.self.now.engine.hub.tables.tables c.args.self.now.ground on.0 c.open_on.ensures.looked.content c.open_on.ensures.looked.images on.1)
+    record {
+      world = on.world;
+      stands = on.stands;
+      idle = on.idle;
+      old = on.old;
+      on = stands_looked (D.seen before) (D.seen later) (D.may_leave before) (D.may_leave later) c.args.self.now.engine.hub.tables.tables c.args.self.now.ground on.old c.open_on.ensures.looked.content c.open_on.ensures.looked.images on.on;
+      follows = on.follows;
+    }
 
 pub returns-in-Err-clause-damage : goal.returns-in-Err-clause-damage
 returns-in-Err-clause-damage g c = λ at want found is h.
