@@ -1,0 +1,7 @@
+mod Ways
+pub mod Sifting
+pub mod Cutting
+pub mod Holding
+pub mod Merging
+pub mod Reconciling
+pub mod Making

@@ -1,0 +1,48 @@
+//! Which versions are written, and which make what is older unreachable.
+
+ghost use Rattle.std.specs.Prelude.{◌≡◌};
+ghost use Rattle.snapshot.specs.Past.{is_below};
+ghost use Rattle.reconcile.specs.Held.{lives, passes};
+
+use snapshot::Snapshot;
+use stamp::{Name, Window};
+
+/// Which versions may be written.
+#[derive(Clone, Copy)]
+pub enum Live<'a> {
+    /// Each: nothing in the leaf is unresolved.
+    All,
+    /// Those whose names the snapshot sees.
+    Seen(&'a Snapshot),
+}
+
+// What decides about a version.
+#[derive(Clone, Copy)]
+pub(crate) struct Rule<'a> {
+    pub live: Live<'a>,
+    pub pin: u64,
+    pub floor: Name,
+}
+
+// Whether a version may be written.
+pub(crate) fn is_live(rule: &Rule<'_>, window: &Window) -> bool
+    ensures { result ≡ lives rule.now.live window.now }
+{
+    match rule.live {
+        Live::All => true,
+        Live::Seen(snapshot) => snapshot.sees(window.name),
+    }
+}
+
+// Whether a version makes what is older unreachable.
+pub(crate) fn is_past(rule: &Rule<'_>, window: &Window) -> bool
+    ensures { result ≡ passes rule.now.pin rule.now.floor window.now }
+{
+    window.durable <= rule.pin && is_below(window.name, rule.floor)
+}
+
+fn is_below(name: Name, floor: Name) -> bool
+    ensures { result ≡ is_below name floor }
+{
+    name.run < floor.run || (name.run == floor.run && name.id < floor.id)
+}
