@@ -14,7 +14,8 @@ use Rattle.kv_model.specs.History.{Table, line}
 use Rattle.kv_model.specs.Machine.{Machine}
 use Rattle.kv_model.specs.Valid.{Valid}
 use Rattle.row_page.specs.Changes.{version_in}
-use Rattle.row_page.specs.Greatest.{greatest_in, later, names_of}
+use Rattle.row_page.specs.Greatest.{greatest_in, names_of}
+use Rattle.stamp.specs.Order.{later}
 use Rattle.row_page.specs.Rows.{Row, RowFits, key_most}
 use Rattle.rows_shown.specs.Shows.{shown_at}
 use Rattle.snapshot.specs.Matters.{NoneResolves, SeesCommitted}

@@ -3,7 +3,6 @@ ghost use Rattle.std.specs.Prelude.{◌≡◌, ◌++◌, ◌∷◌, [], Option, 
 ghost use Rattle.wt_code.specs.declared.store_error.StoreError.TheVariants.{NoMemory as WantOfMemory};
 ghost use Rattle.kv_model.specs.History.{Table};
 ghost use Rattle.snapshot.specs.Matters.{NoneResolves, SeesCommitted};
-ghost use Rattle.snapshot.specs.Past.{is_below as below};
 ghost use Rattle.snapshot.specs.Sight.{IsSight, Sight};
 ghost use Rattle.stored.specs.Links.{nowhere as nowhere_link};
 ghost use Rattle.stored.specs.Stored.{Stored};
@@ -45,14 +44,7 @@ pub(crate) fn is_clean(engine: &Local, place: u32, was: &[Link], floor: Name) ->
         return false;
     };
     let newest = chains.greatest();
-    is_below(link.greatest, floor) && is_below(newest, floor)
-}
-
-// Whether the name is of an earlier run than the other, or of its run with a lower id.
-fn is_below(name: Name, floor: Name) -> bool
-    ensures { result ≡ below name floor }
-{
-    name.run < floor.run || (name.run == floor.run && name.id < floor.id)
+    link.greatest.is_before(floor) && newest.is_before(floor)
 }
 
 // Whether the leaf of a link can be captured as it stands: it has no rows, or the live tree has its

@@ -2,7 +2,6 @@
 
 ghost use Rattle.std.specs.Prelude.{◌≡◌};
 ghost use Rattle.kv_model.specs.History.{name_eq};
-ghost use Rattle.snapshot.specs.Past.{is_below};
 ghost use Rattle.snapshot.specs.Sight.{IsSight, sight_of};
 ghost use Rattle.hist_store.specs.Versions.{is_admitted, is_past};
 
@@ -14,12 +13,6 @@ pub(crate) fn is_same(a: Name, b: Name) -> bool
     ensures { result ≡ name_eq a b }
 {
     a.run == b.run && a.id == b.id
-}
-
-pub(crate) fn is_below(name: Name, floor: Name) -> bool
-    ensures { result ≡ is_below name floor }
-{
-    name.run < floor.run || (name.run == floor.run && name.id < floor.id)
 }
 
 // Whether a look-up may give this version.
@@ -36,5 +29,5 @@ pub(crate) fn is_past(version: &Version<Change>, pin: u64, floor: Name) -> bool
     ensures { result ≡ is_past pin floor version.now }
 {
     let window = version.window;
-    window.durable <= pin && is_below(window.name, floor)
+    window.durable <= pin && window.name.is_before(floor)
 }

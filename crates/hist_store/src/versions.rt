@@ -5,7 +5,7 @@ ghost use Rattle.std.specs.List.{insert};
 ghost use Rattle.snapshot.specs.Sight.{IsSight, sight_of};
 ghost use Rattle.hist_store.specs.Versions.{is_admitted, swept_versions, with_version};
 
-use crate::names::{is_admitted, is_below, is_past, is_same};
+use crate::names::{is_admitted, is_past, is_same};
 use failure::NoMemory;
 use item::Change;
 use stamp::{Name, Version, View};
@@ -117,7 +117,7 @@ fn gap_for(versions: &VecDeque<Version<Change>>, version: &Version<Change>) -> O
     let name = version.window.name;
     for i in 0..versions.len() {
         let there = versions[i].window.name;
-        if is_below(there, name) {
+        if there.is_before(name) {
             return Some(i);
         }
         if is_same(there, name) {

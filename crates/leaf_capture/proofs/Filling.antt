@@ -6,7 +6,8 @@ use Rattle.std.proofs.lemmas.Bool.{false≢true}
 use Rattle.std.proofs.lemmas.List.{append-nil, length-append, map-append}
 use Rattle.std.proofs.lemmas.List.Concat.{flat_map-append}
 use Rattle.stamp.specs.declared.Name.{Name}
-use Rattle.row_page.specs.Greatest.{durables_of, greatest_in, later, most_in, names_of}
+use Rattle.row_page.specs.Greatest.{durables_of, greatest_in, most_in, names_of}
+use Rattle.stamp.specs.Order.{later}
 use Rattle.row_page.specs.Rows.{Row, cell, cells}
 use Rattle.row_page.specs.Writing.{Written, Wrote, size_with}
 use Rattle.row_page.proofs.Greater.{greatest_push, most_push}

@@ -4,7 +4,6 @@ ghost use Rattle.std.specs.Prelude.{◌≡◌, ◌<◌, ◌++◌, List, [], ◌�
 ghost use Rattle.std.specs.Bool.{MatchBool};
 ghost use Rattle.row_page.specs.Rows.{Row, RowFits, key_most};
 ghost use Rattle.row_page.specs.Views.{row_seen};
-ghost use Rattle.row_page.specs.Greatest.{name_lt, later};
 ghost use Rattle.leaf_rows.specs.Rows.{AreFit, image_length};
 ghost use Rattle.leaf_capture.specs.Gathered.{HasGathered};
 ghost use Rattle.leaf_capture.specs.Leaf.{HasRows};
@@ -48,7 +47,7 @@ impl Gathered {
         if !self.writer.push(cell) {
             return false;
         }
-        self.greatest = later(self.greatest, cell.window.name);
+        self.greatest = self.greatest.later(cell.window.name);
         self.durable = self.durable.max(cell.window.durable);
         self.is_empty = false;
         true
@@ -67,16 +66,4 @@ impl Gathered {
             durable: self.durable,
         })
     }
-}
-
-fn later(a: Name, b: Name) -> Name
-    ensures { result ≡ later a b }
-{
-    if is_before(a, b) { b } else { a }
-}
-
-fn is_before(a: Name, b: Name) -> bool
-    ensures { result ≡ name_lt a b }
-{
-    a.run < b.run || (a.run == b.run && a.id < b.id)
 }

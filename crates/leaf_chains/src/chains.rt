@@ -16,7 +16,6 @@ ghost use Rattle.leaf_chains.specs.Slots.{chain_at, slot_changed, slot_of, with_
 
 use crate::added::Added;
 use crate::heads::Heads;
-use crate::names::later;
 use crate::places::{place_from_last, slot_above, slot_below, slot_with, walk_above};
 use crate::slot::KeyChain;
 use failure::NoMemory;
@@ -186,7 +185,7 @@ impl LeafChains {
                 let name = update.version.window.name;
                 let added = first_of(alloc, key, update)?;
                 let slot = add(&mut self.slots, &mut self.order, gap, added)?;
-                self.greatest = later(self.greatest, name);
+                self.greatest = self.greatest.later(name);
                 self.heads.keep(self.slots.as_slice(), &self.order, head);
                 Ok(Added::New(slot))
             }
@@ -201,7 +200,7 @@ impl LeafChains {
     {
         let name = update.version.window.name;
         install_in(&mut self.slots, slot, update)?;
-        self.greatest = later(self.greatest, name);
+        self.greatest = self.greatest.later(name);
         Ok(())
     }
 

@@ -16,7 +16,6 @@ mod added;
 mod chains;
 mod heads;
 mod laws;
-mod names;
 mod places;
 mod slot;
 #[cfg(test)]

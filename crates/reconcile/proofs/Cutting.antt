@@ -6,7 +6,8 @@ use Rattle.std.proofs.lemmas.Bool.{cases_Bool, ltb-true}
 use Rattle.std.proofs.lemmas.List.{append-nil, append_assoc, map-append}
 use Rattle.std.proofs.lemmas.Option.{same_Some}
 use Rattle.stamp.specs.declared.Name.{Name}
-use Rattle.row_page.specs.Greatest.{durables_of, greatest_in, later, most_in, name_lt, names_of, no_name}
+use Rattle.row_page.specs.Greatest.{durables_of, greatest_in, most_in, names_of, no_name}
+use Rattle.stamp.specs.Order.{later, is_before}
 use Rattle.row_page.specs.Rows.{Ascends, Row, RowFits, key_most}
 use Rattle.row_page.specs.Writing.{Written, Wrote, size_with}
 use Rattle.row_page.proofs.Ascending.{after_none}
@@ -26,7 +27,7 @@ use Rattle.reconcile.specs.Making.{Behind, HasBegun, HasRows, HaveRows, IsClosed
 pub first_room : (w : Written) (r : Row) → Wrote w [] → w.limit ≡ 32768 → RowFits [] key_most r → size_with w r ≤ w.limit
 first_room w r h limit fits = omega (arith, limit, ap length h.text, length-cell r, fits.key, fits.value)
 
-none_below : (x : Name) → name_lt x no_name ≡ false
+none_below : (x : Name) → is_before x no_name ≡ false
 none_below x = elim (cases_Bool (nat_lt x.run 0)) [
   | inl t ↦ absurd (let less = ltb-true x.run 0 t in omega (arith, less))
   | inr f ↦ elim (cases_Bool (nat_lt x.id 0)) [

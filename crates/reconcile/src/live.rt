@@ -1,7 +1,6 @@
 //! Which versions are written, and which make what is older unreachable.
 
 ghost use Rattle.std.specs.Prelude.{◌≡◌};
-ghost use Rattle.snapshot.specs.Past.{is_below};
 ghost use Rattle.reconcile.specs.Held.{lives, passes};
 
 use snapshot::Snapshot;
@@ -38,11 +37,5 @@ pub(crate) fn is_live(rule: &Rule<'_>, window: &Window) -> bool
 pub(crate) fn is_past(rule: &Rule<'_>, window: &Window) -> bool
     ensures { result ≡ passes rule.now.pin rule.now.floor window.now }
 {
-    window.durable <= rule.pin && is_below(window.name, rule.floor)
-}
-
-fn is_below(name: Name, floor: Name) -> bool
-    ensures { result ≡ is_below name floor }
-{
-    name.run < floor.run || (name.run == floor.run && name.id < floor.id)
+    window.durable <= rule.pin && window.name.is_before(rule.floor)
 }

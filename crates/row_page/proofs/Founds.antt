@@ -15,7 +15,8 @@ use Rattle.le_codec.proofs.Chains.{goes_on, ends, is_done}
 use Rattle.stamp.specs.declared.name.Name.{Name}
 use Rattle.row_page.specs.Rows.{Row, Raw, lengths_text, window_text, cell, key_most, key_of, Ascends, IsPage}
 use Rattle.row_page.specs.Reading.{raw_at, row_under, row_fits, change_of, cell_at, row_at, rows_at, read_rows, leaf_at}
-use Rattle.row_page.specs.Greatest.{later, greatest_in, most_in, names_of, durables_of}
+use Rattle.row_page.specs.Greatest.{greatest_in, most_in, names_of, durables_of}
+use Rattle.stamp.specs.Order.{later}
 use Rattle.row_page.specs.Places.{row_read, row_from, rows_from, CellBegins, AreFound}
 use Rattle.row_page.proofs.Fields.{raw_field, row_field}
 use Rattle.row_page.proofs.Greater.{greatest_push, most_push}

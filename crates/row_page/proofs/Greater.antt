@@ -4,7 +4,8 @@ use Rattle.std.specs.Prelude.{max, ◌||◌, ◌&&◌, ◌==◌, nat_lt}
 use Rattle.std.proofs.Math.Bool.{or-true}
 use Rattle.std.proofs.lemmas.Bool.{cases_Bool, cases_lt, both_ways, and_parts, ltb-true, lt-ltb, eqb-true, eq-eqb}
 use Rattle.stamp.specs.declared.name.Name.{Name}
-use Rattle.row_page.specs.Greatest.{no_name, name_lt, later, greatest_in, most_in}
+use Rattle.row_page.specs.Greatest.{no_name, greatest_in, most_in}
+use Rattle.stamp.specs.Order.{is_before, later}
 
 Before : Name → Name → Type 0
 Before x y = (x.run < y.run) ⊎ (x.run ≡ y.run) × (x.id < y.id)
@@ -13,17 +14,17 @@ or_is : (b c : Bool) → (b || c) ≡ true → (b ≡ true) ⊎ (c ≡ true)
 or_is true c e = inl refl
 or_is false c e = inr e
 
-before_is : (x y : Name) → name_lt x y ≡ true → Before x y
+before_is : (x y : Name) → is_before x y ≡ true → Before x y
 unfolding Before
 before_is x y e = elim (or_is (nat_lt x.run y.run) ((x.run == y.run) && nat_lt x.id y.id) e) [
   | inl less ↦ inl (ltb-true _ _ less)
   | inr same ↦ let p = and_parts (x.run == y.run) (nat_lt x.id y.id) same in inr (eqb-true _ _ p.0, ltb-true _ _ p.1)
 ]
 
-is_before : (x y : Name) → Before x y → name_lt x y ≡ true
+is_lower : (x y : Name) → Before x y → is_before x y ≡ true
 unfolding Before
-is_before x y (inl less) = let l : nat_lt x.run y.run ≡ true = lt-ltb _ _ less in rw l refl
-is_before x y (inr same) =
+is_lower x y (inl less) = let l : nat_lt x.run y.run ≡ true = lt-ltb _ _ less in rw l refl
+is_lower x y (inr same) =
     let e : (x.run == y.run) ≡ true = eq-eqb _ _ same.0 in
     let l : nat_lt x.id y.id ≡ true = lt-ltb _ _ same.1 in
     rw (e, l) (or-true (nat_lt x.run y.run))
@@ -50,25 +51,25 @@ between x y z (inr a) = elim (cases_lt x.run y.run) [
   ]
 ]
 
-lt_trans : (x y z : Name) → name_lt x y ≡ true → name_lt y z ≡ true → name_lt x z ≡ true
-lt_trans x y z p q = is_before x z (before_trans x y z (before_is x y p) (before_is y z q))
+lt_trans : (x y z : Name) → is_before x y ≡ true → is_before y z ≡ true → is_before x z ≡ true
+lt_trans x y z p q = is_lower x z (before_trans x y z (before_is x y p) (before_is y z q))
 
-ge_trans : (x y z : Name) → name_lt x y ≡ false → name_lt y z ≡ false → name_lt x z ≡ false
-ge_trans x y z p q = elim (cases_Bool (name_lt x z)) [
+ge_trans : (x y z : Name) → is_before x y ≡ false → is_before y z ≡ false → is_before x z ≡ false
+ge_trans x y z p q = elim (cases_Bool (is_before x z)) [
   | inl is ↦ elim (between x y z (before_is x z is)) [
-    | inl under ↦ absurd (both_ways (name_lt x y) p (is_before x y under))
-    | inr over ↦ absurd (both_ways (name_lt y z) q (is_before y z over))
+    | inl under ↦ absurd (both_ways (is_before x y) p (is_lower x y under))
+    | inr over ↦ absurd (both_ways (is_before y z) q (is_lower y z over))
   ]
   | inr isnt ↦ isnt
 ]
 
 later_later : (x y z : Name) → later x (later y z) ≡ later (later x y) z
-later_later x y z = elim (cases_Bool (name_lt y z)) [
-  | inl yz ↦ elim (cases_Bool (name_lt x y)) [
+later_later x y z = elim (cases_Bool (is_before y z)) [
+  | inl yz ↦ elim (cases_Bool (is_before x y)) [
     | inl xy ↦ let xz = lt_trans x y z xy yz in rw (yz, xy, yz, xz) refl
     | inr yx ↦ rw (yz, yx) refl
   ]
-  | inr zy ↦ elim (cases_Bool (name_lt x y)) [
+  | inr zy ↦ elim (cases_Bool (is_before x y)) [
     | inl xy ↦ rw (zy, xy, zy) refl
     | inr yx ↦ let zx = ge_trans x y z yx zy in rw (zy, yx, zx) refl
   ]
@@ -76,9 +77,9 @@ later_later x y z = elim (cases_Bool (name_lt y z)) [
 
 later_none : (x : Name) → later x no_name ≡ later no_name x
 unfolding Before
-later_none x = elim (cases_Bool (name_lt x no_name)) [
+later_none x = elim (cases_Bool (is_before x no_name)) [
   | inl is ↦ absurd (nothing x (before_is x no_name is))
-  | inr isnt ↦ elim (cases_Bool (name_lt no_name x)) [
+  | inr isnt ↦ elim (cases_Bool (is_before no_name x)) [
     | inl more ↦ rw (isnt, more) refl
     | inr none ↦ rw (isnt, none) (zero x none)
   ]
@@ -88,10 +89,10 @@ later_none x = elim (cases_Bool (name_lt x no_name)) [
     nothing x (inl less) = omega (arith, less)
     nothing x (inr less) = omega (arith, less.1)
 
-    zero : (x : Name) → name_lt no_name x ≡ false → x ≡ no_name
+    zero : (x : Name) → is_before no_name x ≡ false → x ≡ no_name
     zero x none =
-        let run : x.run ≡ 0 = elim (cases_lt 0 x.run) [ inl more ↦ absurd (both_ways (name_lt no_name x) none (is_before no_name x (inl more))) | inr low ↦ omega (arith, low) ] in
-        let id : x.id ≡ 0 = elim (cases_lt 0 x.id) [ inl more ↦ absurd (both_ways (name_lt no_name x) none (is_before no_name x (inr (sym run, more)))) | inr low ↦ omega (arith, low) ] in
+        let run : x.run ≡ 0 = elim (cases_lt 0 x.run) [ inl more ↦ absurd (both_ways (is_before no_name x) none (is_lower no_name x (inl more))) | inr low ↦ omega (arith, low) ] in
+        let id : x.id ≡ 0 = elim (cases_lt 0 x.id) [ inl more ↦ absurd (both_ways (is_before no_name x) none (is_lower no_name x (inr (sym run, more)))) | inr low ↦ omega (arith, low) ] in
         ap (λ (n : ℕ). record { run = n; id = x.id }) run ∙ ap (λ (n : ℕ). record { run = 0; id = n }) id
 
 -- one name more

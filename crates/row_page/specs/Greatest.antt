@@ -1,18 +1,12 @@
 -- The greatest of names and of stamps.
-use Rattle.std.specs.Prelude.{ℕ, max, Bool, ◌&&◌, ◌||◌, ◌==◌, nat_lt, List, [], ◌∷◌, map, if◌then◌else◌}
+use Rattle.std.specs.Prelude.{ℕ, max, List, [], ◌∷◌, map}
 use Rattle.stamp.specs.declared.name.Name.{Name}
+use Rattle.stamp.specs.Order.{later}
 use Rattle.row_page.specs.Rows.{Row}
 
 -- no name
 abbrev pub no_name : Name
 no_name = record { run = 0; id = 0 }
-
--- names by their run, then by their id
-abbrev pub name_lt : Name → Name → Bool
-name_lt x y = nat_lt x.run y.run || ((x.run == y.run) && nat_lt x.id y.id)
-
-abbrev pub later : Name → Name → Name
-later x y = if name_lt x y then y else x
 
 abbrev pub greatest_in : List Name → Name
 greatest_in [] = no_name

@@ -7,7 +7,7 @@ use Rattle.row_page.specs.declared.head.Head.{Head}
 use Rattle.row_page.specs.declared.greatest.Greatest.{Greatest}
 use Rattle.row_page.specs.Rows.{Row, Raw, key_most}
 use Rattle.row_page.specs.Reading.{window_fits, row_under}
-use Rattle.row_page.specs.Greatest.{later}
+use Rattle.stamp.specs.Order.{later}
 
 -- the numbers at the front
 abbrev pub head_of : List ℕ → Head

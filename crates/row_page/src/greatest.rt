@@ -1,6 +1,6 @@
 // The greatest name and the greatest durable stamp of some cells.
 ghost use Rattle.std.specs.Prelude.{◌≡◌, ◌+◌, ◌*◌, ◌^◌};
-ghost use Rattle.row_page.specs.Greatest.{later};
+ghost use Rattle.stamp.specs.Order.{later};
 ghost use Rattle.row_page.specs.Heads.{greatest_with};
 
 use stamp::{Name, Window};

@@ -2,7 +2,6 @@
 
 ghost use Rattle.std.specs.Prelude.{◌≡◌};
 ghost use Rattle.kv_model.specs.History.{is_stable, name_eq, reads_at};
-ghost use Rattle.snapshot.specs.Past.{is_below};
 ghost use Rattle.snapshot.specs.Sight.{IsSight, sight_of};
 ghost use Rattle.update_chain.specs.Updates.{covers_at, decides, is_own, reply_by, reply_of};
 ghost use Rattle.update_chain.specs.Looks.{reply_in};
@@ -114,18 +113,12 @@ pub(crate) fn answer<'a>(view: &View<'_>, update: &'a Update) -> Read<'a>
     }
 }
 
-fn is_below(name: Name, floor: Name) -> bool
-    ensures { result ≡ is_below name floor }
-{
-    name.run < floor.run || (name.run == floor.run && name.id < floor.id)
-}
-
 // Whether what is older than this update is out of reach.
 pub(crate) fn covers(update: &Update, pin: u64, floor: Name) -> bool
     ensures { result ≡ covers_at pin floor update.now }
 {
     let window = update.version.window;
-    update.prepared == 0 && window.durable <= pin && is_below(window.name, floor)
+    update.prepared == 0 && window.durable <= pin && window.name.is_before(floor)
 }
 
 // Whether a rollback to this stable stamp keeps the update.
