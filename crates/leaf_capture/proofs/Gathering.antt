@@ -73,7 +73,7 @@ shown_rows : (s : Sight) (chains : List KeyChain) (key : List ℕ) → Climbs ch
 shown_rows s [] key up = refl
 shown_rows s (c ∷ chains) key up = shown_row s c chains key (captured s c.chain) refl up (shown_rows s chains key up.1)
 
-chain_member : (chains : List KeyChain) (c : KeyChain) → Climbs chains → Member c chains → chain_at c.key chains ≡ c.chain
+pub chain_member : (chains : List KeyChain) (c : KeyChain) → Climbs chains → Member c chains → chain_at c.key chains ≡ c.chain
 chain_member [] c up there = absurd there
 chain_member (x ∷ chains) c up (inl same) = subst (λ (y : KeyChain). chain_at c.key (y ∷ chains) ≡ c.chain) same (rw (key_self c.key) refl)
 chain_member (x ∷ chains) c up (inr later) = rw (below_differs x.key c.key (up.0 c later)) (chain_member chains c up.1 later)
@@ -99,7 +99,7 @@ member_slot slots [] k c lt is = absurd (omega (arith, lt))
 member_slot slots (i ∷ way) zero c lt is = member-append-left c (option_to_list (slice_get slots i)) (slots_at slots way) (subst (λ (o : Option KeyChain). Member c (option_to_list o)) (sym is) (inl refl))
 member_slot slots (i ∷ way) (suc k) c lt is = member-append-right c (option_to_list (slice_get slots i)) (slots_at slots way) (member_slot slots way k c (omega (arith, lt)) is)
 
-climbs : (slots : List KeyChain) (way : List ℕ) → AllPairs (λ i j. key_lt (key_at slots i) (key_at slots j) ≡ true) way → Climbs (slots_at slots way)
+pub climbs : (slots : List KeyChain) (way : List ℕ) → AllPairs (λ i j. key_lt (key_at slots i) (key_at slots j) ≡ true) way → Climbs (slots_at slots way)
 climbs slots [] up = tt
 climbs slots (i ∷ way) up = by (slice_get slots i) refl (climbs slots way (λ a b d lt within. up (suc a) (suc b) d (omega (arith, lt)) (omega (arith, within)))) where
   above : (c d : KeyChain) → slice_get slots i ≡ Some c → Member d (slots_at slots way) → KeyAbove d c
@@ -119,7 +119,7 @@ none_in key (x ∷ slots) zero c none is = subst (λ (y : KeyChain). bytes_eq y.
 none_in key (x ∷ slots) (suc i) c none is = none_in key slots i c (not_found key x slots none).1 is
 
 -- the slots of the whole way have the chains of all keys
-way_chain : (slots : List KeyChain) (way : List ℕ) (key : List ℕ) → IsWayUp None slots way → chain_at key (slots_at slots way) ≡ chain_at key slots
+pub way_chain : (slots : List KeyChain) (way : List ℕ) (key : List ℕ) → IsWayUp None slots way → chain_at key (slots_at slots way) ≡ chain_at key slots
 way_chain slots way key w = by (slot_of key slots) refl where
   by : (o : Option ℕ) → slot_of key slots ≡ o → chain_at key (slots_at slots way) ≡ chain_at key slots
   by None is = none_at key (slots_at slots way) (λ c there. let at = slot_member slots way c there in none_in key slots (get_or way at.0 0) c is at.2) ∙ sym (no_chain key slots is)

@@ -1,4 +1,3 @@
-mod Ways
 pub mod Sifting
 pub mod Cutting
 pub mod Holding
