@@ -16,9 +16,8 @@ use Rattle.row_page.proofs.Leaves.{length-cell}
 use Rattle.stored.specs.HistoryTree.{HistoryEntry, history_entry_text, HistoryRecord, Mark, mark_of, comes_behind, record_text, RecordFits, RecordsAscend, AreRecords}
 use Rattle.stored.proofs.Fields.{placed_field}
 use Rattle.inner_page.specs.Pages.{IsHistoryPage, IsHistoryLeaf, leaf_fits}
-use Rattle.inner_page.specs.RecordReading.{HasRoom, record_behind, record_behind_at, mark_in, records_at}
+use Rattle.inner_page.specs.RecordReading.{record_behind, record_behind_at, mark_in, records_at}
 use Rattle.inner_page.specs.Names.{names_differ}
-use Rattle.inner_page.proofs.Lists.{all_more}
 use Rattle.inner_page.proofs.HistoryPages.{first_byte}
 use Rattle.inner_page.proofs.NamesOnce.{differ_true, differ_is}
 use Rattle.inner_page.proofs.Grammars.{Grammar, IsIn, no_image, no_page, found_is, page_read, read_as, one_block}
@@ -83,9 +82,6 @@ is_in records ok = record { some = ok.some; chained = chained None records ok.fi
 pub records_upto : (records : List HistoryRecord) → 43 * length records ≤ length (flat_map record_text records)
 records_upto [] = omega arith
 records_upto (r ∷ records) = omega (arith, records_upto records, length-append (record_text r) (flat_map record_text records), length-record r)
-
-pub have_room : (records : List HistoryRecord) → AreRecords records → AllByRecursion (λ (r : HistoryRecord). HasRoom r) records
-have_room records ok = all_more (λ (r : HistoryRecord). RecordFits r) (λ (r : HistoryRecord). HasRoom r) (λ r fits. record { key = fits.row.key; value = fits.row.value }) records ok.fit
 
 pub one_leaf_page : (block : List ℕ) (p q : List HistoryRecord) → IsHistoryLeaf block p → IsHistoryLeaf block q → p ≡ q
 one_leaf_page block p q hp hq = (one_block leaf_grammar block 0 0 p q (is_in p hp.admitted) (is_in q hq.admitted) hp.spelled hq.spelled).1

@@ -1,18 +1,10 @@
 -- Reading the records of a leaf of the history from left to right.
-use Rattle.std.specs.Prelude.{ℕ, ◌≤◌, List, ◌++◌, length, Option, Some, None, if◌then◌else◌}
-use Rattle.std.specs.Int.{w32}
-use Rattle.le_codec.specs.Fields.{le}
+use Rattle.std.specs.Prelude.{ℕ, List, Option, Some, None, if◌then◌else◌}
 use Rattle.le_codec.specs.Combine.{try_at, chain_at}
-use Rattle.row_page.specs.Rows.{Raw, lengths_text, window_text, code_of, value_of, key_most}
 use Rattle.row_page.specs.Views.{row_seen}
 use Rattle.stored.specs.HistoryTree.{Mark, mark_of, comes_behind, HistoryRecord}
 use Rattle.stored.specs.Reading.{placed_at}
-use Rattle.inner_page.specs.declared.cell.RawCell.{RawCell}
 use Rattle.inner_page.specs.declared.record_reading.LentRecord.{LentRecord}
-
--- what stands in a cell, where its key and value are lent
-abbrev pub raw_seen : RawCell → Raw
-raw_seen c = record { key = c.key.now; code = c.code; window = c.window; value = c.value.now }
 
 -- a record whose key and value are lent
 abbrev pub record_seen : LentRecord → HistoryRecord
@@ -30,14 +22,3 @@ mark_in r = Some (mark_of r)
 -- so many records, behind one before
 abbrev pub records_at : ℕ → Option Mark → List ℕ → Option (List HistoryRecord × List ℕ)
 records_at count before bytes = chain_at record_behind_at mark_in count before bytes
-
--- ---- the spelling
-
--- the lengths have room in their fields
-pub record HasRoom (r : HistoryRecord) : Type 0 where
-  pub key : length r.key ≤ key_most
-  pub value : length (value_of r.version.change) ≤ 16384
-
--- what stands before the key
-abbrev pub numbers_text : HistoryRecord → List ℕ
-numbers_text r = le w32 r.table ++ lengths_text (length r.key) (code_of r.version.change) (length (value_of r.version.change)) ++ window_text r.version.window

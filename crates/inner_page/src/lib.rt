@@ -16,7 +16,6 @@ ghost use Rattle.stored.specs.TableTree.{Entry as StoredEntry};
 ghost use Rattle.stored.specs.HistoryTree.{HistoryEntry as StoredHistoryEntry, HistoryRecord as StoredRecord};
 ghost use Rattle.inner_page.specs.Pages.{IsTablePage, IsHistoryPage, IsHistoryLeaf};
 
-mod cell;
 mod history;
 mod history_reading;
 mod history_writing;

@@ -8,7 +8,6 @@ ghost use Rattle.inner_page.specs.Pages.{IsHistoryLeaf, leaf_fits};
 ghost use Rattle.inner_page.specs.Marks.{mark_seen};
 ghost use Rattle.inner_page.specs.RecordReading.{record_seen, record_behind, record_behind_at, records_at};
 
-use crate::cell::cell_of;
 use crate::mark::{LentMark, comes_behind};
 use crate::names::names_differ;
 use crate::record::HistoryRecord;
@@ -16,7 +15,7 @@ use crate::record_writing::{KIND, NUMBERS};
 use failure::NoMemory;
 use item::Item;
 use le_codec::{FIRST_FORMAT, Image, Reader, open_image};
-use row_page::{Cell, CellChange};
+use row_page::{Cell, CellChange, cell_of};
 use stamp::Version;
 use std::alloc::Global;
 

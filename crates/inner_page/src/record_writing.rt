@@ -1,16 +1,15 @@
 // From the records of a leaf of the history to its image.
 ghost use Rattle.std.specs.Prelude.{◌≡◌, ◌≤◌, ◌<◌, ◌^◌, ◌++◌, length, IfOk, OnOk};
 ghost use Rattle.std.specs.List.{flat_map, AllByRecursion};
-ghost use Rattle.row_page.specs.Rows.{code_of, value_of, window_text};
-ghost use Rattle.stored.specs.HistoryTree.{AreRecords, history_image, record_text};
-ghost use Rattle.inner_page.specs.RecordReading.{HasRoom, numbers_text};
+ghost use Rattle.row_page.specs.Changes.{change_seen};
+ghost use Rattle.row_page.specs.Views.{row_seen};
+ghost use Rattle.stored.specs.HistoryTree.{AreRecords, RecordFits, history_image, record_text};
 
 use crate::record::HistoryRecord;
 use failure::NoMemory;
 use item::Item;
 use le_codec::{FIRST_FORMAT, Writer, write_header};
-use row_page::CellChange;
-use stamp::Window;
+use row_page::{Cell, CellChange, put_cell};
 use std::alloc::Global;
 
 // The kind of the image of a leaf of the history, as its header says.
@@ -48,39 +47,14 @@ fn records_len(records: &[HistoryRecord]) -> usize
 {
     let mut len = 0;
     for record in records {
-        len += NUMBERS + key_of(record).len() + value_of(record).len();
+        let cell = lent_cell(record);
+        len += NUMBERS + cell.key.len() + cell.value().len();
     }
     len
 }
 
-fn key_of(record: &HistoryRecord) -> &[u8]
-    ensures { result.now ≡ record.now.key }
-{
-    record.key.as_bytes()
-}
-
-fn value_of(record: &HistoryRecord) -> &[u8]
-    ensures { result.now ≡ value_of record.now.version.change }
-{
-    let version = &record.version;
-    match &version.change {
-        CellChange::Put(value) => value.as_bytes(),
-        CellChange::Remove => &[],
-    }
-}
-
-fn code_of(record: &HistoryRecord) -> u8
-    ensures { result ≡ code_of record.now.version.change }
-{
-    let version = &record.version;
-    match &version.change {
-        CellChange::Put(_) => 1,
-        CellChange::Remove => 2,
-    }
-}
-
 fn put_records(out: &mut Writer, records: &[HistoryRecord]) -> Result<(), NoMemory>
-    requires { AllByRecursion (λ r. HasRoom r) records.now }
+    requires { AllByRecursion (λ r. RecordFits r) records.now }
     ensures { OnOk result (out.new ≡ out.old ++ flat_map record_text records.now) }
 {
     for record in records {
@@ -90,34 +64,30 @@ fn put_records(out: &mut Writer, records: &[HistoryRecord]) -> Result<(), NoMemo
 }
 
 fn put_record(out: &mut Writer, record: &HistoryRecord) -> Result<(), NoMemory>
-    requires { HasRoom record.now }
+    requires { RecordFits record.now }
     ensures { OnOk result (out.new ≡ out.old ++ record_text record.now) }
 {
-    let key = key_of(record);
-    let value = value_of(record);
-    put_numbers(out, record)?;
-    out.slice(key)?;
-    out.slice(value)
-}
-
-// What stands before the key.
-fn put_numbers(out: &mut Writer, record: &HistoryRecord) -> Result<(), NoMemory>
-    requires { HasRoom record.now }
-    ensures { OnOk result (out.new ≡ out.old ++ numbers_text record.now) }
-{
+    let cell = lent_cell(record);
     out.u32(record.table)?;
-    out.u16(key_of(record).len() as u16)?;
-    out.u8(code_of(record))?;
-    out.u32(value_of(record).len() as u32)?;
-    let version = &record.version;
-    put_window(out, &version.window)
+    put_cell(out, &cell)
 }
 
-fn put_window(out: &mut Writer, window: &Window) -> Result<(), NoMemory>
-    ensures { OnOk result (out.new ≡ out.old ++ window_text window.now) }
+fn lent_cell(record: &HistoryRecord) -> Cell<'_>
+    ensures { row_seen result ≡ (record.now.key, record.now.version) }
 {
-    out.u64(window.name.run)?;
-    out.u64(window.name.id)?;
-    out.u64(window.commit)?;
-    out.u64(window.durable)
+    let version = &record.version;
+    Cell {
+        key: record.key.as_bytes(),
+        window: version.window,
+        change: lent_change(&version.change),
+    }
+}
+
+fn lent_change(change: &CellChange<Item>) -> CellChange<&[u8]>
+    ensures { change_seen result ≡ change.now }
+{
+    match change {
+        CellChange::Put(value) => CellChange::Put(value.as_bytes()),
+        CellChange::Remove => CellChange::Remove,
+    }
 }

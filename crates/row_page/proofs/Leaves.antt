@@ -1,9 +1,7 @@
 -- The rows of a leaf have one spelling, also where zeros fill it up.
-use Rattle.std.proofs.Common.{◌≡◌, ℕ, zero, suc, ◌+◌, ◌*◌, ◌<◌, ◌≤◌, List, [], ◌∷◌, ◌++◌, length, take, get_or, Option, Some, None, refl, sym, ap, subst, ◌∙◌, arith}
+use Rattle.std.proofs.Common.{◌≡◌, ℕ, ◌+◌, ◌*◌, ◌≤◌, List, [], ◌∷◌, ◌++◌, length, Option, Some, None, refl, sym, ap, ◌∙◌, arith}
 use Rattle.std.specs.List.{AllByRecursion}
-use Rattle.std.proofs.lemmas.List.{length-append, append-nil, take_more}
-use Rattle.std.proofs.lemmas.List.Concat.{flat_map-append}
-use Rattle.std.proofs.lemmas.List.Folds.{length-flat_map-take}
+use Rattle.std.proofs.lemmas.List.{length-append}
 use Rattle.le_codec.specs.Combine.{Chained}
 use Rattle.le_codec.specs.Images.{first_format}
 use Rattle.le_codec.specs.Images.{padded, block_size}
@@ -38,20 +36,3 @@ leaf_exact size other p q hp hq same =
 -- the bytes of a block are those of one leaf
 pub one_page : (bytes : List ℕ) (p q : List Row) → IsPage bytes p → IsPage bytes q → p ≡ q
 one_page bytes p q hp hq = leaf_exact (block_size (length (image p))) (block_size (length (image q))) p q hp.admitted hq.admitted (sym hp.spelled ∙ hq.spelled)
-
--- ---- writing
-
--- the bytes up to a row, and with it
-pub cells_more : (rows : List Row) (i : ℕ) (r : Row) → i < length rows → r ≡ get_or rows i r → cells (take (i + 1) rows) ≡ cells (take i rows) ++ cell r
-cells_more rows i r lt is =
-    let upto : take (i + 1) rows ≡ take i rows ++ r ∷ [] = take_more rows i r lt ∙ ap (λ (x : Row). take i rows ++ x ∷ []) (sym is) in
-    ap cells upto ∙ flat_map-append cell (take i rows) (r ∷ []) ∙ ap (λ (b : List ℕ). cells (take i rows) ++ b) (append-nil (cell r))
-
-pub cells_upto : (rows : List Row) (i : ℕ) (r : Row) → i < length rows → r ≡ get_or rows i r → length (cells (take i rows)) + length (cell r) ≤ length (cells rows)
-cells_upto rows i r lt is = subst (λ (x : Row). length (cells (take i rows)) + length (cell x) ≤ length (cells rows)) (sym is) (length-flat_map-take cell rows i r lt)
-
--- each row fits
-pub fit_at : (rows : List Row) (i : ℕ) (r : Row) → AllByRecursion (λ (r : Row). RowFits [] key_most r) rows → i < length rows → r ≡ get_or rows i r → RowFits [] key_most r
-fit_at [] i r all lt is = absurd (omega (arith, lt))
-fit_at (x ∷ rows) zero r all lt is = subst (λ (y : Row). RowFits [] key_most y) (sym is) all.0
-fit_at (x ∷ rows) (suc i) r all lt is = fit_at rows i r all.1 (omega (arith, lt)) is

@@ -7,3 +7,4 @@ pub mod Greater
 pub mod Founds
 pub mod Ascending
 pub mod Writings
+pub mod Fronts

@@ -111,10 +111,6 @@ pub record AreRows (rows : List Row) : Type 0 where
 abbrev pub image : List Row → List ℕ
 image rows = framed 1 first_format (length rows) 0 (cells rows)
 
-pub record IsImage (bytes : List ℕ) (rows : List Row) : Type 0 where
-  pub admitted : AreRows rows
-  pub spelled : bytes ≡ image rows
-
 -- the bytes of a leaf's block
 pub record IsPage (bytes : List ℕ) (rows : List Row) : Type 0 where
   pub admitted : AreRows rows

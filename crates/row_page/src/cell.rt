@@ -1,8 +1,8 @@
 // A cell of a leaf: a key and a version of it.
-ghost use Rattle.std.specs.Prelude.{◌≡◌, [], option_map, IfSome};
+ghost use Rattle.std.specs.Prelude.{◌≡◌, [], option_map, IfNone, IfSome};
 ghost use Rattle.le_codec.specs.Fields.{Gives};
 ghost use Rattle.row_page.specs.Changes.{change_seen};
-ghost use Rattle.row_page.specs.Rows.{comes_after, key_most};
+ghost use Rattle.row_page.specs.Rows.{comes_after, key_most, value_of};
 ghost use Rattle.row_page.specs.Reading.{cell_at, row_after, row_at, row_under, change_of};
 ghost use Rattle.row_page.specs.Heads.{raw_headed, raw_fits, behind_at, greatest_with};
 ghost use Rattle.row_page.specs.Views.{row_seen};
@@ -27,6 +27,18 @@ pub struct Cell<'a> {
     pub window: Window,
     /// What it says of the key.
     pub change: CellChange<&'a [u8]>,
+}
+
+impl<'a> Cell<'a> {
+    /// The value, of no bytes where the key was removed.
+    pub fn value(&self) -> &'a [u8]
+        ensures { result.now ≡ value_of (row_seen self.now).1.change }
+    {
+        match self.change {
+            CellChange::Put(value) => value,
+            CellChange::Remove => &[],
+        }
+    }
 }
 
 fn fits(head: &Head, key: &[u8], value: &[u8]) -> bool
@@ -72,12 +84,18 @@ fn behind<'a>(head: &Head, reader: &mut Reader<'a>) -> Option<Cell<'a>>
     row_of(head, key, value)
 }
 
+/// The next cell, its key and value lent. None where what stands there is none, and then the reader
+/// is as it was. `O(1)`.
 #[tactic(auto, using(crate::proofs::Heads::cell_in_two))]
-pub(crate) fn cell_of<'a>(reader: &mut Reader<'a>) -> Option<Cell<'a>>
-    ensures { Gives row_seen result reader.new (cell_at [] key_most reader.old) }
+pub fn cell_of<'a>(reader: &mut Reader<'a>) -> Option<Cell<'a>>
+    ensures read { Gives row_seen result reader.new (cell_at [] key_most reader.old) }
+    ensures kept { IfNone result (reader.new ≡ reader.old) }
 {
-    let head = head_at(reader)?;
-    behind(&head, reader)
+    let mut ahead = Reader::new(reader.rest());
+    let head = head_at(&mut ahead)?;
+    let cell = behind(&head, &mut ahead)?;
+    *reader = ahead;
+    Some(cell)
 }
 
 fn comes_after(before: Option<&[u8]>, key: &[u8]) -> bool

@@ -1,22 +1,19 @@
 // A leaf that is written row by row.
 ghost use Rattle.std.specs.Prelude.{◌≡◌, ◌≤◌, ◌+◌, ◌*◌, ◌++◌, ◌∷◌, [], true, false, List, length, drop, IfOk, IsTrue, ◌↔◌, vec_len, vec_capacity};
 ghost use Rattle.le_codec.specs.Images.{block_size};
-ghost use Rattle.row_page.specs.Rows.{Row, RowFits, AreRows, IsPage, key_most, lengths_text, window_text, code_of, value_of, cell as cell_text};
+ghost use Rattle.row_page.specs.Rows.{Row, RowFits, AreRows, IsPage, key_most, cell as cell_text};
 ghost use Rattle.row_page.specs.Views.{row_seen};
 ghost use Rattle.row_page.specs.Writing.{Written, Wrote, size_with};
 
 use crate::cell::Cell;
-use crate::change::CellChange;
+use crate::cell_writing::{NUMBERS, numbers_of};
 use crate::leaf::KIND;
 use failure::NoMemory;
 use le_codec::{FIRST_FORMAT, block_size, header_bytes};
-use stamp::Window;
 use std::alloc::Global;
 use std::marker::Model;
 
 const HEADER: usize = 16; // bytes
-
-const NUMBERS: usize = 39; // bytes of a cell beside its key and its value
 
 /// Writes the block of a leaf, row by row. The room for all of it is taken when the writer is
 /// made, so a row takes no memory, and its size is kept.
@@ -64,11 +61,11 @@ impl LeafWriter {
         ensures full { result ≡ false → self.new ≡ self.old }
         ensures limit { self.new.limit ≡ self.old.limit }
     {
-        let value = value_of(cell);
+        let value = cell.value();
         if self.bytes.len() + NUMBERS + cell.key.len() + value.len() > self.limit {
             return false;
         }
-        put_cell(&mut self.bytes, cell);
+        append_cell(&mut self.bytes, cell);
         self.count += 1;
         true
     }
@@ -92,56 +89,17 @@ impl LeafWriter {
     }
 }
 
-fn value_of<'a>(cell: &Cell<'a>) -> &'a [u8]
-    ensures { result.now ≡ value_of (row_seen cell.now).1.change }
-{
-    match cell.change {
-        CellChange::Put(value) => value,
-        CellChange::Remove => &[],
-    }
-}
-
-fn code_of(cell: &Cell<'_>) -> u8
-    ensures { result ≡ code_of (row_seen cell.now).1.change }
-{
-    match cell.change {
-        CellChange::Put(_) => 1,
-        CellChange::Remove => 2,
-    }
-}
-
 // There is room for the cell.
-fn put_cell(out: &mut Vec<u8>, cell: &Cell<'_>)
+fn append_cell(out: &mut Vec<u8>, cell: &Cell<'_>)
     requires fits { RowFits [] key_most (row_seen cell.now) }
     requires room { vec_len out.old + length (cell_text (row_seen cell.now)) ≤ vec_capacity out.old }
     ensures written { out.new.items ≡ out.old.items ++ cell_text (row_seen cell.now) }
     ensures capacity { vec_capacity out.old ≤ vec_capacity out.new }
 {
-    let value = value_of(cell);
-    let numbers = numbers_of(
-        cell.key.len() as u16,
-        code_of(cell),
-        value.len() as u32,
-        &cell.window,
-    );
+    let numbers = numbers_of(cell);
     append(out, &numbers);
     append(out, cell.key);
-    append(out, value);
-}
-
-fn numbers_of(key: u16, code: u8, value: u32, window: &Window) -> [u8; NUMBERS]
-    ensures { result ≡ lengths_text key code value ++ window_text window.now }
-{
-    let [k0, k1] = key.to_le_bytes();
-    let [v0, v1, v2, v3] = value.to_le_bytes();
-    let [r0, r1, r2, r3, r4, r5, r6, r7] = window.name.run.to_le_bytes();
-    let [i0, i1, i2, i3, i4, i5, i6, i7] = window.name.id.to_le_bytes();
-    let [c0, c1, c2, c3, c4, c5, c6, c7] = window.commit.to_le_bytes();
-    let [d0, d1, d2, d3, d4, d5, d6, d7] = window.durable.to_le_bytes();
-    [
-        k0, k1, code, v0, v1, v2, v3, r0, r1, r2, r3, r4, r5, r6, r7, i0, i1, i2, i3, i4, i5, i6,
-        i7, c0, c1, c2, c3, c4, c5, c6, c7, d0, d1, d2, d3, d4, d5, d6, d7,
-    ]
+    append(out, cell.value());
 }
 
 fn set_front(bytes: &mut Vec<u8>, header: &[u8; HEADER])

@@ -15,9 +15,9 @@ split_at-requires c = in_block c.args.block.now c.args.place c.requires
 
 pub unwrap-requires : goal.unwrap-requires
 unwrap-requires c =
-    (gives_some row_seen c.cell_of-cell.result c.cell_of-cell.new.reader _ c.requires.row c.requires.rest c.cell_of-cell.ensures (ap (cell_at [] key_most) (c.new-reader.ensures ∙ c.split_at.ensures.back) ∙ cell_there c.args.block.now c.args.place c.requires)).0
+    (gives_some row_seen c.cell_of-cell.result c.cell_of-cell.new.reader _ c.requires.row c.requires.rest c.cell_of-cell.ensures.read (ap (cell_at [] key_most) (c.new-reader.ensures ∙ c.split_at.ensures.back) ∙ cell_there c.args.block.now c.args.place c.requires)).0
 
 pub returns : goal.returns
 returns c =
     let is = ap (cell_at [] key_most) (c.new-reader.ensures ∙ c.split_at.ensures.back) ∙ cell_there c.args.block.now c.args.place c.requires in
-    ap row_read c.requires.is ∙ gives_view row_seen c.cell_of-cell.result c.unwrap.result c.cell_of-cell.new.reader _ c.requires.row c.requires.rest c.unwrap.ensures c.cell_of-cell.ensures is
+    ap row_read c.requires.is ∙ gives_view row_seen c.cell_of-cell.result c.unwrap.result c.cell_of-cell.new.reader _ c.requires.row c.requires.rest c.unwrap.ensures c.cell_of-cell.ensures.read is

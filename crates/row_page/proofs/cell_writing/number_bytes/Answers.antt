@@ -1,6 +1,6 @@
 use Rattle.std.proofs.Common.{arith}
 use Rattle.row_page.proofs.Writings.{numbers_from}
-use Rattle.row_page.proofs.leaf_writer.numbers_of.Goals as goal
+use Rattle.row_page.proofs.cell_writing.number_bytes.Goals as goal
 
 pub returns : goal.returns
 returns c =
