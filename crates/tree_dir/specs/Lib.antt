@@ -1,0 +1,8 @@
+pub mod Leaves
+pub mod Ranges
+pub mod Slots
+pub mod Order
+pub mod Sound
+pub mod Added
+pub mod Levels
+pub mod Tries

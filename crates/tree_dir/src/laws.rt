@@ -1,0 +1,28 @@
+//! How the leaves of a table part its keys.
+
+ghost use Rattle.tree_dir.specs.Ranges.{HasUnder, KeysHaveLeaves, NextGoesOn, NextTurns, UnderHas};
+
+/// The leaf under a key has it.
+pub fn under_has()
+    ensures { UnderHas }
+{}
+
+/// The leaf that has a key is the one under it, so no other has it.
+pub fn has_is_under()
+    ensures { HasUnder }
+{}
+
+/// Each key of a table that is there lies in a leaf.
+pub fn keys_have_leaves()
+    ensures { KeysHaveLeaves }
+{}
+
+/// The next leaf has the keys directly above those of a leaf.
+pub fn next_goes_on()
+    ensures { NextGoesOn }
+{}
+
+/// The leaf before the next one is the leaf itself.
+pub fn next_turns()
+    ensures { NextTurns }
+{}
