@@ -1,0 +1,4 @@
+mod Choices
+mod Fronts
+mod ClosingBrackets
+pub mod ReadItems

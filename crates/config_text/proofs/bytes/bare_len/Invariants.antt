@@ -1,0 +1,7 @@
+use Rattle.std.proofs.Common.{◌≡◌, ◌+◌, drop}
+use Rattle.std.specs.List.{prefix_len}
+use Rattle.config_text.specs.Bytes.{is_bare}
+use Rattle.config_text.proofs.bytes.bare_len.Given as goal
+
+abbrev pub invariant-loop-i : goal.invariant-loop-i
+invariant-loop-i l = prefix_len is_bare l.text ≡ l.i + prefix_len is_bare (drop l.i l.text)
