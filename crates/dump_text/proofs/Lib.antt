@@ -1,0 +1,4 @@
+mod DumpRuns
+mod FinishedDumps
+mod Joined
+mod WrittenDumps
