@@ -1,0 +1,5 @@
+pub mod Writings
+pub mod Members
+pub mod Cutting
+pub mod Sorting
+pub mod Telling

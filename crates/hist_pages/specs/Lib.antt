@@ -1,0 +1,5 @@
+pub mod Records
+pub mod Writing
+pub mod Views
+pub mod Leaves
+pub mod Making
