@@ -1,0 +1,155 @@
+-- From layer to layer.
+use Rattle.std.proofs.Common.{◌≡◌, ℕ, suc, ◌+◌, ◌-◌, ◌<◌, List, [], ◌∷◌, ◌++◌, length, None, refl, sym, ◌∙◌, ap, subst, arith}
+use Rattle.std.specs.List.{AllByRecursion}
+use Rattle.std.proofs.lemmas.List.{length-append}
+use Rattle.device_leaf.proofs.Shapes.{all_front, all_join}
+use Rattle.stored.specs.Blocks.{Block, IsAddressed, IsAt, Holds}
+use Rattle.stored.specs.Tree.{Layer, join, bottom, inner_blocks, leaf_blocks, page_blocks, AllLead}
+use Rattle.stored.specs.TableTree.{Entry, Climbs, TableTree, table_kind}
+use Rattle.stored.specs.Records.{Root}
+use Rattle.tree_open.specs.Pages.{ArePages, LayerIs}
+use Rattle.tree_open.specs.Trees.{AreLayers, HasTree, InnerIs, root_own}
+use Rattle.tree_open.specs.Damage.{LayerSpoils, InnerSpoils}
+use Rattle.tree_open.proofs.OneLayer.{AllAddressed, to_lead, from_lead, join_climbs, climbs_above, one_layer, no_pages}
+
+-- ---- in the words of a tree
+
+pub to_words : (bytes : List ℕ) (level : ℕ) (own : List Entry) (layers : List (Layer Entry)) → length layers ≡ level → AreLayers bytes level own layers → AllLead table_kind own layers × AllAddressed (inner_blocks table_kind own layers) × Holds bytes (inner_blocks table_kind own layers)
+to_words bytes level own [] deep are = (tt, tt, tt)
+to_words bytes level own (pages ∷ layers) deep are =
+    let here = to_lead bytes (suc (length layers)) own None pages (subst (λ k. ArePages bytes k own None pages) (sym deep) are.0) in
+    let rest = to_words bytes (level - 1) (join pages) layers (omega (arith, deep)) are.1 in (
+      (here.0, rest.0),
+      all_join (λ (b : Block). IsAddressed b) (page_blocks table_kind (suc (length layers)) own pages) (inner_blocks table_kind (join pages) layers) here.1 rest.1,
+      all_join (λ (b : Block). IsAt bytes b) (page_blocks table_kind (suc (length layers)) own pages) (inner_blocks table_kind (join pages) layers) here.2 rest.2,
+    )
+
+pub bottom_climbs : (bytes : List ℕ) (level : ℕ) (own : List Entry) (layers : List (Layer Entry)) → Climbs own → AreLayers bytes level own layers → Climbs (bottom own layers)
+bottom_climbs bytes level own [] climbs are = climbs
+bottom_climbs bytes level own (pages ∷ layers) climbs are = bottom_climbs bytes (level - 1) (join pages) layers (join_climbs bytes level own pages are.0) are.1
+
+all_back : (P : Block → Type 0) (xs ys : List Block) → AllByRecursion P (xs ++ ys) → AllByRecursion P ys
+all_back P [] ys all = all
+all_back P (x ∷ xs) ys all = all_back P xs ys all.1
+
+pub from_words : (bytes : List ℕ) (level : ℕ) (own : List Entry) (layers : List (Layer Entry)) → length layers ≡ level → AllLead table_kind own layers → AllAddressed (inner_blocks table_kind own layers) → Holds bytes (inner_blocks table_kind own layers) → Climbs (bottom own layers) → Climbs own × AreLayers bytes level own layers
+from_words bytes level own [] deep lead addressed holds climbs = (climbs, tt)
+from_words bytes level own (pages ∷ layers) deep lead addressed holds climbs =
+    let here : List Block = page_blocks table_kind (suc (length layers)) own pages in
+    let below : List Block = inner_blocks table_kind (join pages) layers in
+    let rest = from_words bytes (level - 1) (join pages) layers (omega (arith, deep)) lead.1 (all_back (λ (b : Block). IsAddressed b) here below addressed) (all_back (λ (b : Block). IsAt bytes b) here below holds) climbs in
+    let are : ArePages bytes (suc (length layers)) own None pages = from_lead bytes (suc (length layers)) own pages lead.0 (all_front (λ (b : Block). IsAddressed b) here below addressed) (all_front (λ (b : Block). IsAt bytes b) here below holds) rest.0 in
+    (climbs_above (suc (length layers)) own pages lead.0 rest.0, (subst (λ k. ArePages bytes k own None pages) deep are, rest.1))
+
+-- ---- the layers that are read
+
+-- the layer of the tree at this level has these entries
+pub record Reached (bytes : List ℕ) (root : Root) (level : ℕ) (own : List Entry) : Type 0 where
+  pub layers : List (Layer Entry)
+  pub depth : length layers + level ≡ root.level
+  pub above : AreLayers bytes root.level (root_own root) layers
+  pub entries : own ≡ bottom (root_own root) layers
+
+pub at_root : (bytes : List ℕ) (root : Root) (own : List Entry) → own ≡ root_own root → Reached bytes root root.level own
+at_root bytes root own is = record { layers = []; depth = omega arith; above = tt; entries = is }
+
+layers_push : (bytes : List ℕ) (level : ℕ) (own : List Entry) (layers : List (Layer Entry)) (pages : Layer Entry) → AreLayers bytes level own layers → ArePages bytes (level - length layers) (bottom own layers) None pages → AreLayers bytes level own (layers ++ pages ∷ [])
+layers_push bytes level own [] pages are more = (subst (λ k. ArePages bytes k own None pages) (omega arith) more, tt)
+layers_push bytes level own (p ∷ layers) pages are more =
+    let same : level - suc (length layers) ≡ level - 1 - length layers = omega arith in
+    (are.0, layers_push bytes (level - 1) (join p) layers pages are.1 (subst (λ k. ArePages bytes k (bottom (join p) layers) None pages) same more))
+
+bottom_push : (own : List Entry) (layers : List (Layer Entry)) (pages : Layer Entry) → bottom own (layers ++ pages ∷ []) ≡ join pages
+bottom_push own [] pages = refl
+bottom_push own (p ∷ layers) pages = bottom_push (join p) layers pages
+
+pub reached_more : (bytes : List ℕ) (root : Root) (level : ℕ) (own es : List Entry) → 0 < level → Reached bytes root level own → LayerIs bytes level own es → Reached bytes root (level - 1) es
+reached_more bytes root level own es some reached layer =
+    let same : level ≡ root.level - length reached.layers = omega (arith, reached.depth) in
+    let pages : ArePages bytes (root.level - length reached.layers) (bottom (root_own root) reached.layers) None layer.pages =
+    subst (λ (l : List Entry). ArePages bytes (root.level - length reached.layers) l None layer.pages) reached.entries (subst (λ k. ArePages bytes k own None layer.pages) same layer.are) in
+    record {
+      layers = reached.layers ++ layer.pages ∷ [];
+      depth = omega (arith, length-append reached.layers (layer.pages ∷ []), reached.depth, some);
+      above = layers_push bytes root.level (root_own root) reached.layers layer.pages reached.above pages;
+      entries = layer.entries ∙ sym (bottom_push (root_own root) reached.layers layer.pages);
+    }
+
+pub inner_reached : (bytes : List ℕ) (root : Root) (level : ℕ) (es : List Entry) → level ≡ 0 → Reached bytes root level es → InnerIs bytes root es
+inner_reached bytes root level es low reached =
+    let deep : length reached.layers ≡ root.level = omega (arith, low, reached.depth) in
+    let words = to_words bytes root.level (root_own root) reached.layers deep reached.above in
+    record {
+      layers = reached.layers;
+      levels = deep;
+      lead = words.0;
+      addressed = words.1;
+      holds = words.2;
+      entries = reached.entries;
+      climbs = subst (λ (l : List Entry). Climbs l) (sym reached.entries) (bottom_climbs bytes root.level (root_own root) reached.layers tt reached.above);
+    }
+
+-- ---- no tree where a layer is not there
+
+no_layers : (bytes : List ℕ) (level : ℕ) (own : List Entry) (layers full : List (Layer Entry)) → AreLayers bytes level own layers → length layers < level → ((pages : Layer Entry) → ArePages bytes (level - length layers) (bottom own layers) None pages → ⊥) → length full ≡ level → AreLayers bytes level own full → ⊥
+no_layers bytes level own layers [] are few none deep whole = omega (arith, few, deep)
+no_layers bytes level own [] (q ∷ full) are few none deep whole = none q (subst (λ k. ArePages bytes k own None q) (omega arith) whole.0)
+no_layers bytes level own (p ∷ layers) (q ∷ full) are few none deep whole =
+    let same : level - 1 - length layers ≡ level - suc (length layers) = omega arith in
+    no_layers bytes (level - 1) (join p) layers full are.1 (omega (arith, few))
+    (λ pages here. none pages (subst (λ k. ArePages bytes k (bottom (join p) layers) None pages) same here))
+    (omega (arith, deep))
+    (subst (λ (l : Layer Entry). AreLayers bytes (level - 1) (join l) full) (sym (one_layer bytes level own None p q are.0 whole.0)) whole.1)
+
+no_layer : (bytes : List ℕ) (level : ℕ) (own : List Entry) (at want found : ℕ) → LayerSpoils bytes level own at want found → (pages : Layer Entry) → ArePages bytes level own None pages → ⊥
+no_layer bytes level own at want found spoils pages are =
+    no_pages bytes level spoils.front spoils.entry spoils.others pages spoils.page.none (subst (λ (l : List Entry). ArePages bytes level l None pages) spoils.is are)
+
+inner_layers : (bytes : List ℕ) (root : Root) (es : List Entry) → (is : InnerIs bytes root es) → AreLayers bytes root.level (root_own root) is.layers
+inner_layers bytes root es is = (from_words bytes root.level (root_own root) is.layers is.levels is.lead is.addressed is.holds (subst (λ (l : List Entry). Climbs l) is.entries is.climbs)).1
+
+pub inner_spoilt : (bytes : List ℕ) (root : Root) (level : ℕ) (own : List Entry) (at want found : ℕ) → 0 < level → Reached bytes root level own → LayerSpoils bytes level own at want found → InnerSpoils bytes root at want found
+inner_spoilt bytes root level own at want found some reached spoils =
+    let same : level ≡ root.level - length reached.layers = omega (arith, reached.depth) in
+    let few : length reached.layers < root.level = omega (arith, reached.depth, some) in
+    let layer : LayerSpoils bytes (root.level - length reached.layers) (bottom (root_own root) reached.layers) at want found =
+    subst (λ (l : List Entry). LayerSpoils bytes (root.level - length reached.layers) l at want found) reached.entries (subst (λ k. LayerSpoils bytes k own at want found) same spoils) in
+    record {
+      none = λ es is.
+          no_layers bytes root.level (root_own root) reached.layers is.layers reached.above few (no_layer bytes (root.level - length reached.layers) (bottom (root_own root) reached.layers) at want found layer) is.levels (inner_layers bytes root es is);
+      layers = reached.layers;
+      few = few;
+      above = reached.above;
+      layer = layer;
+    }
+
+-- ---- what there is to be read
+
+pub tree_read : (bytes : List ℕ) (root : Root) (t : TableTree) → HasTree bytes root t → InnerIs bytes root (bottom (root_own root) t.layers)
+tree_read bytes root t has =
+    let upper : List Block = inner_blocks table_kind (root_own root) t.layers in
+    let leaves : List Block = leaf_blocks table_kind (bottom (root_own root) t.layers) t.leaves in
+    record {
+      layers = t.layers;
+      levels = has.is.levels;
+      lead = has.is.lead;
+      addressed = all_front (λ (b : Block). IsAddressed b) upper leaves has.addressed;
+      holds = all_front (λ (b : Block). IsAt bytes b) upper leaves has.holds;
+      entries = refl;
+      climbs = has.is.parts.0;
+    }
+
+one_descent : (bytes : List ℕ) (level : ℕ) (own : List Entry) (ps qs : List (Layer Entry)) → length ps ≡ level → length qs ≡ level → AreLayers bytes level own ps → AreLayers bytes level own qs → ps ≡ qs
+one_descent bytes level own [] [] deep long are other = refl
+one_descent bytes level own [] (q ∷ qs) deep long are other = absurd (omega (arith, deep, long))
+one_descent bytes level own (p ∷ ps) [] deep long are other = absurd (omega (arith, deep, long))
+one_descent bytes level own (p ∷ ps) (q ∷ qs) deep long are other =
+    let same : p ≡ q = one_layer bytes level own None p q are.0 other.0 in
+    ap (λ (l : Layer Entry). l ∷ ps) same
+    ∙ ap (λ (l : List (Layer Entry)). q ∷ l) (one_descent bytes (level - 1) (join p) ps qs (omega (arith, deep)) (omega (arith, long)) are.1 (subst (λ (l : Layer Entry). AreLayers bytes (level - 1) (join l) qs) (sym same) other.1))
+
+pub one_inner : (bytes : List ℕ) (root : Root) (es other : List Entry) → InnerIs bytes root es → InnerIs bytes root other → es ≡ other
+one_inner bytes root es other is there =
+    is.entries
+    ∙ ap (λ (l : List (Layer Entry)). bottom (root_own root) l) (one_descent bytes root.level (root_own root) is.layers there.layers is.levels there.levels (inner_layers bytes root es is) (inner_layers bytes root other there))
+    ∙ sym there.entries

@@ -1,0 +1,5 @@
+mod Maxima
+mod OnePage
+mod OneLayer
+mod Descent
+mod Steps
