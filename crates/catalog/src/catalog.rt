@@ -1,6 +1,6 @@
 //! The tables of an engine.
 
-ghost use Rattle.std.specs.Prelude.{◌≡◌, ◌<◌, ◌≤◌, ◌-◌, ◌^◌, ◌++◌, max, [], length, reverse, true, IfOk, IfErr, OnOk, OnErr, option_map, slice_get};
+ghost use Rattle.std.specs.Prelude.{◌≡◌, ◌<◌, ◌≤◌, ◌-◌, ◌^◌, ◌++◌, max, [], length, reverse, true, IfOk, IfErr, IfSome, IfNone, None, OnOk, OnErr, option_map, slice_get};
 ghost use Rattle.catalog.specs.Known.{AreTables, by_name, place_of, with_new};
 ghost use Rattle.kv_model.specs.Content.{descending, table_lt};
 ghost use Rattle.kv_model.specs.Decisions.{is_name, same_formats};
@@ -106,14 +106,20 @@ impl Catalog {
         self.tables.get(place as usize)
     }
 
+    /// The place of the i-th table in the order of names, i from 0. `O(1)`.
+    pub fn place_at(&self, i: u32) -> Option<u32>
+        ensures found { IfSome result (λ place. (place < length self.now.tables) × (slice_get self.now.tables place ≡ slice_get (by_name self.now.tables) i)) }
+        ensures none { IfNone result (slice_get (by_name self.now.tables) i ≡ None) }
+    {
+        self.places.get(i as usize).copied()
+    }
+
     /// The i-th table in the order of names, i from 0. `O(1)`.
     pub fn table_at(&self, i: u32) -> Option<&Table>
         ensures { option_map (λ t. t.now) result ≡ slice_get (by_name self.now.tables) i }
     {
-        match self.places.get(i as usize) {
-            None => None,
-            Some(place) => self.tables.get(*place as usize),
-        }
+        let place = self.place_at(i)?;
+        self.table(place)
     }
 
     /// Makes a table of this name and these formats, or finds it. Refused, in this order, where a

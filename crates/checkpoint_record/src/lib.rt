@@ -19,7 +19,7 @@ mod rules;
 mod writing;
 
 pub use reading::decode;
-pub use record::{Record, Root, Snapshot, TableRoot};
+pub use record::{LentRecord, LentRoot, Record, Root, Snapshot, TableRoot};
 pub use writing::encode;
 
 #[cfg(test)]

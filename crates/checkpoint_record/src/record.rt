@@ -40,6 +40,23 @@ impl Model for TableRoot {
     ghost view = { λ t. record { table = t.table; root = t.root } };
 }
 
+/// A table of a checkpoint that is to be written, with its tree. It lends its name.
+#[derive(Drop)]
+pub struct LentRoot<'a> {
+    /// The table.
+    pub table: &'a Table,
+    /// What leads to its tree.
+    pub root: Root,
+}
+
+impl<'a> Model for LentRoot<'a> {
+    ghost use Rattle.stored.specs.Records.{TableRoot as StoredTable};
+
+    ghost Value = { StoredTable };
+
+    ghost view = { λ t. record { table = t.table.now; root = t.root } };
+}
+
 /// The ids that had not ended when the checkpoint started.
 #[derive(Drop)]
 pub struct Snapshot {
@@ -81,6 +98,44 @@ pub struct Record {
 }
 
 impl Model for Record {
+    ghost use Rattle.stored.specs.Records.{Record as StoredRecord};
+
+    ghost Value = { StoredRecord };
+
+    ghost view = { λ r. record {
+      sequence = r.sequence;
+      run = r.run;
+      oldest = r.oldest;
+      stable = r.stable;
+      snapshot = r.snapshot;
+      next_table = r.next_table;
+      history = r.history;
+      tables = r.tables.items;
+    } };
+}
+
+/// The record of a checkpoint that is to be written. Its tables lend their names.
+#[derive(Drop)]
+pub struct LentRecord<'a> {
+    /// The checkpoint's number, the slot's: below 2^62.
+    pub sequence: u64,
+    /// The run that made it, from 1 to its number.
+    pub run: u64,
+    /// The oldest stamp, 0 where it is unset.
+    pub oldest: u64,
+    /// The stable stamp, 0 where it is unset.
+    pub stable: u64,
+    /// The ids that had not ended when the checkpoint started.
+    pub snapshot: Snapshot,
+    /// The number of the next table.
+    pub next_table: u32,
+    /// What leads to the history.
+    pub history: Root,
+    /// The tables in the order of their names, 1,024 at most.
+    pub tables: Vec<LentRoot<'a>>,
+}
+
+impl<'a> Model for LentRecord<'a> {
     ghost use Rattle.stored.specs.Records.{Record as StoredRecord};
 
     ghost Value = { StoredRecord };

@@ -1,3 +1,5 @@
+ghost use Rattle.std.specs.Prelude.{◌≡◌, IfOk};
+
 use super::*;
 use std::alloc::{AllocError, Global};
 use std::process::Abort;
@@ -117,6 +119,48 @@ fn block_of(alloc: Global, image: &[u8]) -> Result<Vec<u8>, AllocError> {
     Ok(block)
 }
 
+// The record, lent to be written.
+fn lent(alloc: Global, record: &Record) -> Result<LentRecord<'_>, AllocError>
+    ensures { IfOk result (λ r. r ≡ record.now) }
+{
+    let tables = lent_roots(alloc, &record.tables)?;
+    let kept = &record.snapshot;
+    let snapshot = Snapshot {
+        min: kept.min,
+        max: kept.max,
+        ids: Vec::from_slice(alloc, &kept.ids)?,
+    };
+    Ok(LentRecord {
+        sequence: record.sequence,
+        run: record.run,
+        oldest: record.oldest,
+        stable: record.stable,
+        snapshot,
+        next_table: record.next_table,
+        history: record.history,
+        tables,
+    })
+}
+
+fn lent_roots(alloc: Global, tables: &[TableRoot]) -> Result<Vec<LentRoot<'_>>, AllocError>
+    ensures { IfOk result (λ v. v.items ≡ tables.now) }
+{
+    let mut roots = Vec::with_capacity(alloc, tables.len())?;
+    for root in tables {
+        roots.push_reserved(lent_root(root));
+    }
+    Ok(roots)
+}
+
+fn lent_root(root: &TableRoot) -> LentRoot<'_>
+    ensures { result ≡ root.now }
+{
+    LentRoot {
+        table: &root.table,
+        root: root.root,
+    }
+}
+
 #[test]
 fn what_is_decoded_is_encoded_as_the_same_bytes(rt: HostRuntime) -> Result<(), Fail> {
     for image in [ONE.as_slice(), TWO.as_slice()] {
@@ -124,7 +168,7 @@ fn what_is_decoded_is_encoded_as_the_same_bytes(rt: HostRuntime) -> Result<(), F
         let Some(record) = decode(rt.alloc(), &block)? else {
             return Err("a record".into());
         };
-        assert!(rt; encode(rt.alloc(), &record)?.as_slice() == image);
+        assert!(rt; encode(rt.alloc(), &lent(rt.alloc(), &record)?)?.as_slice() == image);
         assert!(rt; decode(rt.alloc(), image)?.is_none());
         let mut longer = block;
         longer.resize(8_192, 0)?;

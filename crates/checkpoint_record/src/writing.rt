@@ -7,7 +7,7 @@ ghost use Rattle.stored.specs.Links.{link_text};
 ghost use Rattle.stored.specs.Records.{IsRecord, letter as letter_of, record_body, record_image, snapshot_text, table_text};
 ghost use Rattle.checkpoint_record.specs.Parts.{marks_text, history_text, numbers_text};
 
-use crate::record::{Record, Snapshot, TableRoot};
+use crate::record::{LentRecord, LentRoot, Snapshot};
 use device_layout::Link;
 use failure::NoMemory;
 use item::Format;
@@ -28,7 +28,7 @@ const TABLE: usize = 48; // bytes of a table beside its name
 /// The image of a record; zeros up to the next multiple of 4,096 bytes make it the block that
 /// `decode` reads. It has at most 2^18 bytes, so the block has no more. The error is want of memory.
 /// `O(bytes)`, each byte written once, and one allocation.
-pub fn encode(alloc: Global, record: &Record) -> Result<Vec<u8>, NoMemory>
+pub fn encode(alloc: Global, record: &LentRecord<'_>) -> Result<Vec<u8>, NoMemory>
     requires { IsRecord record.now }
     ensures image { IfOk result (λ v. v.items ≡ record_image record.now) }
     ensures size { IfOk result (λ v. length v.items ≤ 2 ^ 18) }
@@ -48,7 +48,7 @@ pub fn encode(alloc: Global, record: &Record) -> Result<Vec<u8>, NoMemory>
 }
 
 // The length of a record's image in bytes. `O(tables)`.
-fn image_len(record: &Record) -> usize
+fn image_len(record: &LentRecord<'_>) -> usize
     requires { IsRecord record.now }
     ensures { result ≡ length (record_image record.now) }
 {
@@ -61,7 +61,7 @@ fn id_count(snapshot: &Snapshot) -> usize
     snapshot.ids.len()
 }
 
-fn tables_len(tables: &[TableRoot]) -> usize
+fn tables_len(tables: &[LentRoot<'_>]) -> usize
     requires { length (flat_map table_text tables.now) < 2 ^ 32 }
     ensures { result ≡ length (flat_map table_text tables.now) }
 {
@@ -72,14 +72,14 @@ fn tables_len(tables: &[TableRoot]) -> usize
     len
 }
 
-fn name_of(table: &TableRoot) -> &[u8]
+fn name_of<'a>(table: &LentRoot<'a>) -> &'a [u8]
     ensures { result.now ≡ table.now.table.name }
 {
-    let named = &table.table;
+    let named = table.table;
     named.name.as_bytes()
 }
 
-fn put_body(out: &mut Writer, record: &Record) -> Result<(), NoMemory>
+fn put_body(out: &mut Writer, record: &LentRecord<'_>) -> Result<(), NoMemory>
     requires { IsRecord record.now }
     ensures { OnOk result (out.new ≡ out.old ++ record_body record.now) }
 {
@@ -89,7 +89,7 @@ fn put_body(out: &mut Writer, record: &Record) -> Result<(), NoMemory>
     put_tables(out, &record.tables)
 }
 
-fn put_marks(out: &mut Writer, record: &Record) -> Result<(), NoMemory>
+fn put_marks(out: &mut Writer, record: &LentRecord<'_>) -> Result<(), NoMemory>
     ensures { OnOk result (out.new ≡ out.old ++ marks_text record.now) }
 {
     out.u64(record.sequence)?;
@@ -98,7 +98,7 @@ fn put_marks(out: &mut Writer, record: &Record) -> Result<(), NoMemory>
     out.u64(record.stable)
 }
 
-fn put_history(out: &mut Writer, record: &Record) -> Result<(), NoMemory>
+fn put_history(out: &mut Writer, record: &LentRecord<'_>) -> Result<(), NoMemory>
     ensures { OnOk result (out.new ≡ out.old ++ history_text record.now) }
 {
     let history = &record.history;
@@ -137,7 +137,7 @@ fn put_link(out: &mut Writer, link: &Link) -> Result<(), NoMemory>
     out.u64(link.durable)
 }
 
-fn put_tables(out: &mut Writer, tables: &[TableRoot]) -> Result<(), NoMemory>
+fn put_tables(out: &mut Writer, tables: &[LentRoot<'_>]) -> Result<(), NoMemory>
     requires { AllByRecursion (λ t. length t.table.name ≤ 128) tables.now }
     ensures { OnOk result (out.new ≡ out.old ++ flat_map table_text tables.now) }
 {
@@ -147,7 +147,7 @@ fn put_tables(out: &mut Writer, tables: &[TableRoot]) -> Result<(), NoMemory>
     Ok(())
 }
 
-fn put_table(out: &mut Writer, table: &TableRoot) -> Result<(), NoMemory>
+fn put_table(out: &mut Writer, table: &LentRoot<'_>) -> Result<(), NoMemory>
     requires { length table.now.table.name ≤ 128 }
     ensures { OnOk result (out.new ≡ out.old ++ table_text table.now) }
 {
@@ -158,11 +158,11 @@ fn put_table(out: &mut Writer, table: &TableRoot) -> Result<(), NoMemory>
 }
 
 // What stands before the link of a table.
-fn put_numbers(out: &mut Writer, table: &TableRoot) -> Result<(), NoMemory>
+fn put_numbers(out: &mut Writer, table: &LentRoot<'_>) -> Result<(), NoMemory>
     requires { length table.now.table.name ≤ 128 }
     ensures { OnOk result (out.new ≡ out.old ++ numbers_text table.now) }
 {
-    let named = &table.table;
+    let named = table.table;
     let root = &table.root;
     out.u32(named.number)?;
     out.u8(letter(named.formats.key))?;

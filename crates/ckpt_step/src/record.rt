@@ -11,7 +11,7 @@ ghost use Rattle.ckpt_step.specs.Records.{roots_by_name};
 
 use crate::links::nowhere;
 use crate::roots::roots_of;
-use checkpoint_record::{Record, Root, Snapshot as KeptSnapshot};
+use checkpoint_record::{LentRecord, Root, Snapshot as KeptSnapshot};
 use device_layout::Link;
 use engine::Local;
 use failure::NoMemory;
@@ -19,14 +19,14 @@ use snapshot::Snapshot;
 use std::alloc::Global;
 
 // The record of a checkpoint of the engine. The links lead to the leaves of its tables, by place;
-// `number` is that of the checkpoint before. The error is want of memory.
-pub(crate) fn record_of(
+// `number` is that of the checkpoint before. The tables' names are lent. The error is want of memory.
+pub(crate) fn record_of<'a>(
     alloc: Global,
-    engine: &Local,
+    engine: &'a Local,
     snapshot: &Snapshot,
     number: u64,
     links: &[Link],
-) -> Result<Record, NoMemory>
+) -> Result<LentRecord<'a>, NoMemory>
     requires number { number < 2 ^ 62 - 1 }
     requires run { engine.now.hub.txns.run ≤ number + 1 }
     requires sight { snapshot.now.sight ≡ sight_at engine.now.hub.txns.run engine.now.hub.txns.next (unended engine.now.hub.txns) }
@@ -37,7 +37,7 @@ pub(crate) fn record_of(
 {
     let marks = engine.marks();
     let tables = engine.tables();
-    Ok(Record {
+    Ok(LentRecord {
         sequence: number + 1,
         run: marks.run,
         oldest: marks.oldest,

@@ -1,9 +1,10 @@
-use Rattle.std.proofs.Common.{rules, sym, subst}
+use Rattle.std.proofs.Common.{◌∙◌, ap, rules, subst}
 use Rattle.le_codec.specs.Fields.{IsBytes}
+use Rattle.kv_model.specs.History.{Table}
 use Rattle.ckpt_step.proofs.roots.root_of.Goals as goal
 
 pub returns-clause-typed : goal.returns-clause-typed
 returns-clause-typed c = record {
-  name = subst IsBytes (sym c.in_ok-name_of.ensures.is) c.in_ok-name_of.ensures.bytes;
+  name = subst IsBytes (c.as_bytes.ensures ∙ ap (λ (t : Table). t.name) c.table.view_is) c.are_bytes.ensures;
   link = search rules;
 }
