@@ -6,8 +6,8 @@ use Rattle.clap.specs.Walk.{Row, Text, finished, nothing_held, settled_rows, sto
 use Rattle.clap.specs.Faults.{built_fault, level_fault, turn_fault, walk_fault}
 use Rattle.clap.specs.Simple.{Shape, argument_words, built, built_leaf, entered, inherited, names_of, rows_at}
 use Rattle.clap.proofs.OnLiterals.{clap_on_literals}
-use Rattle.wt_line.specs.App.{create_app, read_app, script_app, top_app, write_app, wt_app}
-use Rattle.wt_line.specs.Line.{as_command, command_of, create, matched_command, pairs_of, read, script, where_none, write, write_of}
+use Rattle.wt_line.specs.App.{create_app, list_app, read_app, script_app, top_app, verify_app, write_app, wt_app}
+use Rattle.wt_line.specs.Line.{as_command, command_of, create, list, matched_command, pairs_of, read, script, verify, where_none, write, write_of}
 use Rattle.wt_line.specs.Plain.{IsPlain, ArePlain, EachWord, HasItems, HasPlainItems, write_words, read_words, dashed}
 use Rattle.wt_line.proofs.WalkedWords.{Enters, Leads, TakesItems, all_pass, at_items, end_fault, entered_below, fault_below, in_range, level_passes, unfaulted_to_items, walked_to_items}
 
@@ -325,6 +325,86 @@ behind_read uri = refl
 pub create_behind : (uri : Text) → command_of (codes "create" ∷ codes "--" ∷ uri ∷ []) ≡ Some (create None uri)
 create_behind uri =
     entered_by (codes "create") create_shape (codes "--" ∷ uri ∷ []) create_enters (behind_passes uri) ∙ behind_read uri
+
+-- ---- list
+
+abbrev list_shape : Shape
+list_shape = built_leaf (inherited top_app.top list_app.top)
+
+list_enters : Enters (built wt_app) (codes "list") list_shape
+unfolding wt_app clap_on_literals
+list_enters = record {
+  met = refl;
+  unfaulted = refl;
+  found = refl;
+  settles = refl;
+  defaults = refl;
+  checks = refl;
+}
+
+list_passes : level_fault list_shape [] nothing_held [] false [] ≡ []
+unfolding clap_on_literals
+list_passes = refl
+
+list_read : as_command (rows_at list_shape []) ≡ Some list
+unfolding clap_on_literals
+list_read = refl
+
+pub list_alone : command_of (codes "list" ∷ []) ≡ Some list
+list_alone = entered_by (codes "list") list_shape [] list_enters list_passes ∙ list_read
+
+-- ---- verify
+
+abbrev verify_shape : Shape
+verify_shape = built_leaf (inherited top_app.top verify_app.top)
+
+verify_enters : Enters (built wt_app) (codes "verify") verify_shape
+unfolding wt_app clap_on_literals
+verify_enters = record {
+  met = refl;
+  unfaulted = refl;
+  found = refl;
+  settles = refl;
+  defaults = refl;
+  checks = refl;
+}
+
+verify_passes : level_fault verify_shape [] nothing_held [] false [] ≡ []
+unfolding clap_on_literals
+verify_passes = refl
+
+verify_read : as_command (rows_at verify_shape []) ≡ Some (verify None)
+unfolding clap_on_literals
+verify_read = refl
+
+pub verify_alone : command_of (codes "verify" ∷ []) ≡ Some (verify None)
+verify_alone = entered_by (codes "verify") verify_shape [] verify_enters verify_passes ∙ verify_read
+
+one_passes : (uri : Text) → IsPlain uri → level_fault verify_shape [] nothing_held (uri ∷ []) false [] ≡ []
+unfolding clap_on_literals
+one_passes [] h = refl
+one_passes (x ∷ xs) h = simp h
+
+one_read : (uri : Text) → IsPlain uri → as_command (rows_at verify_shape (uri ∷ [])) ≡ Some (verify (Some uri))
+unfolding clap_on_literals
+one_read [] h = refl
+one_read (x ∷ xs) h = simp h
+
+pub verify_plain : (uri : Text) → IsPlain uri → command_of (codes "verify" ∷ uri ∷ []) ≡ Some (verify (Some uri))
+verify_plain uri plain =
+    entered_by (codes "verify") verify_shape (uri ∷ []) verify_enters (one_passes uri plain) ∙ one_read uri plain
+
+one_behind_passes : (uri : Text) → level_fault verify_shape [] nothing_held (codes "--" ∷ uri ∷ []) false [] ≡ []
+unfolding clap_on_literals
+one_behind_passes uri = refl
+
+one_behind_read : (uri : Text) → as_command (rows_at verify_shape (codes "--" ∷ uri ∷ [])) ≡ Some (verify (Some uri))
+unfolding clap_on_literals
+one_behind_read uri = refl
+
+pub verify_behind : (uri : Text) → command_of (codes "verify" ∷ codes "--" ∷ uri ∷ []) ≡ Some (verify (Some uri))
+verify_behind uri =
+    entered_by (codes "verify") verify_shape (codes "--" ∷ uri ∷ []) verify_enters (one_behind_passes uri) ∙ one_behind_read uri
 
 -- ---- script
 

@@ -14,13 +14,15 @@ use Rattle.wt_line.specs.App.{wt_app}
 use Rattle.wt_line.specs.declared.line.LineFault.{LineFault}
 use Rattle.wt_line.specs.declared.line.LineFault.TheVariants.{Usage, NoMemory}
 use Rattle.wt_line.specs.declared.command.Command.{Command}
-use Rattle.wt_line.specs.declared.command.Command.TheVariants.{Create, Write, Read, Script}
+use Rattle.wt_line.specs.declared.command.Command.TheVariants.{Create, Write, Read, List as Listing, Verify, Script}
 
 -- a command
 pub data Asked : Type 0 where
   create : Option Text → Text → Asked
   write : Bool → Text → List (Text × Text) → Asked
   read : Text → List Text → Asked
+  list : Asked
+  verify : Option Text → Asked
   script : Asked
 
 -- ---- the home
@@ -60,11 +62,16 @@ abbrev pub as_read : List Row → Option Asked
 as_read rows =
     option_and_then (λ uri. option_map (read uri) (all_of (codes "items") rows)) (first_of (codes "uri") rows)
 
+abbrev pub as_verify : List Row → Option Asked
+as_verify rows = Some (verify (first_of (codes "uri") rows))
+
 abbrev pub as_command : Text × List Row → Option Asked
 as_command p =
     if bytes_eq p.0 (codes "create") then as_create p.1
     else if bytes_eq p.0 (codes "write") then as_write p.1
     else if bytes_eq p.0 (codes "read") then as_read p.1
+    else if bytes_eq p.0 (codes "list") then Some list
+    else if bytes_eq p.0 (codes "verify") then as_verify p.1
     else if bytes_eq p.0 (codes "script") then Some script
     else None
 
@@ -95,4 +102,6 @@ abbrev pub meaning : Command → Asked
 meaning (Create config uri) = create (option_map (λ s. s.now) config) uri.now
 meaning (Write overwrite uri pairs) = write overwrite uri.now (pair_texts pairs.items)
 meaning (Read uri keys) = read uri.now (map (λ s. s.now) keys.items)
+meaning Listing = list
+meaning (Verify uri) = verify (option_map (λ s. s.now) uri)
 meaning Script = script

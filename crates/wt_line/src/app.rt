@@ -2,7 +2,7 @@
 ghost use Rattle.std.specs.Prelude.{◌≡◌, IfOk, false};
 ghost use Rattle.clap.specs.Words.{app_of, rule_of};
 ghost use Rattle.clap.specs.declared.builder.command.Command.TheViews.{out-Command};
-ghost use Rattle.wt_line.specs.App.{create_app, read_app, script_app, top_app, write_app, wt_app, items_rule, uri_rule};
+ghost use Rattle.wt_line.specs.App.{create_app, list_app, read_app, script_app, top_app, verify_app, write_app, wt_app, items_rule, one_uri_rule, uri_rule};
 
 use clap::{Arg, ArgAction, Command};
 use std::alloc::{AllocError, Global};
@@ -14,10 +14,13 @@ pub(crate) fn app<'a>(alloc: Global) -> Result<Command<'a>, AllocError>
     let create = create(alloc)?;
     let write = write(alloc)?;
     let read = read(alloc)?;
+    let verify = verify(alloc)?;
     top(alloc)
         .subcommand(create)?
         .subcommand(write)?
         .subcommand(read)?
+        .subcommand(list(alloc))?
+        .subcommand(verify)?
         .subcommand(script(alloc))
 }
 
@@ -66,6 +69,29 @@ fn write<'a>(alloc: Global) -> Result<Command<'a>, AllocError>
         .arg(overwrite)?
         .arg(uri(alloc))?
         .arg(items(alloc))
+}
+
+fn list<'a>(alloc: Global) -> Command<'a>
+    ensures app { app_of result ≡ list_app }
+    ensures local { (out-Command result).has_globals ≡ false }
+{
+    Command::new(alloc, "list")
+}
+
+// verify [uri]
+fn verify<'a>(alloc: Global) -> Result<Command<'a>, AllocError>
+    ensures app { IfOk result (λ c. app_of c ≡ verify_app) }
+    ensures local { IfOk result (λ c. (out-Command c).has_globals ≡ false) }
+{
+    Command::new(alloc, "verify").arg(one_uri(alloc))
+}
+
+// The table that a command speaks of, where it speaks of one.
+fn one_uri<'a>(alloc: Global) -> Arg<'a>
+    ensures rule { rule_of result ≡ one_uri_rule }
+    ensures local { result.global ≡ false }
+{
+    Arg::new(alloc, "uri")
 }
 
 fn script<'a>(alloc: Global) -> Command<'a>

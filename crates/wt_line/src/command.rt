@@ -2,7 +2,7 @@
 ghost use Rattle.std.specs.Prelude.{◌≡◌, IfOk, IfErr, Some, None, map};
 ghost use Rattle.std.specs.Option.{option_map};
 ghost use Rattle.clap.specs.Words.{all_of, first_of, found_of, rows_of};
-ghost use Rattle.wt_line.specs.Line.{is_set, as_create, as_read, as_write, as_command, meaning, pairs_of, pair_texts};
+ghost use Rattle.wt_line.specs.Line.{is_set, as_create, as_read, as_verify, as_write, as_command, meaning, pairs_of, pair_texts};
 ghost use Rattle.wt_line.specs.declared.line.LineFault.TheVariants.{Usage};
 
 use crate::line::LineFault;
@@ -35,6 +35,13 @@ pub enum Command<'a> {
         /// The keys, one or more.
         keys: Vec<&'a str>,
     },
+    /// Gives the names of all tables.
+    List,
+    /// Reads the whole device.
+    Verify {
+        /// A table that has to be there.
+        uri: Option<&'a str>,
+    },
     /// Runs the script on the standard input.
     Script,
 }
@@ -54,6 +61,10 @@ pub(crate) fn command_in<'a>(
         write_in(alloc, found)
     } else if name == "read" {
         read_in(alloc, found)
+    } else if name == "list" {
+        Ok(Command::List)
+    } else if name == "verify" {
+        Ok(verify_in(found))
     } else if name == "script" {
         Ok(Command::Script)
     } else {
@@ -105,6 +116,14 @@ fn read_in<'a>(alloc: Global, found: &ArgMatches<'a>) -> Result<Command<'a>, Lin
     };
     let keys = Vec::from_slice(alloc, items)?;
     Ok(Command::Read { uri, keys })
+}
+
+fn verify_in<'a>(found: &ArgMatches<'a>) -> Command<'a>
+    ensures { as_verify (rows_of (found_of found.now)) ≡ Some (meaning result) }
+{
+    Command::Verify {
+        uri: text_in(found, "uri"),
+    }
 }
 
 // The first word of an argument.

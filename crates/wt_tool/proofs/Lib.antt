@@ -4,7 +4,9 @@ mod Gets
 mod Going
 mod Leading
 mod Leaving
+mod Listing
 mod Naming
 mod Putting
 mod ScriptRuns
 mod Running
+mod Verifying

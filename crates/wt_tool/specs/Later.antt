@@ -1,21 +1,18 @@
 -- The commands that are still to come, as far as they can be said before their crates. No contract cites this file: with its code a command takes its part into a file of its own, its constructor into `Asked` and its case into `RunsOpened`, and nothing else of the contract changes.
-use Rattle.std.specs.Prelude.{◌≡◌, ◌⊎◌, ◌↔◌, ℕ, ◌+◌, ◌*◌, ◌%◌, ◌/◌, ◌^◌, zero, suc, Bool, true, List, [], ◌∷◌, ◌++◌, length, Option, Some, None, codes, if◌then◌else◌}
-use Rattle.std.specs.List.{flat_map}
+use Rattle.std.specs.Prelude.{◌≡◌, ◌⊎◌, ◌↔◌, ℕ, ◌+◌, ◌*◌, ◌%◌, ◌/◌, ◌^◌, zero, suc, Bool, true, List, [], ◌∷◌, ◌++◌, length, Option, Some, None, if◌then◌else◌}
 use Rattle.std.specs.Prelude.{unwrap_or}
 use Rattle.item.specs.declared.formats.Formats.{Formats}
 use Rattle.wt_code.specs.declared.answers.Answer.{Answer}
 use Rattle.wt_code.specs.declared.answers.Answer.TheVariants.{Done, Left, End as NoneLeft, Refused}
 use Rattle.wt_code.specs.declared.refusals.Refusal.{Refusal}
-use Rattle.wt_code.specs.declared.refusals.Refusal.TheVariants.{NoMemory, DiskFault, NoTable, Corrupt, Invalid as Refusal_Invalid}
+use Rattle.wt_code.specs.declared.refusals.Refusal.TheVariants.{NoMemory, DiskFault, NoTable, Invalid as Refusal_Invalid}
 use Rattle.wt_code.specs.declared.refusals.Invalid.TheVariants.{Text}
 use Rattle.kv_model.specs.Holds.{Member}
 use Rattle.kv_model.specs.History.{Table, tables, named, value}
 use Rattle.kv_model.specs.Machine.{Machine, Completed}
-use Rattle.kv_model.specs.Content.{Content}
 use Rattle.kv_model.specs.Decisions.{Demand}
 use Rattle.kv_model.specs.Rows.{key_lt}
 use Rattle.kv_model.specs.Calls.{Session, System, Call, Begin, PutKey, Commit, Create, CkptStart, CkptStep, CkptFinish, Around, Answers}
-use Rattle.stored.specs.Stored.{Reads}
 use Rattle.script_text.specs.declared.line.Line.{Line}
 use Rattle.script_text.specs.declared.replies.Reply.{Reply}
 use Rattle.script_text.specs.declared.replies.Reply.TheVariants.{Answered}
@@ -32,8 +29,6 @@ use Rattle.wt_tool.specs.Writes.{demand_of}
 pub data AskedLater : Type 0 where
   load : (no_overwrite : Bool) (renamed : Option (List ℕ)) → AskedLater
   dump : (hex reverse : Bool) (uri : List ℕ) → AskedLater
-  list : AskedLater
-  verify : (uri : Option (List ℕ)) → AskedLater
   stress : (seed calls : ℕ) → AskedLater
   workload : (workers turns : ℕ) → AskedLater
 
@@ -41,7 +36,7 @@ pub data AskedLater : Type 0 where
 abbrev pub takes : List ℕ → Ran → Ran
 takes bytes ran = record ran { input = bytes ++ ran.input }
 
--- ---- `load`, `dump`, `list`
+-- ---- `load`, `dump`
 
 -- a table as a text tells it: its items are as stored
 pub record Dump : Type 0 where
@@ -101,35 +96,6 @@ module _ (IsDump : List ℕ → Dump → Type 0) (IsWrongAt : List ℕ → ℕ �
       back : List (List ℕ × List ℕ) → List (List ℕ × List ℕ)
       back [] = []
       back (row ∷ rows) = back rows ++ row ∷ []
-
-abbrev pub Sorted : List (List ℕ) → Type 0
-Sorted [] = Unit {0}
-Sorted (a ∷ []) = Unit {0}
-Sorted (a ∷ (b ∷ names)) = (key_lt a b ≡ true) × Sorted (b ∷ names)
-
--- the names ascend, and are those of the tables
-pub record AreNames (m : Machine) (names : List (List ℕ)) : Type 0 where
-  pub all : (name : List ℕ) → Member name names ↔ ((t : Table) × (named name (tables m.history) ≡ Some t))
-  pub ascend : Sorted names
-
-abbrev pub RunsList : Outside → Point → Ran → Type 0
-RunsList o p ran = (names : List (List ℕ)) × AreNames p.machine names × PrintsWhole o (flat_map (λ name. codes "table:" ++ name ++ 10 ∷ []) names) p ran
-
--- ---- `verify`
-
-abbrev pub IsThere : Option (List ℕ) → Point → Ran → Type 0
-IsThere None q ran = ran ≡ ends Through q
-IsThere (Some uri) q ran =
-    Named uri (λ name r ended. ((named name (tables r.machine.history) ≡ None) × (ended ≡ stops NoTable r)) ⊎ ((t : Table) × (named name (tables r.machine.history) ≡ Some t) × (ended ≡ ends Through r))) q ran
-
--- the device does not read, and a block of it is named; or it reads, and the table is there
-abbrev pub RunsVerify : Option (List ℕ) → Point → Ran → Type 0
-RunsVerify uri p ran =
-    (q : Point) × IsLater p.device q.device × (q.machine ≡ p.machine)
-    × ((ran ≡ stops NoMemory q)
-    ⊎ ((ran ≡ stops DiskFault q)
-    ⊎ (((offset want found : ℕ) × (ran ≡ stops (Corrupt offset want found) q) × ((c : Content) → Reads p.device.seen c → ⊥))
-    ⊎ ((c : Content) × Reads p.device.seen c × IsThere uri q ran))))
 
 -- ---- a checkpoint by steps: the line `sys ckpt` takes it in one event
 

@@ -1,9 +1,11 @@
+pub mod Verifies
 pub mod Words
 pub mod Points
 pub mod Narrow
 pub mod Openings
 pub mod Creates
 pub mod Writes
+pub mod Lists
 pub mod Reads
 pub mod Scripts
 pub mod Commands

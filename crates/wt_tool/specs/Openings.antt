@@ -9,7 +9,7 @@ use Rattle.wt_code.specs.declared.refusals.Invalid.TheVariants.{BadName, BadConf
 use Rattle.wt_code.specs.declared.refusals.Limit.TheVariants.{Image, Tables, Checkpoints}
 use Rattle.kv_model.specs.History.{tables, named}
 use Rattle.kv_model.specs.Machine.{Machine}
-use Rattle.wt_tool.specs.Words.{formats_asked, name_in, plain_formats}
+use Rattle.wt_tool.specs.Words.{AsksFor, name_in, plain_formats}
 use Rattle.wt_tool.specs.Points.{Point, Ran, stops}
 use Rattle.engine_store.specs.Devices.{Device, IsLater, last_number, IsWide, IsUsedUp}
 
@@ -45,9 +45,11 @@ Opened Goes p ran =
 abbrev pub Named : List ℕ → (List ℕ → Point → Ran → Type 0) → Point → Ran → Type 0
 Named uri Goes p ran = MatchOption (name_in uri) (ran ≡ stops (Refusal_Invalid BadName) p) (λ name. Goes name p ran)
 
--- the formats of a configuration
+-- The formats that a configuration asks for. One that is outside the grammar, or names other formats, ends the run; so may want of memory for its items.
 abbrev pub Configured : Option (List ℕ) → (Formats → Point → Ran → Type 0) → Point → Ran → Type 0
-Configured config Goes p ran = MatchOption (formats_asked config) (ran ≡ stops (Refusal_Invalid BadConfig) p) (λ formats. Goes formats p ran)
+Configured config Goes p ran =
+    ((formats : Formats) × AsksFor config formats × Goes formats p ran)
+    ⊎ ((((formats : Formats) → AsksFor config formats → ⊥) × (ran ≡ stops (Refusal_Invalid BadConfig) p)) ⊎ (ran ≡ stops NoMemory p))
 
 -- the formats of the table of this name; where there is none, words are taken as they are
 abbrev pub formats_at : Machine → List ℕ → Formats

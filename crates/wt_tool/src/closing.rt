@@ -16,20 +16,25 @@ use ckpt_step::{checkpoints_open, plain_stays};
 use disk_model::Disk;
 use engine_store::Store;
 use std::alloc::Global;
+use std::mem::forget;
 use wt_code::Refusal;
 
-// Closes the store of a command that gave no stamp.
-pub(crate) fn close<D: Disk>(alloc: Global, disk: &mut D, store: &mut Store) -> Result<(), Refusal>
-    requires ready { IsReady store.old }
-    requires on { IsTrue (D.honest disk.old) → IsSteady D.Disk store.old.engine store.old.ground disk.old }
-    ensures run { IsTrue (D.honest disk.old) → (old : Option Stored) → StandsOn (D.seen disk.old) (D.may_leave disk.old) store.old.engine.hub.tables.tables store.old.ground old
-        → EachReads (D.may_leave disk.old) (content_was old) → (w : World) → IsPlainOn (content_was old) store.old.engine w
-        → Follows old store.old.engine.hub.tables.tables store.old.ground.leaves.items store.old.ground.floor w.machine → LeavesAt D.Disk ClosesOne w.machine disk.old disk.new result }
+// Closes the store of a command that gave no stamp. The command ends with it: the memory of the
+// store goes back as a whole, with the process.
+pub(crate) fn close<D: Disk>(alloc: Global, disk: &mut D, store: Store) -> Result<(), Refusal>
+    requires ready { IsReady store }
+    requires on { IsTrue (D.honest disk.old) → IsSteady D.Disk store.engine store.ground disk.old }
+    ensures run { IsTrue (D.honest disk.old) → (old : Option Stored) → StandsOn (D.seen disk.old) (D.may_leave disk.old) store.engine.hub.tables.tables store.ground old
+        → EachReads (D.may_leave disk.old) (content_was old) → (w : World) → IsPlainOn (content_was old) store.engine w
+        → Follows old store.engine.hub.tables.tables store.ground.leaves.items store.ground.floor w.machine → LeavesAt D.Disk ClosesOne w.machine disk.old disk.new result }
     ensures sound { IfErr result NoDamage }
     ensures fault { IfErr result (λ r. r ≡ Refusal.DiskFault → Rose (D.faults disk.old) (D.faults disk.new)) }
     ensures disk { SameDisk D.Disk disk.old disk.new }
 {
     checkpoints_open();
     plain_stays();
-    store.close(alloc, disk)
+    let mut store = store;
+    let closed = store.close(alloc, disk);
+    forget(store);
+    closed
 }

@@ -42,11 +42,12 @@ pub(crate) fn create<D: Disk>(
     let Some(name) = name_of(uri.as_bytes()) else {
         return Err(Refusal::Invalid(Invalid::BadName));
     };
-    let Some(formats) = formats_asked(config) else {
-        return Err(Refusal::Invalid(Invalid::BadConfig));
+    let formats = match formats_asked(alloc, config) {
+        Ok(formats) => formats,
+        Err(refusal) => return Err(refusal),
     };
     match make_table(alloc, &mut store.engine, name, formats) {
-        Ok(()) => close(alloc, disk, &mut store),
+        Ok(()) => close(alloc, disk, store),
         Err(refusal) => Err(refusal),
     }
 }

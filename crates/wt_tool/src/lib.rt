@@ -10,6 +10,7 @@
 
 mod closing;
 mod create;
+mod list;
 mod names;
 mod opening;
 mod read;
@@ -20,6 +21,7 @@ mod telling;
 #[cfg(test)]
 mod tests;
 mod top;
+mod verify;
 mod write;
 
 pub use status::Status;

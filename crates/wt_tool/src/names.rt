@@ -1,14 +1,16 @@
 // What the words of a command mean.
-ghost use Rattle.std.specs.Prelude.{◌≡◌, ◌≤◌, ◌<◌, ℕ, slice_index_or, length, MatchOption, IfOk, IfSome, IsTrue};
+ghost use Rattle.std.specs.Prelude.{◌≡◌, ◌⊎◌, ◌≤◌, ◌<◌, ℕ, slice_index_or, length, MatchOption, IfErr, IfOk, IfSome, IsTrue};
 ghost use Rattle.std.specs.Option.{option_map};
 ghost use Rattle.kv_model.specs.Decisions.{is_name};
 ghost use Rattle.item_forms.specs.Forms.{stored_as};
-ghost use Rattle.wt_tool.specs.Words.{formats_in, formats_asked, name_in, after_scheme, plain_formats};
+ghost use Rattle.wt_tool.specs.Words.{AsksFor, name_in, after_scheme, plain_formats};
 
+use config_text::table_formats;
 use device_leaf::is_table_name;
 use failure::NoMemory;
 use item::{Format, Formats, Item};
 use std::alloc::Global;
+use wt_code::{Invalid, Refusal};
 
 // Items that are stored as they are.
 pub(crate) fn plain_formats() -> Formats
@@ -21,41 +23,13 @@ pub(crate) fn plain_formats() -> Formats
 }
 
 // The formats that `create` asks for.
-pub(crate) fn formats_asked(config: Option<&str>) -> Option<Formats>
-    ensures { result ≡ formats_asked (option_map (λ x. x.now) config.entry) }
+pub(crate) fn formats_asked(alloc: Global, config: Option<&str>) -> Result<Formats, Refusal>
+    ensures formats { IfOk result (AsksFor (option_map (λ x. x.now) config.entry)) }
+    ensures refused { IfErr result (λ r. (r ≡ Refusal.NoMemory) ⊎ ((r ≡ Refusal.Invalid Invalid.BadConfig) × ((formats : Formats) → AsksFor (option_map (λ x. x.now) config.entry) formats → ⊥))) }
 {
     match config {
-        None => Some(plain_formats()),
-        Some(text) => formats_of(text),
-    }
-}
-
-// The formats of the one form of a configuration.
-fn formats_of(config: &str) -> Option<Formats>
-    ensures { result ≡ formats_in config.now }
-{
-    if config == "key_format=S,value_format=S" {
-        Some(Formats {
-            key: Format::S,
-            value: Format::S,
-        })
-    } else if config == "key_format=S,value_format=u" {
-        Some(Formats {
-            key: Format::S,
-            value: Format::U,
-        })
-    } else if config == "key_format=u,value_format=S" {
-        Some(Formats {
-            key: Format::U,
-            value: Format::S,
-        })
-    } else if config == "key_format=u,value_format=u" {
-        Some(Formats {
-            key: Format::U,
-            value: Format::U,
-        })
-    } else {
-        None
+        None => Ok(plain_formats()),
+        Some(text) => table_formats(alloc, text.as_bytes()),
     }
 }
 

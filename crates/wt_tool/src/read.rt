@@ -20,6 +20,7 @@ use engine::Local;
 use item::{Formats, Item};
 use item_forms::written_as;
 use std::alloc::Global;
+use std::mem::forget;
 use wt_calls::{Call, SessionCall};
 use wt_code::{Answer, Invalid, Refusal};
 use wt_io::{Failed, Sink, write_all};
@@ -40,7 +41,12 @@ pub(crate) fn read<K: Sink, E: Sink>(
 {
     let mut engine = engine;
     match name_of(uri.as_bytes()) {
-        Some(name) => read_named(alloc, out, err, &mut engine, name, keys),
+        Some(name) => {
+            let status = read_named(alloc, out, err, &mut engine, name, keys);
+            // The command ends: the memory of the engine goes back as a whole, with the process.
+            forget(engine);
+            status
+        }
         None => report(alloc, err, &Refusal::Invalid(Invalid::BadName)),
     }
 }

@@ -15,6 +15,7 @@ use disk_model::Disk;
 use engine_store::Store;
 use script_run::{End, ScriptRun, run_script};
 use std::alloc::Global;
+use std::mem::forget;
 use wt_code::Refusal;
 use wt_io::{Sink, Source, write_all};
 
@@ -43,7 +44,10 @@ pub(crate) fn script<D: Disk, S: Source, K: Sink, E: Sink>(
     // What the actors of the system have started is known of every engine.
     store.engine.actors();
     let ran = run_script(alloc, &mut store, disk, input, out);
-    told(alloc, err, &ran)
+    let status = told(alloc, err, &ran);
+    // The command ends: the memory of the store goes back as a whole, with the process.
+    forget(store);
+    status
 }
 
 // Tells how a script ended, and gives the status.

@@ -8,11 +8,13 @@ ghost use Rattle.wt_tool.specs.Parts.{WentFrom, met_of};
 ghost use Rattle.wt_tool.specs.Top.{Promise, Tells, Telling, IsSo, IsAt, IsOpenable, IsStatus, errors_of, lines, first_status};
 
 use crate::create::create;
+use crate::list::list;
 use crate::opening::reach;
 use crate::read::read;
 use crate::script::script;
 use crate::status::Status;
 use crate::telling::report;
+use crate::verify::verify;
 use crate::write::write;
 use disk_model::Home;
 use std::alloc::Global;
@@ -101,6 +103,8 @@ fn run<S: Source, K: Sink, E: Sink, D: Home>(
             told(alloc, err, &result)
         }
         Command::Read { uri, keys } => read(alloc, out, err, store.engine, uri, keys),
+        Command::List => list(alloc, out, err, store.engine),
+        Command::Verify { uri } => verify(alloc, err, store.engine, *uri),
         Command::Script => script(alloc, disk, store, input, out, err),
     }
 }

@@ -50,7 +50,7 @@ pub(crate) fn write<D: Disk>(
         return Ok(());
     }
     match put_all(alloc, &mut store.engine, overwrite, name, pairs) {
-        Ok(()) => close(alloc, disk, &mut store),
+        Ok(()) => close(alloc, disk, store),
         Err(refusal) => Err(refusal),
     }
 }

@@ -102,6 +102,9 @@ fn damage_is_told_by_each_command(rt: HostRuntime) {
         ("read|t|a", 1, told, ""),
         ("write|t|b|2", 1, told, ""),
         ("create|-c|key_format=S,value_format=S|t", 1, told, ""),
+        ("list", 1, told, ""),
+        ("verify", 1, told, ""),
+        ("verify|u", 1, told, ""),
     ];
     let disk = runs(&rt, alloc, disk, &rows);
     assert!(rt; disk.bytes() == before.as_slice());

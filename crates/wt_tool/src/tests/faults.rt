@@ -139,6 +139,7 @@ fn a_failing_write_of_the_errors_changes_nothing_else(rt: HostRuntime) {
             9,
         ),
         (("read|t|b|a", 6, absent, ""), 0, 1),
+        (("list", 6, "output fault\n", ""), 0, 9),
     ];
     for ((line, status, told, printed), out, err) in rows {
         let failing = Failing {

@@ -11,6 +11,8 @@ fn each_is_refused(rt: &impl Abort, alloc: Global, content: Vec<u8>, told: &str)
         ("read|t|a", 1, told, ""),
         ("write|t|b|2", 1, told, ""),
         ("create|u", 1, told, ""),
+        ("list", 1, told, ""),
+        ("verify", 1, told, ""),
         ("script", 1, told, ""),
     ];
     let disk = runs(rt, alloc, disk, &rows);

@@ -1,4 +1,4 @@
-use Rattle.wt_line.proofs.PlainWords.{create_plain, create_configured, overwrite_items, read_items, script_alone, write_items}
+use Rattle.wt_line.proofs.PlainWords.{create_plain, create_configured, list_alone, overwrite_items, read_items, script_alone, verify_alone, verify_plain, write_items}
 use Rattle.wt_line.proofs.law.plain_words_are_items.Goals as goal
 
 pub returns-clause-create : goal.returns-clause-create
@@ -15,6 +15,15 @@ returns-clause-overwrite c = overwrite_items
 
 pub returns-clause-read : goal.returns-clause-read
 returns-clause-read c = read_items
+
+pub returns-clause-list : goal.returns-clause-list
+returns-clause-list c = list_alone
+
+pub returns-clause-verify : goal.returns-clause-verify
+returns-clause-verify c = verify_alone
+
+pub returns-clause-one : goal.returns-clause-one
+returns-clause-one c = verify_plain
 
 pub returns-clause-script : goal.returns-clause-script
 returns-clause-script c = script_alone

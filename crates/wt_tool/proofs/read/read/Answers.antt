@@ -13,17 +13,17 @@ use Rattle.wt_tool.proofs.read.read.Goals as goal
 
 pub returns-in-Some-clause-run : goal.returns-in-Some-clause-run
 returns-in-Some-clause-run g c content starts device =
-    reading_named c.args.uri.now (λ name. ReadsKeys (Rose (g.K.Sink.fault_count c.args.out.now) (g.K.Sink.fault_count c.read_named.new.out)) name (map (λ (s : Bor (List ℕ)). s.now) c.args.keys.now)) (record { machine = start content; device = device }) (g.K.Sink.written c.args.out.now) (g.K.Sink.written c.read_named.new.out)
-    (errors_of g.E.Sink c.args.err.now c.read_named.new.err) c.read_named.result c.in-Some.name.now
+    reading_named c.args.uri.now (λ name. ReadsKeys (Rose (g.K.Sink.fault_count c.args.out.now) (g.K.Sink.fault_count c.read_named-status.new.out)) name (map (λ (s : Bor (List ℕ)). s.now) c.args.keys.now)) (record { machine = start content; device = device }) (g.K.Sink.written c.args.out.now) (g.K.Sink.written c.read_named-status.new.out)
+    (errors_of g.E.Sink c.args.err.now c.read_named-status.new.err) c.read_named-status.result c.in-Some.name.now
     (subst (λ (l : List ℕ). name_in l ≡ Some c.in-Some.name.now) c.as_bytes.ensures.value c.in-Some.ensures.name)
-    (c.read_named.ensures.run content starts device)
+    (c.read_named-status.ensures.run content starts device)
 
-pub returns-clause-run : goal.returns-clause-run
-returns-clause-run g c content starts device =
+pub returns-in-None-clause-run : goal.returns-in-None-clause-run
+returns-in-None-clause-run g c content starts device =
     reading_unnamed c.args.uri.now (λ name. ReadsKeys (Rose (g.K.Sink.fault_count c.args.out.now) (g.K.Sink.fault_count c.args.out.now)) name (map (λ (s : Bor (List ℕ)). s.now) c.args.keys.now)) (record { machine = start content; device = device }) (g.K.Sink.written c.args.out.now) (g.K.Sink.written c.args.out.now)
     (errors_of g.E.Sink c.args.err.now c.report.new.err) c.report.result
     (subst (λ (l : List ℕ). name_in l ≡ None) c.as_bytes.ensures.value c.in-None.ensures.name)
     (took_none _) c.report.ensures.told
 
-pub returns-clause-told : goal.returns-clause-told
-returns-clause-told g c = refusal_tells (errors_of g.E.Sink c.args.err.now c.report.new.err) (Refusal_Invalid BadName) c.report.result tt c.report.ensures.told
+pub returns-in-None-clause-told : goal.returns-in-None-clause-told
+returns-in-None-clause-told g c = refusal_tells (errors_of g.E.Sink c.args.err.now c.report.new.err) (Refusal_Invalid BadName) c.report.result tt c.report.ensures.told

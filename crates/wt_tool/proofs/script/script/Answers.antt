@@ -21,30 +21,30 @@ pub returns-clause-run : goal.returns-clause-run
 returns-clause-run g c h content each =
     let D = g.D.Disk in
     let o : Outside = outside g.S.Source g.K.Sink c.args.input.now c.run_script-ran.new.input c.args.out.now c.run_script-ran.new.out in
-    let w : Streams = streams_of g.S.Source g.K.Sink g.E.Sink c.args.input.now c.run_script-ran.new.input c.args.out.now c.run_script-ran.new.out c.args.err.now c.told.new.err in
+    let w : Streams = streams_of g.S.Source g.K.Sink g.E.Sink c.args.input.now c.run_script-ran.new.input c.args.out.now c.run_script-ran.new.out c.args.err.now c.told-status.new.err in
     let s = c.args.store in
     let on = c.requires.on h in
     let reads = each.0 _ (g.met.D.Disk.reads_an_image _ h) in
     let held = first_held D c.args.disk.now s on content each reads (λ d left. g.met.D.Disk.only_now _ d left) in
     let calm = first_calm D c.args.disk.now s on content each reads c.plain_stays.ensures.starts c.calm_stays.ensures.starts in
     let world = ap (λ (l : List (Option Call)). let v : World = record { machine = start content; sessions = []; systems = l } in v) (four_rest s.engine.systems c.actors.ensures.systems) in
-    scripted D o content w c.args.disk.now c.run_script-ran.new.disk c.run_script-ran.new.store c.run_script-ran.result c.told.result
+    scripted D o content w c.args.disk.now c.run_script-ran.new.disk c.run_script-ran.new.store c.run_script-ran.result c.told-status.result
     (subst (λ (v : World). IsRun D o w.in_before w.in_now w.out_before w.out_now v c.args.disk.now c.run_script-ran.new.disk c.run_script-ran.new.store c.run_script-ran.result) world
     (c.run_script-ran.ensures.run h (first_world content s.engine) held calm))
-    c.told.ensures
+    c.told-status.ensures
 
 pub returns-clause-told : goal.returns-clause-told
-returns-clause-told g c = tells_end _ (errors_of g.E.Sink c.args.err.now c.told.new.err) c.run_script-ran.result c.told.result
-    (end_so _ _ _ c.run_script-ran.result.end c.run_script-ran.ensures.damage) c.told.ensures
+returns-clause-told g c = tells_end _ (errors_of g.E.Sink c.args.err.now c.told-status.new.err) c.run_script-ran.result c.told-status.result
+    (end_so _ _ _ c.run_script-ran.result.end c.run_script-ran.ensures.damage) c.told-status.ensures
 
 pub returns-clause-statuses : goal.returns-clause-statuses
-returns-clause-statuses g c = (tells_means (errors_of g.E.Sink c.args.err.now c.told.new.err) c.run_script-ran.result.end c.run_script-ran.result.met c.told.result c.told.ensures).some
+returns-clause-statuses g c = (tells_means (errors_of g.E.Sink c.args.err.now c.told-status.new.err) c.run_script-ran.result.end c.run_script-ran.result.met c.told-status.result c.told-status.ensures).some
 
 pub returns-clause-disk_fault : goal.returns-clause-disk_fault
-returns-clause-disk_fault g c is = c.run_script-ran.ensures.fault (no_sessions c.args.store.engine c.requires.started) ((tells_means (errors_of g.E.Sink c.args.err.now c.told.new.err) c.run_script-ran.result.end c.run_script-ran.result.met c.told.result c.told.ensures).disk is)
+returns-clause-disk_fault g c is = c.run_script-ran.ensures.fault (no_sessions c.args.store.engine c.requires.started) ((tells_means (errors_of g.E.Sink c.args.err.now c.told-status.new.err) c.run_script-ran.result.end c.run_script-ran.result.met c.told-status.result c.told-status.ensures).disk is)
 
 pub returns-clause-input_fault : goal.returns-clause-input_fault
-returns-clause-input_fault g c is = c.run_script-ran.ensures.input ((tells_means (errors_of g.E.Sink c.args.err.now c.told.new.err) c.run_script-ran.result.end c.run_script-ran.result.met c.told.result c.told.ensures).input is)
+returns-clause-input_fault g c is = c.run_script-ran.ensures.input ((tells_means (errors_of g.E.Sink c.args.err.now c.told-status.new.err) c.run_script-ran.result.end c.run_script-ran.result.met c.told-status.result c.told-status.ensures).input is)
 
 pub returns-clause-output_fault : goal.returns-clause-output_fault
-returns-clause-output_fault g c is = c.run_script-ran.ensures.output ((tells_means (errors_of g.E.Sink c.args.err.now c.told.new.err) c.run_script-ran.result.end c.run_script-ran.result.met c.told.result c.told.ensures).output is)
+returns-clause-output_fault g c is = c.run_script-ran.ensures.output ((tells_means (errors_of g.E.Sink c.args.err.now c.told-status.new.err) c.run_script-ran.result.end c.run_script-ran.result.met c.told-status.result c.told-status.ensures).output is)

@@ -14,6 +14,8 @@ use Rattle.wt_tool.specs.Points.{Point, point_of}
 use Rattle.wt_tool.specs.Creates.{RunsCreate}
 use Rattle.wt_tool.specs.Writes.{RunsWrite}
 use Rattle.wt_tool.specs.Reads.{RunsRead}
+use Rattle.wt_tool.specs.Lists.{RunsList}
+use Rattle.wt_tool.specs.Verifies.{RunsVerify}
 use Rattle.wt_tool.specs.Commands.{RunsOpened}
 use Rattle.wt_tool.specs.Top.{Errors, IsSo, Streams, Telling, Went, errors_of, streams_of}
 use Rattle.wt_tool.proofs.Running.{refused_open, may_open, opened_reads, starts_on, opens_of, gave_none, telling, no_damage_so, told_so, opening_so, status_some, untold_at, stopped, left_by_calls, reading_went, script_went}
@@ -119,6 +121,52 @@ returns-in-Write-clause-opened g c h none = opened_reads g.D.Disk c.args.disk.no
 
 pub returns-in-Read-clause-opened : goal.returns-in-Read-clause-opened
 returns-in-Read-clause-opened g c h none = opened_reads g.D.Disk c.args.disk.now c.reach.new.disk c.in-Ok.store c.reach.ensures.looked (c.in-Ok.ensures.ok h)
+
+pub returns-in-List-clause-run : goal.returns-in-List-clause-run
+returns-in-List-clause-run g c h content each =
+    let D = g.D.Disk in
+    let looked = c.reach.ensures.looked in
+    let o : Outside = outside g.S.Source g.K.Sink c.args.input.now c.args.input.now c.args.out.now c.list.new.out in
+    let w : Streams = streams_of g.S.Source g.K.Sink g.E.Sink c.args.input.now c.args.input.now c.args.out.now c.list.new.out c.args.err.now c.list.new.err in
+    let reads = each.0 _ (g.met.D.Disk.reads_an_image _ h) in
+    let first = looked_only D _ _ _ looked (λ d left. each.0 d (g.met.D.Disk.only_now _ d left)) in
+    let q : Point = point_of D (start content) c.reach.new.disk in
+    reading_went D c.args.disk.now c.reach.new.disk content each.1 o (meaning c.args.command.now) w (gave_none _) (RunsList (Rose (g.K.Sink.fault_count c.args.out.now) (g.K.Sink.fault_count c.list.new.out))) c.list.result
+    (opens_of D (start content) c.args.disk.now c.reach.new.disk looked) (may_open D c.args.disk.now c.reach.new.disk c.in-Ok.store looked (c.in-Ok.ensures.ok h) content reads)
+    (λ ran run. subst (λ (a : Command). RunsOpened o (meaning a) q ran) (sym c.in-List.is) run)
+    (λ d left. each.0 d (looked.images d left)) first.each
+    (c.list.ensures.run content (starts_on D c.args.disk.now c.reach.new.disk c.in-Ok.store looked (c.in-Ok.ensures.ok h) content reads) q.device)
+
+pub returns-in-List-clause-told : goal.returns-in-List-clause-told
+returns-in-List-clause-told g c = told_so _ _ _ _ c.list.result c.list.ensures.told
+
+pub returns-in-List-clause-silent : goal.returns-in-List-clause-silent
+returns-in-List-clause-silent g c h = inr (opened_reads g.D.Disk c.args.disk.now c.reach.new.disk c.in-Ok.store c.reach.ensures.looked (c.in-Ok.ensures.ok h))
+
+pub returns-in-List-clause-opened : goal.returns-in-List-clause-opened
+returns-in-List-clause-opened g c h none = opened_reads g.D.Disk c.args.disk.now c.reach.new.disk c.in-Ok.store c.reach.ensures.looked (c.in-Ok.ensures.ok h)
+
+pub returns-in-Verify-clause-run : goal.returns-in-Verify-clause-run
+returns-in-Verify-clause-run g c h content each =
+    let D = g.D.Disk in
+    let looked = c.reach.ensures.looked in
+    let o : Outside = outside g.S.Source g.K.Sink c.args.input.now c.args.input.now c.args.out.now c.args.out.now in
+    let w : Streams = streams_of g.S.Source g.K.Sink g.E.Sink c.args.input.now c.args.input.now c.args.out.now c.args.out.now c.args.err.now c.verify.new.err in
+    let reads = each.0 _ (g.met.D.Disk.reads_an_image _ h) in
+    let first = looked_only D _ _ _ looked (λ d left. each.0 d (g.met.D.Disk.only_now _ d left)) in
+    let q : Point = point_of D (start content) c.reach.new.disk in
+    let uri = option_map {T = Bor (List ℕ)} {U = List ℕ} (λ x. x.now) c.in-Verify.uri in
+    reading_went D c.args.disk.now c.reach.new.disk content each.1 o (meaning c.args.command.now) w (gave_none _) (RunsVerify uri) c.verify.result
+    (opens_of D (start content) c.args.disk.now c.reach.new.disk looked) (may_open D c.args.disk.now c.reach.new.disk c.in-Ok.store looked (c.in-Ok.ensures.ok h) content reads)
+    (λ ran run. subst (λ (a : Command). RunsOpened o (meaning a) q ran) (sym c.in-Verify.is) run)
+    (λ d left. each.0 d (looked.images d left)) first.each
+    (c.verify.ensures.run content (starts_on D c.args.disk.now c.reach.new.disk c.in-Ok.store looked (c.in-Ok.ensures.ok h) content reads) q.device (g.K.Sink.written c.args.out.now))
+
+pub returns-in-Verify-clause-told : goal.returns-in-Verify-clause-told
+returns-in-Verify-clause-told g c = told_so _ _ _ _ c.verify.result c.verify.ensures.told
+
+pub returns-in-Verify-clause-opened : goal.returns-in-Verify-clause-opened
+returns-in-Verify-clause-opened g c h none = opened_reads g.D.Disk c.args.disk.now c.reach.new.disk c.in-Ok.store c.reach.ensures.looked (c.in-Ok.ensures.ok h)
 
 pub returns-in-Script-clause-run : goal.returns-in-Script-clause-run
 returns-in-Script-clause-run g c h content each =

@@ -44,8 +44,8 @@ returns-in-Ok-clause-run g c h content each =
     (closed_after g.D.Disk c.args.disk.now c.args.store on c.plain_stays.ensures.starts (Put c.args.overwrite c.args.pairs.now c.in-Some.name.now) content each (each.0 _ (g.met.D.Disk.reads_an_image _ h))
     (record c.args.store { engine = c.put_all.new.engine }) c.close.new.disk c.close.result c.in-Ok.ensures.grows refl c.in-Ok.ensures.makes (c.close.ensures.run h))
 
-pub returns-clause-run : goal.returns-clause-run
-returns-clause-run g c h content each =
+pub returns-in-Err-clause-run : goal.returns-in-Err-clause-run
+returns-in-Err-clause-run g c h content each =
     let on = c.requires.on h in
     leaves_as g.D.Disk (Put c.args.overwrite c.args.pairs.now c.in-Some.name.now) (RunsWrite c.args.overwrite c.args.uri.now (pair_texts c.args.pairs.now)) (start content) c.args.disk.now c.args.disk.now (Err c.in-Err.refusal)
     (λ p ran run. named_goes c.args.uri.now (Written c.args.overwrite c.args.pairs.now) c.in-Some.name.now (subst (λ (l : List ℕ). name_in l ≡ Some c.in-Some.name.now) c.as_bytes.ensures.value c.in-Some.ensures.name) p ran (writes_some c.in-Some.name.now (demand_of c.args.overwrite) c.args.pairs.now c.is_empty.result c.if-is_empty.false c.is_empty.ensures p ran run))
