@@ -6,3 +6,4 @@ pub mod Numbers
 pub mod Kept
 pub mod Blocks
 pub mod Recorded
+pub mod Fronts

@@ -1,7 +1,7 @@
 // From a record to its image.
 ghost use Rattle.std.specs.Prelude.{◌≡◌, ◌≤◌, ◌<◌, ◌^◌, ◌++◌, length, IfOk, OnOk};
 ghost use Rattle.std.specs.List.{flat_map, AllByRecursion};
-ghost use Rattle.std.specs.Int.{w64};
+ghost use Rattle.std.specs.Int.{w8, w32, w64};
 ghost use Rattle.le_codec.specs.Fields.{le};
 ghost use Rattle.stored.specs.Links.{link_text};
 ghost use Rattle.stored.specs.Records.{IsRecord, letter as letter_of, record_body, record_image, snapshot_text, table_text};
@@ -151,24 +151,44 @@ fn put_table(out: &mut Writer, table: &LentRoot<'_>) -> Result<(), NoMemory>
     requires { length table.now.table.name ≤ 128 }
     ensures { OnOk result (out.new ≡ out.old ++ table_text table.now) }
 {
-    put_numbers(out, table)?;
-    let root = &table.root;
-    put_link(out, &root.link)?;
+    let front = front_of(table);
+    out.slice(&front)?;
     out.slice(name_of(table))
 }
 
-// What stands before the link of a table.
-fn put_numbers(out: &mut Writer, table: &LentRoot<'_>) -> Result<(), NoMemory>
+// What stands before the name of a table.
+#[inline(always)]
+fn front_of(table: &LentRoot<'_>) -> [u8; TABLE]
     requires { length table.now.table.name ≤ 128 }
-    ensures { OnOk result (out.new ≡ out.old ++ numbers_text table.now) }
+    ensures { result ≡ numbers_text table.now ++ link_text table.now.root.link }
 {
     let named = table.table;
     let root = &table.root;
-    out.u32(named.number)?;
-    out.u8(letter(named.formats.key))?;
-    out.u8(letter(named.formats.value))?;
-    out.u8(root.level)?;
-    out.u8(name_of(table).len() as u8)
+    front_bytes(
+        named.number,
+        letter(named.formats.key),
+        letter(named.formats.value),
+        root.level,
+        name_of(table).len() as u8,
+        &root.link,
+    )
+}
+
+fn front_bytes(number: u32, key: u8, value: u8, level: u8, len: u8, link: &Link) -> [u8; TABLE]
+    ensures { result ≡ (le w32 number ++ le w8 key ++ le w8 value ++ le w8 level ++ le w8 len) ++ link_text link.now }
+{
+    let [n0, n1, n2, n3] = number.to_le_bytes();
+    let [o0, o1, o2, o3, o4, o5, o6, o7] = link.addr.offset.to_le_bytes();
+    let [b0, b1, b2, b3] = link.addr.size.to_le_bytes();
+    let [s0, s1, s2, s3] = link.addr.sum.to_le_bytes();
+    let [r0, r1, r2, r3, r4, r5, r6, r7] = link.greatest.run.to_le_bytes();
+    let [i0, i1, i2, i3, i4, i5, i6, i7] = link.greatest.id.to_le_bytes();
+    let [d0, d1, d2, d3, d4, d5, d6, d7] = link.durable.to_le_bytes();
+    [
+        n0, n1, n2, n3, key, value, level, len, o0, o1, o2, o3, o4, o5, o6, o7, b0, b1, b2, b3, s0,
+        s1, s2, s3, r0, r1, r2, r3, r4, r5, r6, r7, i0, i1, i2, i3, i4, i5, i6, i7, d0, d1, d2, d3,
+        d4, d5, d6, d7,
+    ]
 }
 
 fn letter(format: Format) -> u8
