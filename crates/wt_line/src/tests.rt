@@ -1,6 +1,7 @@
 // What words that people type come to.
 use crate::{LineFault, home_of, parse};
 use std::alloc::Global;
+use std::process::Abort;
 use std::test::Fail;
 
 fn owned(alloc: Global, words: &[&str]) -> Result<Vec<String>, Fail> {
@@ -30,6 +31,16 @@ fn split<'a>(alloc: Global, line: &'a str) -> Result<Vec<&'a str>, Fail> {
         words.push(word)?;
     }
     Ok(words)
+}
+
+// Each line comes to the text beside it.
+fn come_to(rt: &impl Abort, alloc: Global, rows: &[(&str, &str)]) -> Result<(), Fail> {
+    for (line, wanted) in rows {
+        let words = split(alloc, line)?;
+        let found = answer(alloc, words.as_slice())?;
+        assert_eq!(rt; found.as_str(), *wanted, "at {line}");
+    }
+    Ok(())
 }
 
 #[test]
@@ -154,12 +165,7 @@ fn words_are_read_as_a_simple_command_s_are(rt: HostRuntime) -> Result<(), Fail>
         ("script|--", ". Script"),
         ("-h|d|script", "d Script"),
     ];
-    for (line, wanted) in &rows {
-        let words = split(alloc, line)?;
-        let found = answer(alloc, words.as_slice())?;
-        assert_eq!(rt; found.as_str(), *wanted, "at {line}");
-    }
-    Ok(())
+    come_to(&rt, alloc, &rows)
 }
 
 #[test]
