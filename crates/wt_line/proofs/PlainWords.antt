@@ -6,8 +6,8 @@ use Rattle.clap.specs.Walk.{Row, Text, finished, nothing_held, settled_rows, sto
 use Rattle.clap.specs.Faults.{built_fault, level_fault, turn_fault, walk_fault}
 use Rattle.clap.specs.Simple.{Shape, argument_words, built, built_leaf, entered, inherited, names_of, rows_at}
 use Rattle.clap.proofs.OnLiterals.{clap_on_literals}
-use Rattle.wt_line.specs.App.{create_app, list_app, read_app, script_app, top_app, verify_app, write_app, wt_app}
-use Rattle.wt_line.specs.Line.{as_command, command_of, create, list, matched_command, pairs_of, read, script, verify, where_none, write, write_of}
+use Rattle.wt_line.specs.App.{create_app, dump_app, list_app, read_app, script_app, top_app, verify_app, write_app, wt_app}
+use Rattle.wt_line.specs.Line.{as_command, command_of, create, dump, list, matched_command, pairs_of, read, script, verify, where_none, write, write_of}
 use Rattle.wt_line.specs.Plain.{IsPlain, ArePlain, EachWord, HasItems, HasPlainItems, write_words, read_words, dashed}
 use Rattle.wt_line.proofs.WalkedWords.{Enters, Leads, TakesItems, all_pass, at_items, end_fault, entered_below, fault_below, in_range, level_passes, unfaulted_to_items, walked_to_items}
 
@@ -432,6 +432,76 @@ script_read = refl
 
 pub script_alone : command_of (codes "script" ∷ []) ≡ Some script
 script_alone = entered_by (codes "script") script_shape [] script_enters script_passes ∙ script_read
+
+-- ---- dump
+
+abbrev dump_shape : Shape
+dump_shape = built_leaf (inherited top_app.top dump_app.top)
+
+dump_enters : Enters (built wt_app) (codes "dump") dump_shape
+unfolding wt_app clap_on_literals
+dump_enters = record {
+  met = refl;
+  unfaulted = refl;
+  found = refl;
+  settles = refl;
+  defaults = refl;
+  checks = refl;
+}
+
+dump_passes : (uri : Text) → IsPlain uri → level_fault dump_shape [] nothing_held (uri ∷ []) false [] ≡ []
+unfolding clap_on_literals
+dump_passes [] h = refl
+dump_passes (x ∷ xs) h = simp h
+
+dump_read : (uri : Text) → IsPlain uri → as_command (rows_at dump_shape (uri ∷ [])) ≡ Some (dump false false uri)
+unfolding clap_on_literals
+dump_read [] h = refl
+dump_read (x ∷ xs) h = simp h
+
+pub dump_plain : (uri : Text) → IsPlain uri → command_of (codes "dump" ∷ uri ∷ []) ≡ Some (dump false false uri)
+dump_plain uri plain =
+    entered_by (codes "dump") dump_shape (uri ∷ []) dump_enters (dump_passes uri plain) ∙ dump_read uri plain
+
+hex_passes : (uri : Text) → IsPlain uri → level_fault dump_shape [] nothing_held (codes "-x" ∷ uri ∷ []) false [] ≡ []
+unfolding clap_on_literals
+hex_passes [] h = refl
+hex_passes (x ∷ xs) h = simp h
+
+hex_read : (uri : Text) → IsPlain uri → as_command (rows_at dump_shape (codes "-x" ∷ uri ∷ [])) ≡ Some (dump true false uri)
+unfolding clap_on_literals
+hex_read [] h = refl
+hex_read (x ∷ xs) h = simp h
+
+pub dump_hex : (uri : Text) → IsPlain uri → command_of (codes "dump" ∷ codes "-x" ∷ uri ∷ []) ≡ Some (dump true false uri)
+dump_hex uri plain =
+    entered_by (codes "dump") dump_shape (codes "-x" ∷ uri ∷ []) dump_enters (hex_passes uri plain) ∙ hex_read uri plain
+
+reverse_passes : (uri : Text) → IsPlain uri → level_fault dump_shape [] nothing_held (codes "-r" ∷ uri ∷ []) false [] ≡ []
+unfolding clap_on_literals
+reverse_passes [] h = refl
+reverse_passes (x ∷ xs) h = simp h
+
+reverse_read : (uri : Text) → IsPlain uri → as_command (rows_at dump_shape (codes "-r" ∷ uri ∷ [])) ≡ Some (dump false true uri)
+unfolding clap_on_literals
+reverse_read [] h = refl
+reverse_read (x ∷ xs) h = simp h
+
+pub dump_reverse : (uri : Text) → IsPlain uri → command_of (codes "dump" ∷ codes "-r" ∷ uri ∷ []) ≡ Some (dump false true uri)
+dump_reverse uri plain =
+    entered_by (codes "dump") dump_shape (codes "-r" ∷ uri ∷ []) dump_enters (reverse_passes uri plain) ∙ reverse_read uri plain
+
+dump_behind_passes : (uri : Text) → level_fault dump_shape [] nothing_held (codes "--" ∷ uri ∷ []) false [] ≡ []
+unfolding clap_on_literals
+dump_behind_passes uri = refl
+
+dump_behind_read : (uri : Text) → as_command (rows_at dump_shape (codes "--" ∷ uri ∷ [])) ≡ Some (dump false false uri)
+unfolding clap_on_literals
+dump_behind_read uri = refl
+
+pub dump_behind : (uri : Text) → command_of (codes "dump" ∷ codes "--" ∷ uri ∷ []) ≡ Some (dump false false uri)
+dump_behind uri =
+    entered_by (codes "dump") dump_shape (codes "--" ∷ uri ∷ []) dump_enters (dump_behind_passes uri) ∙ dump_behind_read uri
 
 -- ---- of all the items
 

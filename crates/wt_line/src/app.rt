@@ -2,7 +2,7 @@
 ghost use Rattle.std.specs.Prelude.{◌≡◌, IfOk, false};
 ghost use Rattle.clap.specs.Words.{app_of, rule_of};
 ghost use Rattle.clap.specs.declared.builder.command.Command.TheViews.{out-Command};
-ghost use Rattle.wt_line.specs.App.{create_app, list_app, read_app, script_app, top_app, verify_app, write_app, wt_app, items_rule, one_uri_rule, uri_rule};
+ghost use Rattle.wt_line.specs.App.{create_app, dump_app, list_app, read_app, script_app, top_app, verify_app, write_app, wt_app, items_rule, one_uri_rule, uri_rule};
 
 use clap::{Arg, ArgAction, Command};
 use std::alloc::{AllocError, Global};
@@ -15,13 +15,15 @@ pub(crate) fn app<'a>(alloc: Global) -> Result<Command<'a>, AllocError>
     let write = write(alloc)?;
     let read = read(alloc)?;
     let verify = verify(alloc)?;
+    let dump = dump(alloc)?;
     top(alloc)
         .subcommand(create)?
         .subcommand(write)?
         .subcommand(read)?
         .subcommand(list(alloc))?
         .subcommand(verify)?
-        .subcommand(script(alloc))
+        .subcommand(script(alloc))?
+        .subcommand(dump)
 }
 
 fn top<'a>(alloc: Global) -> Command<'a>
@@ -109,4 +111,19 @@ fn read<'a>(alloc: Global) -> Result<Command<'a>, AllocError>
     Command::new(alloc, "read")
         .arg(uri(alloc))?
         .arg(items(alloc))
+}
+
+// dump [-x] [-r] uri
+fn dump<'a>(alloc: Global) -> Result<Command<'a>, AllocError>
+    ensures app { IfOk result (λ c. app_of c ≡ dump_app) }
+    ensures local { IfOk result (λ c. (out-Command c).has_globals ≡ false) }
+{
+    let hex = Arg::new(alloc, "hex").short('x').action(ArgAction::SetTrue);
+    let reverse = Arg::new(alloc, "reverse")
+        .short('r')
+        .action(ArgAction::SetTrue);
+    Command::new(alloc, "dump")
+        .arg(hex)?
+        .arg(reverse)?
+        .arg(uri(alloc))
 }

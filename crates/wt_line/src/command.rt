@@ -2,7 +2,7 @@
 ghost use Rattle.std.specs.Prelude.{◌≡◌, IfOk, IfErr, Some, None, map};
 ghost use Rattle.std.specs.Option.{option_map};
 ghost use Rattle.clap.specs.Words.{all_of, first_of, found_of, rows_of};
-ghost use Rattle.wt_line.specs.Line.{is_set, as_create, as_read, as_verify, as_write, as_command, meaning, pairs_of, pair_texts};
+ghost use Rattle.wt_line.specs.Line.{is_set, as_create, as_dump, as_read, as_verify, as_write, as_command, meaning, pairs_of, pair_texts};
 ghost use Rattle.wt_line.specs.declared.line.LineFault.TheVariants.{Usage};
 
 use crate::line::LineFault;
@@ -44,6 +44,15 @@ pub enum Command<'a> {
     },
     /// Runs the script on the standard input.
     Script,
+    /// Gives the rows of a table.
+    Dump {
+        /// Whether items are written as hexadecimal.
+        hex: bool,
+        /// Whether the last row comes first.
+        reverse: bool,
+        /// The table.
+        uri: &'a str,
+    },
 }
 
 // The command of this name, of what was found for it.
@@ -67,6 +76,8 @@ pub(crate) fn command_in<'a>(
         Ok(verify_in(found))
     } else if name == "script" {
         Ok(Command::Script)
+    } else if name == "dump" {
+        dump_in(found)
     } else {
         Err(LineFault::Usage)
     }
@@ -124,6 +135,20 @@ fn verify_in<'a>(found: &ArgMatches<'a>) -> Command<'a>
     Command::Verify {
         uri: text_in(found, "uri"),
     }
+}
+
+fn dump_in<'a>(found: &ArgMatches<'a>) -> Result<Command<'a>, LineFault>
+    ensures command { IfOk result (λ c. as_dump (rows_of (found_of found.now)) ≡ Some (meaning c)) }
+    ensures usage { IfErr result (λ e. e ≡ Usage → as_dump (rows_of (found_of found.now)) ≡ None) }
+{
+    let Some(uri) = text_in(found, "uri") else {
+        return Err(LineFault::Usage);
+    };
+    Ok(Command::Dump {
+        hex: is_set(found, "hex"),
+        reverse: is_set(found, "reverse"),
+        uri,
+    })
 }
 
 // The first word of an argument.

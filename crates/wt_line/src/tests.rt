@@ -164,6 +164,26 @@ fn words_are_read_as_a_simple_command_s_are(rt: HostRuntime) -> Result<(), Fail>
         ("script", ". Script"),
         ("script|--", ". Script"),
         ("-h|d|script", "d Script"),
+        (
+            "dump|t",
+            ". Dump { hex: false, reverse: false, uri: \"t\" }",
+        ),
+        (
+            "dump|-x|-r|t",
+            ". Dump { hex: true, reverse: true, uri: \"t\" }",
+        ),
+        (
+            "dump|t|-rx",
+            ". Dump { hex: true, reverse: true, uri: \"t\" }",
+        ),
+        (
+            "-h|d|dump|-r|t",
+            "d Dump { hex: false, reverse: true, uri: \"t\" }",
+        ),
+        (
+            "dump|--|-x",
+            ". Dump { hex: false, reverse: false, uri: \"-x\" }",
+        ),
     ];
     come_to(&rt, alloc, &rows)
 }
@@ -223,7 +243,6 @@ fn other_words_are_no_command(rt: HostRuntime) -> Result<(), Fail> {
         "-V",
         "creat|t",
         "Create|t",
-        "dump|t",
         "t|create",
         "list|t",
         "list|-o",
@@ -235,6 +254,14 @@ fn other_words_are_no_command(rt: HostRuntime) -> Result<(), Fail> {
         "script|-h|d",
         "script|--|t",
         "scripts",
+        "dump",
+        "dump|-x",
+        "dump|t|u",
+        "dump|-x|-x|t",
+        "dump|-xx|t",
+        "dump|-n|t",
+        "dump|-x=true|t",
+        "dumps|t",
     ];
     for line in &rows {
         let words = split(alloc, line)?;

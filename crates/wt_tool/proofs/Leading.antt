@@ -86,14 +86,14 @@ grows e e' w later stands stands' keeps = record {
   tables = reversed e.hub.tables.tables e'.hub.tables.tables keeps.more (stands'.made ∙ keeps.tables ∙ ap (λ (l : List Table). keeps.more ++ l) (sym stands.made));
 }
 
-quiet_on : (w later : World) → IsQuiet w → later ≡ record w { machine = later.machine } → IsQuiet later
+pub quiet_on : (w later : World) → IsQuiet w → later ≡ record w { machine = later.machine } → IsQuiet later
 quiet_on w later quiet is = subst IsQuiet (sym is) (record { sessions = quiet.sessions; systems = quiet.systems })
 
 leads_by : (e e' : Engine) (w later : World) → Stands e w → Stands e' later → IsQuiet later → Keeps w.machine later.machine → (IsPlain w.machine → GoesPlain w.machine later.machine) → Leads e e' w later
 leads_by e e' w later stands stands' quiet keeps plain = record { stands = stands'; quiet = quiet; completed = keeps.completed; grows = grows e e' w later stands stands' keeps; plain = plain }
 
 -- the answer of a session that rests
-session_answered : (d : Doing) (w : World) (c : Call) (a : Answer (List ℕ)) (later : World) → d ≡ Resting → CallsIn d w 0 c a later → SessionAnswers nothing_around w.machine 0 c a later.machine × (later ≡ record w { machine = later.machine })
+pub session_answered : (d : Doing) (w : World) (c : Call) (a : Answer (List ℕ)) (later : World) → d ≡ Resting → CallsIn d w 0 c a later → SessionAnswers nothing_around w.machine 0 c a later.machine × (later ≡ record w { machine = later.machine })
 session_answered d w c a later rests is = subst (λ (x : Doing). CallsIn x w 0 c a later) rests is
 
 system_answered : (o : Option Call) (w : World) (c : Call) (a : Answer (List ℕ)) (later : World) → o ≡ None → MakesAt o w c a later → SystemAnswers nothing_around w.machine c a later.machine × (later ≡ record w { machine = later.machine })

@@ -1,5 +1,6 @@
 mod Called
 mod Closings
+mod Dumping
 mod Gets
 mod Going
 mod Leading
@@ -7,6 +8,8 @@ mod Leaving
 mod Listing
 mod Naming
 mod Putting
+mod RowLists
 mod ScriptRuns
 mod Running
 mod Verifying
+mod Walking

@@ -7,9 +7,11 @@ pub mod Creates
 pub mod Writes
 pub mod Lists
 pub mod Reads
+pub mod Dumps
 pub mod Scripts
 pub mod Commands
 pub mod Top
 pub mod Parts
 pub mod Led
+pub mod Walks
 pub mod Later

@@ -10,6 +10,7 @@
 
 mod closing;
 mod create;
+mod dump;
 mod list;
 mod names;
 mod opening;

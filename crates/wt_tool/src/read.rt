@@ -8,11 +8,11 @@ ghost use Rattle.engine_world.specs.Worlds.{World};
 ghost use Rattle.wt_tool.specs.Openings.{formats_at};
 ghost use Rattle.wt_tool.specs.Reads.{RunsRead, ReadsKeys, the_get};
 ghost use Rattle.wt_tool.specs.Parts.{HasStarted, IsQuiet, ReadsOn, NoDamage};
-ghost use Rattle.wt_tool.specs.Led.{BegunBy, GotBy, IsSteady, Leads};
+ghost use Rattle.wt_tool.specs.Led.{GotBy, IsSteady, Leads};
 ghost use Rattle.wt_tool.specs.Top.{Telling, errors_of};
 
 use crate::names::{item_of, name_of, stored_as};
-use crate::sessions::{call, formats_for, open};
+use crate::sessions::{begin, formats_for, is_absence};
 use crate::status::Status;
 use crate::telling::report;
 use ckpt_step::plain_stays;
@@ -92,18 +92,6 @@ fn read_named<K: Sink, E: Sink>(
     status
 }
 
-// A session is opened, and its transaction begins.
-fn begin(alloc: Global, engine: &mut Local) -> Result<(), Refusal>
-    requires started { HasStarted engine.old }
-    ensures led { (w : World) → Stands engine.old w → IsQuiet w → (later : World) × Leads engine.old engine.new w later × BegunBy w.machine later.machine result }
-    ensures there { OnOk result (0 < length engine.new.sessions) }
-{
-    match open(alloc, engine) {
-        Ok(()) => call(alloc, engine, SessionCall::Begin(None)),
-        Err(refusal) => Err(refusal),
-    }
-}
-
 // The value of the key of a word.
 fn get(
     alloc: Global,
@@ -124,15 +112,6 @@ fn get(
         Answer::Value(value) => Ok(value),
         Answer::Refused(refusal) => Err(refusal),
         _ => Err(Refusal::NoMemory),
-    }
-}
-
-fn is_absence(refusal: &Refusal) -> bool
-    ensures { IsTrue result ↔ (refusal.now ≡ Refusal.NotFound) }
-{
-    match refusal {
-        Refusal::NotFound => true,
-        _ => false,
     }
 }
 

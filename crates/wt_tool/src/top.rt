@@ -8,6 +8,7 @@ ghost use Rattle.wt_tool.specs.Parts.{WentFrom, met_of};
 ghost use Rattle.wt_tool.specs.Top.{Promise, Tells, Telling, IsSo, IsAt, IsOpenable, IsStatus, errors_of, lines, first_status};
 
 use crate::create::create;
+use crate::dump::dump;
 use crate::list::list;
 use crate::opening::reach;
 use crate::read::read;
@@ -106,6 +107,9 @@ fn run<S: Source, K: Sink, E: Sink, D: Home>(
         Command::List => list(alloc, out, err, store.engine),
         Command::Verify { uri } => verify(alloc, err, store.engine, *uri),
         Command::Script => script(alloc, disk, store, input, out, err),
+        Command::Dump { hex, reverse, uri } => {
+            dump(alloc, out, err, store.engine, *hex, *reverse, uri)
+        }
     }
 }
 

@@ -140,6 +140,9 @@ fn a_failing_write_of_the_errors_changes_nothing_else(rt: HostRuntime) {
         ),
         (("read|t|b|a", 6, absent, ""), 0, 1),
         (("list", 6, "output fault\n", ""), 0, 9),
+        (("dump|t", 6, "output fault\n", ""), 0, 9),
+        (("dump|t", 6, "", ""), 0, 0),
+        (("dump|u", 1, "", ""), 9, 0),
     ];
     for ((line, status, told, printed), out, err) in rows {
         let failing = Failing {

@@ -117,6 +117,55 @@ const ROWS: &[Story<'static>] = &[
         len: 16384,
     },
     Story {
+        shows: "a dump has each row of its table, upwards or downwards, in either form",
+        start: Start::Created(ROOM),
+        rows: &[
+            (
+                "dump|t",
+                0,
+                "",
+                "WiredTiger Dump (row store 1)\nFormat=print\nHeader\ntable:t\nkey_format=S,value_format=S\nData\n",
+            ),
+            ("write|t|k\\|\n", 0, "", ""),
+            (
+                "dump|t",
+                0,
+                "",
+                "WiredTiger Dump (row store 1)\nFormat=print\nHeader\ntable:t\nkey_format=S,value_format=S\nData\nk\\\\\\00\n\\0a\\00\n",
+            ),
+            (
+                "dump|-x|t",
+                0,
+                "",
+                "WiredTiger Dump (row store 1)\nFormat=hex\nHeader\ntable:t\nkey_format=S,value_format=S\nData\n6b5c00\n0a00\n",
+            ),
+            ("create|u", 0, "", ""),
+            ("write|u|b|2|a|1", 0, "", ""),
+            (
+                "dump|table:u",
+                0,
+                "",
+                "WiredTiger Dump (row store 1)\nFormat=print\nHeader\ntable:u\nkey_format=u,value_format=u\nData\na\n1\nb\n2\n",
+            ),
+            (
+                "dump|-r|u",
+                0,
+                "",
+                "WiredTiger Dump (row store 1)\nFormat=print\nHeader\ntable:u\nkey_format=u,value_format=u\nData\nb\n2\na\n1\n",
+            ),
+            (
+                "dump|-r|-x|u",
+                0,
+                "",
+                "WiredTiger Dump (row store 1)\nFormat=hex\nHeader\ntable:u\nkey_format=u,value_format=u\nData\n62\n32\n61\n31\n",
+            ),
+            ("dump|v", 1, "2 no table\n", ""),
+            ("dump|file:t", 1, "22 name\n", ""),
+            ("dump", 1, USAGE, ""),
+        ],
+        len: 24576,
+    },
+    Story {
         shows: "any bytes may stand in a key or a value",
         start: Start::Created(ROOM),
         rows: &[

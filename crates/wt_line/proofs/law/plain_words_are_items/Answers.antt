@@ -1,4 +1,4 @@
-use Rattle.wt_line.proofs.PlainWords.{create_plain, create_configured, list_alone, overwrite_items, read_items, script_alone, verify_alone, verify_plain, write_items}
+use Rattle.wt_line.proofs.PlainWords.{create_plain, create_configured, dump_hex, dump_plain, dump_reverse, list_alone, overwrite_items, read_items, script_alone, verify_alone, verify_plain, write_items}
 use Rattle.wt_line.proofs.law.plain_words_are_items.Goals as goal
 
 pub returns-clause-create : goal.returns-clause-create
@@ -27,3 +27,12 @@ returns-clause-one c = verify_plain
 
 pub returns-clause-script : goal.returns-clause-script
 returns-clause-script c = script_alone
+
+pub returns-clause-dump : goal.returns-clause-dump
+returns-clause-dump c = dump_plain
+
+pub returns-clause-hex : goal.returns-clause-hex
+returns-clause-hex c = dump_hex
+
+pub returns-clause-reverse : goal.returns-clause-reverse
+returns-clause-reverse c = dump_reverse

@@ -14,6 +14,7 @@ use Rattle.wt_tool.specs.Points.{Point, point_of}
 use Rattle.wt_tool.specs.Creates.{RunsCreate}
 use Rattle.wt_tool.specs.Writes.{RunsWrite}
 use Rattle.wt_tool.specs.Reads.{RunsRead}
+use Rattle.wt_tool.specs.Dumps.{RunsDump}
 use Rattle.wt_tool.specs.Lists.{RunsList}
 use Rattle.wt_tool.specs.Verifies.{RunsVerify}
 use Rattle.wt_tool.specs.Commands.{RunsOpened}
@@ -167,6 +168,30 @@ returns-in-Verify-clause-told g c = told_so _ _ _ _ c.verify.result c.verify.ens
 
 pub returns-in-Verify-clause-opened : goal.returns-in-Verify-clause-opened
 returns-in-Verify-clause-opened g c h none = opened_reads g.D.Disk c.args.disk.now c.reach.new.disk c.in-Ok.store c.reach.ensures.looked (c.in-Ok.ensures.ok h)
+
+pub returns-in-Dump-clause-run : goal.returns-in-Dump-clause-run
+returns-in-Dump-clause-run g c h content each =
+    let D = g.D.Disk in
+    let looked = c.reach.ensures.looked in
+    let o : Outside = outside g.S.Source g.K.Sink c.args.input.now c.args.input.now c.args.out.now c.dump.new.out in
+    let w : Streams = streams_of g.S.Source g.K.Sink g.E.Sink c.args.input.now c.args.input.now c.args.out.now c.dump.new.out c.args.err.now c.dump.new.err in
+    let reads = each.0 _ (g.met.D.Disk.reads_an_image _ h) in
+    let first = looked_only D _ _ _ looked (λ d left. each.0 d (g.met.D.Disk.only_now _ d left)) in
+    let q : Point = point_of D (start content) c.reach.new.disk in
+    reading_went D c.args.disk.now c.reach.new.disk content each.1 o (meaning c.args.command.now) w (gave_none _) (RunsDump (Rose (g.K.Sink.fault_count c.args.out.now) (g.K.Sink.fault_count c.dump.new.out)) c.in-Dump.hex c.in-Dump.reverse c.in-Dump.uri.now) c.dump.result
+    (opens_of D (start content) c.args.disk.now c.reach.new.disk looked) (may_open D c.args.disk.now c.reach.new.disk c.in-Ok.store looked (c.in-Ok.ensures.ok h) content reads)
+    (λ ran run. subst (λ (a : Command). RunsOpened o (meaning a) q ran) (sym c.in-Dump.is) run)
+    (λ d left. each.0 d (looked.images d left)) first.each
+    (c.dump.ensures.run content (starts_on D c.args.disk.now c.reach.new.disk c.in-Ok.store looked (c.in-Ok.ensures.ok h) content reads) q.device)
+
+pub returns-in-Dump-clause-told : goal.returns-in-Dump-clause-told
+returns-in-Dump-clause-told g c = told_so _ _ _ _ c.dump.result c.dump.ensures.told
+
+pub returns-in-Dump-clause-silent : goal.returns-in-Dump-clause-silent
+returns-in-Dump-clause-silent g c h = inr (opened_reads g.D.Disk c.args.disk.now c.reach.new.disk c.in-Ok.store c.reach.ensures.looked (c.in-Ok.ensures.ok h))
+
+pub returns-in-Dump-clause-opened : goal.returns-in-Dump-clause-opened
+returns-in-Dump-clause-opened g c h none = opened_reads g.D.Disk c.args.disk.now c.reach.new.disk c.in-Ok.store c.reach.ensures.looked (c.in-Ok.ensures.ok h)
 
 pub returns-in-Script-clause-run : goal.returns-in-Script-clause-run
 returns-in-Script-clause-run g c h content each =

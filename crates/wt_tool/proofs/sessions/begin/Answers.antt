@@ -1,5 +1,5 @@
 use Rattle.wt_tool.proofs.Going.{begun_by, not_begun}
-use Rattle.wt_tool.proofs.read.begin.Goals as goal
+use Rattle.wt_tool.proofs.sessions.begin.Goals as goal
 
 pub returns-in-Ok-clause-led : goal.returns-in-Ok-clause-led
 returns-in-Ok-clause-led c w stands quiet = begun_by c.args.engine.now c.open.new.engine c.call.new.engine w c.call.result (c.in-Ok.ensures.led w stands quiet) (λ v there rests. c.call.ensures.led v there rests)
