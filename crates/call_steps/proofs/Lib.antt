@@ -1,4 +1,5 @@
 mod Cursors
+mod HeldKeys
 mod Names
 mod Newest
 mod RowWalk

@@ -5,6 +5,7 @@ use Rattle.wt_code.specs.declared.answers.Answer.TheVariants as answer
 use Rattle.wt_code.specs.declared.refusals.Refusal.TheVariants as refusal
 use Rattle.kv_model.specs.Refusals.{stamp_of}
 use Rattle.leaf_chains.specs.declared.slot.KeyChain.{KeyChain}
+use Rattle.leaf_frame.specs.Leaf.{HeldLeaf}
 use Rattle.call_steps.specs.declared.edit.Edit.{Edit}
 use Rattle.call_steps.specs.declared.edit.Edit.TheVariants as edit
 use Rattle.call_steps.specs.declared.frame.Frame.{Frame}
@@ -20,12 +21,15 @@ use Rattle.call_steps.specs.Written.{frame_at, leaf_start}
 use Rattle.call_steps.specs.Looks.{own_name, LookedBy}
 use Rattle.call_steps.specs.State.{State, at_stage, answered, leaving_in}
 
+abbrev pub with_leaf : HeldLeaf → Frame → Frame
+with_leaf leaf f = record f { leaf = leaf }
+
 abbrev pub with_chains : List KeyChain → Frame → Frame
-with_chains slots f = record f { chains = slots }
+with_chains slots f = record f { leaf = record f.leaf { chains = slots } }
 
 -- the chains of the leaf, where the frame has one, are changed
 abbrev pub piece_changed : (List KeyChain → List KeyChain) → FramePiece → FramePiece
-piece_changed change p = record p { frame = option_map (λ (f : Frame). with_chains (change f.chains) f) p.frame }
+piece_changed change p = record p { frame = option_map (λ (f : Frame). with_chains (change f.leaf.chains) f) p.frame }
 
 -- ---- looks
 
@@ -33,7 +37,7 @@ piece_changed change p = record p { frame = option_map (λ (f : Frame). with_cha
 abbrev pub LookMade : Option Frame → KeyCall → View → Target → FramePiece → State → FramePiece → State → Type 0
 LookMade None call view target p s p' s' = (p' ≡ p) × (s' ≡ answered call target (answer.Refused (refusal.Again 0)) s)
 LookMade (Some f) call view target p s p' s' =
-    (slots : List KeyChain) × (p' ≡ record p { frame = Some (with_chains slots f) }) × LookedBy call view target f.chains s slots s'
+    (leaf : HeldLeaf) × (p' ≡ record p { frame = Some (with_leaf leaf f) }) × LookedBy call view target f.leaf s leaf s'
 
 -- ---- what was written in a leaf
 
@@ -46,7 +50,7 @@ edits view edit s left p = piece_changed (leaf_changed (edited (own_name view) e
 
 abbrev pub prev_in : Option Frame → State → ℕ → ℕ → ℕ
 prev_in None s left prev = prev
-prev_in (Some f) s left prev = leaf_prev s.written (frame_at s.written left) left f.chains prev
+prev_in (Some f) s left prev = leaf_prev s.written (frame_at s.written left) left f.leaf prev
 
 abbrev pub with_prev : CommitStamps → ℕ → CommitStamps
 with_prev stamps prev = record stamps { prev = prev }

@@ -1,5 +1,5 @@
 -- What is done to a leaf that a transaction wrote.
-use Rattle.std.specs.Prelude.{ℕ, zero, suc, ◌==◌, max, List, [], ◌∷◌, if◌then◌else◌, slice_get}
+use Rattle.std.specs.Prelude.{ℕ, zero, suc, ◌==◌, max, List, [], if◌then◌else◌, slice_get}
 use Rattle.stamp.specs.declared.Name.{Name}
 use Rattle.kv_model.specs.Machine.{of_some}
 use Rattle.kv_model.specs.Refusals.{stamp_of, or_stamp}
@@ -9,6 +9,7 @@ use Rattle.update_chain.specs.declared.update.Update.{Update}
 use Rattle.update_chain.specs.Updates.{front_changed, stamped, marked, undone}
 use Rattle.leaf_chains.specs.declared.slot.KeyChain.{KeyChain}
 use Rattle.leaf_chains.specs.Slots.{slot_changed}
+use Rattle.leaf_frame.specs.Leaf.{HeldLeaf, durable_under}
 use Rattle.call_steps.specs.declared.edit.Edit.{Edit}
 use Rattle.call_steps.specs.declared.edit.Edit.TheVariants as edit
 use Rattle.call_steps.specs.declared.stage.CommitStamps.{CommitStamps}
@@ -27,20 +28,14 @@ edited name (edit.Mark stamp) = front_changed name (marked stamp)
 edited name (edit.Stamp commit durable) = front_changed name (stamped commit durable)
 edited name edit.Undo = undone name
 
--- the durable stamp of what lies below the newest update, 0 where nothing does
-abbrev pub durable_below : List Update → ℕ
-durable_below [] = 0
-durable_below (u ∷ []) = 0
-durable_below (u ∷ (v ∷ older)) = v.version.window.durable
-
 abbrev pub chain_in : List KeyChain → ℕ → List Update
 chain_in slots i = of_some [] (λ (s : KeyChain). s.chain) (slice_get slots i)
 
 -- the greatest durable stamp below one of these keys, or the one from before
-abbrev pub leaf_prev : List WrittenKey → ℕ → ℕ → List KeyChain → ℕ → ℕ
-leaf_prev keys frame zero slots prev = prev
-leaf_prev keys frame (suc n) slots prev =
-    if frame_at keys (suc n) == frame then leaf_prev keys frame n slots (max prev (durable_below (chain_in slots (slot_at keys (suc n))))) else prev
+abbrev pub leaf_prev : List WrittenKey → ℕ → ℕ → HeldLeaf → ℕ → ℕ
+leaf_prev keys frame zero leaf prev = prev
+leaf_prev keys frame (suc n) leaf prev =
+    if frame_at keys (suc n) == frame then leaf_prev keys frame n leaf (max prev (durable_under leaf.page (slice_get leaf.chains (slot_at keys (suc n))))) else prev
 
 -- the durable stamp of a commit: a transaction that is not prepared gives none
 abbrev pub durable_of : Phase → CommitStamps → ℕ

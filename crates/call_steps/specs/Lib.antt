@@ -9,5 +9,6 @@ pub mod Leaves
 pub mod Looks
 pub mod FrameEvents
 pub mod SlotLooks
+pub mod HeldRows
 pub mod Lengths
 pub mod Texts

@@ -1,8 +1,9 @@
--- What a look at a leaf makes of its chains and of the session.
+-- What a look at a leaf makes of it and of the session.
 use Rattle.std.specs.Prelude.{◌≡◌, ◌⊎◌, ℕ, ◌==◌, Bool, true, false, List, [], ◌∷◌, ◌++◌, Option, Some, None, if◌then◌else◌, slice_get}
 use Rattle.item.specs.declared.Change.{Change}
 use Rattle.item.specs.declared.Change.TheVariants.{Put, Remove}
 use Rattle.stamp.specs.declared.Name.{Name}
+use Rattle.stamp.specs.declared.Version.{Version}
 use Rattle.stamp.specs.declared.View.{View}
 use Rattle.wt_code.specs.declared.answers.Answer.{Answer}
 use Rattle.wt_code.specs.declared.answers.Answer.TheVariants as answer
@@ -10,14 +11,16 @@ use Rattle.wt_code.specs.declared.refusals.Refusal.{Refusal}
 use Rattle.wt_code.specs.declared.refusals.Refusal.TheVariants as refusal
 use Rattle.kv_model.specs.Machine.{of_some}
 use Rattle.kv_model.specs.Rows.{Way, is_past, comes_after}
+use Rattle.rows_shown.specs.Shows.{shown_at}
 use Rattle.txn_table.specs.declared.phase.Phase.TheVariants as phase
 use Rattle.update_chain.specs.declared.look.Judgement.{Judgement}
 use Rattle.update_chain.specs.declared.look.Judgement.TheVariants as judgement
 use Rattle.update_chain.specs.declared.update.Update.{Update}
-use Rattle.update_chain.specs.Updates.{Reply, Gives, IsRemoved, Conflicts, IsOlder, read_of, is_led_by, is_named}
+use Rattle.update_chain.specs.Updates.{Reply, Gives, IsRemoved, Conflicts, IsOlder, is_led_by, is_named, unmarked_update}
 use Rattle.update_chain.specs.Writing.{judgement_by}
-use Rattle.leaf_chains.specs.declared.slot.KeyChain.{KeyChain}
 use Rattle.leaf_chains.specs.Slots.{chain_at, slot_of, with_update}
+use Rattle.leaf_frame.specs.Leaf.{HeldLeaf}
+use Rattle.leaf_frame.specs.Looks.{read_at}
 use Rattle.wt_calls.specs.declared.demand.Demand.{Demand}
 use Rattle.wt_calls.specs.declared.demand.Demand.TheVariants as demand
 use Rattle.wt_calls.specs.Calls.{way_in}
@@ -47,7 +50,7 @@ own_name view = record { run = view.run; id = view.own }
 
 -- ---- reads
 
--- what the chain gives: a copy of the value, or want of memory for it
+-- what the leaf gives: a copy of the value, or want of memory for it
 abbrev pub ReadBy : Reply → KeyCall → Target → State → State → Type 0
 ReadBy (Gives v) call target s s' = (s' ≡ answered call target (answer.Value v) s) ⊎ (s' ≡ answered call target no_memory s)
 ReadBy IsRemoved call target s s' = s' ≡ answered call target (refused refusal.NotFound) s
@@ -73,10 +76,16 @@ found_by (judgement.Refused name) view demand u = found.Conflict name
 abbrev pub found_over : View → Demand → Update → Found
 found_over view demand u = found_by (judgement_by view u) view demand u
 
--- what a write finds at a key with this chain
-abbrev pub write_found : View → Demand → List Update → Found
-write_found view demand [] = free_or_unmet demand false false
-write_found view demand (u ∷ older) = found_over view demand u
+-- what a write finds at a key without updates, by its row
+abbrev pub found_under : Judgement → Demand → Version Change → Found
+found_under judgement.Allowed demand v = free_or_unmet demand (is_put v.change) false
+found_under (judgement.Refused name) demand v = found.Conflict name
+
+-- what a write finds at a key with this chain over this row
+abbrev pub write_found : View → Demand → List Update → Option (Version Change) → Found
+write_found view demand (u ∷ older) row = found_over view demand u
+write_found view demand [] None = free_or_unmet demand false false
+write_found view demand [] (Some v) = found_under (judgement_by view (unmarked_update v)) demand v
 
 abbrev pub update_by : Name → Change → Update
 update_by name change = record { version = record { window = record { name = name; commit = 0; durable = 0 }; change = change }; prepared = 0 }
@@ -87,47 +96,47 @@ noted true k s = s
 noted false k s = record s { written = s.written ++ k ∷ [] }
 
 -- the update stands on top of the chain of its key, which is noted
-pub record IsInstalled (name : Name) (frame : ℕ) (change : Change) (led : Bool) (slots : List KeyChain) (s : State) (slots' : List KeyChain) (s' : State) : Type 0 where
+pub record IsInstalled (name : Name) (frame : ℕ) (change : Change) (led : Bool) (leaf : HeldLeaf) (s : State) (leaf' : HeldLeaf) (s' : State) : Type 0 where
   pub slot : ℕ
-  pub slots_are : slots' ≡ with_update s.key (update_by name change) slots
-  pub there : slot_of s.key slots' ≡ Some slot
+  pub leaf_is : leaf' ≡ record leaf { chains = with_update s.key (update_by name change) leaf.chains }
+  pub there : slot_of s.key leaf'.chains ≡ Some slot
   pub state : s' ≡ noted led (record { frame = frame; slot = slot }) s
 
 -- it is installed, or memory was too short
-abbrev pub AcceptedBy : Name → KeyCall → Target → Change → List KeyChain → State → List KeyChain → State → Type 0
-AcceptedBy name call target change slots s slots' s' =
-    ((middle : State) × IsInstalled name target.frame change (is_led_by name (chain_at s.key slots)) slots s slots' middle × (s' ≡ clears call target answer.Done middle))
-    ⊎ ((slots' ≡ slots) × (s' ≡ clears call target no_memory s))
+abbrev pub AcceptedBy : Name → KeyCall → Target → Change → HeldLeaf → State → HeldLeaf → State → Type 0
+AcceptedBy name call target change leaf s leaf' s' =
+    ((middle : State) × IsInstalled name target.frame change (is_led_by name (chain_at s.key leaf.chains)) leaf s leaf' middle × (s' ≡ clears call target answer.Done middle))
+    ⊎ ((leaf' ≡ leaf) × (s' ≡ clears call target no_memory s))
 
 -- the transaction can be rolled back, no more
 abbrev pub conflicts : KeyCall → Target → Name → State → State
 conflicts call target name s = clears call target (refused (refusal.Rollback name.run name.id)) (record s { phase = phase.Failed })
 
-abbrev pub FoundBy : Found → Name → KeyCall → Target → Change → List KeyChain → State → List KeyChain → State → Type 0
-FoundBy (found.Conflict other) name call target change slots s slots' s' = (slots' ≡ slots) × (s' ≡ conflicts call target other s)
-FoundBy (found.Unmet r) name call target change slots s slots' s' = (slots' ≡ slots) × (s' ≡ clears call target (refused r) s)
-FoundBy (found.Free led) name call target change slots s slots' s' = AcceptedBy name call target change slots s slots' s'
+abbrev pub FoundBy : Found → Name → KeyCall → Target → Change → HeldLeaf → State → HeldLeaf → State → Type 0
+FoundBy (found.Conflict other) name call target change leaf s leaf' s' = (leaf' ≡ leaf) × (s' ≡ conflicts call target other s)
+FoundBy (found.Unmet r) name call target change leaf s leaf' s' = (leaf' ≡ leaf) × (s' ≡ clears call target (refused r) s)
+FoundBy (found.Free led) name call target change leaf s leaf' s' = AcceptedBy name call target change leaf s leaf' s'
 
-abbrev pub WrittenBy : View → KeyCall → Target → Demand → Change → List KeyChain → State → List KeyChain → State → Type 0
-WrittenBy view call target demand change slots s slots' s' = FoundBy (write_found view demand (chain_at s.key slots)) (own_name view) call target change slots s slots' s'
+abbrev pub WrittenBy : View → KeyCall → Target → Demand → Change → HeldLeaf → State → HeldLeaf → State → Type 0
+WrittenBy view call target demand change leaf s leaf' s' = FoundBy (write_found view demand (chain_at s.key leaf.chains) (shown_at s.key leaf.page)) (own_name view) call target change leaf s leaf' s'
 
 -- ---- rows
 
--- a read of the chain gives neither a value nor a conflict
-abbrev pub IsSilent : View → List Update → Type 0
-IsSilent view chain = (read_of view chain ≡ IsRemoved) ⊎ (read_of view chain ≡ IsOlder)
+-- a read of the key gives neither a value nor a conflict
+abbrev pub IsSilent : View → List ℕ → HeldLeaf → Type 0
+IsSilent view key leaf = (read_at view key leaf ≡ IsRemoved) ⊎ (read_at view key leaf ≡ IsOlder)
 
-abbrev pub SilentBefore : View → Way → Option (List ℕ) → List ℕ → List KeyChain → Type 0
-SilentBefore view way from key slots = (k : List ℕ) → is_past way from k ≡ true → comes_after way k key ≡ true → IsSilent view (chain_at k slots)
+abbrev pub SilentBefore : View → Way → Option (List ℕ) → List ℕ → HeldLeaf → Type 0
+SilentBefore view way from key leaf = (k : List ℕ) → is_past way from k ≡ true → comes_after way k key ≡ true → IsSilent view k leaf
 
--- the nearest key on the way whose chain is not silent, which gives this
-pub record IsNearestRow (view : View) (way : Way) (from : Option (List ℕ)) (slots : List KeyChain) (key : List ℕ) (reply : Reply) : Type 0 where
+-- the nearest key on the way that is not silent, which gives this
+pub record IsNearestRow (view : View) (way : Way) (from : Option (List ℕ)) (leaf : HeldLeaf) (key : List ℕ) (reply : Reply) : Type 0 where
   pub past : is_past way from key ≡ true
-  pub reads : read_of view (chain_at key slots) ≡ reply
-  pub before : SilentBefore view way from key slots
+  pub reads : read_at view key leaf ≡ reply
+  pub before : SilentBefore view way from key leaf
 
-abbrev pub NoRow : View → Way → Option (List ℕ) → List KeyChain → Type 0
-NoRow view way from slots = (k : List ℕ) → is_past way from k ≡ true → IsSilent view (chain_at k slots)
+abbrev pub NoRow : View → Way → Option (List ℕ) → HeldLeaf → Type 0
+NoRow view way from leaf = (k : List ℕ) → is_past way from k ≡ true → IsSilent view k leaf
 
 -- where a cursor starts on a table
 abbrev pub starts_from : ℕ → Option Position → Option (List ℕ)
@@ -141,16 +150,10 @@ abbrev pub from_of : State → ℕ → ℕ → Option (List ℕ)
 from_of s cursor table = start_in s.cursors cursor table
 
 -- what a search for a row finds
-abbrev pub RowFoundBy : View → Way → Option (List ℕ) → List KeyChain → RowFound → Type 0
-RowFoundBy view way from slots (row.Row key v) = IsNearestRow view way from slots key.now (Gives v.now)
-RowFoundBy view way from slots (row.Conflict id) = (key : List ℕ) × IsNearestRow view way from slots key (Conflicts id)
-RowFoundBy view way from slots row.End = NoRow view way from slots
-
--- what a key gives
-abbrev pub IsRowAt : View → List ℕ → List KeyChain → RowFound → Type 0
-IsRowAt view key slots (row.Row k v) = (k.now ≡ key) × (read_of view (chain_at key slots) ≡ Gives v.now)
-IsRowAt view key slots (row.Conflict id) = read_of view (chain_at key slots) ≡ Conflicts id
-IsRowAt view key slots row.End = ⊥
+abbrev pub RowFoundBy : View → Way → Option (List ℕ) → HeldLeaf → RowFound → Type 0
+RowFoundBy view way from leaf (row.Row key v) = IsNearestRow view way from leaf key.now (Gives v.now)
+RowFoundBy view way from leaf (row.Conflict id) = (key : List ℕ) × IsNearestRow view way from leaf key (Conflicts id)
+RowFoundBy view way from leaf row.End = NoRow view way from leaf
 
 -- a row that is found, copied, with its key once more for the cursor
 abbrev pub StepsAs : RowFound → Stepped → Type 0
@@ -160,11 +163,11 @@ StepsAs row.End stepped.End = Unit {0}
 StepsAs _ _ = ⊥
 
 -- the key of the row is kept for the cursor
-abbrev pub SteppedBy : View → Way → Option (List ℕ) → KeyCall → Target → List KeyChain → State → State → Type 0
-SteppedBy view way from call target slots s s' =
-    ((key v : List ℕ) × IsNearestRow view way from slots key (Gives v) × (s' ≡ answered call target (answer.Row key v) (record s { key = key })))
-    ⊎ (((key : List ℕ) × (id : ℕ) × IsNearestRow view way from slots key (Conflicts id) × (s' ≡ answered call target (refused (refusal.PrepareConflict id)) s))
-    ⊎ ((NoRow view way from slots × (s' ≡ answered call target (refused refusal.NotFound) s))
+abbrev pub SteppedBy : View → Way → Option (List ℕ) → KeyCall → Target → HeldLeaf → State → State → Type 0
+SteppedBy view way from call target leaf s s' =
+    ((key v : List ℕ) × IsNearestRow view way from leaf key (Gives v) × (s' ≡ answered call target (answer.Row key v) (record s { key = key })))
+    ⊎ (((key : List ℕ) × (id : ℕ) × IsNearestRow view way from leaf key (Conflicts id) × (s' ≡ answered call target (refused (refusal.PrepareConflict id)) s))
+    ⊎ ((NoRow view way from leaf × (s' ≡ answered call target (refused refusal.NotFound) s))
     ⊎ (s' ≡ answered call target no_memory s)))
 
 -- ---- any of them
@@ -172,10 +175,10 @@ SteppedBy view way from call target slots s s' =
 abbrev pub without_value : State → State
 without_value s = record s { value = [] }
 
-abbrev pub LookedBy : KeyCall → View → Target → List KeyChain → State → List KeyChain → State → Type 0
-LookedBy call.Get view target slots s slots' s' = (slots' ≡ slots) × ReadBy (read_of view (chain_at s.key slots)) call.Get target s s'
-LookedBy (call.Seek cursor) view target slots s slots' s' = (slots' ≡ slots) × ReadBy (read_of view (chain_at s.key slots)) (call.Seek cursor) target s s'
-LookedBy (call.Put demand) view target slots s slots' s' = WrittenBy view (call.Put demand) target demand (Put s.value) slots (without_value s) slots' s'
-LookedBy call.Remove view target slots s slots' s' = WrittenBy view call.Remove target demand.Occupied Remove slots s slots' s'
-LookedBy (call.Step cursor way) view target slots s slots' s' =
-    (slots' ≡ slots) × SteppedBy view (way_in way) (from_of s cursor target.table) (call.Step cursor way) target slots s s'
+abbrev pub LookedBy : KeyCall → View → Target → HeldLeaf → State → HeldLeaf → State → Type 0
+LookedBy call.Get view target leaf s leaf' s' = (leaf' ≡ leaf) × ReadBy (read_at view s.key leaf) call.Get target s s'
+LookedBy (call.Seek cursor) view target leaf s leaf' s' = (leaf' ≡ leaf) × ReadBy (read_at view s.key leaf) (call.Seek cursor) target s s'
+LookedBy (call.Put demand) view target leaf s leaf' s' = WrittenBy view (call.Put demand) target demand (Put s.value) leaf (without_value s) leaf' s'
+LookedBy call.Remove view target leaf s leaf' s' = WrittenBy view call.Remove target demand.Occupied Remove leaf s leaf' s'
+LookedBy (call.Step cursor way) view target leaf s leaf' s' =
+    (leaf' ≡ leaf) × SteppedBy view (way_in way) (from_of s cursor target.table) (call.Step cursor way) target leaf s s'

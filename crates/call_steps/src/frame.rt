@@ -1,14 +1,14 @@
 // Frames and their leaves.
 
-use leaf_chains::LeafChains;
+use leaf_frame::LeafFrame;
 
 /// A leaf in memory.
 #[derive(Drop)]
 pub struct Frame {
     /// The number of its table.
     pub table: u32,
-    /// The updates of its keys.
-    pub chains: LeafChains,
+    /// The rows of its page, under the updates of its keys.
+    pub leaf: LeafFrame,
 }
 
 /// A frame: the piece that an event on it holds.

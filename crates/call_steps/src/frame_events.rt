@@ -23,8 +23,9 @@ use txn_table::Phase;
 use wt_code::{Answer, Refusal};
 
 /// The session's next event, which is on the piece of a frame; the view is its transaction's. A
-/// look costs `O(log n)` comparisons with n keys of the leaf, and a copy of the value that it
-/// reads; what was written in a leaf is passed in `O(k)`, with k of its keys.
+/// look costs `O(log n)` comparisons with n keys and rows of the leaf, and a copy of the value that
+/// it reads; what was written in a leaf is passed in `O(k)`, with k of its keys, and before a commit
+/// in `O(log n)` more for each that has one update.
 pub fn frame_event(alloc: Global, piece: &mut FramePiece, view: &View<'_>, state: &mut SessionState)
     requires { IsSight (sight_of view.now) }
     ensures { FrameMade view.now piece.old state.old piece.new state.new }
@@ -52,7 +53,7 @@ fn look(
 {
     match &mut piece.frame {
         None => state.answer(call, target, Answer::Refused(Refusal::Again { seen: 0 })),
-        Some(frame) => state.look(alloc, &mut frame.chains, view, call, target),
+        Some(frame) => state.look(alloc, &mut frame.leaf, view, call, target),
     }
 }
 
@@ -115,7 +116,7 @@ fn edit(piece: &mut FramePiece, view: &View<'_>, state: &SessionState, edit: Edi
     let keys = state.written.as_slice();
     if let Some(frame) = &mut piece.frame {
         edit_leaf(
-            &mut frame.chains,
+            &mut frame.leaf,
             keys,
             frame_at(keys, left),
             left,
@@ -140,7 +141,7 @@ fn prev_in(piece: &FramePiece, state: &SessionState, left: usize, prev: u64) -> 
     let keys = state.written.as_slice();
     match &piece.frame {
         None => prev,
-        Some(frame) => leaf_prev(&frame.chains, keys, frame_at(keys, left), left, prev),
+        Some(frame) => leaf_prev(&frame.leaf, keys, frame_at(keys, left), left, prev),
     }
 }
 

@@ -2,15 +2,14 @@
 
 ghost use Rattle.std.specs.Prelude.{◌≡◌};
 ghost use Rattle.leaf_chains.specs.Slots.{slot_changed};
-ghost use Rattle.call_steps.specs.Leaves.{leaf_changed, leaf_prev, edited, durable_below, chain_in};
+ghost use Rattle.call_steps.specs.Leaves.{leaf_changed, leaf_prev, edited};
 ghost use Rattle.call_steps.specs.Written.{slot_at, leaf_start};
 
 use crate::edit::Edit;
 use crate::words::frame_at;
 use crate::written::WrittenKey;
-use leaf_chains::LeafChains;
+use leaf_frame::LeafFrame;
 use stamp::Name;
-use update_chain::Chain;
 
 // The slot of the last of the first `left` keys.
 fn slot_at(keys: &[WrittenKey], left: usize) -> u32
@@ -43,45 +42,46 @@ pub(crate) fn leaf_start(keys: &[WrittenKey], frame: u32, left: usize) -> usize
 /// `O(k)` in these keys.
 #[inline(always)]
 pub(crate) fn edit_leaf(
-    chains: &mut LeafChains,
+    leaf: &mut LeafFrame,
     keys: &[WrittenKey],
     frame: u32,
     left: usize,
     name: Name,
     edit: Edit,
 )
-    ensures { chains.new ≡ leaf_changed (edited name edit) keys.now frame left chains.old }
+    ensures { leaf.new ≡ record leaf.old { chains = leaf_changed (edited name edit) keys.now frame left leaf.old.chains } }
 {
     let mut at = left;
     while at > 0 {
         if frame_at(keys, at) != frame {
             return;
         }
-        edit_slot(chains, slot_at(keys, at), name, edit);
+        edit_slot(leaf, slot_at(keys, at), name, edit);
         at -= 1;
     }
 }
 
-fn edit_slot(chains: &mut LeafChains, slot: u32, name: Name, edit: Edit)
-    ensures { chains.new ≡ slot_changed slot (edited name edit) chains.old }
+fn edit_slot(leaf: &mut LeafFrame, slot: u32, name: Name, edit: Edit)
+    ensures { leaf.new ≡ record leaf.old { chains = slot_changed slot (edited name edit) leaf.old.chains } }
 {
     match edit {
-        Edit::Mark(stamp) => chains.mark_prepared(slot, name, stamp),
-        Edit::Stamp(commit, durable) => chains.stamp(slot, name, commit, durable),
-        Edit::Undo => chains.undo(slot, name),
+        Edit::Mark(stamp) => leaf.mark_prepared(slot, name, stamp),
+        Edit::Stamp(commit, durable) => leaf.stamp(slot, name, commit, durable),
+        Edit::Undo => leaf.undo(slot, name),
     }
 }
 
 /// The greatest durable stamp below one of the keys of a frame among those that end the first
-/// `left`, or the one from before. `O(k)` in these keys.
+/// `left`, or the one from before. `O(k)` in these keys, and `O(log n)` in the rows of the page for
+/// each that has one update.
 pub(crate) fn leaf_prev(
-    chains: &LeafChains,
+    leaf: &LeafFrame,
     keys: &[WrittenKey],
     frame: u32,
     left: usize,
     prev: u64,
 ) -> u64
-    ensures { result ≡ leaf_prev keys.now frame left chains.now prev }
+    ensures { result ≡ leaf_prev keys.now frame left leaf.now prev }
 {
     let mut at = left;
     let mut most = prev;
@@ -89,27 +89,8 @@ pub(crate) fn leaf_prev(
         if frame_at(keys, at) != frame {
             return most;
         }
-        most = most.max(durable_in(chains, slot_at(keys, at)));
+        most = most.max(leaf.durable_below(slot_at(keys, at)));
         at -= 1;
     }
     most
-}
-
-fn durable_in(chains: &LeafChains, slot: u32) -> u64
-    ensures { result ≡ durable_below (chain_in chains.now slot) }
-{
-    match chains.chain(slot) {
-        None => 0,
-        Some(chain) => durable_below(chain),
-    }
-}
-
-// The durable stamp of what lies below the newest update, 0 where nothing does.
-fn durable_below(chain: &Chain) -> u64
-    ensures { result ≡ durable_below chain.now }
-{
-    match chain.get(1) {
-        None => 0,
-        Some(update) => update.version.window.durable,
-    }
 }

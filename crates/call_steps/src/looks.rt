@@ -1,100 +1,110 @@
 // Looks at a leaf.
 
-ghost use Rattle.std.specs.Prelude.{◌≡◌, ◌≢◌, None, Some, IfOk, OnOk, OnErr, option_copied, option_map};
+ghost use Rattle.std.specs.Prelude.{◌≡◌, Bool, [], None, Some, IfOk, OnOk, OnErr, option_copied, option_map};
 ghost use Rattle.snapshot.specs.Sight.{IsSight, sight_of};
-ghost use Rattle.update_chain.specs.Updates.{installed, read_of, is_led_by};
+ghost use Rattle.rows_shown.specs.Shows.{shown_at};
+ghost use Rattle.update_chain.specs.Updates.{installed, is_led_by};
 ghost use Rattle.update_chain.specs.Writing.{newest_of};
-ghost use Rattle.leaf_chains.specs.Adds.{IsAdded};
 ghost use Rattle.leaf_chains.specs.Slots.{chain_at, slot_changed, slot_of};
+ghost use Rattle.leaf_frame.specs.Looks.{read_at, version_seen};
 ghost use Rattle.wt_calls.specs.Calls.{way_in};
 ghost use Rattle.call_steps.specs.Leaves.{chain_in};
 ghost use Rattle.call_steps.specs.Looks.{own_name, conflicts, free_or_unmet, found_over, is_put, noted, write_found, ReadBy, update_by, AcceptedBy, WrittenBy, SteppedBy, LookedBy, from_of, start_in};
-ghost use Rattle.call_steps.specs.SlotLooks.{IsBy, IsNoted};
+ghost use Rattle.call_steps.specs.SlotLooks.{IsAddedTo, IsBy, IsNoted};
 
 use crate::cursor::Cursor;
-use crate::rows::{Stepped, find_row, row_copied};
+use crate::rows::{Stepped, find_row, item_of, row_copied};
 use crate::stage::{KeyCall, Stage, Target};
 use crate::state::SessionState;
 use crate::written::WrittenKey;
 use failure::NoMemory;
 use item::{Change, Item};
 use leaf_chains::{Added, LeafChains};
+use leaf_frame::{FrameRead, LeafFrame, judge_row};
+use row_page::{Cell, CellChange};
 use stamp::{Name, Version, View, Window};
 use std::alloc::Global;
 use std::mem::replace;
 use txn_table::Phase;
-use update_chain::{Chain, Judgement, Read, Update, judge_update};
+use update_chain::{Chain, Judgement, Update, judge_update};
 use wt_calls::{Demand, Way};
 use wt_code::{Answer, Refusal};
 
 impl SessionState {
     // A look at a leaf. A read copies the value, a write moves its own; `O(log n)` comparisons with
-    // n keys, and for a row as many for each key that is passed as absent.
+    // n keys and rows, and for a row as many for each key that is passed as absent.
     pub(crate) fn look(
         &mut self,
         alloc: Global,
-        chains: &mut LeafChains,
+        leaf: &mut LeafFrame,
         view: &View<'_>,
         call: KeyCall,
         target: Target,
     )
         requires { IsSight (sight_of view.now) }
-        ensures { LookedBy call view.now target chains.old self.old chains.new self.new }
+        ensures { LookedBy call view.now target leaf.old self.old leaf.new self.new }
     {
         // Beside a get, what is done is not inlined: its locals would be cleared at each look.
         match call {
-            KeyCall::Get => self.get(chains, view, target),
-            KeyCall::Put(demand) => self.put(alloc, chains, view, target, demand),
-            KeyCall::Remove => self.remove(alloc, chains, view, target),
-            KeyCall::Seek(cursor) => self.seek(chains, view, target, cursor),
-            KeyCall::Step(cursor, way) => self.step(chains, view, target, cursor, way),
+            KeyCall::Get => self.get(alloc, leaf, view, target),
+            KeyCall::Put(demand) => self.put(alloc, leaf, view, target, demand),
+            KeyCall::Remove => self.remove(alloc, leaf, view, target),
+            KeyCall::Seek(cursor) => self.seek(alloc, leaf, view, target, cursor),
+            KeyCall::Step(cursor, way) => self.step(alloc, leaf, view, target, cursor, way),
         }
     }
 
     // A read that moves no cursor.
     #[inline(always)]
-    fn get(&mut self, chains: &LeafChains, view: &View<'_>, target: Target)
+    fn get(&mut self, alloc: Global, leaf: &LeafFrame, view: &View<'_>, target: Target)
         requires { IsSight (sight_of view.now) }
-        ensures { ReadBy (read_of view.now (chain_at self.old.key chains.now)) KeyCall.Get target self.old self.new }
+        ensures { ReadBy (read_at view.now self.old.key leaf.now) KeyCall.Get target self.old self.new }
     {
         let call = KeyCall::Get;
-        match chains.read(self.key.as_bytes(), view) {
-            Read::Found(value) => match value.copy() {
+        match leaf.read(self.key.as_bytes(), view) {
+            FrameRead::Found(value) => match item_of(alloc, value) {
                 Ok(value) => self.clear(call, target, Answer::Value(value)),
                 Err(_) => self.clear(call, target, Answer::Refused(Refusal::NoMemory)),
             },
-            Read::Removed => self.clear(call, target, Answer::Refused(Refusal::NotFound)),
-            Read::Conflict(id) => {
+            FrameRead::Removed => self.clear(call, target, Answer::Refused(Refusal::NotFound)),
+            FrameRead::Conflict(id) => {
                 self.clear(
                     call,
                     target,
                     Answer::Refused(Refusal::PrepareConflict { id }),
                 );
             }
-            Read::Older => self.go_to(Stage::History(call, target)),
+            FrameRead::Older => self.go_to(Stage::History(call, target)),
         }
     }
 
     #[inline(never)]
-    fn seek(&mut self, chains: &LeafChains, view: &View<'_>, target: Target, cursor: u32)
+    fn seek(
+        &mut self,
+        alloc: Global,
+        leaf: &LeafFrame,
+        view: &View<'_>,
+        target: Target,
+        cursor: u32,
+    )
         requires { IsSight (sight_of view.now) }
-        ensures { ReadBy (read_of view.now (chain_at self.old.key chains.now)) (KeyCall.Seek cursor) target self.old self.new }
+        ensures { ReadBy (read_at view.now self.old.key leaf.now) (KeyCall.Seek cursor) target self.old self.new }
     {
         let call = KeyCall::Seek(cursor);
-        match chains.read(self.key.as_bytes(), view) {
-            Read::Found(value) => match value.copy() {
+        match leaf.read(self.key.as_bytes(), view) {
+            FrameRead::Found(value) => match item_of(alloc, value) {
                 Ok(value) => self.answer(call, target, Answer::Value(value)),
                 Err(_) => self.answer(call, target, Answer::Refused(Refusal::NoMemory)),
             },
-            Read::Removed => self.answer(call, target, Answer::Refused(Refusal::NotFound)),
-            Read::Conflict(id) => {
+            FrameRead::Removed => self.answer(call, target, Answer::Refused(Refusal::NotFound)),
+            FrameRead::Conflict(id) => {
                 self.answer(
                     call,
                     target,
                     Answer::Refused(Refusal::PrepareConflict { id }),
                 );
             }
-            Read::Older => self.go_to(Stage::History(call, target)),
+            FrameRead::Older => self.go_to(Stage::History(call, target)),
         }
     }
 
@@ -102,35 +112,27 @@ impl SessionState {
     fn put(
         &mut self,
         alloc: Global,
-        chains: &mut LeafChains,
+        leaf: &mut LeafFrame,
         view: &View<'_>,
         target: Target,
         demand: Demand,
     )
         requires { IsSight (sight_of view.now) }
-        ensures { LookedBy (KeyCall.Put demand) view.now target chains.old self.old chains.new self.new }
+        ensures { LookedBy (KeyCall.Put demand) view.now target leaf.old self.old leaf.new self.new }
     {
         let value = replace(&mut self.value, Item::new(Vec::new(alloc)));
         let call = KeyCall::Put(demand);
-        self.write(
-            alloc,
-            chains,
-            view,
-            call,
-            target,
-            demand,
-            Change::Put(value),
-        );
+        self.write(alloc, leaf, view, call, target, demand, Change::Put(value));
     }
 
     #[inline(never)]
-    fn remove(&mut self, alloc: Global, chains: &mut LeafChains, view: &View<'_>, target: Target)
+    fn remove(&mut self, alloc: Global, leaf: &mut LeafFrame, view: &View<'_>, target: Target)
         requires { IsSight (sight_of view.now) }
-        ensures { LookedBy KeyCall.Remove view.now target chains.old self.old chains.new self.new }
+        ensures { LookedBy KeyCall.Remove view.now target leaf.old self.old leaf.new self.new }
     {
         let demand = Demand::Occupied;
         let call = KeyCall::Remove;
-        self.write(alloc, chains, view, call, target, demand, Change::Remove);
+        self.write(alloc, leaf, view, call, target, demand, Change::Remove);
     }
 
     // A write of a key that need not be there adds it, where it has no slot.
@@ -138,7 +140,7 @@ impl SessionState {
     fn write(
         &mut self,
         alloc: Global,
-        chains: &mut LeafChains,
+        leaf: &mut LeafFrame,
         view: &View<'_>,
         call: KeyCall,
         target: Target,
@@ -146,41 +148,20 @@ impl SessionState {
         change: Change,
     )
         requires { IsSight (sight_of view.now) }
-        ensures { WrittenBy view.now call target demand change chains.old self.old chains.new self.new }
+        ensures { WrittenBy view.now call target demand change leaf.old self.old leaf.new self.new }
     {
         let update = update_by(own_name(view), change);
         match demand {
-            Demand::Occupied => self.write_over(chains, view, call, target, update),
-            _ => self.add_or_write(alloc, chains, view, call, target, demand, update),
+            Demand::Occupied => self.write_over(alloc, leaf, view, call, target, demand, update),
+            _ => self.write_any(alloc, leaf, view, call, target, demand, update),
         }
     }
 
-    // A write of a key that has to be there.
+    // A write of a key that has to be there: by its slot, or else by its row.
     fn write_over(
         &mut self,
-        chains: &mut LeafChains,
-        view: &View<'_>,
-        call: KeyCall,
-        target: Target,
-        update: Update,
-    )
-        requires sight { IsSight (sight_of view.now) }
-        requires own { IsBy (own_name view.now) update }
-        ensures { WrittenBy view.now call target Demand.Occupied update.version.change chains.old self.old chains.new self.new }
-    {
-        match chains.find(self.key.as_bytes()) {
-            None => self.clear(call, target, Answer::Refused(Refusal::NotFound)),
-            Some(slot) => {
-                self.write_at(chains, slot, view, call, target, Demand::Occupied, update);
-            }
-        }
-    }
-
-    // A write of a key that need not be there.
-    fn add_or_write(
-        &mut self,
         alloc: Global,
-        chains: &mut LeafChains,
+        leaf: &mut LeafFrame,
         view: &View<'_>,
         call: KeyCall,
         target: Target,
@@ -189,15 +170,93 @@ impl SessionState {
     )
         requires sight { IsSight (sight_of view.now) }
         requires own { IsBy (own_name view.now) update }
-        requires demand { demand ≢ Demand.Occupied }
-        ensures { WrittenBy view.now call target demand update.version.change chains.old self.old chains.new self.new }
+        ensures { WrittenBy view.now call target demand update.version.change leaf.old self.old leaf.new self.new }
     {
-        match self.add(alloc, chains, target.frame, update) {
+        match leaf.chains().find(self.key.as_bytes()) {
+            Some(slot) => self.write_at(leaf, slot, view, call, target, demand, update),
+            None => {
+                let found = judge_bare(leaf, self.key.as_bytes(), view, demand);
+                self.write_bare(alloc, leaf, view, call, target, demand, update, found);
+            }
+        }
+    }
+
+    // A write of a key that need not be there: it is added, where its row lets it. Where the key has
+    // a slot, that judges alone.
+    fn write_any(
+        &mut self,
+        alloc: Global,
+        leaf: &mut LeafFrame,
+        view: &View<'_>,
+        call: KeyCall,
+        target: Target,
+        demand: Demand,
+        update: Update,
+    )
+        requires sight { IsSight (sight_of view.now) }
+        requires own { IsBy (own_name view.now) update }
+        ensures { WrittenBy view.now call target demand update.version.change leaf.old self.old leaf.new self.new }
+    {
+        let found = judge_bare(leaf, self.key.as_bytes(), view, demand);
+        if let Found::Free(_) = found {
+            self.add_or_write(alloc, leaf, view, call, target, demand, update);
+            return;
+        }
+        match leaf.chains().find(self.key.as_bytes()) {
+            Some(slot) => self.write_at(leaf, slot, view, call, target, demand, update),
+            None => self.write_bare(alloc, leaf, view, call, target, demand, update, found),
+        }
+    }
+
+    // A write of a key without a slot, for which this is found by its row.
+    fn write_bare(
+        &mut self,
+        alloc: Global,
+        leaf: &mut LeafFrame,
+        view: &View<'_>,
+        call: KeyCall,
+        target: Target,
+        demand: Demand,
+        update: Update,
+        found: Found,
+    )
+        requires sight { IsSight (sight_of view.now) }
+        requires own { IsBy (own_name view.now) update }
+        requires bare { slot_of self.old.key leaf.old.chains ≡ None }
+        requires found { found ≡ write_found view.now demand [] (shown_at self.old.key leaf.old.page) }
+        ensures { WrittenBy view.now call target demand update.version.change leaf.old self.old leaf.new self.new }
+    {
+        match found {
+            Found::Conflict(name) => self.conflict(call, target, name),
+            Found::Unmet(refusal) => self.clear(call, target, Answer::Refused(refusal)),
+            Found::Free(_) => {
+                self.add_or_write(alloc, leaf, view, call, target, demand, update);
+            }
+        }
+    }
+
+    // A write of a key that its row lets come.
+    fn add_or_write(
+        &mut self,
+        alloc: Global,
+        leaf: &mut LeafFrame,
+        view: &View<'_>,
+        call: KeyCall,
+        target: Target,
+        demand: Demand,
+        update: Update,
+    )
+        requires sight { IsSight (sight_of view.now) }
+        requires own { IsBy (own_name view.now) update }
+        requires free { (led : Bool) × (write_found view.now demand [] (shown_at self.old.key leaf.old.page) ≡ Found.Free led) }
+        ensures { WrittenBy view.now call target demand update.version.change leaf.old self.old leaf.new self.new }
+    {
+        match self.add(alloc, leaf, target.frame, update) {
             Ok(Added::New(_)) => self.clear(call, target, Answer::Done),
             Ok(Added::There(slot, update)) => {
-                self.write_at(chains, slot, view, call, target, demand, update);
+                self.write_at(leaf, slot, view, call, target, demand, update);
             }
-            Err(NoMemory) => self.judge_only(chains, view, call, target, demand),
+            Err(NoMemory) => self.judge_only(leaf, view, call, target, demand),
         }
     }
 
@@ -205,17 +264,17 @@ impl SessionState {
     fn add(
         &mut self,
         alloc: Global,
-        chains: &mut LeafChains,
+        leaf: &mut LeafFrame,
         frame: u32,
         update: Update,
     ) -> Result<Added, NoMemory>
-        ensures added { IfOk result (IsAdded self.old.key update chains.old chains.new) }
+        ensures added { IfOk result (IsAddedTo self.old.key update leaf.old leaf.new) }
         ensures noted { IfOk result (IsNoted frame self.old self.new) }
-        ensures chains { OnErr result (chains.new ≡ chains.old) }
+        ensures leaf { OnErr result (leaf.new ≡ leaf.old) }
         ensures state { OnErr result (self.new ≡ self.old) }
     {
         self.written.reserve(1)?;
-        match chains.add(alloc, self.key.as_bytes(), update)? {
+        match leaf.add(alloc, self.key.as_bytes(), update)? {
             Added::New(slot) => {
                 self.written.push_reserved(WrittenKey { frame, slot });
                 Ok(Added::New(slot))
@@ -227,7 +286,7 @@ impl SessionState {
     // A write of the key in this slot.
     fn write_at(
         &mut self,
-        chains: &mut LeafChains,
+        leaf: &mut LeafFrame,
         slot: u32,
         view: &View<'_>,
         call: KeyCall,
@@ -237,14 +296,14 @@ impl SessionState {
     )
         requires sight { IsSight (sight_of view.now) }
         requires own { IsBy (own_name view.now) update }
-        requires slot { slot_of self.old.key chains.old ≡ Some slot }
-        ensures { WrittenBy view.now call target demand update.version.change chains.old self.old chains.new self.new }
+        requires slot { slot_of self.old.key leaf.old.chains ≡ Some slot }
+        ensures { WrittenBy view.now call target demand update.version.change leaf.old self.old leaf.new self.new }
     {
-        match judge_slot(chains, slot, view, demand) {
+        match judge_slot(leaf, slot, self.key.as_bytes(), view, demand) {
             Found::Conflict(name) => self.conflict(call, target, name),
             Found::Unmet(refusal) => self.clear(call, target, Answer::Refused(refusal)),
             Found::Free(is_led) => {
-                self.accept(chains, slot, own_name(view), call, target, update, is_led);
+                self.accept(leaf, slot, own_name(view), call, target, update, is_led);
             }
         }
     }
@@ -252,16 +311,16 @@ impl SessionState {
     // A write for which memory is short is refused for that, if for nothing else.
     fn judge_only(
         &mut self,
-        chains: &LeafChains,
+        leaf: &LeafFrame,
         view: &View<'_>,
         call: KeyCall,
         target: Target,
         demand: Demand,
     )
         requires { IsSight (sight_of view.now) }
-        ensures { (change : Change) → WrittenBy view.now call target demand change chains.now self.old chains.now self.new }
+        ensures { (change : Change) → WrittenBy view.now call target demand change leaf.now self.old leaf.now self.new }
     {
-        match judge_write(chains, self.key.as_bytes(), view, demand) {
+        match judge_write(leaf, self.key.as_bytes(), view, demand) {
             Found::Conflict(name) => self.conflict(call, target, name),
             Found::Unmet(refusal) => self.clear(call, target, Answer::Refused(refusal)),
             Found::Free(_) => self.clear(call, target, Answer::Refused(Refusal::NoMemory)),
@@ -284,7 +343,7 @@ impl SessionState {
     // first.
     fn accept(
         &mut self,
-        chains: &mut LeafChains,
+        leaf: &mut LeafFrame,
         slot: u32,
         name: Name,
         call: KeyCall,
@@ -292,12 +351,12 @@ impl SessionState {
         update: Update,
         is_led: bool,
     )
-        requires slot { slot_of self.old.key chains.old ≡ Some slot }
+        requires slot { slot_of self.old.key leaf.old.chains ≡ Some slot }
         requires own { IsBy name update }
-        requires led { is_led ≡ is_led_by name (chain_at self.old.key chains.old) }
-        ensures { AcceptedBy name call target update.version.change chains.old self.old chains.new self.new }
+        requires led { is_led ≡ is_led_by name (chain_at self.old.key leaf.old.chains) }
+        ensures { AcceptedBy name call target update.version.change leaf.old self.old leaf.new self.new }
     {
-        match self.install(chains, slot, target.frame, update, is_led) {
+        match self.install(leaf, slot, target.frame, update, is_led) {
             Ok(()) => self.clear(call, target, Answer::Done),
             Err(NoMemory) => self.clear(call, target, Answer::Refused(Refusal::NoMemory)),
         }
@@ -305,35 +364,43 @@ impl SessionState {
 
     fn install(
         &mut self,
-        chains: &mut LeafChains,
+        leaf: &mut LeafFrame,
         slot: u32,
         frame: u32,
         update: Update,
         is_led: bool,
     ) -> Result<(), NoMemory>
-        ensures chains { OnOk result (chains.new ≡ slot_changed slot (installed update) chains.old) }
+        ensures leaf { OnOk result (leaf.new ≡ record leaf.old { chains = slot_changed slot (installed update) leaf.old.chains }) }
         ensures state { OnOk result (self.new ≡ noted is_led (record { frame = frame; slot = slot }) self.old) }
-        ensures chains_kept { OnErr result (chains.new ≡ chains.old) }
+        ensures leaf_kept { OnErr result (leaf.new ≡ leaf.old) }
         ensures state_kept { OnErr result (self.new ≡ self.old) }
     {
         if is_led {
-            chains.install_at(slot, update)?;
+            leaf.install_at(slot, update)?;
             return Ok(());
         }
         self.written.reserve(1)?;
-        chains.install_at(slot, update)?;
+        leaf.install_at(slot, update)?;
         self.written.push_reserved(WrittenKey { frame, slot });
         Ok(())
     }
 
     #[inline(never)]
-    fn step(&mut self, chains: &LeafChains, view: &View<'_>, target: Target, cursor: u32, way: Way)
+    fn step(
+        &mut self,
+        alloc: Global,
+        leaf: &LeafFrame,
+        view: &View<'_>,
+        target: Target,
+        cursor: u32,
+        way: Way,
+    )
         requires { IsSight (sight_of view.now) }
-        ensures { SteppedBy view.now (way_in way) (from_of self.old cursor target.table) (KeyCall.Step cursor way) target chains.now self.old self.new }
+        ensures { SteppedBy view.now (way_in way) (from_of self.old cursor target.table) (KeyCall.Step cursor way) target leaf.now self.old self.new }
     {
         let call = KeyCall::Step(cursor, way);
         let from = start_of(self.cursors.as_slice(), cursor, target.table);
-        match row_copied(find_row(chains, view, way, from)) {
+        match row_copied(alloc, find_row(leaf, view, way, from)) {
             Ok(Stepped::Row(key, value, kept)) => {
                 self.key.give(kept);
                 self.answer(call, target, Answer::Row(key, value));
@@ -385,25 +452,49 @@ pub(crate) enum Found {
     Free(bool),
 }
 
-// What a write finds at a key.
-fn judge_write(chains: &LeafChains, key: &[u8], view: &View<'_>, demand: Demand) -> Found
+// What a write finds at a key: by its slot, or else by its row.
+fn judge_write(leaf: &LeafFrame, key: &[u8], view: &View<'_>, demand: Demand) -> Found
     requires { IsSight (sight_of view.now) }
-    ensures { result ≡ write_found view.now demand (chain_at key.now chains.now) }
+    ensures { result ≡ write_found view.now demand (chain_at key.now leaf.now.chains) (shown_at key.now leaf.now.page) }
 {
-    match chains.find(key) {
-        None => free_or_unmet(demand, false, false),
-        Some(slot) => judge_slot(chains, slot, view, demand),
+    match leaf.chains().find(key) {
+        None => judge_bare(leaf, key, view, demand),
+        Some(slot) => judge_slot(leaf, slot, key, view, demand),
     }
 }
 
-// What it finds in a slot.
-fn judge_slot(chains: &LeafChains, slot: u32, view: &View<'_>, demand: Demand) -> Found
+// What it finds in a slot, over the row of this key.
+fn judge_slot(leaf: &LeafFrame, slot: u32, key: &[u8], view: &View<'_>, demand: Demand) -> Found
     requires { IsSight (sight_of view.now) }
-    ensures { result ≡ write_found view.now demand (chain_in chains.now slot) }
+    ensures { result ≡ write_found view.now demand (chain_in leaf.now.chains slot) (shown_at key.now leaf.now.page) }
 {
-    match newest_in(chains, slot) {
-        None => free_or_unmet(demand, false, false),
+    match newest_in(leaf.chains(), slot) {
+        None => judge_bare(leaf, key, view, demand),
         Some(update) => judge_over(update, view, demand),
+    }
+}
+
+// What it finds by the row of a key without updates. `O(log n)` in the rows.
+fn judge_bare(leaf: &LeafFrame, key: &[u8], view: &View<'_>, demand: Demand) -> Found
+    requires { IsSight (sight_of view.now) }
+    ensures { result ≡ write_found view.now demand [] (shown_at key.now leaf.now.page) }
+{
+    match leaf.row(key) {
+        None => free_or_unmet(demand, false, false),
+        Some(cell) => judge_under(&cell, view, demand),
+    }
+}
+
+fn judge_under(cell: &Cell<'_>, view: &View<'_>, demand: Demand) -> Found
+    requires { IsSight (sight_of view.now) }
+    ensures { result ≡ write_found view.now demand [] (Some (version_seen cell.now)) }
+{
+    match judge_row(cell, view) {
+        Judgement::Refused(name) => Found::Conflict(name),
+        Judgement::Allowed => {
+            let is_there = matches!(cell.change, CellChange::Put(_));
+            free_or_unmet(demand, is_there, false)
+        }
     }
 }
 

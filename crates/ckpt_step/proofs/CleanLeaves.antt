@@ -1,7 +1,8 @@
 -- A leaf to which nothing newer was committed is that of the checkpoint before, and when one is.
-use Rattle.std.proofs.Common.{◌≡◌, ◌∙◌, ◌≤◌, ℕ, true, false, List, [], ◌∷◌, length, Option, Some, refl, sym, subst, inl, inr, arith}
+use Rattle.std.proofs.Common.{◌≡◌, ◌∙◌, ◌≤◌, ℕ, true, false, List, [], ◌∷◌, ◌++◌, length, Option, Some, None, refl, sym, subst, inl, inr, arith}
 use Rattle.std.specs.Prelude.{◌==◌, bytes_eq, nat_lt}
 use Rattle.std.specs.List.{AllByRecursion}
+use Rattle.std.specs.Option.{option_to_list}
 use Rattle.std.proofs.Math.Bool.{or-true}
 use Rattle.std.proofs.lemmas.Bool.{both_ways, cases_Bool, cases_lt, eq-eqb, lt-ltb}
 use Rattle.std.proofs.lemmas.Option.{same_Some}
@@ -17,20 +18,23 @@ use Rattle.row_page.specs.Changes.{version_in}
 use Rattle.row_page.specs.Greatest.{greatest_in, names_of}
 use Rattle.stamp.specs.Order.{later}
 use Rattle.row_page.specs.Rows.{Row, RowFits, key_most}
+use Rattle.leaf_rows.specs.Rows.{AreFit}
 use Rattle.rows_shown.specs.Shows.{shown_at}
 use Rattle.snapshot.specs.Matters.{NoneResolves, SeesCommitted}
 use Rattle.snapshot.specs.Past.{is_below}
 use Rattle.snapshot.specs.Sight.{Sight, is_seen}
 use Rattle.stored.specs.Stored.{Stored}
 use Rattle.update_chain.specs.declared.update.Update.{Update}
-use Rattle.leaf_chains.specs.declared.slot.KeyChain.{KeyChain}
+use Rattle.leaf_frame.specs.Leaf.{HeldLeaf}
 use Rattle.leaf_chains.specs.Slots.{chain_at}
 use Rattle.leaf_capture.specs.Capture.{ChainFits, ChainsFit, captured}
-use Rattle.leaf_capture.proofs.Newest.{captures-newest}
-use Rattle.engine.specs.Checkpoints.{ChainsStand}
+use Rattle.frame_capture.specs.Capture.{captured_over}
+use Rattle.frame_capture.specs.Laws.{CapturesAreNewest}
+use Rattle.engine.specs.Checkpoints.{HeldStands}
 use Rattle.ckpt_step.specs.Checkpoints.{IsLeafOf}
 use Rattle.ckpt_step.specs.Floors.{IsLeafBefore, IsLeafIn, IsStill, is_before, newest_before}
-use Rattle.leaf_chains.specs.Names.{NoneAbove}
+use Rattle.reconcile.specs.Held.{versions}
+use Rattle.leaf_frame.specs.Updates.{NoneAbove}
 use Rattle.ckpt_step.proofs.Floors.{Lower, lower_of}
 
 -- ---- names
@@ -91,12 +95,25 @@ newest_head : (floor : Name) (l : List (Version Change)) → ((v : Version Chang
 newest_head floor [] each = refl
 newest_head floor (v ∷ older) each = let first : is_before floor v.window.name ≡ true = each v refl in rw first refl
 
-captured_before : (s : Sight) (greatest floor : Name) (key : List ℕ) (chain : List Update) (v : Version Change) → is_below greatest floor ≡ true → AllByRecursion (λ (u : Update). is_below greatest u.version.window.name ≡ false) chain → ChainFits key chain → captured s chain ≡ Some v
+-- a row that is shown has an id
+shown_id : (key : List ℕ) (rows : List Row) (v : Version Change) → AllByRecursion (λ (r : Row). RowFits [] key_most r) rows → shown_at key rows ≡ Some v → 1 ≤ v.window.name.id
+shown_id key [] v fit is = absurd cc
+shown_id key (r ∷ rows) v fit is = elim (cases_Bool (bytes_eq r.0 key)) [
+  | inl same ↦ subst (λ (x : Version Change). 1 ≤ x.window.name.id) (same_Some (version_in r.1) v (rw same at is)) fit.0.window.name.id.0
+  | inr other ↦ shown_id key rows v fit.1 (rw other at is)
+]
+
+captured_before : (s : Sight) (greatest floor : Name) (key : List ℕ) (chain : List Update) (row : Option (Version Change)) (v : Version Change) → is_below greatest floor ≡ true
+    → AllByRecursion (λ (x : Version Change). is_below greatest x.window.name ≡ false) (versions chain ++ option_to_list row) → ChainFits key chain → ((x : Version Change) → row ≡ Some x → 1 ≤ x.window.name.id) → captured_over s chain row ≡ Some v
     → is_before floor v.window.name ≡ true
-captured_before s greatest floor key [] v below none fit is = absurd cc
-captured_before s greatest floor key (u ∷ older) v below none fit is = elim (cases_Bool (is_seen s u.version.window.name)) [
+captured_before s greatest floor key [] None v below none fit has_id is = absurd cc
+captured_before s greatest floor key [] (Some x) v below none fit has_id is = elim (cases_Bool (is_seen s x.window.name)) [
+  | inl seen ↦ subst (λ (y : Version Change). is_before floor y.window.name ≡ true) (same_Some x v (rw seen at is)) (before_of floor x.window.name (has_id x refl) (under greatest x.window.name floor none.0 below))
+  | inr unseen ↦ absurd (let nothing : None ≡ Some v = rw unseen at is in cc)
+]
+captured_before s greatest floor key (u ∷ older) row v below none fit has_id is = elim (cases_Bool (is_seen s u.version.window.name)) [
   | inl seen ↦ subst (λ (x : Version Change). is_before floor x.window.name ≡ true) (same_Some u.version v (rw seen at is)) (before_of floor u.version.window.name fit.0.window.name.id.0 (under greatest u.version.window.name floor none.0 below))
-  | inr unseen ↦ captured_before s greatest floor key older v below none.1 fit.1 (rw unseen at is)
+  | inr unseen ↦ captured_before s greatest floor key older row v below none.1 fit.1 has_id (rw unseen at is)
 ]
 
 shown_before : (floor : Name) (key : List ℕ) (rows : List Row) (v : Version Change) → AllByRecursion (λ (r : Row). RowFits [] key_most r) rows → is_below (greatest_in (names_of rows)) floor ≡ true → shown_at key rows ≡ Some v → is_before floor v.window.name ≡ true
@@ -110,10 +127,10 @@ shown_before floor key (r ∷ rows) v fit below is =
 
 -- ---- leaves
 
--- where the names of the chains and of the link are below the floor, the leaf is still that of the table
-pub still : (m : Machine) (s : Sight) (t : Table) (chains : List KeyChain) (old : Option Stored) (greatest floor : Name) (link : Link) → Valid m → NoneResolves m → SeesCommitted m (length m.history) s → ChainsStand m t chains → ChainsFit chains → NoneAbove greatest chains
-    → is_below greatest floor ≡ true → IsLeafBefore old floor m t link → IsStill old m t link
-still m s t chains old greatest floor link valid none sees stand fit above below before = record {
+-- where the names of the leaf and of the link are below the floor, the leaf is still that of the table
+pub still : CapturesAreNewest → (m : Machine) (s : Sight) (t : Table) (held : HeldLeaf) (old : Option Stored) (greatest floor : Name) (link : Link) → Valid m → NoneResolves m → SeesCommitted m (length m.history) s → HeldStands m t held
+    → ChainsFit held.chains → AreFit held.page → NoneAbove greatest held → is_below greatest floor ≡ true → IsLeafBefore old floor m t link → IsStill old m t link
+still law m s t held old greatest floor link valid none sees stand fit rows_fit above below before = record {
   rows = before.rows;
   leaf = before.leaf;
   is = record { fit = before.fit; newest = λ key. sym (newest_head floor (line m.history t.number key) (λ v is. first key v is)) ∙ before.newest key };
@@ -121,8 +138,8 @@ still m s t chains old greatest floor link valid none sees stand fit above below
   where
     first : (key : List ℕ) (v : Version Change) → head_of (line m.history t.number key) ≡ Some v → is_before floor v.window.name ≡ true
     first key v is =
-        captured_before s greatest floor key (chain_at key chains) v below (above key) (fit key)
-        (captures-newest m t.number key (chain_at key chains) s valid (λ session u wrote resolves. absurd (none session u wrote.0 resolves)) sees (stand key) ∙ is)
+        captured_before s greatest floor key (chain_at key held.chains) (shown_at key held.page) v below (above key) (fit key) (λ x. shown_id key held.page x rows_fit.fit)
+        (law m t.number key (chain_at key held.chains) (shown_at key held.page) s valid (λ session u wrote resolves. absurd (none session u wrote.0 resolves)) sees (stand key) ∙ is)
 
 -- a leaf that was captured, whose link is below the floor, has the newest before it
 pub leaf_before : (m : Machine) (t : Table) (new : Option Stored) (floor : Name) (link : Link) (rows : List Row) → IsLeafOf m t rows → IsLeafIn new link rows → is_below link.greatest floor ≡ true → IsLeafBefore new floor m t link

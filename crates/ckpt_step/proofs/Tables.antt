@@ -14,10 +14,10 @@ use Rattle.row_page.specs.Rows.{Row}
 use Rattle.snapshot.specs.Matters.{NoneResolves, SeesCommitted}
 use Rattle.snapshot.specs.Sight.{Sight}
 use Rattle.stored.specs.Stored.{Stored}
-use Rattle.leaf_chains.specs.declared.slot.KeyChain.{KeyChain}
-use Rattle.leaf_capture.specs.Capture.{IsCaptured}
-use Rattle.leaf_capture.specs.Laws.{CapturedRowsAreNewest}
-use Rattle.engine.specs.Checkpoints.{ChainsStand}
+use Rattle.leaf_frame.specs.Leaf.{HeldLeaf}
+use Rattle.frame_capture.specs.Capture.{IsCaptured}
+use Rattle.frame_capture.specs.Laws.{CapturedRowsAreNewest}
+use Rattle.engine.specs.Checkpoints.{HeldStands}
 use Rattle.ckpt_step.specs.declared.leaf_error.LeafError.{LeafError}
 use Rattle.ckpt_step.specs.declared.leaf_error.LeafError.TheVariants.{Store}
 use Rattle.ckpt_step.specs.Checkpoints.{IsLeafOf}
@@ -27,8 +27,8 @@ use Rattle.ckpt_step.specs.Ones.{WritesOne}
 use Rattle.ckpt_step.proofs.News.{fails_still, not_over}
 
 -- captured rows are a leaf of the table
-pub leaf_of : CapturedRowsAreNewest → (m : Machine) (t : Table) (chains : List KeyChain) (s : Sight) (rows : List Row) → Valid m → NoneResolves m → SeesCommitted m (length m.history) s → ChainsStand m t chains → IsCaptured s chains rows → IsLeafOf m t rows
-leaf_of law m t chains s rows valid none sees stand is = record { fit = is.fit; newest = law m t.number chains s rows valid none sees stand is }
+pub leaf_of : CapturedRowsAreNewest → (m : Machine) (t : Table) (leaf : HeldLeaf) (s : Sight) (rows : List Row) → Valid m → NoneResolves m → SeesCommitted m (length m.history) s → HeldStands m t leaf → IsCaptured s leaf rows → IsLeafOf m t rows
+leaf_of law m t leaf s rows valid none sees stand is = record { fit = is.fit; newest = law m t.number leaf s rows valid none sees stand is }
 
 memory_not_space : Store NoMemory ≡ Store NoSpace → ⊥
 memory_not_space same = cc

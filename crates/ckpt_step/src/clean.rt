@@ -2,6 +2,7 @@
 ghost use Rattle.std.specs.Prelude.{◌≡◌, ◌++◌, ◌∷◌, [], Option, Some, true, length, slice_get, slice_index_or, IfErr, OnErr, OnOk, IsTrue};
 ghost use Rattle.wt_code.specs.declared.store_error.StoreError.TheVariants.{NoMemory as WantOfMemory};
 ghost use Rattle.kv_model.specs.History.{Table};
+ghost use Rattle.leaf_rows.specs.Rows.{AreFit};
 ghost use Rattle.snapshot.specs.Matters.{NoneResolves, SeesCommitted};
 ghost use Rattle.snapshot.specs.Sight.{IsSight, Sight};
 ghost use Rattle.stored.specs.Links.{nowhere as nowhere_link};
@@ -14,6 +15,8 @@ use crate::leaf_error::LeafError;
 use block_mgr::Blocks;
 use device_layout::Link;
 use engine::Local;
+use frame_capture::captures_are_newest;
+use leaf_frame::LeafFrame;
 use snapshot::Snapshot;
 use stamp::Name;
 use wt_code::StoreError;
@@ -37,14 +40,23 @@ pub(crate) fn is_clean(engine: &Local, place: u32, was: &[Link], floor: Name) ->
     ensures { (w : World) (s : Sight) → Stands engine.now w → NoneResolves w.machine → SeesCommitted w.machine (length w.machine.history) s → (t : Table) → slice_get engine.now.hub.tables.tables place ≡ Some t
         → (old : Option Stored) → Follows old engine.now.hub.tables.tables was.now floor w.machine → IsTrue result → IsStill old w.machine t (slice_index_or was.now place nowhere_link) }
 {
+    captures_are_newest();
     let Some(link) = was.get(place as usize) else {
         return false;
     };
-    let Some(chains) = engine.leaf(place) else {
+    let Some(leaf) = engine.leaf(place) else {
         return false;
     };
-    let newest = chains.greatest();
+    rows_fit(leaf);
+    let newest = leaf.greatest();
     link.greatest.is_before(floor) && newest.is_before(floor)
+}
+
+// That its rows fit is known of every leaf.
+fn rows_fit(leaf: &LeafFrame)
+    ensures { AreFit leaf.now.page }
+{
+    let _page = leaf.page();
 }
 
 // Whether the leaf of a link can be captured as it stands: it has no rows, or the live tree has its

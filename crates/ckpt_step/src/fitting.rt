@@ -14,7 +14,7 @@ ghost use Rattle.ckpt_step.specs.Sizes.{IsOver};
 use crate::clean::is_clean;
 use device_layout::Link;
 use engine::Local;
-use leaf_capture::{captured_rows_are_newest, fits_a_leaf};
+use frame_capture::{captured_rows_are_newest, fits_a_leaf};
 use snapshot::Snapshot;
 use stamp::Name;
 
@@ -56,6 +56,6 @@ fn fits_at(engine: &Local, snapshot: &Snapshot, place: u32) -> bool
     captured_rows_are_newest();
     match engine.leaf(place) {
         None => true,
-        Some(chains) => fits_a_leaf(chains, snapshot),
+        Some(leaf) => fits_a_leaf(leaf, snapshot),
     }
 }

@@ -23,7 +23,7 @@ use block_mgr::Blocks;
 use device_layout::Link;
 use disk_model::Disk;
 use engine::Local;
-use leaf_capture::{capture, captured_rows_are_newest};
+use frame_capture::{capture, captured_rows_are_newest};
 use snapshot::Snapshot;
 use stamp::Name;
 use std::alloc::Global;
@@ -118,10 +118,10 @@ fn write_table<D: Disk>(
     ensures disk { SameDisk D.Disk disk.old disk.new }
 {
     captured_rows_are_newest();
-    let Some(chains) = engine.leaf(place) else {
+    let Some(leaf) = engine.leaf(place) else {
         return Err(LeafError::Store(StoreError::NoMemory));
     };
-    let Ok(captured) = capture(alloc, chains, snapshot) else {
+    let Ok(captured) = capture(alloc, leaf, snapshot) else {
         return Err(LeafError::Store(StoreError::NoMemory));
     };
     let Ok(()) = links.reserve(1) else {

@@ -7,16 +7,16 @@ use Rattle.limits.specs.declared.TheConstants.{NUMBER_MAX, TABLES_MAX}
 use Rattle.kv_model.specs.Content.{Content, base as base_of}
 use Rattle.kv_model.specs.History.{Table, line}
 use Rattle.txn_table.specs.Tabled.{fresh}
-use Rattle.update_chain.specs.Updates.{unmarked_update}
+use Rattle.rows_shown.specs.Shows.{shown_at}
 use Rattle.leaf_chains.specs.Slots.{chain_at}
-use Rattle.leaf_chains.specs.declared.slot.KeyChain.{KeyChain}
+use Rattle.leaf_frame.specs.Leaf.{HeldLeaf}
 use Rattle.catalog.specs.Known.{AreTables, Known}
 use Rattle.wt_calls.specs.declared.system_call.SystemCall.{SystemCall}
 use Rattle.call_steps.specs.declared.hub.Hub.{Hub}
 use Rattle.call_steps.specs.Tables.{first_word}
 use Rattle.engine_world.specs.Leaves.{number_at, word_at}
 use Rattle.engine_world.specs.Stands.{Engine}
-use Rattle.engine_world.specs.Systems.{Begins, EnginesStart, LeafStarts, first_world}
+use Rattle.engine_world.specs.Systems.{Begins, EnginesStart, IsFirstOf, LeafStarts, first_world}
 use Rattle.engine.specs.Bases.{IsBaseOf}
 use Rattle.engine.specs.Openings.{AreLaid, HasBase}
 use Rattle.engine.specs.Sizes.{LeavesFit, NamesFit, SessionsFit}
@@ -36,7 +36,7 @@ abbrev pub first_words : ℕ → ℕ → List ℕ
 first_words count zeros = replicate count 1 ++ replicate zeros 0
 
 -- the data that an engine begins with
-pub record IsOpened (run oldest stable : ℕ) (known : Known) (leaves : List (List KeyChain)) (e : Engine) : Type 0 where
+pub record IsOpened (run oldest stable : ℕ) (known : Known) (leaves : List HeldLeaf) (e : Engine) : Type 0 where
   pub hub : e.hub ≡ first_hub run oldest stable known
   pub all_tables : AreTables known
   pub pieces : length e.pieces ≡ TABLES_MAX
@@ -52,18 +52,18 @@ long-zeros n = length-replicate n 0
 word-starts : (n zeros place : ℕ) → place < n → slice_index_or (first_words n zeros) place 0 ≡ first_word
 word-starts n zeros place inside = get_or_append_left (replicate n 1) (replicate zeros 0) 0 place (let long = length-replicate n first_word in omega (arith, inside)) ∙ get_or-replicate n place 1 0 inside
 
-leaf-starts : (c : Content) (e : Engine) (run oldest stable : ℕ) (known : Known) (leaves : List (List KeyChain)) → IsBaseOf c run oldest stable known leaves → IsOpened run oldest stable known leaves e
+leaf-starts : (c : Content) (e : Engine) (run oldest stable : ℕ) (known : Known) (leaves : List HeldLeaf) → IsBaseOf c run oldest stable known leaves → IsOpened run oldest stable known leaves e
     → (place : ℕ) (t : Table) → slice_get known.tables place ≡ Some t → LeafStarts c e.pieces e.states place t
 leaf-starts c e run oldest stable known leaves base o place t at = record {
-  frame = record { table = number_at known.tables place; chains = kept.0 };
+  frame = record { table = number_at known.tables place; leaf = kept.0 };
   there = o.laid place kept.0 kept.1;
   word = ap (λ (ws : List ℕ). word_at ws place) o.states ∙ word-starts (length known.tables) (TABLES_MAX - length known.tables) place (slice_get_within known.tables place t at);
   keys = kept.2;
 } where
-  kept : (chains : List KeyChain) × (slice_get leaves place ≡ Some chains) × ((key : List ℕ) → chain_at key chains ≡ map unmarked_update (line (base_of c) t.number key))
+  kept : (leaf : HeldLeaf) × (slice_get leaves place ≡ Some leaf) × ((key : List ℕ) → IsFirstOf (line (base_of c) t.number key) (chain_at key leaf.chains) (shown_at key leaf.page))
   kept = base.leaves_are place t at
 
-pub begins-on : (c : Content) (e : Engine) (run oldest stable : ℕ) (known : Known) (leaves : List (List KeyChain)) → IsBaseOf c run oldest stable known leaves → IsOpened run oldest stable known leaves e → Begins c e
+pub begins-on : (c : Content) (e : Engine) (run oldest stable : ℕ) (known : Known) (leaves : List HeldLeaf) → IsBaseOf c run oldest stable known leaves → IsOpened run oldest stable known leaves e → Begins c e
 begins-on c e run oldest stable known leaves base o = record {
   fault = ap (λ (h : Hub). h.fault) o.hub;
   stamps = ap (λ (h : Hub). h.stamps) o.hub ∙ (ap (λ n. record { oldest = n; stable = stable }) base.oldest_is ∙ ap (λ n. record { oldest = c.oldest; stable = n }) base.stable_is);
@@ -84,7 +84,7 @@ none-built (suc (suc zero)) asked is = absurd (cc)
 none-built (suc (suc (suc zero))) asked is = absurd (cc)
 none-built (suc (suc (suc (suc i)))) asked is = absurd (cc)
 
-pub opened-sound : EnginesStart → (e : Engine) (run oldest stable : ℕ) (known : Known) (leaves : List (List KeyChain)) → HasBase run oldest stable known leaves → IsOpened run oldest stable known leaves e
+pub opened-sound : EnginesStart → (e : Engine) (run oldest stable : ℕ) (known : Known) (leaves : List HeldLeaf) → HasBase run oldest stable known leaves → IsOpened run oldest stable known leaves e
     → known.next + TABLES_MAX < 2 ^ 32 + length known.tables → run ≤ NUMBER_MAX → IsSound e
 opened-sound law e run oldest stable known leaves base o numbers most = record {
   world = (first_world base.0 e, law base.0 e base.1 (begins-on base.0 e run oldest stable known leaves base.2 o));

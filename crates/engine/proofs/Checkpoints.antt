@@ -22,16 +22,15 @@ use Rattle.txn_table.specs.Stands.{TableStands}
 use Rattle.txn_table.specs.TableLaws.{CallsGoOn, LowestAreTheMachines}
 use Rattle.txn_table.specs.SessionData.{is_resolving as resolves}
 use Rattle.txn_table.specs.Tabled.{Table as Txns, first_in, unended}
-use Rattle.leaf_chains.specs.declared.slot.KeyChain.{KeyChain}
-use Rattle.leaf_capture.specs.Capture.{ChainsFit}
+use Rattle.leaf_frame.specs.Leaf.{HeldLeaf}
 use Rattle.call_steps.specs.declared.frame.Frame.{Frame}
 use Rattle.engine_world.specs.Leaves.{LeafStands, frame_in}
 use Rattle.engine_world.specs.Stands.{Engine, Stands}
 use Rattle.engine_world.specs.Systems.{DownsGo, with_fault}
 use Rattle.engine_world.specs.Worlds.{World}
 use Rattle.engine_world.proofs.HubMoves.{decided-down, decided-up}
-use Rattle.engine.specs.Checkpoints.{ChainsStand, MayStart}
-use Rattle.engine.specs.Sizes.{LeavesFit}
+use Rattle.engine.specs.Checkpoints.{HeldStands, MayStart}
+use Rattle.engine.specs.Sizes.{LeafFits, LeavesFit}
 use Rattle.engine.specs.Sound.{IsSound}
 
 -- ---- the start
@@ -98,20 +97,20 @@ sees-now calls law t m valid stands none = record {
 
 -- ---- the leaves
 
-pub leaf-given : (e : Engine) (w : World) (place : ℕ) (t : Table) (result : Option (Bor (List KeyChain))) → LeafStands w.machine e.pieces e.states place t
-    → option_map (λ c. c.now) result ≡ option_map (λ (f : Frame). f.chains) (frame_in e.pieces place) → MatchOption result ⊥ (λ c. ChainsStand w.machine t c.now)
-leaf-given e w place t None leaf is = let e : None ≡ Some leaf.frame.chains = is ∙ ap (option_map (λ (f : Frame). f.chains)) leaf.there in absurd (cc)
-leaf-given e w place t (Some c) leaf is = subst (ChainsStand w.machine t) (sym same) leaf.keys where
-  same : c.now ≡ leaf.frame.chains
-  same = let e : Some c.now ≡ Some leaf.frame.chains = is ∙ ap (option_map (λ (f : Frame). f.chains)) leaf.there in cc
+pub leaf-given : (e : Engine) (w : World) (place : ℕ) (t : Table) (result : Option (Bor HeldLeaf)) → LeafStands w.machine e.pieces e.states place t
+    → option_map (λ l. l.now) result ≡ option_map (λ (f : Frame). f.leaf) (frame_in e.pieces place) → MatchOption result ⊥ (λ l. HeldStands w.machine t l.now)
+leaf-given e w place t None leaf is = let e : None ≡ Some leaf.frame.leaf = is ∙ ap (option_map (λ (f : Frame). f.leaf)) leaf.there in absurd (cc)
+leaf-given e w place t (Some c) leaf is = subst (HeldStands w.machine t) (sym same) leaf.keys where
+  same : c.now ≡ leaf.frame.leaf
+  same = let e : Some c.now ≡ Some leaf.frame.leaf = is ∙ ap (option_map (λ (f : Frame). f.leaf)) leaf.there in cc
 
-pub leaf-fits : (e : Engine) (place : ℕ) (result : Option (Bor (List KeyChain))) → LeavesFit e.pieces
-    → option_map (λ c. c.now) result ≡ option_map (λ (f : Frame). f.chains) (frame_in e.pieces place) → IfSome result (λ c. ChainsFit c.now)
+pub leaf-fits : (e : Engine) (place : ℕ) (result : Option (Bor HeldLeaf)) → LeavesFit e.pieces
+    → option_map (λ l. l.now) result ≡ option_map (λ (f : Frame). f.leaf) (frame_in e.pieces place) → IfSome result (λ l. LeafFits l.now)
 leaf-fits e place None fit is = tt
 leaf-fits e place (Some c) fit is = by (frame_in e.pieces place) refl is where
-  by : (o : Option Frame) → frame_in e.pieces place ≡ o → Some c.now ≡ option_map (λ (f : Frame). f.chains) o → ChainsFit c.now
+  by : (o : Option Frame) → frame_in e.pieces place ≡ o → Some c.now ≡ option_map (λ (f : Frame). f.leaf) o → LeafFits c.now
   by None at is = absurd (cc)
-  by (Some f) at is = subst ChainsFit (let same : f.chains ≡ c.now = cc in same) (fit place f at)
+  by (Some f) at is = subst LeafFits (let same : f.leaf ≡ c.now = cc in same) (fit place f at)
 
 -- ---- down
 

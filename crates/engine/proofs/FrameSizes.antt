@@ -4,6 +4,7 @@ use Rattle.std.specs.Prelude.{Option, Some, None, ◌==◌, if◌then◌else◌,
 use Rattle.item.specs.declared.Change.{Change}
 use Rattle.item.specs.declared.Change.TheVariants.{Put, Remove}
 use Rattle.stamp.specs.declared.Name.{Name}
+use Rattle.stamp.specs.declared.Version.{Version}
 use Rattle.stamp.specs.declared.View.{View}
 use Rattle.wt_code.specs.declared.refusals.Refusal.{Refusal}
 use Rattle.kv_model.specs.Holds.{Member}
@@ -18,11 +19,12 @@ use Rattle.txn_table.specs.declared.phase.Phase.TheVariants as phase
 use Rattle.txn_table.specs.SessionData.{phase_in}
 use Rattle.update_chain.specs.declared.look.Judgement.TheVariants.{Allowed, Refused}
 use Rattle.update_chain.specs.declared.update.Update.{Update}
-use Rattle.update_chain.specs.Updates.{Reply, Gives, IsRemoved, Conflicts, IsOlder, is_named, read_of}
+use Rattle.update_chain.specs.Updates.{Reply, Gives, IsRemoved, Conflicts, IsOlder, is_named, unmarked_update}
 use Rattle.update_chain.specs.Writing.{may_follow_by}
-use Rattle.leaf_chains.specs.declared.slot.KeyChain.{KeyChain}
+use Rattle.rows_shown.specs.Shows.{shown_at}
+use Rattle.leaf_frame.specs.Leaf.{HeldLeaf}
+use Rattle.leaf_frame.specs.Looks.{read_at}
 use Rattle.leaf_chains.specs.Slots.{chain_at}
-use Rattle.leaf_capture.specs.Capture.{ChainsFit}
 use Rattle.leaf_capture.specs.Cells.{cell_version}
 use Rattle.leaf_capture.proofs.Fitting.{install_fits}
 use Rattle.wt_calls.specs.declared.demand.Demand.{Demand}
@@ -40,7 +42,7 @@ use Rattle.call_steps.specs.declared.stage.Stage.TheVariants as stage
 use Rattle.call_steps.specs.declared.stage.Target.{Target}
 use Rattle.call_steps.specs.FrameEvents.{FrameMade, FrameMadeAt, LookMade, edits, ordered, prev_in, starts_at, with_prev}
 use Rattle.call_steps.specs.Leaves.{durable_of, edited}
-use Rattle.call_steps.specs.Looks.{AcceptedBy, FoundBy, LookedBy, ReadBy, SteppedBy, found_by, free_or_unmet, from_of, is_put, own_name, refused, update_by, without_value, write_found}
+use Rattle.call_steps.specs.Looks.{AcceptedBy, FoundBy, LookedBy, ReadBy, SteppedBy, found_by, found_under, free_or_unmet, from_of, is_put, own_name, refused, update_by, without_value, write_found}
 use Rattle.call_steps.specs.Stages.{after_orders, after_stamps, is_write, marks, stamps_then, undoes}
 use Rattle.call_steps.specs.State.{State, at_stage, clears, leaving_in}
 use Rattle.call_steps.specs.Written.{frame_at}
@@ -50,7 +52,7 @@ use Rattle.engine_world.specs.Stands.{Engine, Stands}
 use Rattle.engine_world.specs.Worlds.{World}
 use Rattle.engine_world.proofs.EditMoves.{has-written, known-phase, noted-of, own-named}
 use Rattle.engine.specs.Events.{IsFrameEvent}
-use Rattle.engine.specs.Sizes.{CallFitsAt, ItemsFit, LeavesFit, NamesFit, SessionsFit, SizesFit, StampsFitAt}
+use Rattle.engine.specs.Sizes.{CallFitsAt, ItemsFit, LeafFits, LeavesFit, NamesFit, SessionsFit, SizesFit, StampsFitAt}
 use Rattle.engine.proofs.CallSizes.{CallFitsIn, after-orders-fit, after-stamps-fit, answered-fits, marks-fit, orders-fit, sessions-set, stamps-fit, undoes-fit}
 use Rattle.engine.proofs.LeafSizes.{EditFits, PieceFits, changed-fits, edit-keeps, leaves-set, new-fits, piece-fits}
 
@@ -65,8 +67,8 @@ read-fits IsRemoved call target s s' made = subst CallFitsIn (sym made) (answere
 read-fits (Conflicts id) call target s s' made = subst CallFitsIn (sym made) (answered-fits call target _ s)
 read-fits IsOlder call target s s' made = subst CallFitsIn (sym made) tt
 
-step-fits : (view : View) (cursor : ℕ) (call : KeyCall) (target : Target) (slots : List KeyChain) (s s' : State) (way : Way) → SteppedBy view way (from_of s cursor target.table) call target slots s s' → CallFitsIn s'
-step-fits view cursor call target slots s s' way made = elim made [
+step-fits : (view : View) (cursor : ℕ) (call : KeyCall) (target : Target) (leaf : HeldLeaf) (s s' : State) (way : Way) → SteppedBy view way (from_of s cursor target.table) call target leaf s s' → CallFitsIn s'
+step-fits view cursor call target leaf s s' way made = elim made [
   | inl row ↦ subst CallFitsIn (sym row.3) (answered-fits call target _ (record s { key = row.0 }))
   | inr other ↦ elim other [
     | inl conflict ↦ subst CallFitsIn (sym conflict.3) (answered-fits call target _ s)
@@ -77,21 +79,21 @@ step-fits view cursor call target slots s s' way made = elim made [
   ]
 ]
 
-module _ (view : View) (name : Name) (call : KeyCall) (target : Target) (change : Change) (slots : List KeyChain) (s : State) (slots' : List KeyChain) (s' : State) where
+module _ (view : View) (name : Name) (call : KeyCall) (target : Target) (change : Change) (leaf : HeldLeaf) (s : State) (leaf' : HeldLeaf) (s' : State) where
   abbrev After : Type 0
-  After = ChainsFit slots' × CallFitsIn s'
+  After = LeafFits leaf' × CallFitsIn s'
 
-  module _ (new : RowFits [] key_most (s.key, cell_version (update_by name change).version)) (fit : ChainsFit slots) where
-    refused-fits : (r : Refusal) → (slots' ≡ slots) × (s' ≡ clears call target (refused r) s) → After
-    refused-fits r made = (subst ChainsFit (sym made.0) fit, subst CallFitsIn (sym made.1) tt)
+  module _ (new : RowFits [] key_most (s.key, cell_version (update_by name change).version)) (fit : LeafFits leaf) where
+    refused-fits : (r : Refusal) → (leaf' ≡ leaf) × (s' ≡ clears call target (refused r) s) → After
+    refused-fits r made = (subst LeafFits (sym made.0) fit, subst CallFitsIn (sym made.1) tt)
 
-    accepted-fits : AcceptedBy name call target change slots s slots' s' → After
+    accepted-fits : AcceptedBy name call target change leaf s leaf' s' → After
     accepted-fits made = elim made [
-      | inl taken ↦ (subst ChainsFit (sym taken.1.slots_are) (install_fits s.key (update_by name change) slots new fit), subst CallFitsIn (sym taken.2) tt)
-      | inr short ↦ (subst ChainsFit (sym short.0) fit, subst CallFitsIn (sym short.1) tt)
+      | inl taken ↦ (subst LeafFits (sym taken.1.leaf_is) (install_fits s.key (update_by name change) leaf.chains new fit), subst CallFitsIn (sym taken.2) tt)
+      | inr short ↦ (subst LeafFits (sym short.0) fit, subst CallFitsIn (sym short.1) tt)
     ]
 
-    free-fits : (wanted : Demand) (there led : Bool) → FoundBy (free_or_unmet wanted there led) name call target change slots s slots' s' → After
+    free-fits : (wanted : Demand) (there led : Bool) → FoundBy (free_or_unmet wanted there led) name call target change leaf s leaf' s' → After
     free-fits demand.Anything true led made = accepted-fits made
     free-fits demand.Anything false led made = accepted-fits made
     free-fits demand.Vacant true led made = refused-fits _ made
@@ -99,24 +101,28 @@ module _ (view : View) (name : Name) (call : KeyCall) (target : Target) (change 
     free-fits demand.Occupied true led made = accepted-fits made
     free-fits demand.Occupied false led made = refused-fits _ made
 
-    write-fits : (wanted : Demand) (chain : List Update) → FoundBy (write_found view wanted chain) name call target change slots s slots' s' → After
-    write-fits wanted [] made = free-fits wanted false false made
-    write-fits wanted (u ∷ older) made = by (may_follow_by view u) made where
-      by : (b : Bool) → FoundBy (found_by (if b then Allowed else Refused u.version.window.name) view wanted u) name call target change slots s slots' s' → After
+    write-fits : (wanted : Demand) (chain : List Update) (row : Option (Version Change)) → FoundBy (write_found view wanted chain row) name call target change leaf s leaf' s' → After
+    write-fits wanted [] None made = free-fits wanted false false made
+    write-fits wanted [] (Some v) made = by (may_follow_by view (unmarked_update v)) made where
+      by : (b : Bool) → FoundBy (found_under (if b then Allowed else Refused v.window.name) wanted v) name call target change leaf s leaf' s' → After
+      by true made = free-fits wanted (is_put v.change) false made
+      by false made = (subst LeafFits (sym made.0) fit, subst CallFitsIn (sym made.1) tt)
+    write-fits wanted (u ∷ older) row made = by (may_follow_by view u) made where
+      by : (b : Bool) → FoundBy (found_by (if b then Allowed else Refused u.version.window.name) view wanted u) name call target change leaf s leaf' s' → After
       by true made = free-fits wanted (is_put u.version.change) (is_named (own_name view) u) made
-      by false made = (subst ChainsFit (sym made.0) fit, subst CallFitsIn (sym made.1) tt)
+      by false made = (subst LeafFits (sym made.0) fit, subst CallFitsIn (sym made.1) tt)
 
-looked-fits : (call : KeyCall) (view : View) (target : Target) (slots : List KeyChain) (s : State) (slots' : List KeyChain) (s' : State) → LookedBy call view target slots s slots' s'
-    → (is_write call ≡ true → IsName (own_name view)) → ItemsFit s → ChainsFit slots → ChainsFit slots' × CallFitsIn s'
-looked-fits key_call.Get view target slots s slots' s' made own small fit = (subst ChainsFit (sym made.0) fit, read-fits (read_of view (chain_at s.key slots)) key_call.Get target s s' made.1)
-looked-fits (key_call.Seek cursor) view target slots s slots' s' made own small fit =
-    (subst ChainsFit (sym made.0) fit, read-fits (read_of view (chain_at s.key slots)) (key_call.Seek cursor) target s s' made.1)
-looked-fits (key_call.Step cursor way) view target slots s slots' s' made own small fit =
-    (subst ChainsFit (sym made.0) fit, step-fits view cursor (key_call.Step cursor way) target slots s s' (way_in way) made.1)
-looked-fits (key_call.Put wanted) view target slots s slots' s' made own small fit =
-    write-fits view (own_name view) (key_call.Put wanted) target (Put s.value) slots (without_value s) slots' s' (new-fits (own_name view) s.key (Put s.value) (own refl) small.0 small.1) fit wanted (chain_at s.key slots) made
-looked-fits key_call.Remove view target slots s slots' s' made own small fit =
-    write-fits view (own_name view) key_call.Remove target Remove slots s slots' s' (new-fits (own_name view) s.key Remove (own refl) small.0 (omega arith)) fit demand.Occupied (chain_at s.key slots) made
+looked-fits : (call : KeyCall) (view : View) (target : Target) (leaf : HeldLeaf) (s : State) (leaf' : HeldLeaf) (s' : State) → LookedBy call view target leaf s leaf' s'
+    → (is_write call ≡ true → IsName (own_name view)) → ItemsFit s → LeafFits leaf → LeafFits leaf' × CallFitsIn s'
+looked-fits key_call.Get view target leaf s leaf' s' made own small fit = (subst LeafFits (sym made.0) fit, read-fits (read_at view s.key leaf) key_call.Get target s s' made.1)
+looked-fits (key_call.Seek cursor) view target leaf s leaf' s' made own small fit =
+    (subst LeafFits (sym made.0) fit, read-fits (read_at view s.key leaf) (key_call.Seek cursor) target s s' made.1)
+looked-fits (key_call.Step cursor way) view target leaf s leaf' s' made own small fit =
+    (subst LeafFits (sym made.0) fit, step-fits view cursor (key_call.Step cursor way) target leaf s s' (way_in way) made.1)
+looked-fits (key_call.Put wanted) view target leaf s leaf' s' made own small fit =
+    write-fits view (own_name view) (key_call.Put wanted) target (Put s.value) leaf (without_value s) leaf' s' (new-fits (own_name view) s.key (Put s.value) (own refl) small.0 small.1) fit wanted (chain_at s.key leaf.chains) (shown_at s.key leaf.page) made
+looked-fits key_call.Remove view target leaf s leaf' s' made own small fit =
+    write-fits view (own_name view) key_call.Remove target Remove leaf s leaf' s' (new-fits (own_name view) s.key Remove (own refl) small.0 (omega arith)) fit demand.Occupied (chain_at s.key leaf.chains) (shown_at s.key leaf.page) made
 
 -- ---- stages
 
@@ -196,9 +202,9 @@ module _ (e : Engine) (w : World) (session : ℕ) (a : State) (st : Stands e w) 
     look : (call : KeyCall) (target : Target) (o : Option Frame) → p.frame ≡ o → LookMade o call view target p a p' a' → StageStands (stage.Look call target) w.machine e.hub.tables.tables e.pieces session a → ItemsFit a
         → PieceFits p' × CallFitsIn a'
     look call target None is looked facts items = (subst PieceFits (sym looked.0) was, subst CallFitsIn (sym looked.1) (answered-fits call target _ a))
-    look call target (Some f) is looked facts items = (subst PieceFits (sym looked.1) (λ g same. subst ChainsFit (let e : record f { chains = looked.0 } ≡ g = cc in ap (λ (x : Frame). x.chains) e) after.0), after.1) where
-      after : ChainsFit looked.0 × CallFitsIn a'
-      after = looked-fits call view target f.chains a looked.0 a' looked.2 (λ writes. own-fits view facts.0.0 is-view fit.names facts.0.1 (facts.0.2.1 writes)) items (was f is)
+    look call target (Some f) is looked facts items = (subst PieceFits (sym looked.1) (λ g same. subst LeafFits (let e : record f { leaf = looked.0 } ≡ g = cc in ap (λ (x : Frame). x.leaf) e) after.0), after.1) where
+      after : LeafFits looked.0 × CallFitsIn a'
+      after = looked-fits call view target f.leaf a looked.0 a' looked.2 (λ writes. own-fits view facts.0.0 is-view fit.names facts.0.1 (facts.0.2.1 writes)) items (was f is)
 
     by : (g : Stage) → FrameMadeAt g view p a p' a' → StampsFitAt g → StageStands g w.machine e.hub.tables.tables e.pieces session a → CallFitsAt g a → PieceFits p' × CallFitsIn a'
     by (stage.Look call target) made small facts items = look call target p.frame refl made facts items

@@ -12,6 +12,7 @@ use Rattle.leaf_chains.specs.declared.slot.KeyChain.{KeyChain}
 use Rattle.leaf_chains.specs.Slots.{chain_at, slot_changed}
 use Rattle.leaf_capture.specs.Capture.{ChainFits, ChainsFit}
 use Rattle.leaf_capture.specs.Cells.{cell_change, cell_version}
+use Rattle.leaf_frame.specs.Leaf.{HeldLeaf}
 use Rattle.call_steps.specs.declared.edit.Edit.{Edit}
 use Rattle.call_steps.specs.declared.edit.Edit.TheVariants as edit
 use Rattle.call_steps.specs.declared.frame.Frame.{Frame}
@@ -21,13 +22,13 @@ use Rattle.call_steps.specs.FrameEvents.{piece_changed, with_chains}
 use Rattle.call_steps.specs.Leaves.{edited, leaf_changed}
 use Rattle.call_steps.specs.Looks.{update_by}
 use Rattle.call_steps.specs.Written.{frame_at, slot_at}
-use Rattle.engine.specs.Sizes.{LeavesFit}
+use Rattle.engine.specs.Sizes.{LeafFits, LeavesFit}
 
 -- ---- frames
 
 -- the leaf of a piece fits, where there is one
 abbrev pub PieceFits : FramePiece → Type 0
-PieceFits p = (f : Frame) → p.frame ≡ Some f → ChainsFit f.chains
+PieceFits p = (f : Frame) → p.frame ≡ Some f → LeafFits f.leaf
 
 pub piece-fits : (pieces : List FramePiece) (place : ℕ) (p : FramePiece) → slice_get pieces place ≡ Some p → LeavesFit pieces → PieceFits p
 piece-fits pieces place p there fit f is = fit place f (ap (λ (o : Option FramePiece). option_and_then (λ (x : FramePiece). x.frame) o) there ∙ is)
@@ -40,8 +41,8 @@ leaves-set (x ∷ xs) (suc i) p fit new zero f is = fit zero f is
 leaves-set (x ∷ xs) (suc i) p fit new (suc j) f is = leaves-set xs i p (λ k g at. fit (suc k) g at) new j f is
 
 -- a piece with this leaf
-pub filled-fits : (table : ℕ) (chains : List KeyChain) → ChainsFit chains → PieceFits (record { generation = 0; frame = Some (record { table = table; chains = chains }) })
-filled-fits table chains fit f is = subst ChainsFit (let same : record { table = table; chains = chains } ≡ f = cc in ap (λ (x : Frame). x.chains) same) fit
+pub filled-fits : (table : ℕ) (leaf : HeldLeaf) → LeafFits leaf → PieceFits (record { generation = 0; frame = Some (record { table = table; leaf = leaf }) })
+filled-fits table leaf fit f is = subst LeafFits (let same : record { table = table; leaf = leaf } ≡ f = cc in ap (λ (x : Frame). x.leaf) same) fit
 
 pub leaves-none : LeavesFit []
 leaves-none place f is = absurd (cc)
@@ -54,7 +55,7 @@ leaves-empty (x ∷ xs) p fit none zero f is = fit zero f is
 leaves-empty (x ∷ xs) p fit none (suc j) f is = leaves-empty xs p (λ k g at. fit (suc k) g at) none j f is
 
 -- the last leaf, and those before it
-pub last-fits : (leaves : List (List KeyChain)) (x : List KeyChain) → AllByRecursion ChainsFit (leaves ++ x ∷ []) → AllByRecursion ChainsFit leaves × ChainsFit x
+pub last-fits : (leaves : List HeldLeaf) (x : HeldLeaf) → AllByRecursion LeafFits (leaves ++ x ∷ []) → AllByRecursion LeafFits leaves × LeafFits x
 last-fits [] x fit = (tt, fit.0)
 last-fits (y ∷ leaves) x fit = let rest = last-fits leaves x fit.1 in ((fit.0, rest.0), rest.1)
 
@@ -87,10 +88,10 @@ leaf-fits change keeps keys frame (suc n) slots fit =
 
 pub changed-fits : (change : List Update → List Update) → KeepsFit change → (keys : List WrittenKey) (frame n : ℕ) (p : FramePiece) → PieceFits p → PieceFits (piece_changed (leaf_changed change keys frame n) p)
 changed-fits change keeps keys frame n p fit f same = by p.frame refl same where
-  by : (o : Option Frame) → p.frame ≡ o → option_map (λ (g : Frame). with_chains (leaf_changed change keys frame n g.chains) g) o ≡ Some f → ChainsFit f.chains
+  by : (o : Option Frame) → p.frame ≡ o → option_map (λ (g : Frame). with_chains (leaf_changed change keys frame n g.leaf.chains) g) o ≡ Some f → LeafFits f.leaf
   by None is made = absurd (cc)
-  by (Some g) is made = let e : with_chains (leaf_changed change keys frame n g.chains) g ≡ f = cc in
-      subst ChainsFit (ap (λ (x : Frame). x.chains) e) (leaf-fits change keeps keys frame n g.chains (fit g is))
+  by (Some g) is made = let e : with_chains (leaf_changed change keys frame n g.leaf.chains) g ≡ f = cc in
+      subst LeafFits (ap (λ (x : Frame). x.leaf) e) (leaf-fits change keeps keys frame n g.leaf.chains (fit g is))
 
 -- ---- edits
 

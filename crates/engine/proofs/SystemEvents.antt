@@ -138,7 +138,7 @@ new-sound laws e name formats known place sound well made all = record {
   pieces = length-set e.pieces place _ ∙ sound.pieces;
   states = length-set e.states place _ ∙ sound.states;
   numbers = (let room = sound.numbers in let long = ap (λ (k : Known). length k.tables) made.2 ∙ length-append e.hub.tables.tables (table_in e name formats ∷ []) in let next = ap (λ (k : Known). k.next) made.2 in omega arith);
-  sizes = record { leaves = leaves-set e.pieces place _ sound.sizes.leaves (filled-fits (table_in e name formats).number [] (λ key. tt)); sessions = sound.sizes.sessions; names = sound.sizes.names };
+  sizes = record { leaves = leaves-set e.pieces place _ sound.sizes.leaves (filled-fits (table_in e name formats).number (record { page = []; chains = [] }) (λ key. tt)); sessions = sound.sizes.sessions; names = sound.sizes.names };
 } where
   then : Makes (with_table e known (table_in e name formats) place) sound.world.0 (Create name formats) answers.Done
   then = create-new laws e sound.world.0 name formats known place sound sound.world.1 well made all

@@ -1,20 +1,21 @@
 -- On what an engine begins.
-use Rattle.std.specs.Prelude.{◌≡◌, ◌+◌, ℕ, List, map}
+use Rattle.std.specs.Prelude.{◌≡◌, ◌+◌, ℕ, List}
 use Rattle.kv_model.specs.Content.{Content, base, descending, table_lt}
 use Rattle.kv_model.specs.History.{Table, line}
-use Rattle.update_chain.specs.Updates.{unmarked_update}
-use Rattle.leaf_chains.specs.declared.slot.KeyChain.{KeyChain}
+use Rattle.rows_shown.specs.Shows.{shown_at}
+use Rattle.leaf_frame.specs.Leaf.{HeldLeaf}
 use Rattle.leaf_chains.specs.Slots.{chain_at}
 use Rattle.catalog.specs.Known.{Known}
+use Rattle.engine_world.specs.Systems.{IsFirstOf}
 use Rattle.std.specs.Prelude.{Some, reverse, slice_get}
 
 -- the versions that a content keeps are in the leaf of the table at each place
-abbrev pub LeavesKeep : Content → List Table → List (List KeyChain) → Type 0
+abbrev pub LeavesKeep : Content → List Table → List HeldLeaf → Type 0
 LeavesKeep c tables leaves = (place : ℕ) (t : Table) → slice_get tables place ≡ Some t
-    → (chains : List KeyChain) × (slice_get leaves place ≡ Some chains) × ((key : List ℕ) → chain_at key chains ≡ map unmarked_update (line (base c) t.number key))
+    → (leaf : HeldLeaf) × (slice_get leaves place ≡ Some leaf) × ((key : List ℕ) → IsFirstOf (line (base c) t.number key) (chain_at key leaf.chains) (shown_at key leaf.page))
 
 -- what is handed to an engine is this content
-pub record IsBaseOf (c : Content) (run oldest stable : ℕ) (known : Known) (leaves : List (List KeyChain)) : Type 0 where
+pub record IsBaseOf (c : Content) (run oldest stable : ℕ) (known : Known) (leaves : List HeldLeaf) : Type 0 where
   pub run_is : run ≡ c.run + 1
   pub oldest_is : oldest ≡ c.oldest
   pub stable_is : stable ≡ c.stable

@@ -1,5 +1,5 @@
 -- What a checkpoint in one go asks of an engine.
-use Rattle.std.specs.Prelude.{◌≡◌, ◌≤◌, ℕ, List, [], None, Result, Ok, Err}
+use Rattle.std.specs.Prelude.{◌≡◌, ◌≤◌, ℕ, List, [], Result, Ok, Err}
 use Rattle.wt_code.specs.declared.refusals.Refusal.{Refusal}
 use Rattle.wt_code.specs.declared.refusals.Refusal.TheVariants.{Panic, Busy as Refusal_Busy, Limit as Refusal_Limit}
 use Rattle.wt_code.specs.declared.refusals.Limit.TheVariants.{Checkpoints}
@@ -9,7 +9,8 @@ use Rattle.kv_model.specs.Decisions.{Outcome, Done, Refused, StartCall, decision
 use Rattle.kv_model.specs.History.{Table}
 use Rattle.kv_model.specs.Machine.{Machine, Event, CheckpointStart, Nothing}
 use Rattle.update_chain.specs.EventLaws.{StandsFor}
-use Rattle.leaf_chains.specs.declared.slot.KeyChain.{KeyChain}
+use Rattle.rows_shown.specs.Shows.{shown_at}
+use Rattle.leaf_frame.specs.Leaf.{HeldLeaf}
 use Rattle.leaf_chains.specs.Slots.{chain_at}
 use Rattle.call_steps.specs.declared.hub.Hub.{Hub}
 use Rattle.engine.specs.declared.checkpoint.EngineMarks.{EngineMarks}
@@ -42,6 +43,6 @@ pub record MarksFit (marks : EngineMarks) : Type 0 where
   pub run : 1 ≤ marks.run
   pub stamps : StampsFit marks.oldest marks.stable
 
--- the chains stand for the keys of the table, with nothing on a page or in the history beside them
-abbrev pub ChainsStand : Machine → Table → List KeyChain → Type 0
-ChainsStand m t chains = (key : List ℕ) → StandsFor m t.number key (chain_at key chains) None []
+-- the chains over the rows stand for the keys of the table, with nothing in the history beside them
+abbrev pub HeldStands : Machine → Table → HeldLeaf → Type 0
+HeldStands m t leaf = (key : List ℕ) → StandsFor m t.number key (chain_at key leaf.chains) (shown_at key leaf.page) []

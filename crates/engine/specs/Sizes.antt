@@ -4,6 +4,7 @@ use Rattle.limits.specs.declared.TheConstants.{KEY_MAX, VALUE_MAX, NUMBER_MAX}
 use Rattle.kv_model.specs.Refusals.{stamp_of}
 use Rattle.txn_table.specs.Tabled.{Table}
 use Rattle.leaf_capture.specs.Capture.{ChainsFit}
+use Rattle.leaf_frame.specs.Leaf.{HeldLeaf}
 use Rattle.call_steps.specs.declared.frame.Frame.{Frame}
 use Rattle.call_steps.specs.declared.frame.FramePiece.{FramePiece}
 use Rattle.call_steps.specs.declared.stage.Stage.{Stage}
@@ -12,9 +13,13 @@ use Rattle.call_steps.specs.State.{State}
 use Rattle.engine_world.specs.Leaves.{frame_in}
 use Rattle.engine_world.specs.Stands.{Engine}
 
--- the chains of each leaf fit
+-- the chains of a leaf fit; the rows of its page do at any time
+abbrev pub LeafFits : HeldLeaf → Type 0
+LeafFits leaf = ChainsFit leaf.chains
+
+-- so each leaf's
 abbrev pub LeavesFit : List FramePiece → Type 0
-LeavesFit pieces = (place : ℕ) (f : Frame) → frame_in pieces place ≡ Some f → ChainsFit f.chains
+LeavesFit pieces = (place : ℕ) (f : Frame) → frame_in pieces place ≡ Some f → LeafFits f.leaf
 
 -- the key and the value of a call fit
 abbrev pub ItemsFit : State → Type 0

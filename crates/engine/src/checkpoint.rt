@@ -18,7 +18,7 @@ ghost use Rattle.engine_world.specs.Stands.{Stands};
 ghost use Rattle.engine_world.specs.Systems.{checkpointed, with_fault};
 ghost use Rattle.engine_world.specs.Worlds.{World};
 ghost use Rattle.engine.specs.Events.{HasWorld};
-ghost use Rattle.engine.specs.Checkpoints.{ChainsStand, IsOfStart, MarksFit, MayStart, marks_in, marks_of};
+ghost use Rattle.engine.specs.Checkpoints.{HeldStands, IsOfStart, MarksFit, MayStart, marks_in, marks_of};
 ghost use Rattle.engine.specs.Sound.{IsSound};
 
 use crate::local::Local;
@@ -26,7 +26,7 @@ use crate::parts::Parts;
 use catalog::Catalog;
 use engine_world::{checkpoints_go, downs_go};
 use failure::{Fault, NoMemory};
-use leaf_chains::LeafChains;
+use leaf_frame::LeafFrame;
 use limits::{NUMBER_MAX, SESSIONS_MAX};
 use snapshot::Snapshot;
 use std::alloc::Global;
@@ -91,11 +91,10 @@ impl Local {
         self.parts.tables()
     }
 
-    /// The update chains of the leaf of the table at a place of the catalog. Each of their updates
-    /// fits a row. `O(1)`.
-    pub fn leaf(&self, place: u32) -> Option<&LeafChains>
-        ensures fit { IfSome result (λ c. ChainsFit c.now) }
-        ensures stands { (w : World) → Stands self.now w → (t : Table) → slice_get self.now.hub.tables.tables place ≡ Some t → MatchOption result ⊥ (λ c. ChainsStand w.machine t c.now) }
+    /// The leaf of the table at a place of the catalog. Each update of its chains fits a row. `O(1)`.
+    pub fn leaf(&self, place: u32) -> Option<&LeafFrame>
+        ensures fit { IfSome result (λ l. ChainsFit l.now.chains) }
+        ensures stands { (w : World) → Stands self.now w → (t : Table) → slice_get self.now.hub.tables.tables place ≡ Some t → MatchOption result ⊥ (λ l. HeldStands w.machine t l.now) }
     {
         self.parts.leaf(place)
     }
@@ -176,14 +175,14 @@ impl Parts {
         &self.hub.tables
     }
 
-    /// The update chains of the leaf in a frame.
-    pub(crate) fn leaf(&self, frame: u32) -> Option<&LeafChains>
-        ensures { option_map (λ chains. chains.now) result ≡ option_map (λ f. f.chains) (frame_in self.now.pieces frame) }
+    /// The leaf in a frame.
+    pub(crate) fn leaf(&self, frame: u32) -> Option<&LeafFrame>
+        ensures { option_map (λ leaf. leaf.now) result ≡ option_map (λ f. f.leaf) (frame_in self.now.pieces frame) }
     {
         let piece = self.pieces.get(frame as usize)?;
         match &piece.frame {
             None => None,
-            Some(frame) => Some(&frame.chains),
+            Some(frame) => Some(&frame.leaf),
         }
     }
 

@@ -7,13 +7,13 @@ ghost use Rattle.kv_model.specs.Content.{Content};
 ghost use Rattle.kv_model.specs.Decisions.{is_there};
 ghost use Rattle.kv_model.specs.History.{named, tables};
 ghost use Rattle.kv_model.specs.Regular.{IsRegular};
-ghost use Rattle.leaf_capture.specs.Capture.{ChainsFit};
 ghost use Rattle.engine_world.specs.Stands.{Stands};
 ghost use Rattle.engine_world.specs.Systems.{first_world};
 ghost use Rattle.engine_world.specs.Worlds.{World};
 ghost use Rattle.engine.specs.Bases.{IsBaseOf};
 ghost use Rattle.engine.specs.Openings.{HasBase};
 ghost use Rattle.engine.specs.Runs.{CallFits, MayRun, MayStep, StepFits, StepsOut};
+ghost use Rattle.engine.specs.Sizes.{LeafFits};
 ghost use Rattle.engine.specs.Sound.{AreBuilt};
 ghost use Rattle.engine.specs.Whole.{MayAnswer, with_session_more};
 
@@ -23,7 +23,7 @@ use call_steps::Reply;
 use catalog::Catalog;
 use failure::NoMemory;
 use item::{Formats, Item};
-use leaf_chains::LeafChains;
+use leaf_frame::LeafFrame;
 use std::alloc::Global;
 use std::marker::Model;
 use wt_calls::Call;
@@ -56,13 +56,13 @@ impl Local {
         oldest: u64,
         stable: u64,
         tables: Catalog,
-        leaves: Vec<LeafChains>,
+        leaves: Vec<LeafFrame>,
     ) -> Result<Local, NoMemory>
         requires numbers { tables.next + TABLES_MAX < 2 ^ 32 + length tables.tables }
         requires leaves { length leaves.items ≡ length tables.tables }
         requires base { HasBase run oldest stable tables leaves.items }
         requires run { run ≤ NUMBER_MAX }
-        requires fit { AllByRecursion ChainsFit leaves.items }
+        requires fit { AllByRecursion LeafFits leaves.items }
         ensures stands { (c : Content) → IsRegular c → IsBaseOf c run oldest stable tables leaves.items → IfOk result (λ l. Stands l (first_world c l)) }
         ensures sessions { IfOk result (λ l. length l.sessions ≡ 0) }
     {

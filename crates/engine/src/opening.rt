@@ -5,13 +5,12 @@ ghost use Rattle.std.specs.List.{AllByRecursion};
 ghost use Rattle.limits.specs.declared.TheConstants.{NUMBER_MAX, TABLES_MAX};
 ghost use Rattle.kv_model.specs.Content.{Content};
 ghost use Rattle.kv_model.specs.Regular.{IsRegular};
-ghost use Rattle.leaf_capture.specs.Capture.{ChainsFit};
 ghost use Rattle.engine_world.specs.Leaves.{number_at};
 ghost use Rattle.engine_world.specs.Stands.{Stands};
 ghost use Rattle.engine_world.specs.Systems.{first_world};
 ghost use Rattle.engine.specs.Bases.{IsBaseOf};
 ghost use Rattle.engine.specs.Openings.{AreLaid, HasBase};
-ghost use Rattle.engine.specs.Sizes.{LeavesFit};
+ghost use Rattle.engine.specs.Sizes.{LeafFits, LeavesFit};
 ghost use Rattle.engine.specs.Sound.{IsSound};
 
 use crate::parts::Parts;
@@ -19,7 +18,7 @@ use call_steps::{Frame, FramePiece, Hub};
 use catalog::Catalog;
 use engine_world::engines_start;
 use failure::NoMemory;
-use leaf_chains::LeafChains;
+use leaf_frame::LeafFrame;
 use limits::{SESSIONS_MAX, TABLES_MAX};
 use std::alloc::Global;
 use ts_rules::Stamps;
@@ -38,13 +37,13 @@ impl Parts {
         oldest: u64,
         stable: u64,
         tables: Catalog,
-        leaves: Vec<LeafChains>,
+        leaves: Vec<LeafFrame>,
     ) -> Result<Parts, NoMemory>
         requires numbers { tables.next + TABLES_MAX < 2 ^ 32 + length tables.tables }
         requires leaves { length leaves.items ≡ length tables.tables }
         requires base { HasBase run oldest stable tables leaves.items }
         requires run { run ≤ NUMBER_MAX }
-        requires fit { AllByRecursion ChainsFit leaves.items }
+        requires fit { AllByRecursion LeafFits leaves.items }
         ensures stands { (c : Content) → IsRegular c → IsBaseOf c run oldest stable tables leaves.items → IfOk result (λ p. Stands p (first_world c p)) }
         ensures sessions { IfOk result (λ p. p.sessions ≡ []) }
         ensures sound { IfOk result (λ p. IsSound p) }
@@ -91,19 +90,19 @@ fn empty_pieces(alloc: Global) -> Result<Vec<FramePiece>, NoMemory>
 }
 
 // Each leaf into the frame of its place.
-fn lay_leaves(pieces: &mut [FramePiece], tables: &Catalog, mut leaves: Vec<LeafChains>)
+fn lay_leaves(pieces: &mut [FramePiece], tables: &Catalog, mut leaves: Vec<LeafFrame>)
     requires room { length leaves.items ≤ length pieces.old }
     requires few { length pieces.old ≤ TABLES_MAX }
     ensures laid { AreLaid tables.now.tables leaves.items pieces.new }
-    ensures fit { LeavesFit pieces.old → AllByRecursion ChainsFit leaves.items → LeavesFit pieces.new }
+    ensures fit { LeavesFit pieces.old → AllByRecursion LeafFits leaves.items → LeavesFit pieces.new }
 {
-    while let Some(chains) = leaves.pop() {
+    while let Some(leaf) = leaves.pop() {
         let place = leaves.len();
         pieces[place] = FramePiece {
             generation: 0,
             frame: Some(Frame {
                 table: number_at(tables, place as u32),
-                chains,
+                leaf,
             }),
         };
     }

@@ -21,7 +21,7 @@ use call_steps::{Frame, FramePiece, Reply, SessionState};
 use catalog::{Created, creates_are_judged, creates_suit, names_turn, places_are_named};
 use engine_world::{creates_go, opens_go, sets_go};
 use item::{Formats, Item};
-use leaf_chains::LeafChains;
+use leaf_frame::LeafFrame;
 use limits::SESSIONS_MAX;
 use std::alloc::Global;
 use wt_calls::{Call, SystemCall};
@@ -204,7 +204,7 @@ const FIRST_WORD: u64 = 1;
 
 // An empty leaf of the table of this number.
 fn put_leaf(pieces: &mut [FramePiece], alloc: Global, place: u32, number: u32)
-    ensures { pieces.new ≡ slice_set pieces.old place (record { generation = 0; frame = Some (record { table = number; chains = [] }) }) }
+    ensures { pieces.new ≡ slice_set pieces.old place (record { generation = 0; frame = Some (record { table = number; leaf = record { page = []; chains = [] } }) }) }
 {
     let at = place as usize;
     if at < pieces.len() {
@@ -212,7 +212,7 @@ fn put_leaf(pieces: &mut [FramePiece], alloc: Global, place: u32, number: u32)
             generation: 0,
             frame: Some(Frame {
                 table: number,
-                chains: LeafChains::new(alloc),
+                leaf: LeafFrame::new(alloc),
             }),
         };
     }

@@ -104,7 +104,7 @@ fn listed(alloc: Global, engine: &Local) -> Result<usize, NoMemory> {
 fn keys(engine: &Local, place: u32) -> Option<usize> {
     match engine.leaf(place) {
         None => None,
-        Some(chains) => Some(chains.len()),
+        Some(leaf) => Some(leaf.chains().len()),
     }
 }
 

@@ -7,7 +7,7 @@ use Rattle.kv_model.specs.Content.{descending, table_lt}
 use Rattle.kv_model.specs.Regular.{IsRegular}
 use Rattle.leaf_rows.specs.declared.marks.Marks.{Marks}
 use Rattle.leaf_rows.specs.Rows.{AreFit}
-use Rattle.leaf_chains.specs.declared.slot.KeyChain.{KeyChain}
+use Rattle.leaf_frame.specs.Leaf.{HeldLeaf}
 use Rattle.catalog.specs.Known.{Known}
 use Rattle.catalog.specs.Opens.{AreRecorded}
 use Rattle.engine_world.specs.Stands.{Engine}
@@ -16,7 +16,7 @@ use Rattle.engine_world.specs.Worlds.{World}
 use Rattle.engine.specs.Bases.{IsBaseOf, LeavesKeep}
 use Rattle.engine_start.specs.declared.by_number.NumberedRows.{NumberedRows}
 use Rattle.engine_start.specs.declared.table_leaf.TableLeaf.{TableLeaf}
-use Rattle.engine_start.specs.ByNumber.{numbered, rows_lt, their_chains}
+use Rattle.engine_start.specs.ByNumber.{numbered, rows_lt, their_leaf}
 use Rattle.engine_start.specs.Contents.{kept_leaves, leaves_content, leaves_content_with, seen_leaves, tables_in}
 use Rattle.engine_start.proofs.LeafCells.{AllFit, same_base}
 use Rattle.engine_start.proofs.Placing.{fit_again, leaves_keep}
@@ -54,14 +54,14 @@ module _ (m : Marks) (leaves : List TableLeaf) (sorted : List NumberedRows) (sor
   pub is_regular : StampsFit m.oldest m.stable → IsRegular (leaves_content m leaves)
   is_regular stamps = regular m leaves next recorded stamps all_fit
 
-  pub is_base : (known : Known) (tables : List Table) (chains : List (List KeyChain)) → kept_leaves m leaves ≡ leaves → tables ≡ tables_in leaves → reverse known.tables ≡ descending table_lt tables → chains ≡ map their_chains (reverse sorted)
+  pub is_base : (known : Known) (tables : List Table) (chains : List HeldLeaf) → kept_leaves m leaves ≡ leaves → tables ≡ tables_in leaves → reverse known.tables ≡ descending table_lt tables → chains ≡ map their_leaf (reverse sorted)
       → IsBaseOf (leaves_content m leaves) (m.run + 1) m.oldest m.stable known chains
   is_base known tables chains again tables_is known_is chains_is = record {
     run_is = refl;
     oldest_is = refl;
     stable_is = refl;
     tables_are = known_is ∙ ap (descending table_lt) tables_is;
-    leaves_are = subst (λ (l : List (List KeyChain)). LeavesKeep (leaves_content m leaves) known.tables l)
-        (sym (chains_is ∙ ap (λ (l : List NumberedRows). map their_chains (reverse l)) sorted_is))
+    leaves_are = subst (λ (l : List HeldLeaf). LeavesKeep (leaves_content m leaves) known.tables l)
+        (sym (chains_is ∙ ap (λ (l : List NumberedRows). map their_leaf (reverse l)) sorted_is))
         (leaves_keep m leaves known.tables again recorded.once all_fit (known_is ∙ ap (descending table_lt) tables_is));
   }

@@ -9,7 +9,7 @@ ghost use Rattle.engine_world.specs.Systems.{first_world};
 ghost use Rattle.engine_start.specs.declared.table_leaf.TableLeaf.{TableLeaf};
 ghost use Rattle.engine_start.specs.Contents.{kept_leaves, leaves_content, leaves_content_with, seen_leaves, tables_in};
 
-use crate::by_number::{chains_from_last, part};
+use crate::by_number::{leaves_from_last, part};
 use crate::table_leaf::TableLeaf;
 use catalog::Catalog;
 use engine::Local;
@@ -39,7 +39,7 @@ pub fn start(
 {
     let parted = part(alloc, tables)?;
     let known = Catalog::open(alloc, parted.tables, next_table)?;
-    let leaves = chains_from_last(alloc, parted.leaves)?;
+    let leaves = leaves_from_last(alloc, parted.leaves)?;
     Local::open(
         alloc,
         marks.run + 1,

@@ -3,7 +3,7 @@ use Rattle.std.proofs.Common.{◌≡◌, [], List, inl, inr, refl, subst, sym}
 use Rattle.kv_model.specs.Content.{nothing}
 use Rattle.kv_model.specs.History.{Placed}
 use Rattle.kv_model.specs.Regular.{IsRegular, IsVersionOf}
-use Rattle.leaf_chains.specs.declared.slot.KeyChain.{KeyChain}
+use Rattle.leaf_frame.specs.Leaf.{HeldLeaf}
 use Rattle.catalog.specs.Known.{Known}
 use Rattle.engine.specs.Bases.{IsBaseOf}
 
@@ -22,8 +22,8 @@ nothing_is_regular = record {
 }
 
 -- no tables and no leaves
-pub nothing_is_base : (known : Known) (leaves : List (List KeyChain)) → known ≡ record { tables = []; next = 1 } → leaves ≡ [] → IsBaseOf nothing 1 0 0 known leaves
+pub nothing_is_base : (known : Known) (leaves : List HeldLeaf) → known ≡ record { tables = []; next = 1 } → leaves ≡ [] → IsBaseOf nothing 1 0 0 known leaves
 nothing_is_base known leaves is none =
     let plain : Known = record { tables = []; next = 1 } in
-    subst (λ (k : Known). IsBaseOf nothing 1 0 0 k leaves) (sym is) (subst (λ (l : List (List KeyChain)). IsBaseOf nothing 1 0 0 plain l) (sym none)
+    subst (λ (k : Known). IsBaseOf nothing 1 0 0 k leaves) (sym is) (subst (λ (l : List HeldLeaf). IsBaseOf nothing 1 0 0 plain l) (sym none)
     (record { run_is = refl; oldest_is = refl; stable_is = refl; tables_are = refl; leaves_are = λ place t there. absurd cc }))

@@ -66,12 +66,12 @@ number-absent m t new = elim (cases_Bool (has_table (tables m.history) t.number)
 -- ---- the frames
 
 abbrev chains_in : Option Frame → List KeyChain
-chains_in o = of_some [] (λ (f : Frame). f.chains) o
+chains_in o = of_some [] (λ (f : Frame). f.leaf.chains) o
 
 set-here : {A : Type 0} (xs : List A) (i : ℕ) (x : A) → i < length xs → slice_get (slice_set xs i x) i ≡ Some x
 set-here xs i x inside = let long = length-set xs i x in slice_get-get_or (slice_set xs i x) i x (omega arith) ∙ ap Some (get_or-set_same xs i x x inside)
 
-new-frame : (pieces : List FramePiece) (place : ℕ) (t : Table) → place < length pieces → frame_in (slice_set pieces place (first_piece t)) place ≡ Some (record { table = t.number; chains = [] })
+new-frame : (pieces : List FramePiece) (place : ℕ) (t : Table) → place < length pieces → frame_in (slice_set pieces place (first_piece t)) place ≡ Some (record { table = t.number; leaf = record { page = []; chains = [] } })
 new-frame pieces place t inside = ap (option_and_then (λ (p : FramePiece). p.frame)) (set-here pieces place (first_piece t) inside)
 
 old-frame : (pieces : List FramePiece) (place other : ℕ) (p : FramePiece) → other ≢ place → frame_in (slice_set pieces place p) other ≡ frame_in pieces other
@@ -93,7 +93,7 @@ module _ (chains : ChainsGoOn) (e : Engine) (w : World) (known : Known) (t : Tab
 
   new-leaf : LeafStands (after w.machine (CreateTable t)) (slice_set e.pieces place (first_piece t)) (slice_set e.states place first_word) place t
   new-leaf = record {
-    frame = record { table = t.number; chains = [] };
+    frame = record { table = t.number; leaf = record { page = []; chains = [] } };
     there = new-frame e.pieces place t c.frame;
     word = get_or-set_same e.states place first_word 0 c.word;
     keys = λ key. chains w.machine (CreateTable t) t.number key [] None [] c.stands.valid c.may tt

@@ -71,8 +71,8 @@ below-front m table key u older [] (v ∷ held) below e topped x at = let rest :
 below-front m table key u older (y ∷ []) held below e topped x at = let rest : map update_in older ≡ map settled held = cc in settled-in older held rest x at
 below-front m table key u older (y ∷ (z ∷ more)) held below e topped x at = absurd topped
 
-below-have : (e : Edit) (m : Machine) (name : Name) (table : ℕ) (key : List ℕ) (u : Update) (older : List Update) → LineHas e m name table key → StandsFor m table key (u ∷ older) None [] → AllHave e name older
-below-have e m name table key u older has k x at named = let found = below-front m table key u older k.top k.held k.below k.chained k.topped x at in
+below-have : (e : Edit) (m : Machine) (name : Name) (table : ℕ) (key : List ℕ) (u : Update) (older : List Update) (row : Option (Version Change)) → LineHas e m name table key → StandsFor m table key (u ∷ older) row [] → AllHave e name older
+below-have e m name table key u older row has k x at named = let found = below-front m table key u older k.top k.held k.below k.chained k.topped x at in
     let same : x ≡ unmarked_update found.0 = ap back found.2 in
     subst (HasEdit e) (sym same) (has found.0 (below-stands m table key k.top k.below k.topped found.0 (k.stores.kept.within found.0 (inl (inl found.1)))) (sym (ap (λ (y : ModelUpdate). y.version.window.name) found.2) ∙ named))
 
@@ -97,14 +97,14 @@ undone-have name u older rest = elim (cases_Bool (is_named name u)) [
 ]
 
 -- afterwards each update of the name has it
-pub edited-have : (e : Edit) (m : Machine) (name : Name) (table : ℕ) (key : List ℕ) (chain : List Update) → LineHas e m name table key → StandsFor m table key chain None [] → AllHave e name (edited name e chain)
-edited-have (edit.Mark stamp) m name table key [] has k = λ x at named. absurd at
-edited-have (edit.Mark stamp) m name table key (u ∷ older) has k = front-have (edit.Mark stamp) name (marked stamp) u older refl (below-have (edit.Mark stamp) m name table key u older has k)
-edited-have (edit.Stamp commit durable) m name table key [] has k = λ x at named. absurd at
-edited-have (edit.Stamp commit durable) m name table key (u ∷ older) has k =
-    front-have (edit.Stamp commit durable) name (stamped commit durable) u older (refl, (refl, refl)) (below-have (edit.Stamp commit durable) m name table key u older has k)
-edited-have edit.Undo m name table key [] has k = λ x at named. absurd at
-edited-have edit.Undo m name table key (u ∷ older) has k = undone-have name u older (below-have edit.Undo m name table key u older has k)
+pub edited-have : (e : Edit) (m : Machine) (name : Name) (table : ℕ) (key : List ℕ) (chain : List Update) (row : Option (Version Change)) → LineHas e m name table key → StandsFor m table key chain row [] → AllHave e name (edited name e chain)
+edited-have (edit.Mark stamp) m name table key [] row has k = λ x at named. absurd at
+edited-have (edit.Mark stamp) m name table key (u ∷ older) row has k = front-have (edit.Mark stamp) name (marked stamp) u older refl (below-have (edit.Mark stamp) m name table key u older row has k)
+edited-have (edit.Stamp commit durable) m name table key [] row has k = λ x at named. absurd at
+edited-have (edit.Stamp commit durable) m name table key (u ∷ older) row has k =
+    front-have (edit.Stamp commit durable) name (stamped commit durable) u older (refl, (refl, refl)) (below-have (edit.Stamp commit durable) m name table key u older row has k)
+edited-have edit.Undo m name table key [] row has k = λ x at named. absurd at
+edited-have edit.Undo m name table key (u ∷ older) row has k = undone-have name u older (below-have edit.Undo m name table key u older row has k)
 
 -- ---- it brings no update of another name
 
@@ -133,7 +133,7 @@ edited-brings edit.Undo name (u ∷ older) x at other = elim (cases_Bool (is_nam
 
 -- the chains of its keys stand after it, and each update of its name has it
 pub record Edits (e : Edit) (m : Machine) (t : Transaction) : Type 0 where
-  pub stands : (w : Write) → Member w t.writes → (chain : List Update) → StandsFor m w.table w.key chain None [] → StandsFor m w.table w.key (edited (name_of m t) e chain) None []
+  pub stands : (w : Write) → Member w t.writes → (chain : List Update) (row : Option (Version Change)) → StandsFor m w.table w.key chain row [] → StandsFor m w.table w.key (edited (name_of m t) e chain) row []
   pub has : (w : Write) → Member w t.writes → LineHas e m (name_of m t) w.table w.key
 
 in-option : (w : Write) (o : Option Write) → Member w (option_to_list o) → o ≡ Some w
@@ -158,20 +158,20 @@ leaving-none m s t valid there leaving = subst (λ p. PhaseStands p m.history (n
 
 pub marks-edit : MarksStand → (m : Machine) (s : ℕ) (t : Transaction) (stamp : ℕ) → Valid m → transaction_of m s ≡ Some t → t.phase ≡ Running → Edits (edit.Mark stamp) m t
 marks-edit marks-stand m s t stamp valid there running = record {
-  stands = λ w at chain k. (marks-stand m s t w.table w.key chain None [] stamp 0 0 valid there running k).0;
+  stands = λ w at chain row k. (marks-stand m s t w.table w.key chain row [] stamp 0 0 valid there running k).0;
   has = λ w at. unreleased-has (edit.Mark stamp) m (name_of m t) w.table w.key valid (running-none m s t valid there running);
 }
 
 pub stamps-edit : MarksStand → (m : Machine) (s : ℕ) (t : Transaction) (commit durable : ℕ) → Valid m → transaction_of m s ≡ Some t → t.phase ≡ Running → Edits (edit.Stamp commit durable) m t
 stamps-edit marks-stand m s t commit durable valid there running = record {
-  stands = λ w at chain k. (marks-stand m s t w.table w.key chain None [] 0 commit durable valid there running k).1;
+  stands = λ w at chain row k. (marks-stand m s t w.table w.key chain row [] 0 commit durable valid there running k).1;
   has = λ w at. unreleased-has (edit.Stamp commit durable) m (name_of m t) w.table w.key valid (running-none m s t valid there running);
 }
 
 pub resolved-edit : StampsStand → (m : Machine) (s : ℕ) (t : Transaction) (commit durable : ℕ) → Valid m → transaction_of m s ≡ Some t → t.phase ≡ Resolving
     → ((w : Write) → Member w t.writes → Member (outcome m t w commit durable) (line m.history w.table w.key)) → Edits (edit.Stamp commit durable) m t
 resolved-edit stamps-stand m s t commit durable valid there resolving committed = record {
-  stands = λ w at chain k. stamps-stand m s t w w.table w.key chain None [] commit durable valid there resolving (own-of m s t w valid there at) (committed w at) k;
+  stands = λ w at chain row k. stamps-stand m s t w w.table w.key chain row [] commit durable valid there resolving (own-of m s t w valid there at) (committed w at) k;
   has = λ w at v in_line named.
       let same : v ≡ outcome m t w commit durable = same-named (line m.history w.table w.key) v (outcome m t w commit durable) (line-descends m.history valid.orderly w.table w.key) in_line (committed w at) named in
       (ap (λ (x : Version Change). x.window.commit) same, (ap (λ (x : Version Change). x.window.durable) same, refl));
@@ -183,6 +183,6 @@ undone-has m s t table key valid there (inr resolving) = λ v at named. resolvin
 
 pub undos-edit : UndosStand → (m : Machine) (s : ℕ) (t : Transaction) → Valid m → transaction_of m s ≡ Some t → ((w : Write) → Member w t.writes → IsUndone m t w.table w.key) → Edits edit.Undo m t
 undos-edit undos-stand m s t valid there undone = record {
-  stands = λ w at chain k. undos-stand m s t w.table w.key chain None [] valid there (undone w at) k;
+  stands = λ w at chain row k. undos-stand m s t w.table w.key chain row [] valid there (undone w at) k;
   has = λ w at. undone-has m s t w.table w.key valid there (undone w at);
 }

@@ -1,12 +1,14 @@
 -- What is done to the keys of one leaf that a transaction wrote.
 use Rattle.std.proofs.Common.{◌≡◌, ◌≢◌, ◌⊎◌, ◌<◌, ◌≤◌, ℕ, zero, suc, refl, ap, sym, ◌∙◌, List, [], ◌∷◌, length, inl, inr, subst, arith}
-use Rattle.std.specs.Prelude.{Some, None, slice_get, slice_set, bytes_eq, ◌==◌, if◌then◌else◌, option_map}
+use Rattle.std.specs.Prelude.{Some, slice_get, slice_set, bytes_eq, ◌==◌, if◌then◌else◌, option_map}
 use Rattle.std.proofs.lemmas.Bool.{cases_Bool, cases_eq, both_ways, eqb-true, eq-eqb}
 use Rattle.std.proofs.lemmas.Slice.Eq.{bytes_eq-Decides}
 use Rattle.stamp.specs.declared.Name.{Name}
 use Rattle.kv_model.specs.Holds.{Member}
 use Rattle.kv_model.specs.History.{Table, Write}
 use Rattle.kv_model.specs.Machine.{Machine, Transaction, name_of, of_some}
+use Rattle.row_page.specs.Rows.{Row}
+use Rattle.rows_shown.specs.Shows.{shown_at}
 use Rattle.update_chain.specs.declared.update.Update.{Update}
 use Rattle.update_chain.specs.EventLaws.{StandsFor}
 use Rattle.leaf_chains.specs.declared.slot.KeyChain.{KeyChain}
@@ -82,21 +84,21 @@ pub record IsWritten (t : Transaction) (table : ℕ) (old : List KeyChain) (k : 
   pub slot : slot_of write.key old ≡ Some k.slot
 
 -- done to the keys of this leaf, but to the first n
-pub record Edited (e : Edit) (name : Name) (m : Machine) (table frame from : ℕ) (keys : List WrittenKey) (old : List KeyChain) (n : ℕ) (slots : List KeyChain) : Type 0 where
-  pub stands : (key : List ℕ) → StandsFor m table key (chain_at key slots) None []
+pub record Edited (e : Edit) (name : Name) (m : Machine) (table frame from : ℕ) (keys : List WrittenKey) (page : List Row) (old : List KeyChain) (n : ℕ) (slots : List KeyChain) : Type 0 where
+  pub stands : (key : List ℕ) → StandsFor m table key (chain_at key slots) (shown_at key page) []
   pub places : (key : List ℕ) → slot_of key slots ≡ slot_of key old
   pub brings : (key : List ℕ) (u : Update) → Member u (chain_at key slots) → u.version.window.name ≢ name → Member u (chain_at key old)
   pub done : (i : ℕ) (k : WrittenKey) → n ≤ i → slice_get keys i ≡ Some k → k.frame ≡ frame → AllHave e name (chain_in slots k.slot)
   -- a key of another leaf was done before
   pub before : (i : ℕ) (k : WrittenKey) → n ≤ i → slice_get keys i ≡ Some k → k.frame ≢ frame → from ≤ i
 
-module _ (e : Edit) (m : Machine) (t : Transaction) (edits : Edits e m t) (table frame from : ℕ) (keys : List WrittenKey) (old : List KeyChain) where
-  edited-one : (n : ℕ) (slots : List KeyChain) (k : WrittenKey) → slice_get keys n ≡ Some k → k.frame ≡ frame → IsWritten t table old k → Edited e (name_of m t) m table frame from keys old (suc n) slots
-      → Edited e (name_of m t) m table frame from keys old n (slot_changed k.slot (edited (name_of m t) e) slots)
+module _ (e : Edit) (m : Machine) (t : Transaction) (edits : Edits e m t) (table frame from : ℕ) (keys : List WrittenKey) (page : List Row) (old : List KeyChain) where
+  edited-one : (n : ℕ) (slots : List KeyChain) (k : WrittenKey) → slice_get keys n ≡ Some k → k.frame ≡ frame → IsWritten t table old k → Edited e (name_of m t) m table frame from keys page old (suc n) slots
+      → Edited e (name_of m t) m table frame from keys page old n (slot_changed k.slot (edited (name_of m t) e) slots)
   edited-one n slots k at here w s = record {
     stands = λ other. elim (cases-key other key) [
-      | inl same ↦ subst (λ (q : List ℕ). StandsFor m table q (chain_at q later) None []) (sym same) stands_here
-      | inr apart ↦ subst (λ c. StandsFor m table other c None []) (sym (kept_chain key other change slots k.slot slot apart)) (s.stands other)
+      | inl same ↦ subst (λ (q : List ℕ). StandsFor m table q (chain_at q later) (shown_at q page) []) (sym same) stands_here
+      | inr apart ↦ subst (λ c. StandsFor m table other c (shown_at other page) []) (sym (kept_chain key other change slots k.slot slot apart)) (s.stands other)
     ];
     places = λ other. kept_slots other change slots k.slot ∙ s.places other;
     brings = λ other u member else_named. elim (cases-key other key) [
@@ -130,12 +132,12 @@ module _ (e : Edit) (m : Machine) (t : Transaction) (edits : Edits e m t) (table
     changed : chain_at w.write.key (slot_changed k.slot (edited (name_of m t) e) slots) ≡ edited (name_of m t) e (chain_at w.write.key slots)
     changed = changed_chain w.write.key (edited (name_of m t) e) slots k.slot slot
 
-    was : StandsFor m w.write.table w.write.key (chain_at w.write.key slots) None []
-    was = subst (λ n. StandsFor m n w.write.key (chain_at w.write.key slots) None []) (sym w.number) (s.stands w.write.key)
+    was : StandsFor m w.write.table w.write.key (chain_at w.write.key slots) (shown_at w.write.key page) []
+    was = subst (λ n. StandsFor m n w.write.key (chain_at w.write.key slots) (shown_at w.write.key page) []) (sym w.number) (s.stands w.write.key)
 
-    stands_here : StandsFor m table w.write.key (chain_at w.write.key (slot_changed k.slot (edited (name_of m t) e) slots)) None []
-    stands_here = subst (λ c. StandsFor m table w.write.key c None []) (sym changed)
-        (subst (λ n. StandsFor m n w.write.key (edited (name_of m t) e (chain_at w.write.key slots)) None []) w.number (edits.stands w.write w.there (chain_at w.write.key slots) was))
+    stands_here : StandsFor m table w.write.key (chain_at w.write.key (slot_changed k.slot (edited (name_of m t) e) slots)) (shown_at w.write.key page) []
+    stands_here = subst (λ c. StandsFor m table w.write.key c (shown_at w.write.key page) []) (sym changed)
+        (subst (λ n. StandsFor m n w.write.key (edited (name_of m t) e (chain_at w.write.key slots)) (shown_at w.write.key page) []) w.number (edits.stands w.write w.there (chain_at w.write.key slots) (shown_at w.write.key page) was))
 
     brings_here : (u : Update) → Member u (chain_at w.write.key (slot_changed k.slot (edited (name_of m t) e) slots)) → u.version.window.name ≢ name_of m t → Member u (chain_at w.write.key old)
     brings_here u member else_named = s.brings w.write.key u (edited-brings e (name_of m t) (chain_at w.write.key slots) u (subst (Member u) changed member) else_named) else_named
@@ -143,26 +145,26 @@ module _ (e : Edit) (m : Machine) (t : Transaction) (edits : Edits e m t) (table
     done_here : AllHave e (name_of m t) (chain_in (slot_changed k.slot (edited (name_of m t) e) slots) k.slot)
     done_here = subst (AllHave e (name_of m t))
         (sym (chain-held (slot_changed k.slot (edited (name_of m t) e) slots) w.write.key k.slot (kept_slots w.write.key (edited (name_of m t) e) slots k.slot ∙ slot) ∙ changed))
-        (edited-have e m (name_of m t) w.write.table w.write.key (chain_at w.write.key slots) (edits.has w.write w.there) was)
+        (edited-have e m (name_of m t) w.write.table w.write.key (chain_at w.write.key slots) (shown_at w.write.key page) (edits.has w.write w.there) was)
 
   -- done to all keys of the leaf that end the first n
-  edited-leaf : ((k : WrittenKey) → Member k keys → k.frame ≡ frame → IsWritten t table old k) → (n : ℕ) → n ≤ length keys → (slots : List KeyChain) → Edited e (name_of m t) m table frame from keys old n slots
-      → Edited e (name_of m t) m table frame from keys old (leaf_start keys frame n) (leaf_changed (edited (name_of m t) e) keys frame n slots)
+  edited-leaf : ((k : WrittenKey) → Member k keys → k.frame ≡ frame → IsWritten t table old k) → (n : ℕ) → n ≤ length keys → (slots : List KeyChain) → Edited e (name_of m t) m table frame from keys page old n slots
+      → Edited e (name_of m t) m table frame from keys page old (leaf_start keys frame n) (leaf_changed (edited (name_of m t) e) keys frame n slots)
   edited-leaf written zero within slots s = s
   edited-leaf written (suc n) within slots s = elim (cases_Bool (frame_at keys (suc n) == frame)) [
-    | inl is ↦ subst (λ b. Edited e (name_of m t) m table frame from keys old (if b then leaf_start keys frame n else suc n)
+    | inl is ↦ subst (λ b. Edited e (name_of m t) m table frame from keys page old (if b then leaf_start keys frame n else suc n)
         (if b then leaf_changed (edited (name_of m t) e) keys frame n (slot_changed (slot_at keys (suc n)) (edited (name_of m t) e) slots) else slots)) (sym is) (more (edited-leaf written n (omega (arith, within))) (eqb-true (frame_at keys (suc n)) frame is))
-    | inr isnt ↦ subst (λ b. Edited e (name_of m t) m table frame from keys old (if b then leaf_start keys frame n else suc n)
+    | inr isnt ↦ subst (λ b. Edited e (name_of m t) m table frame from keys page old (if b then leaf_start keys frame n else suc n)
         (if b then leaf_changed (edited (name_of m t) e) keys frame n (slot_changed (slot_at keys (suc n)) (edited (name_of m t) e) slots) else slots)) (sym isnt) s
   ] where
     last : (k : WrittenKey) × (slice_get keys n ≡ Some k)
     last = some-at keys n (omega (arith, within))
 
-    more : ((slots : List KeyChain) → Edited e (name_of m t) m table frame from keys old n slots → Edited e (name_of m t) m table frame from keys old (leaf_start keys frame n) (leaf_changed (edited (name_of m t) e) keys frame n slots))
+    more : ((slots : List KeyChain) → Edited e (name_of m t) m table frame from keys page old n slots → Edited e (name_of m t) m table frame from keys page old (leaf_start keys frame n) (leaf_changed (edited (name_of m t) e) keys frame n slots))
         → frame_at keys (suc n) ≡ frame
-        → Edited e (name_of m t) m table frame from keys old (leaf_start keys frame n) (leaf_changed (edited (name_of m t) e) keys frame n (slot_changed (slot_at keys (suc n)) (edited (name_of m t) e) slots))
+        → Edited e (name_of m t) m table frame from keys page old (leaf_start keys frame n) (leaf_changed (edited (name_of m t) e) keys frame n (slot_changed (slot_at keys (suc n)) (edited (name_of m t) e) slots))
     more rest is = let here : last.0.frame ≡ frame = sym (ap (of_some 0 (λ (k : WrittenKey). k.frame)) last.1) ∙ is in
-        subst (λ (j : ℕ). Edited e (name_of m t) m table frame from keys old (leaf_start keys frame n) (leaf_changed (edited (name_of m t) e) keys frame n (slot_changed j (edited (name_of m t) e) slots)))
+        subst (λ (j : ℕ). Edited e (name_of m t) m table frame from keys page old (leaf_start keys frame n) (leaf_changed (edited (name_of m t) e) keys frame n (slot_changed j (edited (name_of m t) e) slots)))
         (sym (ap (of_some 0 (λ (k : WrittenKey). k.slot)) last.1))
         (rest (slot_changed last.0.slot (edited (name_of m t) e) slots)
         (edited-one n slots last.0 last.1 here (written last.0 (got-member keys n last.0 last.1) here) s))
@@ -194,8 +196,8 @@ pub leaf-edited : (e : Edit) (m : Machine) (t : Transaction) (known : List Table
 leaf-edited e m t known pieces states keys zero p o at = absurd (let some = o.some in omega arith)
 leaf-edited e m t known pieces states keys (suc n) p o at = record {
   leaves = leaves-on pieces frame p p' at m m states known (with_chains new leaf.frame) whole o.leaves
-      (λ x there_x key k. subst (λ (z : Table). StandsFor m z.number key (chain_at key new) None []) (same-table x there_x) (final.stands key))
-      (λ place x other there_x key chain k. k);
+      (λ x there_x key. subst (λ (z : Table). StandsFor m z.number key (chain_at key new) (shown_at key leaf.frame.leaf.page) []) (same-table x there_x) (final.stands key))
+      (λ place x other there_x key chain row k. k);
   slots = slots-stay pieces frame p p' at (λ key i there. ap (slot_of key) now ∙ (final.places key ∙ (ap (slot_of key) was ∙ there)));
   brings = brings-only pieces frame p p' at (name_of m t) (λ key u member other. subst (λ l. Member u (chain_at key l)) was (final.brings key u (subst (λ l. Member u (chain_at key l)) now member) other));
   done = λ i k low there. elim (cases_eq k.frame frame) [
@@ -236,25 +238,25 @@ leaf-edited e m t known pieces states keys (suc n) p o at = record {
   framed : p.frame ≡ Some leaf.frame
   framed = sym (frame-there pieces (frame_at keys (suc n)) p at) ∙ leaf.there
 
-  was : leaf.frame.chains ≡ slots_of p
-  was = ap (of_some [] (λ (f : Frame). f.chains)) (sym framed)
+  was : leaf.frame.leaf.chains ≡ slots_of p
+  was = ap (of_some [] (λ (f : Frame). f.leaf.chains)) (sym framed)
 
   new : List KeyChain
-  new = leaf_changed (edited (name_of m t) e) keys (frame_at keys (suc n)) (suc n) leaf.frame.chains
+  new = leaf_changed (edited (name_of m t) e) keys (frame_at keys (suc n)) (suc n) leaf.frame.leaf.chains
 
   change : List KeyChain → List KeyChain
   change = leaf_changed (edited (name_of m t) e) keys (frame_at keys (suc n)) (suc n)
 
-  whole : (piece_edited e (name_of m t) keys (suc n) p).frame ≡ Some (with_chains (leaf_changed (edited (name_of m t) e) keys (frame_at keys (suc n)) (suc n) leaf.frame.chains) leaf.frame)
-  whole = ap (option_map (λ (f : Frame). with_chains (leaf_changed (edited (name_of m t) e) keys (frame_at keys (suc n)) (suc n) f.chains) f)) framed
+  whole : (piece_edited e (name_of m t) keys (suc n) p).frame ≡ Some (with_chains (leaf_changed (edited (name_of m t) e) keys (frame_at keys (suc n)) (suc n) leaf.frame.leaf.chains) leaf.frame)
+  whole = ap (option_map (λ (f : Frame). with_chains (leaf_changed (edited (name_of m t) e) keys (frame_at keys (suc n)) (suc n) f.leaf.chains) f)) framed
 
-  now : slots_of (piece_edited e (name_of m t) keys (suc n) p) ≡ leaf_changed (edited (name_of m t) e) keys (frame_at keys (suc n)) (suc n) leaf.frame.chains
-  now = ap (of_some [] (λ (f : Frame). f.chains)) whole
+  now : slots_of (piece_edited e (name_of m t) keys (suc n) p) ≡ leaf_changed (edited (name_of m t) e) keys (frame_at keys (suc n)) (suc n) leaf.frame.leaf.chains
+  now = ap (of_some [] (λ (f : Frame). f.leaf.chains)) whole
 
-  in-leaf : slots_in pieces (frame_at keys (suc n)) ≡ leaf.frame.chains
-  in-leaf = ap (of_some [] (λ (f : Frame). f.chains)) leaf.there
+  in-leaf : slots_in pieces (frame_at keys (suc n)) ≡ leaf.frame.leaf.chains
+  in-leaf = ap (of_some [] (λ (f : Frame). f.leaf.chains)) leaf.there
 
-  written : (k : WrittenKey) → Member k keys → k.frame ≡ frame_at keys (suc n) → IsWritten t noted.2.of.number leaf.frame.chains k
+  written : (k : WrittenKey) → Member k keys → k.frame ≡ frame_at keys (suc n) → IsWritten t noted.2.of.number leaf.frame.leaf.chains k
   written k member same = let w = o.noted.wrote k member in record {
     write = w.0;
     there = w.1;
@@ -262,7 +264,7 @@ leaf-edited e m t known pieces states keys (suc n) p o at = record {
     slot = ap (slot_of w.0.key) (sym (ap (slots_in pieces) same ∙ in-leaf)) ∙ w.2.slot;
   }
 
-  first : Edited e (name_of m t) m noted.2.of.number (frame_at keys (suc n)) (suc n) keys leaf.frame.chains (suc n) leaf.frame.chains
+  first : Edited e (name_of m t) m noted.2.of.number (frame_at keys (suc n)) (suc n) keys leaf.frame.leaf.page leaf.frame.leaf.chains (suc n) leaf.frame.leaf.chains
   first = record {
     stands = leaf.keys;
     places = λ key. refl;
@@ -271,5 +273,5 @@ leaf-edited e m t known pieces states keys (suc n) p o at = record {
     before = λ i k low there other. low;
   }
 
-  final : Edited e (name_of m t) m noted.2.of.number (frame_at keys (suc n)) (suc n) keys leaf.frame.chains (leaf_start keys (frame_at keys (suc n)) (suc n)) (leaf_changed (edited (name_of m t) e) keys (frame_at keys (suc n)) (suc n) leaf.frame.chains)
-  final = edited-leaf e m t o.edits noted.2.of.number (frame_at keys (suc n)) (suc n) keys leaf.frame.chains written (suc n) o.within leaf.frame.chains first
+  final : Edited e (name_of m t) m noted.2.of.number (frame_at keys (suc n)) (suc n) keys leaf.frame.leaf.page leaf.frame.leaf.chains (leaf_start keys (frame_at keys (suc n)) (suc n)) (leaf_changed (edited (name_of m t) e) keys (frame_at keys (suc n)) (suc n) leaf.frame.leaf.chains)
+  final = edited-leaf e m t o.edits noted.2.of.number (frame_at keys (suc n)) (suc n) keys leaf.frame.leaf.page leaf.frame.leaf.chains written (suc n) o.within leaf.frame.leaf.chains first

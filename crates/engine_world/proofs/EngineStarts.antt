@@ -9,7 +9,8 @@ use Rattle.kv_model.specs.Droppable.{covers}
 use Rattle.kv_model.specs.Holds.{Descends, Stores}
 use Rattle.kv_model.specs.History.{Table, line}
 use Rattle.kv_model.specs.Ordered.{Older}
-use Rattle.kv_model.specs.Pending.{InFrame, settled}
+use Rattle.kv_model.specs.Pending.{InFrame, KeyStands, settled}
+use Rattle.kv_model.specs.ReconcileLaws.{FramesAlike}
 use Rattle.kv_model.specs.Regular.{IsRegular}
 use Rattle.kv_model.specs.StoreLaws.{Held}
 use Rattle.kv_model.proofs.Finishing.{tables-base}
@@ -17,16 +18,19 @@ use Rattle.kv_model.proofs.Opening.{no-seat, start-valid}
 use Rattle.kv_model.proofs.Ordering.{line-descends}
 use Rattle.txn_table.specs.Stands.{TableStands}
 use Rattle.txn_table.proofs.Starting.{new-stands}
+use Rattle.rows_shown.specs.Shows.{shown_at}
+use Rattle.update_chain.specs.declared.update.Update.{Update}
 use Rattle.update_chain.specs.EventLaws.{StandsFor}
 use Rattle.update_chain.specs.Updates.{unmarked_update, update_in}
+use Rattle.leaf_chains.specs.Slots.{chain_at}
 use Rattle.wt_calls.specs.declared.system_call.SystemCall.{SystemCall}
 use Rattle.wt_calls.specs.Calls.{system_call_in}
 use Rattle.call_steps.specs.State.{State}
 use Rattle.engine_world.specs.Leaves.{LeafStands}
 use Rattle.engine_world.specs.Stands.{Engine}
-use Rattle.engine_world.specs.Systems.{EnginesStart, LeafStarts}
+use Rattle.engine_world.specs.Systems.{EnginesStart, IsFirstOf, LeafStarts}
 
--- ---- a key, all of whose versions are in its chain
+-- ---- a key whose versions are in its chain and its row
 
 settles : (l : List (Version Change)) → map update_in (map unmarked_update l) ≡ map settled l
 settles [] = refl
@@ -44,24 +48,30 @@ all-stored m l = record {
   upper = λ v w framed member below. inl (inl member);
 }
 
-key-starts : (c : Content) (table : ℕ) (key : List ℕ) → IsRegular c → StandsFor (start c) table key (map unmarked_update (line (base c) table key)) None []
-key-starts c table key regular = record {
+-- all of them in the chain
+in-chain : (c : Content) (table : ℕ) (key : List ℕ) → IsRegular c → KeyStands (start c) table key (map settled (line (base c) table key)) None (Held [])
+in-chain c table key regular = record {
   top = [];
   held = line (base c) table key;
   below = line (base c) table key;
-  chained = settles (line (base c) table key);
+  chained = refl;
   ordered = subst (λ l. Descends Older l) (sym (append-nil (line (base c) table key))) (line-descends (base c) (start-valid c regular).orderly table key);
   topped = (refl, λ s t wrote. absurd (no-seat s t wrote.0));
   stores = all-stored (covers (start c)) (line (base c) table key);
   layered = λ v there. absurd there;
 }
 
-leaf-starts : (c : Content) (e : Engine) (place : ℕ) (t : Table) → IsRegular c → LeafStarts c e.pieces e.states place t → LeafStands (start c) e.pieces e.states place t
-leaf-starts c e place t regular leaf = record {
+key-starts : FramesAlike → (c : Content) (table : ℕ) (key : List ℕ) (chain : List Update) (row : Option (Version Change)) → IsRegular c → IsFirstOf (line (base c) table key) chain row → StandsFor (start c) table key chain row []
+key-starts alike c table key chain row regular first = subst (λ l. KeyStands (start c) table key l row (Held [])) (sym (ap (map update_in) first.chain_is ∙ settles first.above))
+    (alike (start c) table key (line (base c) table key) first.above None row [] (λ v there passes s t at. absurd (no-seat s t at))
+    (sym first.all ∙ sym (append-nil (line (base c) table key))) (in-chain c table key regular))
+
+leaf-starts : FramesAlike → (c : Content) (e : Engine) (place : ℕ) (t : Table) → IsRegular c → LeafStarts c e.pieces e.states place t → LeafStands (start c) e.pieces e.states place t
+leaf-starts alike c e place t regular leaf = record {
   frame = leaf.frame;
   there = leaf.there;
   word = leaf.word;
-  keys = λ key. subst (λ chain. StandsFor (start c) t.number key chain None []) (sym (leaf.keys key)) (key-starts c t.number key regular);
+  keys = λ key. key-starts alike c t.number key (chain_at key leaf.frame.leaf.chains) (shown_at key leaf.frame.leaf.page) regular (leaf.keys key);
 }
 
 -- ---- nobody is at work
@@ -73,15 +83,15 @@ none-started (call ∷ calls) = ap (λ rest. None ∷ rest) (none-started calls)
 no-session : (e : Engine) (session : ℕ) (a : State) → e.sessions ≡ [] → slice_get e.sessions session ≡ Some a → ⊥
 no-session e session a none there = let is : None ≡ Some a = sym (ap (λ (l : List State). slice_get l session) none) ∙ there in absurd (cc)
 
-pub engines-start : EnginesStart
-engines-start c e regular b = record {
+pub engines-start : FramesAlike → EnginesStart
+engines-start alike c e regular b = record {
   valid = start-valid c regular;
   fault = b.fault;
   stamps = b.stamps;
   txns = subst (λ t. TableStands t (start c)) (sym b.txns) (new-stands c 0);
   catalog = b.catalog;
   made = b.tables ∙ sym (tables-base (descending table_lt c.tables) (descending placed_lt (kept c)));
-  leaves = λ place t there. leaf-starts c e place t regular (b.leaves place t there);
+  leaves = λ place t there. leaf-starts alike c e place t regular (b.leaves place t there);
   count = ap length b.sessions;
   doings = sym (ap length b.sessions);
   doing = λ session a there. absurd (no-session e session a b.sessions there);

@@ -13,6 +13,7 @@ use Rattle.kv_model.specs.Pending.{Update as ModelUpdate, TopStands, settled}
 use Rattle.kv_model.specs.Reads.{own_write, is_own, IsEnding}
 use Rattle.kv_model.proofs.Newest.{find-member}
 use Rattle.kv_model.proofs.OwnWrites.{at-parts}
+use Rattle.rows_shown.specs.Shows.{shown_at}
 use Rattle.update_chain.specs.declared.update.Update.{Update}
 use Rattle.update_chain.specs.EventLaws.{StandsFor, DidNotWrite, LeavesAlone, ChainsGoOn}
 use Rattle.update_chain.specs.Updates.{update_in}
@@ -28,7 +29,7 @@ use Rattle.call_steps.specs.declared.written.WrittenKey.{WrittenKey}
 use Rattle.call_steps.specs.Leaves.{chain_in}
 use Rattle.call_steps.specs.State.{State}
 use Rattle.engine_world.specs.Worlds.{World}
-use Rattle.engine_world.specs.Leaves.{AreNoted, LeafStands, AllHave, EditedDownTo, slots_in}
+use Rattle.engine_world.specs.Leaves.{AreNoted, LeafStands, AllHave, EditedDownTo, frame_in, slots_in}
 use Rattle.engine_world.specs.Stands.{Engine, Stands}
 
 -- ---- fronts
@@ -141,18 +142,22 @@ edited-at e name pieces keys place key done s = subst (AllHave e name) s.chain (
 
 -- ---- leaves
 
--- the chains of a leaf, key by key, with the frames as they are
+-- the row of a key in the leaf at a place
+abbrev pub row_at : List FramePiece → ℕ → List ℕ → Option (Version Change)
+row_at pieces place key = shown_at key (of_some [] (λ (f : Frame). f.leaf.page) (frame_in pieces place))
+
+-- what a leaf holds, key by key, with the frames as they are
 pub leaf-with : (m next : Machine) (pieces : List FramePiece) (states : List ℕ) (place : ℕ) (t : Table) → LeafStands m pieces states place t
-    → ((key : List ℕ) → StandsFor m t.number key (chain_at key (slots_in pieces place)) None [] → StandsFor next t.number key (chain_at key (slots_in pieces place)) None [])
+    → ((key : List ℕ) → StandsFor m t.number key (chain_at key (slots_in pieces place)) (row_at pieces place key) [] → StandsFor next t.number key (chain_at key (slots_in pieces place)) (row_at pieces place key) [])
     → LeafStands next pieces states place t
 leaf-with m next pieces states place t l on = record {
   frame = l.frame;
   there = l.there;
   word = l.word;
-  keys = λ key. subst (λ slots. StandsFor next t.number key (chain_at key slots) None []) same (on key (subst (λ slots. StandsFor m t.number key (chain_at key slots) None []) (sym same) (l.keys key)));
+  keys = λ key. subst (Holds next key) l.there (on key (subst (Holds m key) (sym l.there) (l.keys key)));
 } where
-  same : slots_in pieces place ≡ l.frame.chains
-  same = ap (of_some [] (λ (f : Frame). f.chains)) l.there
+  Holds : Machine → List ℕ → Option Frame → Type 0
+  Holds x key o = StandsFor x t.number key (chain_at key (of_some [] (λ (f : Frame). f.leaf.chains) o)) (shown_at key (of_some [] (λ (f : Frame). f.leaf.page) o)) []
 
 pub own-cases : (o : Option Write) → (o ≡ None) ⊎ ((w : Write) × (o ≡ Some w))
 own-cases None = inl refl
@@ -167,11 +172,11 @@ did-not m s t table key there none x wrote =
 -- an event over the keys that a session's transaction wrote and over the others, with the frames as they are
 pub leaves-own : ChainsGoOn → (e : Engine) (w : World) (s : ℕ) (a : State) (x : Transaction) (event : Event) → Stands e w → slice_get e.sessions s ≡ Some a → transaction_of w.machine s ≡ Some x → Allowed w.machine event
     → ((table : ℕ) (key : List ℕ) → DidNotWrite w.machine s table key → LeavesAlone w.machine table key event)
-    → ((place : ℕ) (t : Table) (key : List ℕ) (o : Write) → own_write x t.number key ≡ Some o → SlotIs e.pieces a.written place key → StandsFor w.machine t.number key (chain_at key (slots_in e.pieces place)) None []
-    → StandsFor (after w.machine event) t.number key (chain_at key (slots_in e.pieces place)) None [])
+    → ((place : ℕ) (t : Table) (key : List ℕ) (o : Write) → own_write x t.number key ≡ Some o → SlotIs e.pieces a.written place key → StandsFor w.machine t.number key (chain_at key (slots_in e.pieces place)) (row_at e.pieces place key) []
+    → StandsFor (after w.machine event) t.number key (chain_at key (slots_in e.pieces place)) (row_at e.pieces place key) [])
     → (place : ℕ) (t : Table) → slice_get e.hub.tables.tables place ≡ Some t → LeafStands (after w.machine event) e.pieces e.states place t
 leaves-own chains-go-on e w s a x event st at there may alone on place t known = leaf-with w.machine (after w.machine event) e.pieces e.states place t (st.leaves place t known) (λ key k. elim (own-cases (own_write x t.number key)) [
-  | inl none ↦ chains-go-on w.machine event t.number key (chain_at key (slots_in e.pieces place)) None [] st.valid may (alone t.number key (did-not w.machine s x t.number key there none)) k
+  | inl none ↦ chains-go-on w.machine event t.number key (chain_at key (slots_in e.pieces place)) (row_at e.pieces place key) [] st.valid may (alone t.number key (did-not w.machine s x t.number key there none)) k
   | inr own ↦ on place t key own.0 own.1 (own-slot e.hub.tables e.pieces x a.written place t key own.0 st.catalog noted known own.1) k
 ]) where
   noted : AreNoted e.hub.tables.tables e.pieces x.writes a.written

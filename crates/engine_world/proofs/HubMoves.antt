@@ -15,6 +15,7 @@ use Rattle.kv_model.specs.Reads.{IsEnding}
 use Rattle.kv_model.specs.Valid.{Valid}
 use Rattle.kv_model.specs.Decisions.{Outcome, Request, refused, invalid, with_session as with_transaction_of, in_state, running_session, judged, decision, is_on_page}
 use Rattle.kv_model.proofs.EveryEvent.{valid-after}
+use Rattle.rows_shown.specs.Shows.{shown_at}
 use Rattle.txn_table.specs.declared.phase.Phase.{Phase}
 use Rattle.txn_table.specs.declared.phase.Phase.TheVariants as phase
 use Rattle.txn_table.specs.SessionData.{SessionData, opened, is_unreleased, phase_in}
@@ -142,7 +143,7 @@ leaves-go-on law m event known pieces states v may alone stand place t there = r
   frame = (stand place t there).frame;
   there = (stand place t there).there;
   word = (stand place t there).word;
-  keys = λ key. law m event t.number key (chain_at key (stand place t there).frame.chains) None [] v may (alone t.number key) ((stand place t there).keys key);
+  keys = λ key. law m event t.number key (chain_at key (stand place t there).frame.leaf.chains) (shown_at key (stand place t there).frame.leaf.page) [] v may (alone t.number key) ((stand place t there).keys key);
 }
 
 -- ---- the table of transactions

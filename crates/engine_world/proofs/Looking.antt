@@ -9,6 +9,7 @@ use Rattle.kv_model.specs.History.{Table}
 use Rattle.kv_model.specs.Machine.{Machine, Transaction, Running, of_some, transaction_of, cursors_of, Event, Nothing}
 use Rattle.kv_model.specs.Decisions.{Outcome}
 use Rattle.kv_model.specs.Told.{Tells}
+use Rattle.rows_shown.specs.Shows.{shown_at}
 use Rattle.snapshot.specs.Sight.{Sight}
 use Rattle.snapshot.specs.Matters.{SeesFirst}
 use Rattle.txn_table.specs.SessionData.{phase_in}
@@ -16,8 +17,8 @@ use Rattle.txn_table.specs.Stands.{TableStands}
 use Rattle.txn_table.proofs.Standing.{state-at}
 use Rattle.update_chain.specs.Answers.{ViewStands}
 use Rattle.update_chain.specs.EventLaws.{StandsFor}
-use Rattle.leaf_chains.specs.declared.slot.KeyChain.{KeyChain}
 use Rattle.leaf_chains.specs.Slots.{chain_at}
+use Rattle.leaf_frame.specs.Leaf.{HeldLeaf}
 use Rattle.call_steps.specs.declared.cursor.Cursor.{Cursor}
 use Rattle.call_steps.specs.declared.frame.Frame.{Frame}
 use Rattle.call_steps.specs.declared.frame.FramePiece.{FramePiece}
@@ -27,7 +28,7 @@ use Rattle.call_steps.specs.declared.reply.Reply.TheVariants as reply
 use Rattle.call_steps.specs.declared.stage.KeyCall.{KeyCall}
 use Rattle.call_steps.specs.declared.stage.Stage.TheVariants as stage
 use Rattle.call_steps.specs.declared.stage.Target.{Target}
-use Rattle.call_steps.specs.FrameEvents.{LookMade, FrameMade, FrameMadeAt, with_chains}
+use Rattle.call_steps.specs.FrameEvents.{LookMade, FrameMade, FrameMadeAt, with_leaf}
 use Rattle.call_steps.specs.HubEvents.{IsSeated}
 use Rattle.call_steps.specs.Looks.{LookedBy}
 use Rattle.call_steps.specs.Stages.{is_write, cursor_in}
@@ -141,9 +142,10 @@ pub record AtLeaf (e : Engine) (w : World) (session frame : ℕ) (a : State) (p 
   pub known : slice_get e.hub.tables.tables target.frame ≡ Some table
   pub number : table.number ≡ target.table
   pub place : target.frame ≡ frame
-  pub leaf : Frame
-  pub held : p.frame ≡ Some leaf
-  pub keys : (key : List ℕ) → StandsFor w.machine target.table key (chain_at key leaf.chains) None []
+  -- as the frame was
+  pub was : Frame
+  pub held : p.frame ≡ Some was
+  pub keys : (key : List ℕ) → StandsFor w.machine target.table key (chain_at key was.leaf.chains) (shown_at key was.leaf.page) []
   pub sees : ViewStands w.machine transaction view
   pub on : IsOnLeaf w.machine e.hub.tables.tables session call target
   pub keeps : Keeps w.machine e.hub e.pieces session a
@@ -167,9 +169,9 @@ module _ (e : Engine) (w : World) (session frame : ℕ) (a : State) (p : FramePi
     known = on.1.1;
     number = number;
     place = place;
-    leaf = old.frame;
+    was = old.frame;
     held = sym (frame-there e.pieces frame p there) ∙ (ap (frame_in e.pieces) (sym place) ∙ old.there);
-    keys = λ key. subst (λ n. StandsFor w.machine n key (chain_at key old.frame.chains) None []) number (old.keys key);
+    keys = λ key. subst (λ n. StandsFor w.machine n key (chain_at key old.frame.leaf.chains) (shown_at key old.frame.leaf.page) []) number (old.keys key);
     sees = view-stands e.hub w.machine session on.0.0 view st.txns v on.0.1;
     on = on;
     keeps = keeps w.machine e.hub e.pieces session a (st.sessions session a at);
@@ -186,38 +188,38 @@ module _ (e : Engine) (w : World) (session frame : ℕ) (a : State) (p : FramePi
     place : target.frame ≡ frame
     place = let same : next.Frame target.frame ≡ next.Frame frame = subst (λ g. next_at g a ≡ next.Frame frame) is goes in cc
 
-  -- what the look makes of the leaf's chains
+  -- what the look makes of the leaf
   pub look-made : (a' : State) (p' : FramePiece) (x : AtLeaf e w session frame a p view call target) → a.stage ≡ stage.Look call target → FrameMade view p a p' a'
-      → (slots : List KeyChain) × (p' ≡ record p { frame = Some (with_chains slots x.leaf) }) × LookedBy call view target x.leaf.chains a slots a'
+      → (leaf : HeldLeaf) × (p' ≡ record p { frame = Some (with_leaf leaf x.was) }) × LookedBy call view target x.was.leaf a leaf a'
   look-made a' p' x is made = subst (λ o. LookMade o call view target p a p' a') x.held (subst (λ g. FrameMadeAt g view p a p' a') is made)
 
   -- the step of a call at its look
   pub goes-placed : (made : Made) → a.stage ≡ stage.Look call target → GoesOn (Placed (call_in call a) target.table 4) w.machine session made → GoesOn (doing_in session a) w.machine session made
   goes-placed made is goes = subst (λ g. GoesOn (doing_at g session a) w.machine session made) (sym is) goes
 
-  pub pieces-same : (p' : FramePiece) (slots : List KeyChain) (x : AtLeaf e w session frame a p view call target) → slice_get e.pieces frame ≡ Some p → p' ≡ record p { frame = Some (with_chains slots x.leaf) } → slots ≡ x.leaf.chains
+  pub pieces-same : (p' : FramePiece) (leaf : HeldLeaf) (x : AtLeaf e w session frame a p view call target) → slice_get e.pieces frame ≡ Some p → p' ≡ record p { frame = Some (with_leaf leaf x.was) } → leaf ≡ x.was.leaf
       → slice_set e.pieces frame p' ≡ e.pieces
-  pieces-same p' slots x there is same = ap (slice_set e.pieces frame) piece ∙ set-same e.pieces frame p there where
+  pieces-same p' leaf x there is same = ap (slice_set e.pieces frame) piece ∙ set-same e.pieces frame p there where
     piece : p' ≡ p
-    piece = is ∙ (ap (λ l. record p { frame = Some (with_chains l x.leaf) }) same ∙ ap (λ o. record p { frame = o }) (sym x.held))
+    piece = is ∙ (ap (λ l. record p { frame = Some (with_leaf l x.was) }) same ∙ ap (λ o. record p { frame = o }) (sym x.held))
 
-  -- a look that changes no chain
-  pub quiet-leads : (a' : State) (p' : FramePiece) (slots : List KeyChain) (x : AtLeaf e w session frame a p view call target) → Stands e w → slice_get e.sessions session ≡ Some a → slice_get e.pieces frame ≡ Some p
-      → p' ≡ record p { frame = Some (with_chains slots x.leaf) } → slots ≡ x.leaf.chains
+  -- a look that changes no leaf
+  pub quiet-leads : (a' : State) (p' : FramePiece) (leaf : HeldLeaf) (x : AtLeaf e w session frame a p view call target) → Stands e w → slice_get e.sessions session ≡ Some a → slice_get e.pieces frame ≡ Some p
+      → p' ≡ record p { frame = Some (with_leaf leaf x.was) } → leaf ≡ x.was.leaf
       → GoesOn (doing_in session a) w.machine session (made_in w.machine session a') → SessionStands w.machine e.hub e.pieces session a'
       → Leads (with_session (with_piece e frame p') session a') w session reply.More
-  quiet-leads a' p' slots x st at there is same goes mine = subst (λ l. Leads (with_session (record e { pieces = l }) session a') w session reply.More) (sym (pieces-same p' slots x there is same))
+  quiet-leads a' p' leaf x st at there is same goes mine = subst (λ l. Leads (with_session (record e { pieces = l }) session a') w session reply.More) (sym (pieces-same p' leaf x there is same))
       (alone-leads e w session a a' e.hazards reply.More st at goes mine)
 
--- ---- looks that change no chain
+-- ---- looks that change no leaf
 
-module _ (e : Engine) (w : World) (session frame : ℕ) (a a' : State) (p p' : FramePiece) (view : View) (call : KeyCall) (target : Target) (slots : List KeyChain) (x : AtLeaf e w session frame a p view call target)
+module _ (e : Engine) (w : World) (session frame : ℕ) (a a' : State) (p p' : FramePiece) (view : View) (call : KeyCall) (target : Target) (leaf : HeldLeaf) (x : AtLeaf e w session frame a p view call target)
     (st : Stands e w) (at : slice_get e.sessions session ≡ Some a) (there : slice_get e.pieces frame ≡ Some p) (look : a.stage ≡ stage.Look call target)
-    (is : p' ≡ record p { frame = Some (with_chains slots x.leaf) }) (same : slots ≡ x.leaf.chains) where
+    (is : p' ≡ record p { frame = Some (with_leaf leaf x.was) }) (same : leaf ≡ x.was.leaf) where
   -- it finds this outcome
   pub looks-lead : (outcome : Outcome) (event : Event) (answer : Answer (List ℕ)) → LookAnswer (call_in call a) w.machine session x.transaction target.table outcome event → Tells outcome answer
       → LooksOn (call_in call a) w.machine answer event 4 (made_in w.machine session a') → SessionStands w.machine e.hub e.pieces session a' → Leads (with_session (with_piece e frame p') session a') w session reply.More
-  looks-lead outcome event answer finds tells goes mine = quiet-leads e w session frame a p view call target a' p' slots x st at there is same
+  looks-lead outcome event answer finds tells goes mine = quiet-leads e w session frame a p view call target a' p' leaf x st at there is same
       (goes-placed e w session frame a p view call target (made_in w.machine session a') look (inr (inl (record {
         transaction = x.transaction;
         outcome = outcome;
@@ -231,5 +233,5 @@ module _ (e : Engine) (w : World) (session frame : ℕ) (a a' : State) (p p' : F
 
   -- or memory was too short
   pub shorts-lead : GoesTo (Decided (answers.Refused refusal.NoMemory) Nothing) 4 w.machine (made_in w.machine session a') → SessionStands w.machine e.hub e.pieces session a' → Leads (with_session (with_piece e frame p') session a') w session reply.More
-  shorts-lead goes mine = quiet-leads e w session frame a p view call target a' p' slots x st at there is same
+  shorts-lead goes mine = quiet-leads e w session frame a p view call target a' p' leaf x st at there is same
       (goes-placed e w session frame a p view call target (made_in w.machine session a') look (inr (inr goes))) mine

@@ -1,9 +1,11 @@
 -- The look of a commit below the updates of one leaf.
 use Rattle.std.proofs.Common.{◌≡◌, ◌⊎◌, ◌≤◌, ◌+◌, ℕ, zero, suc, max, refl, ap, sym, ◌∙◌, List, [], ◌∷◌, ◌++◌, length, inl, inr, subst, map, arith}
-use Rattle.std.specs.Prelude.{Some, None, slice_get, ◌==◌, if◌then◌else◌}
+use Rattle.std.specs.Prelude.{Option, Some, drop, slice_get, ◌==◌, if◌then◌else◌}
 use Rattle.std.proofs.Math.Nat.{le-max_left, le-max_right}
 use Rattle.std.proofs.lemmas.Bool.{cases_Bool, cases_eq, eqb-true}
 use Rattle.std.proofs.lemmas.Option.{slice_get_within}
+use Rattle.item.specs.declared.Change.{Change}
+use Rattle.stamp.specs.declared.Version.{Version}
 use Rattle.kv_model.specs.Holds.{Member}
 use Rattle.kv_model.specs.History.{Table, Write, line}
 use Rattle.kv_model.specs.Machine.{Machine, Transaction, Running as ModelRunning, Failed as ModelFailed, Leaving as ModelLeaving, Prepared as ModelPrepared, Resolving as ModelResolving, transaction_of, of_some}
@@ -14,12 +16,17 @@ use Rattle.kv_model.specs.Valid.{Valid}
 use Rattle.txn_table.specs.SessionData.{phase_in}
 use Rattle.txn_table.specs.declared.phase.Phase.{Phase}
 use Rattle.txn_table.specs.declared.phase.Phase.TheVariants as phase
+use Rattle.row_page.specs.Rows.{Row}
+use Rattle.rows_shown.specs.Shows.{shown_at}
 use Rattle.update_chain.specs.declared.update.Update.{Update}
 use Rattle.update_chain.specs.EventLaws.{StandsFor}
-use Rattle.update_chain.specs.FrameLaws.{OrdersStand as OrdersLaw}
+use Rattle.update_chain.specs.FrameLaws.{durable_of, OrdersStand as OrdersLaw}
+use Rattle.update_chain.specs.Writing.{newest_of}
 use Rattle.update_chain.proofs.Reading.{running-alive}
 use Rattle.leaf_chains.specs.declared.slot.KeyChain.{KeyChain}
 use Rattle.leaf_chains.specs.Slots.{chain_at, key_at, slot_of}
+use Rattle.leaf_chains.proofs.Changes.{held}
+use Rattle.leaf_frame.specs.Leaf.{HeldLeaf, durable_under as durable_below}
 use Rattle.call_steps.specs.declared.frame.Frame.{Frame}
 use Rattle.call_steps.specs.declared.frame.FramePiece.{FramePiece}
 use Rattle.call_steps.specs.declared.next.Next.TheVariants as next
@@ -29,7 +36,7 @@ use Rattle.call_steps.specs.declared.stage.Stage.{Stage}
 use Rattle.call_steps.specs.declared.stage.Stage.TheVariants as stage
 use Rattle.call_steps.specs.declared.written.WrittenKey.{WrittenKey}
 use Rattle.call_steps.specs.FrameEvents.{FrameMadeAt, prev_in, with_prev, ordered, starts_at}
-use Rattle.call_steps.specs.Leaves.{chain_in, durable_below, leaf_prev}
+use Rattle.call_steps.specs.Leaves.{leaf_prev}
 use Rattle.call_steps.specs.Stages.{orders, stamps_then, after_orders}
 use Rattle.call_steps.specs.State.{State, at_stage}
 use Rattle.call_steps.specs.Words.{next_at}
@@ -45,21 +52,24 @@ use Rattle.engine_world.proofs.Events.{slots-same}
 use Rattle.engine_world.proofs.Moves.{alone-leads, engine_with}
 use Rattle.engine_world.proofs.OnePiece.{frame-there, set-same}
 use Rattle.engine_world.proofs.EditedChains.{own-of}
-use Rattle.engine_world.proofs.EditedLeaves.{got-member, some-at, chain-held, key-held, start-within, start-below}
+use Rattle.engine_world.proofs.EditedLeaves.{got-member, some-at, key-held, start-within, start-below}
 use Rattle.engine_world.proofs.EditMoves.{the-one, known-phase, alive-only, noted-of, session-on, asked-on}
 use Rattle.engine_world.proofs.StampingLeaves.{decide-doing, decide-stage}
 
 -- ---- below the newest update
 
 -- lies the newest version that stands
-below-is : OrdersLaw → (m : Machine) (s : ℕ) (t : Transaction) (w : Write) → Valid m → transaction_of m s ≡ Some t → (IsEnding t.phase → ⊥) → own_write t w.table w.key ≡ Some w → (chain : List Update) → StandsFor m w.table w.key chain None []
-    → durable_below chain ≡ newest_durable (line m.history w.table w.key)
-below-is law m s t w valid there alive own [] k = absurd (never k.top k.chained k.topped) where
+below-is : OrdersLaw → (m : Machine) (s : ℕ) (t : Transaction) (w : Write) → Valid m → transaction_of m s ≡ Some t → (IsEnding t.phase → ⊥) → own_write t w.table w.key ≡ Some w → (chain : List Update) (row : Option (Version Change))
+    → StandsFor m w.table w.key chain row [] → durable_of (newest_of (drop 1 chain) row) ≡ newest_durable (line m.history w.table w.key)
+below-is law m s t w valid there alive own [] row k = absurd (never k.top k.chained k.topped) where
   never : (top : List ModelUpdate) → [] ≡ top ++ map settled k.held → TopStands m w.table w.key top k.below → ⊥
   never [] e topped = alive (topped.1 s t (there, ap is_own own))
   never (y ∷ rest) e topped = absurd (cc)
-below-is law m s t w valid there alive own (u ∷ []) k = law m s t w w.table w.key u [] None [] valid there alive own k
-below-is law m s t w valid there alive own (u ∷ (v ∷ older)) k = law m s t w w.table w.key u (v ∷ older) None [] valid there alive own k
+below-is law m s t w valid there alive own (u ∷ older) row k = law m s t w w.table w.key u older row [] valid there alive own k
+
+-- in the slot of a key
+below-slot : (key : List ℕ) (page : List Row) (slots : List KeyChain) (i : ℕ) → slot_of key slots ≡ Some i → durable_below page (slice_get slots i) ≡ durable_of (newest_of (drop 1 (chain_at key slots)) (shown_at key page))
+below-slot key page slots i at = ap (durable_below page) (held key slots i at)
 
 -- ---- the keys of a leaf
 
@@ -67,44 +77,44 @@ max-cases : (a b : ℕ) → (max a b ≡ a) ⊎ (max a b ≡ b)
 max-cases a b = elim (cases_eq (max a b) a) [ inl same ↦ inl same | inr other ↦ inr (omega (arith, other)) ]
 
 -- what is below a key that was noted
-record UnderIs (m : Machine) (known : List Table) (pieces : List FramePiece) (t : Transaction) (slots : List KeyChain) (k : WrittenKey) : Type 0 where
+record UnderIs (m : Machine) (known : List Table) (pieces : List FramePiece) (t : Transaction) (leaf : HeldLeaf) (k : WrittenKey) : Type 0 where
   pub write : Write
   pub there : Member write t.writes
-  pub below : durable_below (chain_in slots k.slot) ≡ newest_durable (line m.history write.table write.key)
+  pub below : durable_below leaf.page (slice_get leaf.chains k.slot) ≡ newest_durable (line m.history write.table write.key)
   pub under : durable_under m known pieces k ≡ newest_durable (line m.history write.table write.key)
 
-module _ (m : Machine) (t : Transaction) (known : List Table) (pieces : List FramePiece) (slots : List KeyChain) (keys : List WrittenKey) (frame : ℕ) where
-  ordered-one : (n prev : ℕ) (k : WrittenKey) → slice_get keys n ≡ Some k → UnderIs m known pieces t slots k → OrderedDownTo m known pieces t.writes keys prev (suc n)
-      → OrderedDownTo m known pieces t.writes keys (max prev (durable_below (chain_in slots k.slot))) n
+module _ (m : Machine) (t : Transaction) (known : List Table) (pieces : List FramePiece) (leaf : HeldLeaf) (keys : List WrittenKey) (frame : ℕ) where
+  ordered-one : (n prev : ℕ) (k : WrittenKey) → slice_get keys n ≡ Some k → UnderIs m known pieces t leaf k → OrderedDownTo m known pieces t.writes keys prev (suc n)
+      → OrderedDownTo m known pieces t.writes keys (max prev (durable_below leaf.page (slice_get leaf.chains k.slot))) n
   ordered-one n prev k at u o = record {
     covers = λ i x low there. elim (cases_eq i n) [
       | inl same ↦ let one : Some k ≡ Some x = sym at ∙ (ap (slice_get keys) (sym same) ∙ there) in let is : k ≡ x = cc in
-          subst (λ (z : WrittenKey). durable_under m known pieces z ≤ max prev (durable_below (chain_in slots k.slot))) is
-          (subst (λ d. d ≤ max prev (durable_below (chain_in slots k.slot))) (u.below ∙ sym u.under) (le-max_right prev (durable_below (chain_in slots k.slot))))
-      | inr apart ↦ let deep = o.covers i x (omega (arith, low, apart)) there in let more = le-max_left prev (durable_below (chain_in slots k.slot)) in omega (arith, deep, more)
+          subst (λ (z : WrittenKey). durable_under m known pieces z ≤ max prev (durable_below leaf.page (slice_get leaf.chains k.slot))) is
+          (subst (λ d. d ≤ max prev (durable_below leaf.page (slice_get leaf.chains k.slot))) (u.below ∙ sym u.under) (le-max_right prev (durable_below leaf.page (slice_get leaf.chains k.slot))))
+      | inr apart ↦ let deep = o.covers i x (omega (arith, low, apart)) there in let more = le-max_left prev (durable_below leaf.page (slice_get leaf.chains k.slot)) in omega (arith, deep, more)
     ];
-    least = elim (max-cases prev (durable_below (chain_in slots k.slot))) [
+    least = elim (max-cases prev (durable_below leaf.page (slice_get leaf.chains k.slot))) [
       | inl old ↦ elim o.least [ inl none ↦ inl (old ∙ none) | inr w ↦ inr (w.0, w.1, old ∙ w.2) ]
       | inr new ↦ inr (u.write, u.there, new ∙ u.below)
     ];
   }
 
-  ordered-leaf : ((k : WrittenKey) → Member k keys → k.frame ≡ frame → UnderIs m known pieces t slots k) → (n : ℕ) → n ≤ length keys → (prev : ℕ) → OrderedDownTo m known pieces t.writes keys prev n
-      → OrderedDownTo m known pieces t.writes keys (leaf_prev keys frame n slots prev) (leaf_start keys frame n)
+  ordered-leaf : ((k : WrittenKey) → Member k keys → k.frame ≡ frame → UnderIs m known pieces t leaf k) → (n : ℕ) → n ≤ length keys → (prev : ℕ) → OrderedDownTo m known pieces t.writes keys prev n
+      → OrderedDownTo m known pieces t.writes keys (leaf_prev keys frame n leaf prev) (leaf_start keys frame n)
   ordered-leaf under zero within prev o = o
   ordered-leaf under (suc n) within prev o = elim (cases_Bool (frame_at keys (suc n) == frame)) [
-    | inl is ↦ subst (λ b. OrderedDownTo m known pieces t.writes keys (if b then leaf_prev keys frame n slots (max prev (durable_below (chain_in slots (slot_at keys (suc n))))) else prev) (if b then leaf_start keys frame n else suc n)) (sym is)
+    | inl is ↦ subst (λ b. OrderedDownTo m known pieces t.writes keys (if b then leaf_prev keys frame n leaf (max prev (durable_below leaf.page (slice_get leaf.chains (slot_at keys (suc n))))) else prev) (if b then leaf_start keys frame n else suc n)) (sym is)
         (more (ordered-leaf under n (omega (arith, within))) (eqb-true (frame_at keys (suc n)) frame is))
-    | inr isnt ↦ subst (λ b. OrderedDownTo m known pieces t.writes keys (if b then leaf_prev keys frame n slots (max prev (durable_below (chain_in slots (slot_at keys (suc n))))) else prev) (if b then leaf_start keys frame n else suc n)) (sym isnt) o
+    | inr isnt ↦ subst (λ b. OrderedDownTo m known pieces t.writes keys (if b then leaf_prev keys frame n leaf (max prev (durable_below leaf.page (slice_get leaf.chains (slot_at keys (suc n))))) else prev) (if b then leaf_start keys frame n else suc n)) (sym isnt) o
   ] where
     last : (k : WrittenKey) × (slice_get keys n ≡ Some k)
     last = some-at keys n (omega (arith, within))
 
-    more : ((p : ℕ) → OrderedDownTo m known pieces t.writes keys p n → OrderedDownTo m known pieces t.writes keys (leaf_prev keys frame n slots p) (leaf_start keys frame n)) → frame_at keys (suc n) ≡ frame
-        → OrderedDownTo m known pieces t.writes keys (leaf_prev keys frame n slots (max prev (durable_below (chain_in slots (slot_at keys (suc n)))))) (leaf_start keys frame n)
+    more : ((p : ℕ) → OrderedDownTo m known pieces t.writes keys p n → OrderedDownTo m known pieces t.writes keys (leaf_prev keys frame n leaf p) (leaf_start keys frame n)) → frame_at keys (suc n) ≡ frame
+        → OrderedDownTo m known pieces t.writes keys (leaf_prev keys frame n leaf (max prev (durable_below leaf.page (slice_get leaf.chains (slot_at keys (suc n)))))) (leaf_start keys frame n)
     more rest is = let here : last.0.frame ≡ frame = sym (ap (of_some 0 (λ (k : WrittenKey). k.frame)) last.1) ∙ is in
-        subst (λ j. OrderedDownTo m known pieces t.writes keys (leaf_prev keys frame n slots (max prev (durable_below (chain_in slots j)))) (leaf_start keys frame n)) (sym (ap (of_some 0 (λ (k : WrittenKey). k.slot)) last.1))
-        (rest (max prev (durable_below (chain_in slots last.0.slot))) (ordered-one n prev last.0 last.1 (under last.0 (got-member keys n last.0 last.1) here) o))
+        subst (λ j. OrderedDownTo m known pieces t.writes keys (leaf_prev keys frame n leaf (max prev (durable_below leaf.page (slice_get leaf.chains j)))) (leaf_start keys frame n)) (sym (ap (of_some 0 (λ (k : WrittenKey). k.slot)) last.1))
+        (rest (max prev (durable_below leaf.page (slice_get leaf.chains last.0.slot))) (ordered-one n prev last.0 last.1 (under last.0 (got-member keys n last.0 last.1) here) o))
 
 -- ---- the leaf of a frame
 
@@ -121,7 +131,7 @@ prev-ordered : OrdersLaw → (e : Engine) (w : World) (session : ℕ) (a : State
     → IsOrdered stamps w.machine e.hub.tables.tables e.pieces t a left
     → OrderedDownTo w.machine e.hub.tables.tables e.pieces t.writes a.written (prev_in p.frame a left stamps.prev) (leaf_start a.written (frame_at a.written left) left)
 prev-ordered law e w session a p stamps left t o alive now = subst (λ f. OrderedDownTo w.machine known e.pieces t.writes a.written (prev_in f a left stamps.prev) (leaf_start a.written (frame_at a.written left) left)) (sym framed)
-    (ordered-leaf w.machine t known e.pieces leaf.frame.chains a.written (frame_at a.written left) under left o.some.1 stamps.prev now) where
+    (ordered-leaf w.machine t known e.pieces leaf.frame.leaf a.written (frame_at a.written left) under left o.some.1 stamps.prev now) where
       known : List Table
       known = e.hub.tables.tables
 
@@ -144,19 +154,19 @@ prev-ordered law e w session a p stamps left t o alive now = subst (λ f. Ordere
       framed : p.frame ≡ Some leaf.frame
       framed = sym (frame-there e.pieces (frame_at a.written left) p o.piece) ∙ leaf.there
 
-      in-leaf : slots_in e.pieces (frame_at a.written left) ≡ leaf.frame.chains
-      in-leaf = ap (of_some [] (λ (f : Frame). f.chains)) leaf.there
+      in-leaf : slots_in e.pieces (frame_at a.written left) ≡ leaf.frame.leaf.chains
+      in-leaf = ap (of_some [] (λ (f : Frame). f.leaf.chains)) leaf.there
 
-      under : (k : WrittenKey) → Member k a.written → k.frame ≡ frame_at a.written left → UnderIs w.machine e.hub.tables.tables e.pieces t leaf.frame.chains k
-      under k member same = let x = noted.wrote k member in let slot : slot_of x.0.key leaf.frame.chains ≡ Some k.slot = ap (slot_of x.0.key) (sym (ap (slots_in e.pieces) same ∙ in-leaf)) ∙ x.2.slot in
+      under : (k : WrittenKey) → Member k a.written → k.frame ≡ frame_at a.written left → UnderIs w.machine e.hub.tables.tables e.pieces t leaf.frame.leaf k
+      under k member same = let x = noted.wrote k member in let slot : slot_of x.0.key leaf.frame.leaf.chains ≡ Some k.slot = ap (slot_of x.0.key) (sym (ap (slots_in e.pieces) same ∙ in-leaf)) ∙ x.2.slot in
           let one : Some wrote.2.of ≡ Some x.2.of = sym wrote.2.there ∙ (ap (slice_get e.hub.tables.tables) (last.2 ∙ sym same) ∙ x.2.there) in
           let table : wrote.2.of ≡ x.2.of = cc in
           let number : wrote.2.of.number ≡ x.0.table = ap (λ (z : Table). z.number) table ∙ x.2.number in record {
             write = x.0;
             there = x.1;
-            below = ap durable_below (chain-held leaf.frame.chains x.0.key k.slot slot)
-                ∙ below-is law w.machine session t x.0 o.st.valid o.there alive (own-of w.machine session t x.0 o.st.valid o.there x.1) (chain_at x.0.key leaf.frame.chains)
-                (subst (λ n. StandsFor w.machine n x.0.key (chain_at x.0.key leaf.frame.chains) None []) number (leaf.keys x.0.key));
+            below = below-slot x.0.key leaf.frame.leaf.page leaf.frame.leaf.chains k.slot slot
+                ∙ below-is law w.machine session t x.0 o.st.valid o.there alive (own-of w.machine session t x.0 o.st.valid o.there x.1) (chain_at x.0.key leaf.frame.leaf.chains) (shown_at x.0.key leaf.frame.leaf.page)
+                (subst (λ n. StandsFor w.machine n x.0.key (chain_at x.0.key leaf.frame.leaf.chains) (shown_at x.0.key leaf.frame.leaf.page) []) number (leaf.keys x.0.key));
             under = ap (λ n. newest_durable (line w.machine.history n (key_at (slots_in e.pieces k.frame) k.slot))) (ap (of_some 0 (λ (z : Table). z.number)) x.2.there ∙ x.2.number)
                 ∙ ap (λ q. newest_durable (line w.machine.history x.0.table q)) (key-held (slots_in e.pieces k.frame) x.0.key k.slot x.2.slot);
           }

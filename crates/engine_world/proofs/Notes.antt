@@ -1,6 +1,6 @@
 -- The keys that a transaction wrote, after one write more.
 use Rattle.std.proofs.Common.{◌≡◌, ◌⊎◌, ◌<◌, ℕ, refl, ap, sym, ◌∙◌, Bool, true, false, List, [], ◌∷◌, ◌++◌, length, inl, inr, subst, map}
-use Rattle.std.specs.Prelude.{Some, None, filter, find, not}
+use Rattle.std.specs.Prelude.{Option, Some, filter, find, not}
 use Rattle.std.proofs.lemmas.Bool.{cases_Bool, cases_eq, both_ways}
 use Rattle.item.specs.declared.Change.{Change}
 use Rattle.stamp.specs.declared.Name.{Name}
@@ -29,10 +29,10 @@ use Rattle.engine_world.proofs.OnePiece.{slot-stays}
 
 -- ---- who leads a chain wrote its key
 
-pub led-own : (m : Machine) (session : ℕ) (t : Transaction) (table : ℕ) (key : List ℕ) (chain : List Update) → Valid m → transaction_of m session ≡ Some t → t.phase ≡ Running → 0 < t.id → StandsFor m table key chain None []
+pub led-own : (m : Machine) (session : ℕ) (t : Transaction) (table : ℕ) (key : List ℕ) (chain : List Update) (row : Option (Version Change)) → Valid m → transaction_of m session ≡ Some t → t.phase ≡ Running → 0 < t.id → StandsFor m table key chain row []
     → is_led_by (name_of m t) chain ≡ true → (w : Write) × (own_write t table key ≡ Some w)
-led-own m session t table key [] valid there running drawn k led = absurd (cc)
-led-own m session t table key (u ∷ older) valid there running drawn k led = by-top k.top k.chained k.topped where
+led-own m session t table key [] row valid there running drawn k led = absurd (cc)
+led-own m session t table key (u ∷ older) row valid there running drawn k led = by-top k.top k.chained k.topped where
   named : u.version.window.name ≡ name_of m t
   named = let p = name_eq-same u.version.window.name (name_of m t) led in ap (λ n. record { run = n; id = u.version.window.name.id }) p.0 ∙ ap (λ n. record { run = m.run; id = n }) p.1
 

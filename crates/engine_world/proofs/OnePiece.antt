@@ -1,13 +1,16 @@
 -- One piece of the frames changes, and the others stay.
 use Rattle.std.proofs.Common.{◌≡◌, ◌≢◌, ◌≤◌, ◌+◌, ℕ, zero, suc, refl, ap, sym, ◌∙◌, Bool, true, List, [], ◌∷◌, ◌++◌, inl, inr, subst, arith}
-use Rattle.std.specs.Prelude.{Some, None, ◌==◌, reverse, slice_get, slice_set, option_and_then}
+use Rattle.std.specs.Prelude.{Option, Some, ◌==◌, reverse, slice_get, slice_set, option_and_then}
 use Rattle.std.specs.List.{list_any}
 use Rattle.std.proofs.lemmas.Bool.{cases_eq, eq-eqb, or_left, or_right, cases_Bool}
+use Rattle.item.specs.declared.Change.{Change}
 use Rattle.stamp.specs.declared.Name.{Name}
+use Rattle.stamp.specs.declared.Version.{Version}
 use Rattle.kv_model.specs.Holds.{Member}
 use Rattle.kv_model.specs.History.{Table, tables, has_table}
 use Rattle.kv_model.specs.Machine.{Machine, Transaction, of_some, transaction_of, name_of}
 use Rattle.kv_model.specs.Valid.{Valid}
+use Rattle.rows_shown.specs.Shows.{shown_at}
 use Rattle.update_chain.specs.declared.update.Update.{Update}
 use Rattle.update_chain.specs.EventLaws.{StandsFor}
 use Rattle.leaf_chains.specs.declared.slot.KeyChain.{KeyChain}
@@ -31,14 +34,14 @@ set-same (y ∷ ys) (suc i) x at = ap (λ l. y ∷ l) (set-same ys i x at)
 -- ---- pieces
 
 abbrev pub slots_of : FramePiece → List KeyChain
-slots_of p = of_some [] (λ (f : Frame). f.chains) p.frame
+slots_of p = of_some [] (λ (f : Frame). f.leaf.chains) p.frame
 
 module _ (pieces : List FramePiece) (frame : ℕ) (p : FramePiece) where
   pub frame-there : slice_get pieces frame ≡ Some p → frame_in pieces frame ≡ p.frame
   frame-there at = ap (λ o. option_and_then (λ (q : FramePiece). q.frame) o) at
 
   pub slots-there : slice_get pieces frame ≡ Some p → slots_in pieces frame ≡ slots_of p
-  slots-there at = ap (λ o. of_some [] (λ (f : Frame). f.chains) o) (frame-there at)
+  slots-there at = ap (λ o. of_some [] (λ (f : Frame). f.leaf.chains) o) (frame-there at)
 
 module _ (pieces : List FramePiece) (frame : ℕ) (p p' : FramePiece) (at : slice_get pieces frame ≡ Some p) where
   pub frame-set : frame_in (slice_set pieces frame p') frame ≡ p'.frame
@@ -51,7 +54,7 @@ module _ (pieces : List FramePiece) (frame : ℕ) (p p' : FramePiece) (at : slic
   frame-other place other = ap (λ o. option_and_then (λ (q : FramePiece). q.frame) o) (get-set-other pieces frame place p' other)
 
   pub slots-other : (place : ℕ) → place ≢ frame → slots_in (slice_set pieces frame p') place ≡ slots_in pieces place
-  slots-other place other = ap (λ o. of_some [] (λ (f : Frame). f.chains) o) (frame-other place other)
+  slots-other place other = ap (λ o. of_some [] (λ (f : Frame). f.leaf.chains) o) (frame-other place other)
 
   -- each key of the piece keeps its slot
   pub slots-stay : ((key : List ℕ) (i : ℕ) → slot_of key (slots_of p) ≡ Some i → slot_of key (slots_of p') ≡ Some i) → SlotsStay pieces (slice_set pieces frame p')
@@ -76,8 +79,8 @@ module _ (pieces : List FramePiece) (frame : ℕ) (p p' : FramePiece) (at : slic
   -- the leaf of the piece stands, and so do the others
   pub leaves-on : (m next : Machine) (states : List ℕ) (known : List Table) (f' : Frame) → p'.frame ≡ Some f'
       → ((place : ℕ) (t : Table) → slice_get known place ≡ Some t → LeafStands m pieces states place t)
-      → ((t : Table) → slice_get known frame ≡ Some t → (key : List ℕ) → StandsFor m t.number key (chain_at key (slots_of p)) None [] → StandsFor next t.number key (chain_at key f'.chains) None [])
-      → ((place : ℕ) (t : Table) → place ≢ frame → slice_get known place ≡ Some t → (key : List ℕ) (chain : List Update) → StandsFor m t.number key chain None [] → StandsFor next t.number key chain None [])
+      → ((t : Table) → slice_get known frame ≡ Some t → (key : List ℕ) → StandsFor next t.number key (chain_at key f'.leaf.chains) (shown_at key f'.leaf.page) [])
+      → ((place : ℕ) (t : Table) → place ≢ frame → slice_get known place ≡ Some t → (key : List ℕ) (chain : List Update) (row : Option (Version Change)) → StandsFor m t.number key chain row [] → StandsFor next t.number key chain row [])
       → (place : ℕ) (t : Table) → slice_get known place ≡ Some t → LeafStands next (slice_set pieces frame p') states place t
   leaves-on m next states known f' is leaves here there place t known_at = elim (cases_eq place frame) [
     | inl same ↦ this same
@@ -85,7 +88,7 @@ module _ (pieces : List FramePiece) (frame : ℕ) (p p' : FramePiece) (at : slic
       frame = old.frame;
       there = frame-other place other ∙ old.there;
       word = old.word;
-      keys = λ key. there place t other known_at key (chain_at key old.frame.chains) (old.keys key);
+      keys = λ key. there place t other known_at key (chain_at key old.frame.leaf.chains) (shown_at key old.frame.leaf.page) (old.keys key);
     }
   ] where
     old : LeafStands m pieces states place t
@@ -96,10 +99,8 @@ module _ (pieces : List FramePiece) (frame : ℕ) (p p' : FramePiece) (at : slic
       frame = f';
       there = ap (frame_in (slice_set pieces frame p')) same ∙ (frame-set ∙ is);
       word = old.word;
-      keys = λ key. here t (ap (slice_get known) (sym same) ∙ known_at) key (subst (λ l. StandsFor m t.number key (chain_at key l) None []) chains (old.keys key));
-    } where
-      chains : old.frame.chains ≡ slots_of p
-      chains = ap (λ o. of_some [] (λ (f : Frame). f.chains) o) (sym old.there) ∙ (ap (slots_in pieces) same ∙ slots-there pieces frame p at)
+      keys = here t (ap (slice_get known) (sym same) ∙ known_at);
+    }
 
 -- a slot that was noted stays that of its key
 pub slot-stays : (known : List Table) (pieces later : List FramePiece) → SlotsStay pieces later → (k : WrittenKey) (table : ℕ) (key : List ℕ) → IsSlotOf known pieces k table key → IsSlotOf known later k table key

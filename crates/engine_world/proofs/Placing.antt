@@ -19,6 +19,7 @@ use Rattle.txn_table.specs.declared.phase.Phase.TheVariants as phase
 use Rattle.txn_table.specs.SessionData.{phase_in}
 use Rattle.txn_table.proofs.Standing.{calls-stand}
 use Rattle.update_chain.specs.EventLaws.{ChainsGoOn}
+use Rattle.rows_shown.specs.Shows.{shown_at}
 use Rattle.leaf_chains.specs.Slots.{chain_at}
 use Rattle.call_steps.specs.declared.cursor.Cursor.{Cursor}
 use Rattle.call_steps.specs.declared.cursor.Position.{Position}
@@ -72,7 +73,7 @@ place-leads chains e w session old a hazards told cursor position st there has p
         frame = leaf.frame;
         there = leaf.there;
         word = leaf.word;
-        keys = λ key. chains m event t.number key (chain_at key leaf.frame.chains) None [] st.valid has tt (leaf.keys key);
+        keys = λ key. chains m event t.number key (chain_at key leaf.frame.leaf.chains) (shown_at key leaf.frame.leaf.page) [] st.valid has tt (leaf.keys key);
       };
       mine = record {
         phase = ap phase_in p.phase ∙ mine.phase;

@@ -1,11 +1,12 @@
 -- What stands over the events that are of no session.
 use Rattle.std.proofs.Common.{◌≡◌, ◌≢◌, ℕ, refl, List, [], length, arith}
-use Rattle.std.specs.Prelude.{Some, None, slice_get}
+use Rattle.std.specs.Prelude.{Some, slice_get}
 use Rattle.std.proofs.lemmas.Option.{slice_get_within}
 use Rattle.kv_model.specs.Allowed.{Allowed}
 use Rattle.kv_model.specs.History.{Table}
 use Rattle.kv_model.specs.Machine.{Machine, Event, after, SetStamps, CreateTable}
 use Rattle.kv_model.specs.Valid.{Valid}
+use Rattle.rows_shown.specs.Shows.{shown_at}
 use Rattle.update_chain.specs.EventLaws.{ChainsGoOn, LeavesAlone}
 use Rattle.leaf_chains.specs.Slots.{chain_at}
 use Rattle.call_steps.specs.declared.frame.FramePiece.{FramePiece}
@@ -20,7 +21,7 @@ leaf-goes-on chains m event pieces states place t valid may alone leaf = record 
   frame = leaf.frame;
   there = leaf.there;
   word = leaf.word;
-  keys = λ key. chains m event t.number key (chain_at key leaf.frame.chains) None [] valid may (alone key) (leaf.keys key);
+  keys = λ key. chains m event t.number key (chain_at key leaf.frame.leaf.chains) (shown_at key leaf.frame.leaf.page) [] valid may (alone key) (leaf.keys key);
 }
 
 pub leaves-same : (known : List Table) (pieces : List FramePiece) → LeavesStay known known pieces pieces

@@ -21,6 +21,7 @@ use Rattle.txn_table.specs.declared.phase.Phase.{Phase}
 use Rattle.txn_table.specs.declared.phase.Phase.TheVariants as phase
 use Rattle.txn_table.proofs.Standing.{calls-stand}
 use Rattle.update_chain.specs.EventLaws.{StandsFor, IsUndone, ChainsGoOn, UndosStand as UndosLaw}
+use Rattle.rows_shown.specs.Shows.{shown_at}
 use Rattle.leaf_chains.specs.Slots.{chain_at}
 use Rattle.call_steps.specs.declared.edit.Edit.TheVariants as edit
 use Rattle.call_steps.specs.declared.frame.FramePiece.{FramePiece}
@@ -215,7 +216,7 @@ leaves-early chains-go-on e w session t st there early knows = record {
     frame = l.frame;
     there = l.there;
     word = l.word;
-    keys = λ key. subst (λ (z : Machine). StandsFor z x.number key (chain_at key l.frame.chains) None []) is (chains-go-on w.machine (StartLeaving session) x.number key (chain_at key l.frame.chains) None [] st.valid tt tt (l.keys key));
+    keys = λ key. subst (λ (z : Machine). StandsFor z x.number key (chain_at key l.frame.leaf.chains) (shown_at key l.frame.leaf.page) []) is (chains-go-on w.machine (StartLeaving session) x.number key (chain_at key l.frame.leaf.chains) (shown_at key l.frame.leaf.page) [] st.valid tt tt (l.keys key));
   };
 } where
   is : after w.machine (StartLeaving session) ≡ gone w.machine session t

@@ -1,10 +1,12 @@
 -- The look of a put or a remove.
 use Rattle.std.proofs.Common.{◌≡◌, ◌≢◌, ◌⊎◌, ℕ, refl, ap, sym, ◌∙◌, Bool, true, false, List, [], ◌∷◌, inl, inr, subst}
-use Rattle.std.specs.Prelude.{Some, None, option_map, slice_get, slice_set, bytes_eq}
+use Rattle.std.specs.Prelude.{Option, Some, None, option_map, slice_get, slice_set, bytes_eq}
 use Rattle.std.proofs.lemmas.Bool.{cases_Bool, both_ways}
 use Rattle.std.proofs.lemmas.List.{get_or-set_same}
 use Rattle.std.proofs.lemmas.Slice.Eq.{bytes_eq-Decides}
+use Rattle.item.specs.declared.Change.{Change}
 use Rattle.item.specs.declared.Change.TheVariants.{Put, Remove}
+use Rattle.stamp.specs.declared.Version.{Version}
 use Rattle.stamp.specs.declared.View.{View}
 use Rattle.wt_code.specs.declared.answers.Answer.{Answer}
 use Rattle.wt_code.specs.declared.answers.Answer.TheVariants as answers
@@ -21,6 +23,7 @@ use Rattle.txn_table.specs.declared.phase.Phase.{Phase as Kept}
 use Rattle.txn_table.specs.declared.phase.Phase.TheVariants as phase
 use Rattle.txn_table.specs.SessionData.{phase_in}
 use Rattle.txn_table.proofs.Standing.{calls-stand}
+use Rattle.rows_shown.specs.Shows.{shown_at}
 use Rattle.update_chain.specs.declared.update.Update.{Update}
 use Rattle.update_chain.specs.Answers.{ViewStands}
 use Rattle.update_chain.specs.EventLaws.{StandsFor, ChainsGoOn, InstallsStand}
@@ -29,6 +32,7 @@ use Rattle.update_chain.specs.Writing.{WritesStand}
 use Rattle.leaf_chains.specs.declared.slot.KeyChain.{KeyChain}
 use Rattle.leaf_chains.specs.Slots.{chain_at, slot_of, with_update}
 use Rattle.leaf_chains.proofs.Installs.{installs_change, installs_keep, installs_keep_slots}
+use Rattle.leaf_frame.specs.Leaf.{HeldLeaf}
 use Rattle.wt_calls.specs.declared.demand.Demand.TheVariants as demand
 use Rattle.wt_calls.specs.Calls.{demand_in}
 use Rattle.call_steps.specs.declared.frame.Frame.{Frame}
@@ -40,7 +44,7 @@ use Rattle.call_steps.specs.declared.stage.Stage.{Stage}
 use Rattle.call_steps.specs.declared.stage.Stage.TheVariants as stage
 use Rattle.call_steps.specs.declared.stage.Target.{Target}
 use Rattle.call_steps.specs.declared.written.WrittenKey.{WrittenKey}
-use Rattle.call_steps.specs.FrameEvents.{with_chains}
+use Rattle.call_steps.specs.FrameEvents.{with_leaf}
 use Rattle.call_steps.specs.HubEvents.{known_phase}
 use Rattle.call_steps.specs.Looks.{own_name, update_by, noted, refused, no_memory, conflicts, without_value, IsInstalled, FoundBy, write_found}
 use Rattle.call_steps.specs.Stages.{is_write, cursor_in}
@@ -107,7 +111,7 @@ pub record IsWrite (m : Machine) (session : ℕ) (t : Transaction) (a : State) (
 
 module _ (e : Engine) (w : World) (session frame : ℕ) (a : State) (p p' : FramePiece) (x : Written) (l : AtLeaf e w session frame a p x.view x.call x.target) (writes : IsWrite w.machine session l.transaction a x)
     (k : Keeps w.machine e.hub e.pieces session x.before) (st : Stands e w) (at : slice_get e.sessions session ≡ Some a) (there : slice_get e.pieces frame ≡ Some p) (look : a.stage ≡ stage.Look x.call x.target)
-    (is : p' ≡ record p { frame = Some (with_chains x.slots_after l.leaf) }) (slots : x.slots ≡ l.leaf.chains) where
+    (is : p' ≡ record p { frame = Some (with_leaf x.leaf_after l.was) }) (from : x.leaf ≡ l.was.leaf) where
   abbrev Led : Type 0
   Led = Leads (with_session (with_piece e frame p') session x.later) w session reply.More
 
@@ -120,19 +124,19 @@ module _ (e : Engine) (w : World) (session frame : ℕ) (a : State) (p p' : Fram
   cleared answer now = subst (SessionStands w.machine e.hub e.pieces session) (sym now) (clears-stand w.machine e.hub e.pieces session x.call x.target x.before k l.on answer)
 
   -- memory was too short
-  short-leads : x.slots_after ≡ x.slots → x.later ≡ clears x.call x.target no_memory x.before → Led
-  short-leads same now = shorts-lead e w session frame a x.later p p' x.view x.call x.target x.slots_after l st at there look is (same ∙ slots) (decided-does w.machine x.before no_memory now) (cleared no_memory now)
+  short-leads : x.leaf_after ≡ x.leaf → x.later ≡ clears x.call x.target no_memory x.before → Led
+  short-leads same now = shorts-lead e w session frame a x.later p p' x.view x.call x.target x.leaf_after l st at there look is (same ∙ from) (decided-does w.machine x.before no_memory now) (cleared no_memory now)
 
   -- the key is not as the write asks
   unmet-leads : Unmet w.machine session l.transaction x.before.key x → Led
-  unmet-leads u = looks-lead e w session frame a x.later p p' x.view x.call x.target x.slots_after l st at there look is (u.same ∙ slots) (Refused u.refusal) Nothing (refused u.refusal)
+  unmet-leads u = looks-lead e w session frame a x.later p p' x.view x.call x.target x.leaf_after l st at there look is (u.same ∙ from) (Refused u.refusal) Nothing (refused u.refusal)
       (writes.finds (Refused u.refusal) Nothing u.answers) refl (writes.goes (refused u.refusal) Nothing (made_in w.machine session x.later) (decided-does w.machine x.before (refused u.refusal) u.now)) (cleared (refused u.refusal) u.now)
 
   -- ---- a conflict
 
   -- the transaction can be rolled back, no more
   conflict-leads : ChainsGoOn → Conflicting w.machine session l.transaction x.before.key x → Led
-  conflict-leads chains-go c = subst (λ z. Leads (with_session (record e { pieces = z }) session x.later) w session reply.More) (sym (pieces-same e w session frame a p x.view x.call x.target p' x.slots_after l there is (c.same ∙ slots)))
+  conflict-leads chains-go c = subst (λ z. Leads (with_session (record e { pieces = z }) session x.later) w session reply.More) (sym (pieces-same e w session frame a p x.view x.call x.target p' x.leaf_after l there is (c.same ∙ from)))
       (leads e w session a x.later e.hub e.pieces e.hazards next reply.More st at (goes-placed e w session frame a p x.view x.call x.target (made_in next session x.later) look (inr (inl (record {
         transaction = l.transaction;
         outcome = Refused (refusal.Rollback c.other.run c.other.id);
@@ -153,7 +157,7 @@ module _ (e : Engine) (w : World) (session frame : ℕ) (a : State) (p p' : Fram
           frame = old.frame;
           there = old.there;
           word = old.word;
-          keys = λ key. chains-go w.machine event t.number key (chain_at key old.frame.chains) None [] st.valid may tt (old.keys key);
+          keys = λ key. chains-go w.machine event t.number key (chain_at key old.frame.leaf.chains) (shown_at key old.frame.leaf.page) [] st.valid may tt (old.keys key);
         };
         mine = subst (SessionStands next e.hub e.pieces session) (sym c.now) mine;
       })) where
@@ -195,7 +199,7 @@ module _ (e : Engine) (w : World) (session frame : ℕ) (a : State) (p p' : Fram
 
   -- ---- an accepted write
 
-  accept-leads : ChainsGoOn → InstallsStand → Accepted w.machine session l.transaction x.before.key (chain_at x.before.key l.leaf.chains) x → Led
+  accept-leads : ChainsGoOn → InstallsStand → Accepted w.machine session l.transaction x.before.key (chain_at x.before.key l.was.leaf.chains) x → Led
   accept-leads chains-go installs-stand c = elim c.made [
     | inl made ↦ install made.0 made.1 made.2
     | inr short ↦ short-leads short.0 short.1
@@ -224,7 +228,7 @@ module _ (e : Engine) (w : World) (session frame : ℕ) (a : State) (p p' : Fram
     now : transaction_of next session ≡ Some (written x.target.table x.before.key x.change l.transaction)
     now = changed-there w.machine session (written x.target.table x.before.key x.change) l.transaction l.there
 
-    install : (middle : State) → IsInstalled (own_name x.view) x.target.frame x.change (is_led_by (own_name x.view) (chain_at x.before.key x.slots)) x.slots x.before x.slots_after middle → x.later ≡ clears x.call x.target answers.Done middle → Led
+    install : (middle : State) → IsInstalled (own_name x.view) x.target.frame x.change (is_led_by (own_name x.view) (chain_at x.before.key x.leaf.chains)) x.leaf x.before x.leaf_after middle → x.later ≡ clears x.call x.target answers.Done middle → Led
     install middle i later = leads e w session a x.later e.hub pieces e.hazards next reply.More st at (goes-placed e w session frame a p x.view x.call x.target (made_in next session x.later) look (inr (inl (record {
       transaction = l.transaction;
       outcome = Done;
@@ -248,45 +252,49 @@ module _ (e : Engine) (w : World) (session frame : ℕ) (a : State) (p p' : Fram
       stamps = refl;
       txns = (calls-stand e.hub.txns w.machine st.valid st.txns).others event tt may;
       made = refl;
-      leaves = leaves-on e.pieces frame p p' there w.machine next e.states known (with_chains x.slots_after l.leaf) (ap (λ (q : FramePiece). q.frame) is) st.leaves here elsewhere;
+      leaves = leaves-on e.pieces frame p p' there w.machine next e.states known (with_leaf x.leaf_after l.was) (ap (λ (q : FramePiece). q.frame) is) st.leaves here elsewhere;
       mine = subst (SessionStands next e.hub pieces session) (sym later) mine;
     }) where
-      chains : slots_of p ≡ l.leaf.chains
-      chains = ap (λ o. of_some [] (λ (f : Frame). f.chains) o) l.held
+      chains : slots_of p ≡ l.was.leaf.chains
+      chains = ap (λ o. of_some [] (λ (f : Frame). f.leaf.chains) o) l.held
 
-      after_is : x.slots_after ≡ with_update x.before.key u l.leaf.chains
-      after_is = i.slots_are ∙ ap (with_update x.before.key u) slots
+      whole : x.leaf_after ≡ record l.was.leaf { chains = with_update x.before.key u l.was.leaf.chains }
+      whole = i.leaf_is ∙ ap (λ (h : HeldLeaf). record h { chains = with_update x.before.key u h.chains }) from
 
-      chains_after : slots_of p' ≡ x.slots_after
+      after_is : x.leaf_after.chains ≡ with_update x.before.key u l.was.leaf.chains
+      after_is = ap (λ (h : HeldLeaf). h.chains) whole
+
+      chains_after : slots_of p' ≡ x.leaf_after.chains
       chains_after = ap slots_of is
 
       stays : SlotsStay e.pieces pieces
-      stays = slots-stay e.pieces frame p p' there (λ key j from. ap (slot_of key) (chains_after ∙ after_is) ∙ installs_keep_slots x.before.key key u l.leaf.chains j (ap (slot_of key) (sym chains) ∙ from))
+      stays = slots-stay e.pieces frame p p' there (λ key j from. ap (slot_of key) (chains_after ∙ after_is) ∙ installs_keep_slots x.before.key key u l.was.leaf.chains j (ap (slot_of key) (sym chains) ∙ from))
 
       brings : (key : List ℕ) (v : Update) → Member v (chain_at key (slots_of p')) → v.version.window.name ≢ name_of w.machine l.transaction → Member v (chain_at key (slots_of p))
-      brings key v member other = elim (member-with x.before.key key u v l.leaf.chains (subst (λ z. Member v (chain_at key z)) (chains_after ∙ after_is) member)) [
+      brings key v member other = elim (member-with x.before.key key u v l.was.leaf.chains (subst (λ z. Member v (chain_at key z)) (chains_after ∙ after_is) member)) [
         | inl one ↦ absurd (other (ap (λ (z : Update). z.version.window.name) one ∙ named))
         | inr old ↦ subst (λ z. Member v (chain_at key z)) (sym chains) old
       ]
 
       -- the key that was written, and the others of its table
-      at-key : (key : List ℕ) → StandsFor next x.target.table key (chain_at key x.slots_after) None []
+      at-key : (key : List ℕ) → StandsFor next x.target.table key (chain_at key (with_update x.before.key u l.was.leaf.chains)) (shown_at key l.was.leaf.page) []
       at-key key = elim (keys-part key x.before.key) [
-        | inl same ↦ subst (λ z. StandsFor next x.target.table z (chain_at z x.slots_after) None []) (sym same) own
-        | inr apart ↦ subst (λ z. StandsFor next x.target.table key z None []) (sym (ap (chain_at key) after_is ∙ installs_keep x.before.key key u l.leaf.chains apart))
-            (chains-go w.machine event x.target.table key (chain_at key l.leaf.chains) None [] st.valid may (λ same_table same_key. apart (sym same_key)) (l.keys key))
+        | inl same ↦ subst (λ z. StandsFor next x.target.table z (chain_at z (with_update x.before.key u l.was.leaf.chains)) (shown_at z l.was.leaf.page) []) (sym same) own
+        | inr apart ↦ subst (λ z. StandsFor next x.target.table key z (shown_at key l.was.leaf.page) []) (sym (installs_keep x.before.key key u l.was.leaf.chains apart))
+            (chains-go w.machine event x.target.table key (chain_at key l.was.leaf.chains) (shown_at key l.was.leaf.page) [] st.valid may (λ same_table same_key. apart (sym same_key)) (l.keys key))
       ] where
-        own : StandsFor next x.target.table x.before.key (chain_at x.before.key x.slots_after) None []
-        own = subst (λ z. StandsFor next x.target.table x.before.key z None []) (sym (ap (chain_at x.before.key) after_is ∙ installs_change x.before.key u l.leaf.chains))
-            (installs-stand w.machine session l.transaction x.view x.target.table x.before.key u (chain_at x.before.key l.leaf.chains) None [] st.valid l.there may l.sees c.follows named (l.keys x.before.key))
+        own : StandsFor next x.target.table x.before.key (chain_at x.before.key (with_update x.before.key u l.was.leaf.chains)) (shown_at x.before.key l.was.leaf.page) []
+        own = subst (λ z. StandsFor next x.target.table x.before.key z (shown_at x.before.key l.was.leaf.page) []) (sym (installs_change x.before.key u l.was.leaf.chains))
+            (installs-stand w.machine session l.transaction x.view x.target.table x.before.key u (chain_at x.before.key l.was.leaf.chains) (shown_at x.before.key l.was.leaf.page) [] st.valid l.there may l.sees c.follows named (l.keys x.before.key))
 
-      here : (t : Table) → slice_get known frame ≡ Some t → (key : List ℕ) → StandsFor w.machine t.number key (chain_at key (slots_of p)) None [] → StandsFor next t.number key (chain_at key x.slots_after) None []
-      here t known_at key stands = subst (λ n. StandsFor next n key (chain_at key x.slots_after) None []) number (at-key key) where
-        number : x.target.table ≡ t.number
-        number = let both : Some l.table ≡ Some t = sym l.known ∙ (ap (slice_get known) l.place ∙ known_at) in let one : l.table ≡ t = cc in sym l.number ∙ ap (λ (z : Table). z.number) one
+      here : (t : Table) → slice_get known frame ≡ Some t → (key : List ℕ) → StandsFor next t.number key (chain_at key x.leaf_after.chains) (shown_at key x.leaf_after.page) []
+      here t known_at key = subst (λ n. StandsFor next n key (chain_at key x.leaf_after.chains) (shown_at key x.leaf_after.page) []) number
+          (subst (λ (h : HeldLeaf). StandsFor next x.target.table key (chain_at key h.chains) (shown_at key h.page) []) (sym whole) (at-key key)) where
+            number : x.target.table ≡ t.number
+            number = let both : Some l.table ≡ Some t = sym l.known ∙ (ap (slice_get known) l.place ∙ known_at) in let one : l.table ≡ t = cc in sym l.number ∙ ap (λ (z : Table). z.number) one
 
-      elsewhere : (place : ℕ) (t : Table) → place ≢ frame → slice_get known place ≡ Some t → (key : List ℕ) (chain : List Update) → StandsFor w.machine t.number key chain None [] → StandsFor next t.number key chain None []
-      elsewhere place t other known_at key chain stands = chains-go w.machine event t.number key chain None [] st.valid may
+      elsewhere : (place : ℕ) (t : Table) → place ≢ frame → slice_get known place ≡ Some t → (key : List ℕ) (chain : List Update) (row : Option (Version Change)) → StandsFor w.machine t.number key chain row [] → StandsFor next t.number key chain row []
+      elsewhere place t other known_at key chain row stands = chains-go w.machine event t.number key chain row [] st.valid may
           (λ same_table same_key. numbers-differ 1 known e.hub.tables.next place x.target.frame t l.table st.catalog.numbers known_at l.known (λ same. other (same ∙ l.place)) (sym (l.number ∙ same_table))) stands
 
       slot : WrittenKey
@@ -297,14 +305,14 @@ module _ (e : Engine) (w : World) (session frame : ℕ) (a : State) (p p' : Fram
           (clears-keep next e.hub pieces session x.call x.target answers.Done middle (subst (Keeps next e.hub pieces session) (sym i.state) (keeps-noted led refl)))
           ((written x.target.table x.before.key x.change l.transaction, now, inl l.running), l.on.1) where
             led : Bool
-            led = is_led_by (own_name x.view) (chain_at x.before.key x.slots)
+            led = is_led_by (own_name x.view) (chain_at x.before.key x.leaf.chains)
 
             -- who led the chain had written the key
             wrote : led ≡ true → (o : Write) × Member o l.transaction.writes × (writes_at x.target.table x.before.key o ≡ true)
             wrote on = (own.0, member.0, member.1) where
               own : (o : Write) × (own_write l.transaction x.target.table x.before.key ≡ Some o)
-              own = led-own w.machine session l.transaction x.target.table x.before.key (chain_at x.before.key l.leaf.chains) st.valid l.there l.running (l.drawn writes.draws) (l.keys x.before.key)
-                  (ap (λ n. is_led_by n (chain_at x.before.key l.leaf.chains)) (sym named) ∙ (ap (λ z. is_led_by (own_name x.view) (chain_at x.before.key z)) (sym slots) ∙ on))
+              own = led-own w.machine session l.transaction x.target.table x.before.key (chain_at x.before.key l.was.leaf.chains) (shown_at x.before.key l.was.leaf.page) st.valid l.there l.running (l.drawn writes.draws) (l.keys x.before.key)
+                  (ap (λ n. is_led_by n (chain_at x.before.key l.was.leaf.chains)) (sym named) ∙ (ap (λ (h : HeldLeaf). is_led_by (own_name x.view) (chain_at x.before.key h.chains)) (sym from) ∙ on))
 
               member : Member own.0 l.transaction.writes × (writes_at x.target.table x.before.key own.0 ≡ true)
               member = own-member l.transaction x.target.table x.before.key own.0 own.1
@@ -332,14 +340,14 @@ module _ (e : Engine) (w : World) (session frame : ℕ) (a : State) (p p' : Fram
   -- ---- any write
 
   write-leads : ChainsGoOn → InstallsStand → WritesStand
-      → FoundBy (write_found x.view x.asked (chain_at x.before.key x.slots)) (own_name x.view) x.call x.target x.change x.slots x.before x.slots_after x.later → Led
+      → FoundBy (write_found x.view x.asked (chain_at x.before.key x.leaf.chains) (shown_at x.before.key x.leaf.page)) (own_name x.view) x.call x.target x.change x.leaf x.before x.leaf_after x.later → Led
   write-leads chains-go installs-stand writes-stand made = elim cases [
     | inl free ↦ accept-leads chains-go installs-stand free
     | inr other ↦ elim other [ inl unmet ↦ unmet-leads unmet | inr conflict ↦ conflict-leads chains-go conflict ]
   ] where
-    cases : WriteCases w.machine session l.transaction x.before.key (chain_at x.before.key l.leaf.chains) x
-    cases = write-cases w.machine session l.transaction x.before.key x writes-stand (chain_at x.before.key l.leaf.chains) st.valid l.there l.running l.sees (l.keys x.before.key)
-        (subst (λ z. FoundBy (write_found x.view x.asked (chain_at x.before.key z)) (own_name x.view) x.call x.target x.change x.slots x.before x.slots_after x.later) slots made)
+    cases : WriteCases w.machine session l.transaction x.before.key (chain_at x.before.key l.was.leaf.chains) x
+    cases = write-cases w.machine session l.transaction x.before.key x writes-stand (chain_at x.before.key l.was.leaf.chains) (shown_at x.before.key l.was.leaf.page) st.valid l.there l.running l.sees (l.keys x.before.key)
+        (subst (λ (h : HeldLeaf). FoundBy (write_found x.view x.asked (chain_at x.before.key h.chains) (shown_at x.before.key h.page)) (own_name x.view) x.call x.target x.change x.leaf x.before x.leaf_after x.later) from made)
 
 pub writes-go : ChainsGoOn → InstallsStand → WritesStand → WritesGo
 writes-go chains-go installs-stand writes-stand e w session frame a a' p p' view st at of goes there v made = by a.stage refl of where
@@ -347,13 +355,13 @@ writes-go chains-go installs-stand writes-stand e w session frame a a' p p' view
   by-call (key_call.Put asked) target look writes =
       let l = at-leaf e w session frame a p view (key_call.Put asked) target st at look goes there v in
       let m = look-made e w session frame a p view (key_call.Put asked) target a' p' l look made in
-      let x : Written = record { view = view; call = key_call.Put asked; target = target; asked = asked; change = Put a.value; slots = l.leaf.chains; before = without_value a; slots_after = m.0; later = a' } in
+      let x : Written = record { view = view; call = key_call.Put asked; target = target; asked = asked; change = Put a.value; leaf = l.was.leaf; before = without_value a; leaf_after = m.0; later = a' } in
       let k : Keeps w.machine e.hub e.pieces session (without_value a) = record { phase = l.keeps.phase; seated = record { opened = l.keeps.seated.opened; phase = l.keeps.seated.phase }; cursors = l.keeps.cursors; noted = l.keeps.noted } in
       write-leads e w session frame a p p' x l (record { none = refl; draws = refl; finds = λ outcome event f. f; goes = λ answer event made g. g }) k st at there look m.1 refl chains-go installs-stand writes-stand m.2
   by-call key_call.Remove target look writes =
       let l = at-leaf e w session frame a p view key_call.Remove target st at look goes there v in
       let m = look-made e w session frame a p view key_call.Remove target a' p' l look made in
-      let x : Written = record { view = view; call = key_call.Remove; target = target; asked = demand.Occupied; change = Remove; slots = l.leaf.chains; before = a; slots_after = m.0; later = a' } in
+      let x : Written = record { view = view; call = key_call.Remove; target = target; asked = demand.Occupied; change = Remove; leaf = l.was.leaf; before = a; leaf_after = m.0; later = a' } in
       write-leads e w session frame a p p' x l (record { none = refl; draws = refl; finds = λ outcome event f. f; goes = λ answer event made g. g }) l.keeps st at there look m.1 refl chains-go installs-stand writes-stand m.2
   by-call call target look no_write = absurd no_write
 

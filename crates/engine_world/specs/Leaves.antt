@@ -1,10 +1,11 @@
 -- The leaves of an engine, and what stands in the slots that a transaction wrote.
-use Rattle.std.specs.Prelude.{◌≡◌, ◌⊎◌, ◌≤◌, ℕ, List, [], Option, Some, None, option_and_then, slice_get, slice_index_or}
+use Rattle.std.specs.Prelude.{◌≡◌, ◌⊎◌, ◌≤◌, ℕ, List, [], Option, Some, option_and_then, slice_get, slice_index_or}
 use Rattle.stamp.specs.declared.Name.{Name}
 use Rattle.kv_model.specs.History.{Table, Write, line}
 use Rattle.kv_model.specs.Holds.{Member}
 use Rattle.kv_model.specs.Machine.{Machine, of_some}
 use Rattle.kv_model.specs.Refusals.{newest_durable}
+use Rattle.rows_shown.specs.Shows.{shown_at}
 use Rattle.update_chain.specs.declared.update.Update.{Update}
 use Rattle.update_chain.specs.EventLaws.{StandsFor}
 use Rattle.leaf_chains.specs.declared.slot.KeyChain.{KeyChain}
@@ -21,17 +22,17 @@ abbrev pub frame_in : List FramePiece → ℕ → Option Frame
 frame_in pieces place = option_and_then (λ (p : FramePiece). p.frame) (slice_get pieces place)
 
 abbrev pub slots_in : List FramePiece → ℕ → List KeyChain
-slots_in pieces place = of_some [] (λ (f : Frame). f.chains) (frame_in pieces place)
+slots_in pieces place = of_some [] (λ (f : Frame). f.leaf.chains) (frame_in pieces place)
 
 abbrev pub word_at : List ℕ → ℕ → ℕ
 word_at states frame = slice_index_or states frame 0
 
--- the leaf of the table is in the frame of its place, and its chains stand for the keys of the table
+-- the leaf of the table is in the frame of its place, and its chains and rows stand for the keys of the table
 pub record LeafStands (m : Machine) (pieces : List FramePiece) (states : List ℕ) (place : ℕ) (t : Table) : Type 0 where
   pub frame : Frame
   pub there : frame_in pieces place ≡ Some frame
   pub word : word_at states place ≡ first_word
-  pub keys : (key : List ℕ) → StandsFor m t.number key (chain_at key frame.chains) None []
+  pub keys : (key : List ℕ) → StandsFor m t.number key (chain_at key frame.leaf.chains) (shown_at key frame.leaf.page) []
 
 -- ---- what a transaction wrote
 

@@ -1,12 +1,17 @@
 -- What the opening of a session, a create, a set, a checkpoint in one go and a failed write of the device leave of an engine that stands for a world, and with what an engine starts.
 use Rattle.std.specs.Prelude.{◌≡◌, ◌<◌, ◌+◌, ℕ, List, [], ◌∷◌, ◌++◌, length, map, reverse, Option, None, Some, Ok, slice_get, slice_set}
+use Rattle.std.specs.Option.{option_to_list}
 use Rattle.failure.specs.declared.Fault.{Fault}
+use Rattle.item.specs.declared.Change.{Change}
 use Rattle.item.specs.declared.Formats.{Formats}
+use Rattle.stamp.specs.declared.Version.{Version}
 use Rattle.kv_model.specs.Content.{Content, base, descending, start, table_lt}
 use Rattle.kv_model.specs.History.{Table, line}
 use Rattle.kv_model.specs.Machine.{Machine, OpenSession, CreateTable, SetStamps, CheckpointStart, CheckpointFinish, GoDown, after}
 use Rattle.kv_model.specs.Refusals.{set_rules, stamp_of}
 use Rattle.kv_model.specs.Regular.{IsRegular}
+use Rattle.rows_shown.specs.Shows.{shown_at}
+use Rattle.update_chain.specs.declared.update.Update.{Update}
 use Rattle.update_chain.specs.Updates.{unmarked_update}
 use Rattle.leaf_chains.specs.Slots.{chain_at}
 use Rattle.snapshot.specs.Matters.{NoneResolves}
@@ -37,7 +42,7 @@ SetsGo = (e : Engine) (w : World) (oldest stable : Option ℕ) → Stands e w �
 
 -- the piece of a table that has just been made
 abbrev pub first_piece : Table → FramePiece
-first_piece t = record { generation = 0; frame = Some (record { table = t.number; chains = [] }) }
+first_piece t = record { generation = 0; frame = Some (record { table = t.number; leaf = record { page = []; chains = [] } }) }
 
 -- a table more, whose leaf is empty, in the frame of its place
 abbrev pub with_table : Engine → Known → Table → ℕ → Engine
@@ -65,12 +70,18 @@ DownsGo = (e : Engine) (w : World) (fault : Fault) → Stands e w → Stands (wi
 
 -- ---- the start
 
+-- chain and row have the versions of a line, and none of them is marked
+pub record IsFirstOf (versions : List (Version Change)) (chain : List Update) (row : Option (Version Change)) : Type 0 where
+  pub above : List (Version Change)
+  pub chain_is : chain ≡ map unmarked_update above
+  pub all : versions ≡ above ++ option_to_list row
+
 -- the leaf of the table is in the frame of its place, with the versions that the content keeps
 pub record LeafStarts (c : Content) (pieces : List FramePiece) (states : List ℕ) (place : ℕ) (t : Table) : Type 0 where
   pub frame : Frame
   pub there : frame_in pieces place ≡ Some frame
   pub word : word_at states place ≡ first_word
-  pub keys : (key : List ℕ) → chain_at key frame.chains ≡ map unmarked_update (line (base c) t.number key)
+  pub keys : (key : List ℕ) → IsFirstOf (line (base c) t.number key) (chain_at key frame.leaf.chains) (shown_at key frame.leaf.page)
 
 -- an engine that begins on this content, without a session
 pub record Begins (c : Content) (e : Engine) : Type 0 where

@@ -3,6 +3,7 @@
 
 ghost use Rattle.engine_world.specs.Laws.{MarksGo, OrdersGo, ReadsGo, RowsGo, StampsGo, UndosGo, WritesGo};
 
+use leaf_frame::held_reads_stand;
 use update_chain::{
     chains_go_on, installs_stand, marks_stand, orders_stand, stamps_stand, undos_stand,
     writes_stand,
@@ -11,7 +12,9 @@ use update_chain::{
 /// A look of a get or a seek.
 pub fn reads_go()
     ensures { ReadsGo }
-{}
+{
+    held_reads_stand();
+}
 
 /// A look of a put or a remove.
 pub fn writes_go()
@@ -25,7 +28,9 @@ pub fn writes_go()
 /// A look for the next row or the previous one.
 pub fn rows_go()
     ensures { RowsGo }
-{}
+{
+    held_reads_stand();
+}
 
 /// The marks of a prepare in one leaf.
 pub fn marks_go()

@@ -3,12 +3,15 @@
 
 ghost use Rattle.engine_world.specs.Systems.{CheckpointsGo, CreatesGo, DownsGo, EnginesStart, OpensGo, SetsGo};
 
+use kv_model::frames_are_alike;
 use update_chain::chains_go_on;
 
 /// An engine that begins on a regular content stands for the machine that an opening makes of it.
 pub fn engines_start()
     ensures { EnginesStart }
-{}
+{
+    frames_are_alike();
+}
 
 /// A session is opened.
 pub fn opens_go()

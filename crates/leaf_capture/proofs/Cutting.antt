@@ -79,7 +79,7 @@ module _ (m : Machine) (table : ℕ) (key : List ℕ) (s : Sight) (rows : List R
   cut_line : line (cut m.history (length m.history) m.stable) table key ≡ filter (is_stable m.stable) (line m.history table key)
   cut_line = line-cut m.history (length m.history) m.stable table key ∙ ap (λ (l : List Entry). filter (is_stable m.stable) (line l table key)) (first-start [] m.history)
 
-  agrees : core m.oldest (line (base c) table key) ≡ core m.oldest (line (cut m.history (length m.history) m.stable) table key)
+  pub agrees : core m.oldest (line (base c) table key) ≡ core m.oldest (line (cut m.history (length m.history) m.stable) table key)
   agrees =
       ap (core m.oldest) base_line
       ∙ (ap (λ (o : Option (Version Change)). core m.oldest (option_to_list (stable_one m.stable o))) (sym head)

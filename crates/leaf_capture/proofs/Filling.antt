@@ -15,8 +15,8 @@ use Rattle.leaf_rows.specs.Rows.{image_length}
 use Rattle.snapshot.specs.Sight.{Sight}
 use Rattle.leaf_chains.specs.declared.slot.KeyChain.{KeyChain}
 use Rattle.leaf_capture.specs.declared.gathered.Gathered.{Gathered}
-use Rattle.leaf_capture.specs.Gathered.{HasGathered, rows_of}
-use Rattle.leaf_capture.proofs.Gathering.{rows_next, slots_at}
+use Rattle.leaf_capture.specs.Gathered.{HasGathered, rows_of, slots_at}
+use Rattle.leaf_capture.proofs.Gathering.{rows_next}
 
 -- ---- how long their image is
 

@@ -23,13 +23,8 @@ use Rattle.leaf_chains.specs.Nearest.{IsWayUp}
 use Rattle.leaf_chains.proofs.Changes.{held, key_self, not_found, same_key, with_chain}
 use Rattle.leaf_chains.proofs.Installs.{no_chain}
 use Rattle.leaf_capture.specs.Capture.{captured, ChainFits, ChainsFit, IsCaptured}
-use Rattle.leaf_capture.specs.Gathered.{row_of, rows_of}
+use Rattle.leaf_capture.specs.Gathered.{row_of, rows_of, slots_at}
 use Rattle.leaf_capture.proofs.Picking.{captured_fits, version_back}
-
--- the keys with their chains in these slots
-abbrev pub slots_at : List KeyChain → List ℕ → List KeyChain
-slots_at slots [] = []
-slots_at slots (i ∷ way) = option_to_list (slice_get slots i) ++ slots_at slots way
 
 -- ---- one slot after the other
 

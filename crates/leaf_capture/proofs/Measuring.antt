@@ -17,8 +17,8 @@ use Rattle.leaf_chains.specs.Nearest.{IsWayUp}
 use Rattle.leaf_chains.proofs.Changes.{held, with_chain}
 use Rattle.leaf_capture.specs.Cells.{cell_change, cell_version}
 use Rattle.leaf_capture.specs.Capture.{ChainFits, ChainsFit, IsCaptured}
-use Rattle.leaf_capture.specs.Gathered.{row_of, rows_of}
-use Rattle.leaf_capture.proofs.Gathering.{rows_next, slots_at, way_captured, way_fits}
+use Rattle.leaf_capture.specs.Gathered.{row_of, rows_of, slots_at}
+use Rattle.leaf_capture.proofs.Gathering.{rows_next, way_captured, way_fits}
 use Rattle.std.proofs.lemmas.Option.{same_Some}
 
 -- the row of a version

@@ -29,7 +29,7 @@ use Rattle.leaf_capture.proofs.Picking.{captured_below, captured_here}
 
 -- ---- a chain as the top and the versions under it
 
-back_all : (chain : List Update) → map back (map update_in chain) ≡ chain
+pub back_all : (chain : List Update) → map back (map update_in chain) ≡ chain
 back_all [] = refl
 back_all (u ∷ older) = ap (λ (l : List Update). u ∷ l) (back_all older)
 
@@ -37,7 +37,7 @@ back_held : (held : List (Version Change)) → map back (map settled held) ≡ m
 back_held [] = refl
 back_held (v ∷ older) = ap (λ (l : List Update). unmarked_update v ∷ l) (back_held older)
 
-back_parts : (top : List ModelUpdate) (held : List (Version Change)) → map back (top ++ map settled held) ≡ map back top ++ map unmarked_update held
+pub back_parts : (top : List ModelUpdate) (held : List (Version Change)) → map back (top ++ map settled held) ≡ map back top ++ map unmarked_update held
 back_parts [] held = back_held held
 back_parts (u ∷ top) held = ap (λ (l : List Update). back u ∷ l) (back_parts top held)
 
@@ -48,7 +48,7 @@ held_first s [] seen = refl
 held_first s (v ∷ older) seen = captured_here s (unmarked_update v) (map unmarked_update older) (seen v (inl refl))
 
 -- the newest is held, since nothing covers it
-newest_held : (held below : List (Version Change)) → Descends Older below → Descends Older held
+pub newest_held : (held below : List (Version Change)) → Descends Older below → Descends Older held
     → ((v : Version Change) → Member v held → Member v below) → ((v : Version Change) → Member v below → Member v held ⊎ ((w : Version Change) × Member w below × Older v w)) → head_of held ≡ head_of below
 newest_held [] [] down up within all = refl
 newest_held (h ∷ held) [] down up within all = absurd (within h (inl refl))
@@ -104,11 +104,11 @@ under_top Resolving name u stands below (inl same) none = same.0
 under_top Resolving name u stands below (inr one) none = absurd (none one.0 (subst (λ (l : List (Version Change)). Member one.0 l) (sym one.2) (inl refl)) one.1.0)
 
 -- what there is to know of the top
-record Top (m : Machine) (table : ℕ) (key : List ℕ) (s : Sight) (u : ModelUpdate) (below : List (Version Change)) : Type 0 where
-  unseen : is_seen s u.version.window.name ≡ false
-  under : line m.history table key ≡ below
+pub record Top (m : Machine) (table : ℕ) (key : List ℕ) (s : Sight) (u : ModelUpdate) (below : List (Version Change)) : Type 0 where
+  pub unseen : is_seen s u.version.window.name ≡ false
+  pub under : line m.history table key ≡ below
 
-top_unseen : (m : Machine) (table : ℕ) (key : List ℕ) (s : Sight) (u : ModelUpdate) (below : List (Version Change)) → Valid m → NoCommitResolves m table key → SeesCommitted m (length m.history) s → IsTop m table key u below
+pub top_unseen : (m : Machine) (table : ℕ) (key : List ℕ) (s : Sight) (u : ModelUpdate) (below : List (Version Change)) → Valid m → NoCommitResolves m table key → SeesCommitted m (length m.history) s → IsTop m table key u below
     → Top m table key s u below
 top_unseen m table key s u below valid none sees q = record {
   unseen = sees.sees u.version.window.name (inr live) ∙ (ap (committed m.history (length m.history)) q.name ∙ never);

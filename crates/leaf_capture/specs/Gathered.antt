@@ -1,5 +1,6 @@
 -- Rows as they are gathered, key by key.
-use Rattle.std.specs.Prelude.{◌≡◌, ◌↔◌, ◌≤◌, ℕ, List, [], ◌∷◌, ◌++◌, Option, Some, None, IsTrue}
+use Rattle.std.specs.Prelude.{◌≡◌, ◌↔◌, ◌≤◌, ℕ, List, [], ◌∷◌, ◌++◌, Option, Some, None, IsTrue, slice_get}
+use Rattle.std.specs.Option.{option_to_list}
 use Rattle.item.specs.declared.Change.{Change}
 use Rattle.stamp.specs.declared.Version.{Version}
 use Rattle.row_page.specs.Rows.{Row}
@@ -21,6 +22,11 @@ row_of key (Some v) = (key, cell_version v) ∷ []
 abbrev pub rows_of : Sight → List KeyChain → List Row
 rows_of s [] = []
 rows_of s (c ∷ chains) = row_of c.key (captured s c.chain) ++ rows_of s chains
+
+-- the keys with their chains in these slots
+abbrev pub slots_at : List KeyChain → List ℕ → List KeyChain
+slots_at slots [] = []
+slots_at slots (i ∷ way) = option_to_list (slice_get slots i) ++ slots_at slots way
 
 -- these rows are gathered, and they fit one leaf
 pub record HasGathered (g : Gathered) (rows : List Row) : Type 0 where

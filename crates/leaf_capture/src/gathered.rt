@@ -16,18 +16,23 @@ use std::alloc::Global;
 
 const IMAGE_MAX: usize = 32_768; // bytes
 
-// The block of the rows so far, and what is greatest in them.
+/// The block of the rows so far, and what is greatest in them.
 #[derive(Drop)]
-pub(crate) struct Gathered {
+pub struct Gathered {
+    /// What the rows are written to.
     pub writer: LeafWriter,
+    /// The greatest name of a version, 0 and 0 where there are no rows.
     pub greatest: Name,
+    /// The greatest durable stamp of a version, 0 where there are no rows.
     pub durable: u64,
+    /// Whether there are no rows.
     pub is_empty: bool,
 }
 
 impl Gathered {
-    // One allocation, of the bytes of the largest leaf. None of them is written.
-    pub(crate) fn new(alloc: Global) -> Result<Gathered, NoMemory>
+    /// No rows. The error is want of memory. One allocation, of the bytes of the largest leaf. None
+    /// of them is written.
+    pub fn new(alloc: Global) -> Result<Gathered, NoMemory>
         ensures { IfOk result (λ g. HasGathered g []) }
     {
         Ok(Gathered {
@@ -38,9 +43,9 @@ impl Gathered {
         })
     }
 
-    // Puts a row behind the others. False where one leaf has no room for it. Its bytes are copied
-    // once.
-    pub(crate) fn push(&mut self, cell: &Cell<'_>) -> bool
+    /// Puts a row behind the others. False where one leaf has no room for it. It takes no memory, and
+    /// the row's bytes are copied once.
+    pub fn push(&mut self, cell: &Cell<'_>) -> bool
         requires { RowFits [] key_most (row_seen cell.now) }
         ensures { (rows : List Row) → HasGathered self.old rows → MatchBool result (HasGathered self.new (rows ++ row_seen cell.now ∷ [])) (32768 < image_length (rows ++ row_seen cell.now ∷ [])) }
     {
@@ -53,8 +58,8 @@ impl Gathered {
         true
     }
 
-    // The leaf of the rows.
-    pub(crate) fn finish(self) -> Captured
+    /// The leaf of the rows. It takes no memory.
+    pub fn finish(self) -> Captured
         ensures { (rows : List Row) → HasGathered self rows → AreFit rows → HasRows result rows }
     {
         if self.is_empty {

@@ -6,8 +6,9 @@
 //! where there are no rows, and where they do not fit one leaf (`fits_a_leaf`, `capture`); and what
 //! this is to the machine: where chains stand for their keys, and no commit is being resolved, the
 //! rows have each key's newest version (`captures_are_newest`, `captured_rows_are_newest`), and a
-//! device that holds them opens as the machine's checkpoint (`captures_are_cut`). Leaves to the
-//! caller which snapshot that is, that keys and updates fit a row, and where the leaf goes.
+//! device that holds them opens as the machine's checkpoint (`captures_are_cut`). Rows that others
+//! find are gathered into a leaf in the same way (`Gathered`). Leaves to the caller which snapshot
+//! that is, that keys and updates fit a row, and where the leaf goes.
 #![tactic(auto)]
 
 mod capturing;
@@ -22,5 +23,7 @@ mod version;
 pub use capturing::capture;
 pub use failure::NoMemory;
 pub use fits::fits_a_leaf;
+pub use gathered::Gathered;
 pub use laws::{captured_rows_are_newest, captures_are_cut, captures_are_newest};
 pub use leaf::{Captured, CapturedLeaf};
+pub use version::{cell_of, pick};

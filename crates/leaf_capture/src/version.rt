@@ -13,8 +13,8 @@ use snapshot::Snapshot;
 use stamp::Version;
 use update_chain::Chain;
 
-// The newest version of a chain whose name the snapshot sees.
-pub(crate) fn pick<'a>(chain: &'a Chain, snapshot: &Snapshot) -> Option<&'a Version<Change>>
+/// The newest version of a chain whose name the snapshot sees. `O(k)` with k updates above it.
+pub fn pick<'a>(chain: &'a Chain, snapshot: &Snapshot) -> Option<&'a Version<Change>>
     ensures { option_map (λ v. v.now) result ≡ captured snapshot.now.sight chain.now }
 {
     for place in 0..chain.len() {
@@ -26,8 +26,8 @@ pub(crate) fn pick<'a>(chain: &'a Chain, snapshot: &Snapshot) -> Option<&'a Vers
     None
 }
 
-// The row of a key's version, lent.
-pub(crate) fn cell_of<'a>(there: &'a KeyChain, version: &'a Version<Change>) -> Cell<'a>
+/// The row of a key's version, lent. `O(1)`.
+pub fn cell_of<'a>(there: &'a KeyChain, version: &'a Version<Change>) -> Cell<'a>
     ensures { row_seen result ≡ (there.now.key, cell_version version.now) }
 {
     Cell {

@@ -16,19 +16,19 @@ ghost use Rattle.reconcile.specs.Held.{IsReconciled, held_at, is_live, is_past, 
 ghost use Rattle.reconcile.specs.Images.{AreImages};
 ghost use Rattle.reconcile.specs.Moving.{InKeyOrder, versions_in};
 ghost use Rattle.leaf_frame.specs.Leaf.{durable_under};
-ghost use Rattle.leaf_frame.specs.Looks.{judgement_at, read_at, reply_in};
+ghost use Rattle.leaf_frame.specs.Looks.{judgement_at, read_at, reply_in, version_seen};
 ghost use Rattle.leaf_frame.specs.Next.{IsNextHeld, NoneHeld};
 ghost use Rattle.leaf_frame.specs.Updates.{AllSeen, IsLeastUnseen, NoneAbove};
 
 use crate::look::FrameRead;
 use crate::near::{HeldRow, next_held};
-use crate::page::{durable_on, judge_page, page_of, read_page};
+use crate::page::{durable_on, judge_page, page_of, read_page, row_with};
 use crate::updates::{has_updates, least_unseen};
 use crate::way::Way;
 use failure::NoMemory;
 use leaf_chains::{Added, KeyChain, LeafChains};
 use reconcile::{Live, Made, reconcile};
-use row_page::Leaf;
+use row_page::{Cell, Leaf};
 use snapshot::Snapshot;
 use stamp::{Name, View};
 use std::alloc::Global;
@@ -65,6 +65,13 @@ impl LeafFrame {
         }
     }
 
+    /// No page, and these chains. Takes no memory.
+    pub fn of_chains(chains: LeafChains) -> LeafFrame
+        ensures { result ≡ record { page = []; chains = chains } }
+    {
+        LeafFrame { page: None, chains }
+    }
+
     /// The rows of a page, and no updates. Takes no memory.
     pub fn of_page(alloc: Global, page: Leaf) -> LeafFrame
         requires { AreFit page }
@@ -89,6 +96,14 @@ impl LeafFrame {
         ensures { result.now ≡ self.now.chains }
     {
         &self.chains
+    }
+
+    /// The row of a key on its page, none where it has none. Takes no memory, and lends the value.
+    /// `O(log n)` comparisons in the rows.
+    pub fn row(&self, key: &[u8]) -> Option<Cell<'_>>
+        ensures { option_map version_seen result ≡ shown_at key.now self.now.page }
+    {
+        row_with(page_of(&self.page), key)
     }
 
     /// What a read of a key answers: by its chain, as `LeafChains::read`; where that gives nothing,

@@ -26,5 +26,5 @@ pub use laws::{
     changes_change_held, changes_keep_held, empty_pages_read_by_chains, held_reads_stand,
     installs_change_held, installs_keep_held,
 };
-pub use look::FrameRead;
+pub use look::{FrameRead, judge_row};
 pub use near::HeldRow;

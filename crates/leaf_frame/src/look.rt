@@ -59,8 +59,10 @@ fn is_own(view: &View<'_>, name: Name) -> bool
     view.own != 0 && name.run == view.run && name.id == view.own
 }
 
-// How a row judges a write over it.
-pub(crate) fn judge_row(cell: &Cell<'_>, view: &View<'_>) -> Judgement
+/// Whether a write over a row is allowed: by the transaction that wrote it, or where the view's
+/// snapshot sees it and the read stamp admits it. Takes no memory. `O(log n)` in the names that the
+/// snapshot leaves out.
+pub fn judge_row(cell: &Cell<'_>, view: &View<'_>) -> Judgement
     requires { IsSight (sight_of view.now) }
     ensures { result ≡ judgement_by view.now (unmarked_update (version_seen cell.now)) }
 {

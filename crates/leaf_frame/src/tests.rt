@@ -4,7 +4,7 @@ ghost use Rattle.std.specs.Prelude.{◌≤◌, IfOk, length};
 ghost use Rattle.snapshot.specs.Sight.{Ascends, IsSight, sight_of};
 ghost use Rattle.leaf_rows.specs.Rows.{AreFit};
 
-use crate::{FrameRead, HeldRow, LeafFrame, NoMemory};
+use crate::{FrameRead, HeldRow, LeafFrame, NoMemory, judge_row};
 use item::{Change, Item};
 use reconcile::Live;
 use row_page::Leaf;
@@ -213,6 +213,21 @@ fn a_key_reads_by_its_chain_and_then_by_its_row(rt: HostRuntime) -> Result<(), F
     assert!(rt; shown(alloc, &frame, &other, true)?.as_slice() == b"aybxdwfpg!h.".as_slice());
     assert!(rt; shown(alloc, &frame, &other, false)?.as_slice() == b"h.g!fpdwbxay".as_slice());
     assert!(rt; shown(alloc, &frame, &own, true)?.as_slice() == b"aybzdwfpg!h.".as_slice());
+    Ok(())
+}
+
+#[test]
+fn a_row_is_lent_and_judged_under_its_chain(rt: HostRuntime) -> Result<(), Fail> {
+    let alloc = rt.alloc();
+    let frame = frame(alloc)?;
+    let seen = snapshot(alloc, 8, &[3, 7])?;
+    let other = seen.view(0, 0);
+    for (key, id, judged) in [(b'b', 1, 0), (b'd', 1, 0), (b'f', 1, 0), (b'h', 9, 9)] {
+        let cell = frame.row(&[key]).ok_or("a row")?;
+        assert_eq!(rt; cell.window.name.id, id);
+        assert_eq!(rt; refused(judge_row(&cell, &other)), judged);
+    }
+    assert!(rt; frame.row(&[b'a']).is_none());
     Ok(())
 }
 

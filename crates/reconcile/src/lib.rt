@@ -24,3 +24,4 @@ pub use image::{Image, Made, Moved};
 pub use laws::keys_are_reconciled;
 pub use live::Live;
 pub use made::reconcile;
+pub use page::row_at;

@@ -6,8 +6,8 @@ ghost use Rattle.reconcile.specs.Held.{page_rows};
 
 use row_page::{Cell, Leaf};
 
-// The i-th row, lent; none past the last one. `O(1)`.
-pub(crate) fn row_at<'a>(page: Option<&'a Leaf>, i: usize) -> Option<Cell<'a>>
+/// The i-th row, lent; none past the last one. `O(1)`.
+pub fn row_at<'a>(page: Option<&'a Leaf>, i: usize) -> Option<Cell<'a>>
     ensures row { option_map row_seen result ≡ slice_get (page_rows page.entry) i }
     ensures room { IfSome result (λ _. i + 1 < 2 ^ 64) }
 {

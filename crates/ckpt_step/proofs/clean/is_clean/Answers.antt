@@ -14,5 +14,5 @@ returns-then-is_before c w s stands none sees t at old follows is =
     let leads : slice_get c.args.was.now c.args.place ≡ Some link = slice_get-get_or c.args.was.now c.args.place nowhere found.0 ∙ ap Some (sym (found.1 nowhere)) in
     let before = follows.leaves c.args.place t link at leads (sym c.is_before.ensures ∙ c.if-is_before.true) in
     subst (λ (l : Link). IsStill old w.machine t l) (found.1 nowhere)
-    (still w.machine s t c.in-Some-leaf.chains.now old c.greatest-newest.result c.args.floor link stands.valid none sees (c.in-Some-leaf.ensures.stands w stands t at) c.in-Some-leaf.ensures.fit c.greatest-newest.ensures
+    (still c.captures_are_newest.ensures w.machine s t c.in-Some-leaf.leaf.now old c.greatest-newest.result c.args.floor link stands.valid none sees (c.in-Some-leaf.ensures.stands w stands t at) c.in-Some-leaf.ensures.fit c.rows_fit.ensures c.greatest-newest.ensures
     (sym c.is_before-then-is_before.ensures ∙ is) before)

@@ -2,15 +2,15 @@ use Rattle.std.proofs.Common.{◌≡◌, ℕ, List, [], length, map, max, revers
 use Rattle.std.specs.Prelude.{IfOk}
 use Rattle.std.proofs.lemmas.Result.{IfOk-weaker}
 use Rattle.kv_model.specs.Content.{descending, table_lt}
-use Rattle.leaf_chains.specs.declared.slot.KeyChain.{KeyChain}
+use Rattle.leaf_frame.specs.Leaf.{HeldLeaf}
 use Rattle.engine_world.specs.Stands.{Engine, Stands}
 use Rattle.engine_world.specs.Systems.{first_world}
 use Rattle.engine_world.specs.Worlds.{World}
 use Rattle.engine_start.specs.declared.by_number.NumberedRows.{NumberedRows}
 use Rattle.engine_start.specs.declared.table_leaf.TableLeaf.{TableLeaf}
-use Rattle.engine_start.specs.ByNumber.{their_chains}
+use Rattle.engine_start.specs.ByNumber.{their_leaf}
 use Rattle.engine_start.specs.Contents.{leaves_content, leaves_content_with, seen_leaves}
-use Rattle.engine_start.proofs.Placing.{count_chains, count_known}
+use Rattle.engine_start.proofs.Placing.{count_leaves, count_known}
 use Rattle.engine_start.proofs.Starting.{is_base, is_regular, same_world}
 use Rattle.engine_start.proofs.opening.start.Goals as goal
 
@@ -23,8 +23,8 @@ open-requires-2-clause-numbers c =
 
 pub open-requires-2-clause-leaves : goal.open-requires-2-clause-leaves
 open-requires-2-clause-leaves c =
-    ap (λ (l : List (List KeyChain)). length l) (c.in_ok-leaves.ensures.chains ∙ ap (λ (l : List NumberedRows). map their_chains (reverse l)) c.in_ok-parted.ensures.leaves)
-    ∙ (count_chains c.args.tables.items
+    ap (λ (l : List HeldLeaf). length l) (c.in_ok-leaves.ensures.leaves ∙ ap (λ (l : List NumberedRows). map their_leaf (reverse l)) c.in_ok-parted.ensures.leaves)
+    ∙ (count_leaves c.args.tables.items
     ∙ sym (count_known c.args.tables.items c.in_ok-known.known.tables (c.in_ok-known.ensures.tables ∙ ap (descending table_lt) c.in_ok-parted.ensures.tables)))
 
 pub open-requires-2-clause-base : goal.open-requires-2-clause-base
@@ -34,7 +34,7 @@ open-requires-2-clause-base c =
       leaves_content c.args.marks tables,
       is_regular c.args.marks tables sorted c.in_ok-parted.ensures.leaves c.in_ok-leaves.ensures.fit c.args.next_table c.requires.recorded c.requires.stamps,
       is_base c.args.marks tables sorted c.in_ok-parted.ensures.leaves c.in_ok-leaves.ensures.fit c.args.next_table c.requires.recorded
-          c.in_ok-known.known c.in_ok-parted.parted.tables.items c.in_ok-leaves.leaves.items c.requires.kept c.in_ok-parted.ensures.tables c.in_ok-known.ensures.tables c.in_ok-leaves.ensures.chains,
+          c.in_ok-known.known c.in_ok-parted.parted.tables.items c.in_ok-leaves.leaves.items c.requires.kept c.in_ok-parted.ensures.tables c.in_ok-known.ensures.tables c.in_ok-leaves.ensures.leaves,
     )
 
 -- the engine stands for the first world of what was handed to it
@@ -45,7 +45,7 @@ stands c =
     c.open-2.ensures.stands (leaves_content c.args.marks tables)
     (is_regular c.args.marks tables sorted c.in_ok-parted.ensures.leaves c.in_ok-leaves.ensures.fit c.args.next_table c.requires.recorded c.requires.stamps)
     (is_base c.args.marks tables sorted c.in_ok-parted.ensures.leaves c.in_ok-leaves.ensures.fit c.args.next_table c.requires.recorded
-    c.in_ok-known.known c.in_ok-parted.parted.tables.items c.in_ok-leaves.leaves.items c.requires.kept c.in_ok-parted.ensures.tables c.in_ok-known.ensures.tables c.in_ok-leaves.ensures.chains)
+    c.in_ok-known.known c.in_ok-parted.parted.tables.items c.in_ok-leaves.leaves.items c.requires.kept c.in_ok-parted.ensures.tables c.in_ok-known.ensures.tables c.in_ok-leaves.ensures.leaves)
 
 pub returns-clause-stands : goal.returns-clause-stands
 returns-clause-stands c = stands c

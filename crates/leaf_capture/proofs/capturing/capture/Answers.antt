@@ -3,9 +3,9 @@ use Rattle.std.specs.Prelude.{slice_get}
 use Rattle.std.specs.Option.{option_to_list}
 use Rattle.std.proofs.lemmas.Bool.{MatchBool-at_false, MatchBool-at_true}
 use Rattle.leaf_rows.specs.Rows.{image_length}
-use Rattle.leaf_capture.specs.Gathered.{HasGathered, rows_of}
+use Rattle.leaf_capture.specs.Gathered.{HasGathered, rows_of, slots_at}
 use Rattle.leaf_capture.proofs.Filling.{GatheredTo, gathered_all, gathered_next, gathered_over}
-use Rattle.leaf_capture.proofs.Gathering.{slots_at, way_captured, way_fits}
+use Rattle.leaf_capture.proofs.Gathering.{way_captured, way_fits}
 use Rattle.leaf_capture.proofs.capturing.capture.Goals as goal
 
 pub returns-then-not-push_slot : goal.returns-then-not-push_slot

@@ -1,7 +1,6 @@
 use Rattle.std.proofs.Common.{length}
-use Rattle.leaf_capture.specs.Gathered.{rows_of}
+use Rattle.leaf_capture.specs.Gathered.{rows_of, slots_at}
 use Rattle.leaf_capture.proofs.Filling.{GatheredTo}
-use Rattle.leaf_capture.proofs.Gathering.{slots_at}
 use Rattle.leaf_capture.proofs.capturing.capture.Given as goal
 
 abbrev pub invariant-loop-slot : goal.invariant-loop-slot

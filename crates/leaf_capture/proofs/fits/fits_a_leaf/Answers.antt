@@ -1,7 +1,7 @@
 use Rattle.std.proofs.Common.{ℕ, List, length, ap, refl, arith}
 use Rattle.row_page.specs.Rows.{cells}
-use Rattle.leaf_capture.specs.Gathered.{rows_of}
-use Rattle.leaf_capture.proofs.Gathering.{slots_at, way_captured}
+use Rattle.leaf_capture.specs.Gathered.{rows_of, slots_at}
+use Rattle.leaf_capture.proofs.Gathering.{way_captured}
 use Rattle.leaf_capture.proofs.Measuring.{captured_size, way_size}
 use Rattle.leaf_capture.proofs.fits.fits_a_leaf.Goals as goal
 

@@ -1,7 +1,6 @@
 use Rattle.std.proofs.Common.{◌≡◌, ◌+◌, ◌≤◌, length}
 use Rattle.row_page.specs.Rows.{cells}
-use Rattle.leaf_capture.specs.Gathered.{rows_of}
-use Rattle.leaf_capture.proofs.Gathering.{slots_at}
+use Rattle.leaf_capture.specs.Gathered.{rows_of, slots_at}
 use Rattle.leaf_capture.proofs.fits.fits_a_leaf.Given as goal
 
 abbrev pub invariant-loop-slot : goal.invariant-loop-slot

@@ -69,8 +69,8 @@ returns-in-Ok-New-clause-makes c = λ w st. subst (λ (ps : List FramePiece). Ma
       pieces-are : (with_items c.self.inside.pieces c.put_leaf.new.pieces).items ≡ slice_set e.pieces c.in-Ok-New.place (first_piece t)
       pieces-are = with_items_is c.self.inside.pieces c.put_leaf.new.pieces (c.put_leaf.auto.pieces ∙ c.as_mut_slice.ensures.len)
           ∙ c.put_leaf.ensures
-          ∙ ap (λ (ps : List FramePiece). slice_set ps c.in-Ok-New.place (record { generation = 0; frame = Some (record { table = c.next_number-number.result; chains = [] }) })) c.as_mut_slice.ensures.value
-          ∙ ap (λ (n : ℕ). slice_set e.pieces c.in-Ok-New.place (record { generation = 0; frame = Some (record { table = n; chains = [] }) })) c.next_number-number.ensures
+          ∙ ap (λ (ps : List FramePiece). slice_set ps c.in-Ok-New.place (record { generation = 0; frame = Some (record { table = c.next_number-number.result; leaf = record { page = []; chains = [] } }) })) c.as_mut_slice.ensures.value
+          ∙ ap (λ (n : ℕ). slice_set e.pieces c.in-Ok-New.place (record { generation = 0; frame = Some (record { table = n; leaf = record { page = []; chains = [] } }) })) c.next_number-number.ensures
 
       states-are : (with_items c.self.inside.states c.set_first_word.new.states).items ≡ slice_set e.states c.in-Ok-New.place first_word
       states-are = with_items_is c.self.inside.states c.set_first_word.new.states (c.set_first_word.auto.states ∙ c.as_mut_slice-in-Ok-New.ensures.len)
@@ -98,8 +98,8 @@ returns-in-Ok-New-clause-sound c = subst (λ (ps : List FramePiece). IsSound (re
       pieces-are : (with_items c.self.inside.pieces c.put_leaf.new.pieces).items ≡ slice_set e.pieces c.in-Ok-New.place (first_piece t)
       pieces-are = with_items_is c.self.inside.pieces c.put_leaf.new.pieces (c.put_leaf.auto.pieces ∙ c.as_mut_slice.ensures.len)
           ∙ c.put_leaf.ensures
-          ∙ ap (λ (ps : List FramePiece). slice_set ps c.in-Ok-New.place (record { generation = 0; frame = Some (record { table = c.next_number-number.result; chains = [] }) })) c.as_mut_slice.ensures.value
-          ∙ ap (λ (n : ℕ). slice_set e.pieces c.in-Ok-New.place (record { generation = 0; frame = Some (record { table = n; chains = [] }) })) c.next_number-number.ensures
+          ∙ ap (λ (ps : List FramePiece). slice_set ps c.in-Ok-New.place (record { generation = 0; frame = Some (record { table = c.next_number-number.result; leaf = record { page = []; chains = [] } }) })) c.as_mut_slice.ensures.value
+          ∙ ap (λ (n : ℕ). slice_set e.pieces c.in-Ok-New.place (record { generation = 0; frame = Some (record { table = n; leaf = record { page = []; chains = [] } }) })) c.next_number-number.ensures
 
       states-are : (with_items c.self.inside.states c.set_first_word.new.states).items ≡ slice_set e.states c.in-Ok-New.place first_word
       states-are = with_items_is c.self.inside.states c.set_first_word.new.states (c.set_first_word.auto.states ∙ c.as_mut_slice-in-Ok-New.ensures.len)

@@ -1,0 +1,6 @@
+pub mod Seeing
+pub mod Keeping
+pub mod Turning
+pub mod Gathering
+pub mod Newest
+pub mod Cutting

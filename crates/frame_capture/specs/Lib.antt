@@ -1,0 +1,4 @@
+pub mod Capture
+pub mod Laws
+pub mod CutLaws
+pub mod SeenRows
