@@ -8,7 +8,7 @@ ghost use Rattle.disk_model.specs.Crash.{SameDisk, LeavesOnly, Each, Looked};
 ghost use Rattle.extent_list.specs.Space.{space_of, end_of, IsSpot, Taken, HasNoRoom};
 ghost use Rattle.le_codec.specs.Images.{block_of};
 ghost use Rattle.block_mgr.specs.Cells.{AreUnits, cell_at, captured, freed, named, unnamed, done, dropped};
-ghost use Rattle.block_mgr.specs.Blocks.{Books, HasLive, HasName, MayName, unit_of};
+ghost use Rattle.block_mgr.specs.Blocks.{Books, HasLast, HasLive, HasName, MayName, unit_of};
 ghost use Rattle.block_mgr.specs.declared.found.OpenError.TheVariants.{NoPlace, Clash};
 ghost use Rattle.block_mgr.specs.Open.{AreStored, Fits, Clashes, AgreeUpTo, found_at, found_cell, last_end};
 ghost use Rattle.block_mgr.specs.Reads.{IsBlock, IsSpoilt, IsRefused};
@@ -118,20 +118,16 @@ impl Blocks {
     }
 
     /// Writes an image as a new block of the live tree, with zero bytes up to the next whole unit:
-    /// as `write_block` writes the bytes of that block. Copies the image once.
-    pub fn write<D: Disk>(
-        &mut self,
-        alloc: Global,
-        disk: &mut D,
-        image: &[u8],
-    ) -> Result<Addr, StoreError>
-        requires some { 1 ≤ length image.now }
-        requires most { length image.now ≤ 2 ^ 20 }
+    /// as `write_block` writes the bytes of that block. The zeros are put behind the image where it
+    /// stands: it is copied only where it has no room for them.
+    pub fn write<D: Disk>(&mut self, disk: &mut D, image: Vec<u8>) -> Result<Addr, StoreError>
+        requires some { 1 ≤ length image.items }
+        requires most { length image.items ≤ 2 ^ 20 }
         requires ready { IsTrue (D.honest disk.old) → end_of self.old.space ≤ length (D.seen disk.old) }
-        ensures written { IsTrue (D.honest disk.old) → IfOk result (λ a. D.seen disk.new ≡ put (D.seen disk.old) a.offset (block_of image.now)) }
+        ensures written { IsTrue (D.honest disk.old) → IfOk result (λ a. D.seen disk.new ≡ put (D.seen disk.old) a.offset (block_of image.items)) }
         ensures images { IfOk result (λ a. Each (D.may_leave disk.new) (FromBase self.old.is_synced a.offset a.size (D.seen disk.old) (D.may_leave disk.old))) }
-        ensures leaves { LeavesWrite D.Disk self.old (block_len image.now) disk.old disk.new }
-        ensures address { IfOk result (IsAddress (block_of image.now)) }
+        ensures leaves { LeavesWrite D.Disk self.old (block_len image.items) disk.old disk.new }
+        ensures address { IfOk result (IsAddress (block_of image.items)) }
         ensures taken { IfOk result (λ a. Taken self.old.space self.new.space a.size (D.capacity disk.old) a.offset) }
         ensures added { IfOk result (Added self.old self.new) }
 
@@ -143,15 +139,15 @@ impl Blocks {
         ensures held { self.new.is_held ≡ self.old.is_held }
         ensures same { OnErr result (self.new ≡ self.old) }
         ensures no_memory { IfErr result (λ e. e ≡ WantOfMemory → disk.new ≡ disk.old) }
-        ensures no_space { IfErr result (λ e. e ≡ NoSpace → (disk.new ≡ disk.old) × HasNoRoom self.old.space (block_len image.now) (D.capacity disk.old)) }
-        ensures full { HasNoRoom self.old.space (block_len image.now) (D.capacity disk.old) → IfErr result (λ e. (e ≡ WantOfMemory) ⊎ (e ≡ NoSpace)) }
-        ensures write_fault { (at : ℕ) → IfErr result (λ e. e ≡ Down (Write at) → IsSpot self.old.space (block_len image.now) (D.capacity disk.old) at) }
+        ensures no_space { IfErr result (λ e. e ≡ NoSpace → (disk.new ≡ disk.old) × HasNoRoom self.old.space (block_len image.items) (D.capacity disk.old)) }
+        ensures full { HasNoRoom self.old.space (block_len image.items) (D.capacity disk.old) → IfErr result (λ e. (e ≡ WantOfMemory) ⊎ (e ≡ NoSpace)) }
+        ensures write_fault { (at : ℕ) → IfErr result (λ e. e ≡ Down (Write at) → IsSpot self.old.space (block_len image.items) (D.capacity disk.old) at) }
         ensures sync_fault { IfErr result (λ e. e ≡ Down Sync → (self.old.is_synced ≡ false) × LeavesOnly D.Disk disk.old disk.new (D.may_leave disk.old)) }
         ensures no_read { IfErr result (λ e. e ≡ Read → ⊥) }
         ensures rose { IfErr result (λ e. (e ≡ WantOfMemory) ⊎ ((e ≡ NoSpace) ⊎ Rose (D.faults disk.old) (D.faults disk.new))) }
         ensures disk { SameDisk D.Disk disk.old disk.new }
     {
-        let bytes = match fill(alloc, image) {
+        let bytes = match fill(image) {
             Ok(bytes) => bytes,
             Err(_) => return Err(StoreError::NoMemory),
         };
@@ -236,6 +232,16 @@ impl Blocks {
     {
         match span_of(addr) {
             Some(span) => self.holders.is_live(span.first, span.units),
+            None => false,
+        }
+    }
+
+    /// Whether the last completed checkpoint has a block of this place and size. `O(1)`.
+    pub fn is_last(&self, addr: Addr) -> bool
+        ensures { IsTrue result ↔ HasLast self.now.cells addr.offset addr.size }
+    {
+        match span_of(addr) {
+            Some(span) => self.holders.is_last(span.first, span.units),
             None => false,
         }
     }

@@ -1,5 +1,5 @@
 // The blocks in use and the free units.
-ghost use Rattle.std.specs.Prelude.{◌≡◌, ◌⊎◌, ◌↔◌, ◌+◌, ◌*◌, ◌^◌, ◌<◌, ◌≤◌, ℕ, [], IfOk, IfSome, IsTrue, OnOk, OnErr, None, length, map, vec_capacity};
+ghost use Rattle.std.specs.Prelude.{◌≡◌, ◌⊎◌, ◌↔◌, ◌+◌, ◌*◌, ◌^◌, ◌<◌, ◌≤◌, ℕ, [], IfOk, IfSome, IsTrue, OnOk, OnErr, None, length, map, true, vec_capacity};
 ghost use Rattle.extent_list.specs.Space.{end_of, space_of, Taken, HasNoRoom};
 ghost use Rattle.block_mgr.specs.Cells.{
   Holdings,
@@ -114,6 +114,17 @@ impl Holders {
         }
         let cell = self.cells[unit as usize];
         cell.is_live && cell.units as u32 == units
+    }
+
+    // Whether the last completed checkpoint has a block of so many units here. `O(1)`.
+    pub(crate) fn is_last(&self, unit: u64, units: u32) -> bool
+        ensures { IsTrue result ↔ (((cell_at self.now.cells unit).units ≡ units) × ((cell_at self.now.cells unit).is_last ≡ true)) }
+    {
+        if unit >= self.cells.len() as u64 {
+            return false;
+        }
+        let cell = self.cells[unit as usize];
+        cell.is_last && cell.units as u32 == units
     }
 
     // The running checkpoint captures a block of the live tree. `O(1)`.

@@ -32,7 +32,8 @@ fn writes(
 ) -> Result<Addr, StoreError> {
     assert!(rt; blocks.end() <= disk.bytes().len() as u64);
     assert!(rt; 1 <= image.len() && image.len() <= 1_048_576);
-    blocks.write(alloc, disk, image)
+    let image = Vec::from_slice(alloc, image).expect(rt, "there is memory");
+    blocks.write(disk, image)
 }
 
 #[test]

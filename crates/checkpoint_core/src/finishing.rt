@@ -11,13 +11,13 @@ ghost use Rattle.checkpoint_core.specs.Finishes.{FinishesFor, WhereReady, WhereW
 use block_mgr::{Addr, Blocks};
 use disk_model::Disk;
 use failure::Fault;
-use std::alloc::Global;
 use turtle::{Slot, install};
 use wt_code::StoreError;
 
 /// Writes the image of the running checkpoint's record, syncs, and installs the slot that names it.
 /// The other blocks of the checkpoint are written and captured. The answer is the record's address:
-/// the checkpoint is the last completed one then, and what only the one before had is free.
+/// the checkpoint is the last completed one then, and what only the one before had is free. The image
+/// is copied only where it has no room for the zeros that fill up its block.
 ///
 /// `NoSpace` comes exactly where no free extent has room for the record and the end would move past
 /// the capacity. After any error the checkpoint still runs, with the blocks that it had: the caller
@@ -27,19 +27,18 @@ use wt_code::StoreError;
 /// It is for an honest disk on which the old checkpoint stands, and all of the new one but its
 /// record (`WhereReady`).
 pub fn finish<D: Disk>(
-    alloc: Global,
     disk: &mut D,
     blocks: &mut Blocks,
     sequence: u64,
-    image: &[u8],
+    image: Vec<u8>,
 ) -> Result<Addr, StoreError>
-    requires some { 1 ≤ length image.now }
-    requires most { length image.now ≤ 2 ^ 20 }
+    requires some { 1 ≤ length image.items }
+    requires most { length image.items ≤ 2 ^ 20 }
     requires sequence { sequence < 2 ^ 62 }
     requires held { blocks.old.is_held ≡ true }
     requires ready { IsTrue (D.honest disk.old) → (8192 ≤ length (D.seen disk.old)) × (end_of blocks.old.space ≤ length (D.seen disk.old)) }
-    ensures finishes { FinishesFor D.Disk blocks.old image.now sequence disk.old disk.new result }
-    ensures reads { WhereReady D.Disk blocks.old image.now sequence disk.old (λ old new. ReadsAfter D.Disk blocks.new old new disk.new result) }
+    ensures finishes { FinishesFor D.Disk blocks.old image.items sequence disk.old disk.new result }
+    ensures reads { WhereReady D.Disk blocks.old image.items sequence disk.old (λ old new. ReadsAfter D.Disk blocks.new old new disk.new result) }
     ensures last { IfOk result (IsLastNow blocks.old blocks.new) }
     ensures units { OnOk result (AreUnits blocks.new.cells blocks.new.space) }
     ensures back { OnErr result (AreBack blocks.old blocks.new) }
@@ -48,7 +47,7 @@ pub fn finish<D: Disk>(
     ensures fault { IfErr result (λ e. IsOfDisk e → Rose (D.faults disk.old) (D.faults disk.new)) }
     ensures disk { SameDisk D.Disk disk.old disk.new }
 {
-    let addr = match blocks.write(alloc, disk, image) {
+    let addr = match blocks.write(disk, image) {
         Ok(addr) => addr,
         Err(error) => return Err(error),
     };

@@ -11,7 +11,8 @@ fn the_first_checkpoint_of_a_device_is_named_by_its_first_slot(rt: HostRuntime) 
     let mut disk = made.expect(&rt, "there is memory");
     let mut blocks = Blocks::new(rt.alloc());
     blocks.ckpt_hold();
-    assert!(&rt; finish(rt.alloc(), &mut disk, &mut blocks, 1, &[1, 2, 3]).is_ok());
+    let image = Vec::from_slice(rt.alloc(), &[1, 2, 3]).expect(&rt, "there is memory");
+    assert!(&rt; finish(&mut disk, &mut blocks, 1, image).is_ok());
     let slot = b"\xa5WTTURTL\x01\0\0\0\x01\0\0\0\0\0\0\0\0\x20\0\0\0\0\0\0\0\x10\0\0\x0e\0\0\0";
     let bytes = disk.bytes();
     assert!(&rt; bytes.starts_with(slot.as_slice()));

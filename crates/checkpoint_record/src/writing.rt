@@ -25,16 +25,19 @@ const ID: usize = 8; // bytes
 
 const TABLE: usize = 48; // bytes of a table beside its name
 
+const UNIT: usize = 4096; // bytes, of which a block has a whole number
+
 /// The image of a record; zeros up to the next multiple of 4,096 bytes make it the block that
 /// `decode` reads. It has at most 2^18 bytes, so the block has no more. The error is want of memory.
-/// `O(bytes)`, each byte written once, and one allocation.
+/// `O(bytes)`, each byte written once, and one allocation, which has room for the zeros too.
 pub fn encode(alloc: Global, record: &LentRecord<'_>) -> Result<Vec<u8>, NoMemory>
     requires { IsRecord record.now }
     ensures image { IfOk result (λ v. v.items ≡ record_image record.now) }
     ensures size { IfOk result (λ v. length v.items ≤ 2 ^ 18) }
 {
     let used = image_len(record);
-    let mut out = Writer::with_capacity(alloc, used)?;
+    let room = used.div_ceil(UNIT) * UNIT;
+    let mut out = Writer::with_capacity(alloc, room)?;
     write_header(
         &mut out,
         KIND,

@@ -129,7 +129,7 @@ fn write_blocks<D: Disk>(
     let Ok(image) = image_of(alloc, engine, snapshot, ground.number, links) else {
         return Err(LeafError::Store(StoreError::NoMemory));
     };
-    match finish(alloc, disk, blocks, ground.number + 1, &image) {
+    match finish(disk, blocks, ground.number + 1, image) {
         Ok(addr) => Ok(addr),
         Err(error) => Err(LeafError::Store(error)),
     }

@@ -26,7 +26,7 @@ returns-in-Err-clause-finishes g c h old new stands ready sequence next =
     let seen = D.seen c.args.disk.now in
     let images = D.may_leave c.args.disk.now in
     let books = c.args.blocks.now in
-    let image = c.args.image.now in
+    let image = c.args.image.items in
     let capacity = D.capacity c.args.disk.now in
     let leaves : LeavesOnly D c.args.disk.now c.write.new.disk (IsOld images old) = elim c.in-Err.ensures.before [
       | inl same ↦ rw same (started D c.args.disk.now (IsOld images old) (λ d there. inl (g.met.D.Disk.only_now _ d there)))
@@ -42,14 +42,14 @@ sync_and_install-requires-clause-long g c known =
     let D = g.D.Disk in
     let h = sym c.write.ensures.disk.same ∙ known in
     let low : c.in-Ok.addr.offset ≤ length (D.seen c.args.disk.now) = omega (arith, (c.requires.ready h).1, taken_low c.args.blocks.now.space c.write.new.self.space c.in-Ok.addr.size (D.capacity c.args.disk.now) c.in-Ok.addr.offset c.in-Ok.ensures.taken) in
-    omega (arith, (c.requires.ready h).0, ap length (c.in-Ok.ensures.written h), length_put (D.seen c.args.disk.now) (block_of c.args.image.now) c.in-Ok.addr.offset low)
+    omega (arith, (c.requires.ready h).0, ap length (c.in-Ok.ensures.written h), length_put (D.seen c.args.disk.now) (block_of c.args.image.items) c.in-Ok.addr.offset low)
 
 pub returns-in-Ok-sync_and_install-clause-finishes : goal.returns-in-Ok-sync_and_install-clause-finishes
 returns-in-Ok-sync_and_install-clause-finishes g c h old new stands ready sequence next =
     let D = g.D.Disk in
     let seen = D.seen c.args.disk.now in
     let books = c.args.blocks.now in
-    let image = c.args.image.now in
+    let image = c.args.image.items in
     let a = c.in-Ok.addr in
     let wrote = c.in-Ok.ensures in
     let units = wrote.units.0 in
@@ -77,7 +77,7 @@ returns-in-Ok-sync_and_install-clause-reads g c h old new stands ready sequence 
     let low : a.offset ≤ length seen = omega (arith, (c.requires.ready h).1, taken_low books.space c.write.new.self.space a.size capacity a.offset wrote.taken) in
     let made = placed_at new a in
     let slot_is : made.slot ≡ c.new.result = named_is _ _ _ _ sequence c.new.ensures in
-    let done = written_now seen (D.seen c.write.new.disk) c.args.image.now (D.may_leave c.args.disk.now) (D.may_leave c.write.new.disk) books c.write.new.self.space capacity old new a stands ready wrote.units.0 c.requires.some wrote.address wrote.taken low (wrote.written h) wrote.images in
+    let done = written_now seen (D.seen c.write.new.disk) c.args.image.items (D.may_leave c.args.disk.now) (D.may_leave c.write.new.disk) books c.write.new.self.space capacity old new a stands ready wrote.units.0 c.requires.some wrote.address wrote.taken low (wrote.written h) wrote.images in
     let reads = c.in-Ok-sync_and_install.ensures.reads (c.write.ensures.disk.same ∙ h) old made done slot_is (next c.new.result (ap (λ (s : Slot). s.sequence) c.new.ensures)) in
     (reads.0, omega (arith, c.ckpt_done.ensures.end, c.hand_over.ensures.end, wrote.ready h, reads.1))
 
@@ -86,7 +86,7 @@ returns-in-Err-sync_and_install-clause-finishes g c h old new stands ready seque
     let D = g.D.Disk in
     let seen = D.seen c.args.disk.now in
     let books = c.args.blocks.now in
-    let image = c.args.image.now in
+    let image = c.args.image.items in
     let a = c.in-Ok.addr in
     let wrote = c.in-Ok.ensures in
     let units = wrote.units.0 in
@@ -116,7 +116,7 @@ returns-in-Err-sync_and_install-clause-reads g c h old new stands ready sequence
     let low : a.offset ≤ length seen = omega (arith, (c.requires.ready h).1, taken_low books.space c.write.new.self.space a.size capacity a.offset wrote.taken) in
     let made = placed_at new a in
     let slot_is : made.slot ≡ c.new.result = named_is _ _ _ _ sequence c.new.ensures in
-    let done = written_now seen (D.seen c.write.new.disk) c.args.image.now (D.may_leave c.args.disk.now) (D.may_leave c.write.new.disk) books c.write.new.self.space capacity old new a stands ready wrote.units.0 c.requires.some wrote.address wrote.taken low (wrote.written h) wrote.images in
+    let done = written_now seen (D.seen c.write.new.disk) c.args.image.items (D.may_leave c.args.disk.now) (D.may_leave c.write.new.disk) books c.write.new.self.space capacity old new a stands ready wrote.units.0 c.requires.some wrote.address wrote.taken low (wrote.written h) wrote.images in
     let back = freed_back c.free.new.self.cells books c.write.new.self a wrote.added (omega (arith, wrote.address.place.some)) c.free.ensures.cells in
     not_read D c.free.new.self old new made c.write.new.disk c.sync_and_install.new.disk c.in-Err-sync_and_install.error (c.in-Err-sync_and_install.ensures.reads (c.write.ensures.disk.same ∙ h) old made done slot_is (next c.new.result (ap (λ (s : Slot). s.sequence) c.new.ensures)))
     done.seen_has (in_use_same books.cells c.free.new.self.cells (blocks_of old) back stands.in_use) (omega (arith, c.free.ensures.end, wrote.ready h))

@@ -1,4 +1,5 @@
 use Rattle.std.proofs.Common.{◌≡◌, ◌+◌, ◌++◌, ℕ, List, length, ap, ◌∙◌, arith}
+use Rattle.std.proofs.lemmas.Grind.{div_ceil_times}
 use Rattle.le_codec.specs.Images.{first_format, header}
 use Rattle.le_codec.proofs.Heads.{length-framed}
 use Rattle.stored.specs.Records.{Record, record_body, record_image}
@@ -8,6 +9,9 @@ use Rattle.checkpoint_record.proofs.writing.encode.Goals.{After-into_bytes}
 
 pub overflow_cast-used : goal.overflow_cast-used
 overflow_cast-used c = omega (arith, c.image_len-used.ensures, image_most c.args.record.now c.requires)
+
+pub overflow_mul-room : goal.overflow_mul-room
+overflow_mul-room c = omega (arith, c.div_ceil-room.ensures, div_ceil_times c.image_len-used.result 4096 (omega arith), c.image_len-used.ensures, image_most c.args.record.now c.requires)
 
 image : (c : After-into_bytes) → c.into_bytes.result.items ≡ record_image c.args.record.now
 image c =

@@ -48,13 +48,13 @@ returns-in-Ok-finish-clause-puts g c h w stands none sees old half roots is_numb
     let before = c.args.disk.now in
     let mid = c.write_leaves.new.disk in
     let past = c.deref.ensures.value in
-    let image = c.deref-3.result.now in
+    let image = c.in-Ok-image_of.image.items in
     let number = c.args.ground.now.number in
     let count = c.in-Ok.ensures.count in
     let ascend = stands.catalog.numbers in
     let all = subst (λ (l : List Link). AllWritten D old l w.machine known books c.write_leaves.new.blocks links before mid) past
     (c.in-Ok.ensures.writes h w stands none sees old (subst (λ (l : List Link). Half (D.seen before) (D.may_leave before) books old l [] []) (sym past) half) (subst (λ (l : List Link). AreRoots known l old) (sym past) roots) (subst (λ (l : List Link). Follows old known l c.args.ground.now.floor w.machine) (sym past) follows)) in
-    let img : IsImageOf w.machine number known links image = subst (λ (l : List ℕ). IsImageOf w.machine number known links l) (sym c.deref-3.ensures.value) (subst (λ (l : List Link). IsImageOf w.machine number known l c.in-Ok-image_of.image.items) c.deref-2.ensures.value (c.in-Ok-image_of.ensures.image w stands none)) in
+    let img : IsImageOf w.machine number known links image = subst (λ (l : List Link). IsImageOf w.machine number known l c.in-Ok-image_of.image.items) c.deref-2.ensures.value (c.in-Ok-image_of.ensures.image w stands none) in
     let counts : (x : List ℕ) → D.may_leave mid x → D.left_since mid (D.moment before) x = λ x there. g.met.D.Disk.counts_now mid (D.moment before) x all.left.later there in
     let honest : IsTrue (D.honest mid) = c.write_leaves.ensures.disk.same ∙ h in
     let base = ready D old c.args.ground.now.leaves.items w.machine known books links before mid c.write_leaves.new.blocks all c.args.engine.now.hub.tables.next ascend count image number is_number img counts nowhere_at in
@@ -62,8 +62,8 @@ returns-in-Ok-finish-clause-puts g c h w stands none sees old half roots is_numb
     all_put D old c.args.ground.now.leaves.items w.machine known books links before mid c.write_leaves.new.blocks all c.args.engine.now.hub.tables.next ascend count image number is_number img counts c.finish.new.blocks c.finish.new.disk c.in-Ok-finish.addr c.write_leaves.ensures.disk.room
     (c.in-Ok-finish.ensures.finishes honest old _ all.half.stands base img.is.sequence next) (c.in-Ok-finish.ensures.reads honest old _ all.half.stands base img.is.sequence next) c.in-Ok-finish.ensures.last c.in-Ok-finish.ensures.units c.in-Ok-finish.ensures.ended
 
-pub returns-clause-puts : goal.returns-clause-puts
-returns-clause-puts g c h w stands none sees old half roots is_number follows =
+pub returns-in-Err-finish-clause-puts : goal.returns-in-Err-finish-clause-puts
+returns-in-Err-finish-clause-puts g c h w stands none sees old half roots is_number follows =
     let D = g.D.Disk in
     let known = c.args.engine.now.hub.tables.tables in
     let links = c.write_leaves.new.links.items in
@@ -71,13 +71,13 @@ returns-clause-puts g c h w stands none sees old half roots is_number follows =
     let before = c.args.disk.now in
     let mid = c.write_leaves.new.disk in
     let past = c.deref.ensures.value in
-    let image = c.deref-3.result.now in
+    let image = c.in-Ok-image_of.image.items in
     let number = c.args.ground.now.number in
     let count = c.in-Ok.ensures.count in
     let ascend = stands.catalog.numbers in
     let all = subst (λ (l : List Link). AllWritten D old l w.machine known books c.write_leaves.new.blocks links before mid) past
     (c.in-Ok.ensures.writes h w stands none sees old (subst (λ (l : List Link). Half (D.seen before) (D.may_leave before) books old l [] []) (sym past) half) (subst (λ (l : List Link). AreRoots known l old) (sym past) roots) (subst (λ (l : List Link). Follows old known l c.args.ground.now.floor w.machine) (sym past) follows)) in
-    let img : IsImageOf w.machine number known links image = subst (λ (l : List ℕ). IsImageOf w.machine number known links l) (sym c.deref-3.ensures.value) (subst (λ (l : List Link). IsImageOf w.machine number known l c.in-Ok-image_of.image.items) c.deref-2.ensures.value (c.in-Ok-image_of.ensures.image w stands none)) in
+    let img : IsImageOf w.machine number known links image = subst (λ (l : List Link). IsImageOf w.machine number known l c.in-Ok-image_of.image.items) c.deref-2.ensures.value (c.in-Ok-image_of.ensures.image w stands none) in
     let counts : (x : List ℕ) → D.may_leave mid x → D.left_since mid (D.moment before) x = λ x there. g.met.D.Disk.counts_now mid (D.moment before) x all.left.later there in
     let honest : IsTrue (D.honest mid) = c.write_leaves.ensures.disk.same ∙ h in
     let base = ready D old c.args.ground.now.leaves.items w.machine known books links before mid c.write_leaves.new.blocks all c.args.engine.now.hub.tables.next ascend count image number is_number img counts nowhere_at in
