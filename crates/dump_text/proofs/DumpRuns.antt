@@ -83,7 +83,7 @@ run-one-way (line ∷ lines) at a b s t p q =
 
 -- ---- what is read is a dump
 
-rows-sound : (form : Form) (formats : Formats) (lines : List (List ℕ)) (to : Next) (said : List Step) → Runs (next.Key form formats) lines to said → MayEnd to
+pub rows-sound : (form : Form) (formats : Formats) (lines : List (List ℕ)) (to : Next) (said : List Step) → Runs (next.Key form formats) lines to said → MayEnd to
     → (rows : List Row) × AreRows form formats rows lines × (rows_of said ≡ rows) × (table_of said ≡ None)
 rows-sound form formats [] to said ran end = ([], refl, ap rows_of ran.1, ap table_of ran.1)
 rows-sound form formats (key ∷ []) to said ran end = absurd (subst MayEnd (ran.4.0 ∙ ran.3.2) end)
@@ -254,7 +254,7 @@ one-dump lines dump other is also =
 
 -- ---- one line more
 
-run-on : (lines : List (List ℕ)) (line : List ℕ) (at mid to : Next) (said : List Step) (last : Step) → Runs at lines mid said → Takes mid line to last → Runs at (lines ++ line ∷ []) to (said ++ last ∷ [])
+pub run-on : (lines : List (List ℕ)) (line : List ℕ) (at mid to : Next) (said : List Step) (last : Step) → Runs at lines mid said → Takes mid line to last → Runs at (lines ++ line ∷ []) to (said ++ last ∷ [])
 run-on [] line at mid to said last ran takes =
     (to, last, [], subst (λ (n : Next). Takes n line to last) ran.0 takes, (refl, refl), ap (λ (l : List Step). l ++ last ∷ []) ran.1)
 run-on (first ∷ lines) line at mid to said last ran takes =

@@ -1,4 +1,6 @@
 mod DumpRuns
 mod FinishedDumps
 mod Joined
+mod Taking
+mod TextLines
 mod WrittenDumps

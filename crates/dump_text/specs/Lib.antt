@@ -1,5 +1,9 @@
+pub mod Cuts
 pub mod Grammar
 pub mod Items
 pub mod Lines
+pub mod RowLines
 pub mod Runs
+pub mod Texts
+pub mod Wholes
 pub mod Written

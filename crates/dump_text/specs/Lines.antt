@@ -92,3 +92,7 @@ IsOver reader = reader.next ≡ next.Over
 -- the lines that a reader was given are a whole dump
 abbrev pub HasWhole : DumpReader → Type 0
 HasWhole reader = MayEnd reader.next
+
+-- a key is next, or an end
+abbrev pub IsAtKey : Form → DumpReader → Type 0
+IsAtKey form reader = (formats : Formats) × (reader.next ≡ next.Key form formats)

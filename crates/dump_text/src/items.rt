@@ -31,7 +31,8 @@ fn decoded(alloc: Global, line: &[u8]) -> Result<Option<Item>, NoMemory>
     }
 }
 
-fn item_on(alloc: Global, form: Form, line: &[u8]) -> Result<Option<Item>, NoMemory>
+// The item that a line writes; none where the line is no escape text, or no hexadecimal.
+pub(crate) fn item_on(alloc: Global, form: Form, line: &[u8]) -> Result<Option<Item>, NoMemory>
     ensures { IfOk result (λ r. r ≡ item_on form line.now) }
 {
     match form {

@@ -5,13 +5,16 @@
 //! there. Which rows a table has, and what is done with those that are read, is left to others.
 #![tactic(auto)]
 
+mod cut;
 mod form;
 mod items;
 mod laws;
 mod reader;
+mod rows;
 mod taken;
 #[cfg(test)]
 mod tests;
+mod whole;
 mod write;
 
 pub use form::Form;
@@ -23,4 +26,6 @@ pub use laws::{
     what_is_written_is_read,
 };
 pub use reader::{DumpReader, Step, Table};
+pub use rows::DumpRows;
+pub use whole::{Dumped, read_dump};
 pub use write::{dump_head, push_row};

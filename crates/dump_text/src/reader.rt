@@ -1,6 +1,6 @@
 // A dump, read line by line.
-ghost use Rattle.std.specs.Prelude.{◌≡◌, ◌⊎◌, ◌↔◌, IfOk, IfErr, OnErr, IsOk};
-ghost use Rattle.dump_text.specs.Lines.{first_reader, number_behind, refusal_of_next, HasWhole, IsOver, Reads, ReadsNone};
+ghost use Rattle.std.specs.Prelude.{◌≡◌, ◌⊎◌, ◌↔◌, IfOk, IfErr, MatchOption, OnErr, IsOk};
+ghost use Rattle.dump_text.specs.Lines.{first_reader, number_behind, refusal_of_next, HasWhole, IsAtKey, IsOver, Reads, ReadsNone};
 ghost use Rattle.wt_code.specs.declared.refusals.Refusal.TheVariants.{NoMemory as WantOfMemory};
 
 use crate::form::Form;
@@ -75,7 +75,7 @@ impl DumpReader {
     }
 
     // The number of the next line, counted from 1.
-    fn number(&self) -> u64
+    pub(crate) fn number(&self) -> u64
         ensures { result ≡ number_behind self.now.lines }
     {
         self.lines.saturating_add(1)
@@ -101,6 +101,16 @@ impl DumpReader {
                 self.lines = number;
                 Ok(step)
             }
+        }
+    }
+
+    // The form of the rows, where the lines may end here.
+    pub(crate) fn rows_form(&self) -> Option<Form>
+        ensures { MatchOption result (HasWhole self.now → ⊥) (λ form. IsAtKey form self.now) }
+    {
+        match &self.next {
+            Next::Key(form, _) => Some(*form),
+            _ => None,
         }
     }
 

@@ -1,7 +1,8 @@
 // Dumps as they are written, and what is read of texts.
-use crate::{DumpReader, Form, Step, dump_head, push_row};
+use crate::{DumpReader, Dumped, Form, Step, dump_head, push_row, read_dump};
 use item::{Format, Formats, Item, escape};
 use std::alloc::Global;
+use std::process::Abort;
 use std::test::*;
 use wt_code::{Refusal, text_of};
 
@@ -58,6 +59,23 @@ fn read(alloc: Global, text: &str) -> Result<Vec<u8>, Fail> {
         Err(refusal) => told(alloc, &refusal),
         Ok(()) => Ok(out),
     }
+}
+
+// The same of the text as a whole, which is all of its input or is not.
+fn read_all(rt: &impl Abort, alloc: Global, text: &[u8], ended: bool) -> Result<Vec<u8>, Fail> {
+    assert!(rt; text.len() < 1 << 30);
+    assert!(rt; ended || !text.is_empty());
+    let (table, mut rows) = match read_dump(alloc, text, ended) {
+        Err(refusal) => return told(alloc, &refusal),
+        Ok(Dumped { table, rows }) => (table, rows),
+    };
+    let mut out = Vec::new(alloc);
+    push_item(alloc, &mut out, &table.name)?;
+    while let Some((key, value)) = rows.next(alloc)? {
+        push_item(alloc, &mut out, &key)?;
+        push_item(alloc, &mut out, &value)?;
+    }
+    Ok(out)
 }
 
 fn told(alloc: Global, refusal: &Refusal) -> Result<Vec<u8>, Fail> {
@@ -162,6 +180,7 @@ fn texts_are_read_or_refused_at_their_line(rt: HostRuntime) -> Result<(), Fail> 
         ),
         ("WiredTiger\nFormat=print\n", "22 text at line 1"),
         ("WiredTiger Dump\nFormat=Print\n", "22 text at line 2"),
+        ("WiredTiger Dump\nFormat=json\n", "22 text at line 2"),
         (
             "WiredTiger Dump\nFormat=print\nHeaders\n",
             "22 text at line 3",
@@ -213,6 +232,31 @@ fn texts_are_read_or_refused_at_their_line(rt: HostRuntime) -> Result<(), Fail> 
     ];
     for (text, expected) in rows {
         assert_eq!(rt; read(rt.alloc(), text)?.as_slice(), expected.as_bytes());
+        let all = read_all(&rt, rt.alloc(), text.as_bytes(), true)?;
+        assert_eq!(rt; all.as_slice(), expected.as_bytes());
+    }
+    Ok(())
+}
+
+#[test]
+fn a_text_that_goes_on_is_refused_at_its_last_line_or_before(rt: HostRuntime) -> Result<(), Fail> {
+    let rows = [
+        ("W", "22 text at line 1"),
+        ("WiredTiger Dump", "22 text at line 1"),
+        ("WiredTiger Dump\n", "22 text at line 1"),
+        ("WiredTiger Dump\nFormat=", "22 text at line 2"),
+        (
+            "WiredTiger Dump\nFormat=json\nHeader\n",
+            "22 text at line 2",
+        ),
+        (
+            "WiredTiger Dump\nFormat=print\nHeader\ntable:t\n\nData\na\nb\n",
+            "22 text at line 8",
+        ),
+    ];
+    for (text, expected) in rows {
+        let all = read_all(&rt, rt.alloc(), text.as_bytes(), false)?;
+        assert_eq!(rt; all.as_slice(), expected.as_bytes());
     }
     Ok(())
 }
@@ -236,6 +280,8 @@ fn all_bytes_go_through_both_forms(rt: HostRuntime) -> Result<(), Fail> {
             read(rt.alloc(), text.as_str())?.as_slice(),
             expected.as_slice()
         );
+        let all = read_all(&rt, rt.alloc(), out.as_slice(), true)?;
+        assert_eq!(rt; all.as_slice(), expected.as_slice());
     }
     Ok(())
 }

@@ -6,8 +6,8 @@ use Rattle.clap.specs.Walk.{Row, Text, finished, nothing_held, settled_rows, sto
 use Rattle.clap.specs.Faults.{built_fault, level_fault, turn_fault, walk_fault}
 use Rattle.clap.specs.Simple.{Shape, argument_words, built, built_leaf, entered, inherited, names_of, rows_at}
 use Rattle.clap.proofs.OnLiterals.{clap_on_literals}
-use Rattle.wt_line.specs.App.{create_app, dump_app, list_app, read_app, script_app, top_app, verify_app, write_app, wt_app}
-use Rattle.wt_line.specs.Line.{as_command, command_of, create, dump, list, matched_command, pairs_of, read, script, verify, where_none, write, write_of}
+use Rattle.wt_line.specs.App.{create_app, dump_app, list_app, load_app, read_app, script_app, top_app, verify_app, write_app, wt_app}
+use Rattle.wt_line.specs.Line.{as_command, command_of, create, dump, list, load, matched_command, pairs_of, read, script, verify, where_none, write, write_of}
 use Rattle.wt_line.specs.Plain.{IsPlain, ArePlain, EachWord, HasItems, HasPlainItems, write_words, read_words, dashed}
 use Rattle.wt_line.proofs.WalkedWords.{Enters, Leads, TakesItems, all_pass, at_items, end_fault, entered_below, fault_below, in_range, level_passes, unfaulted_to_items, walked_to_items}
 
@@ -502,6 +502,72 @@ dump_behind_read uri = refl
 pub dump_behind : (uri : Text) → command_of (codes "dump" ∷ codes "--" ∷ uri ∷ []) ≡ Some (dump false false uri)
 dump_behind uri =
     entered_by (codes "dump") dump_shape (codes "--" ∷ uri ∷ []) dump_enters (dump_behind_passes uri) ∙ dump_behind_read uri
+
+-- ---- load
+
+abbrev load_shape : Shape
+load_shape = built_leaf (inherited top_app.top load_app.top)
+
+load_enters : Enters (built wt_app) (codes "load") load_shape
+unfolding wt_app clap_on_literals
+load_enters = record {
+  met = refl;
+  unfaulted = refl;
+  found = refl;
+  settles = refl;
+  defaults = refl;
+  checks = refl;
+}
+
+load_passes : level_fault load_shape [] nothing_held [] false [] ≡ []
+unfolding clap_on_literals
+load_passes = refl
+
+load_read : as_command (rows_at load_shape []) ≡ Some (load false None)
+unfolding clap_on_literals
+load_read = refl
+
+pub load_alone : command_of (codes "load" ∷ []) ≡ Some (load false None)
+load_alone = entered_by (codes "load") load_shape [] load_enters load_passes ∙ load_read
+
+kept_passes : level_fault load_shape [] nothing_held (codes "-n" ∷ []) false [] ≡ []
+unfolding clap_on_literals
+kept_passes = refl
+
+kept_read : as_command (rows_at load_shape (codes "-n" ∷ [])) ≡ Some (load true None)
+unfolding clap_on_literals
+kept_read = refl
+
+pub load_kept : command_of (codes "load" ∷ codes "-n" ∷ []) ≡ Some (load true None)
+load_kept = entered_by (codes "load") load_shape (codes "-n" ∷ []) load_enters kept_passes ∙ kept_read
+
+renamed_passes : (name : Text) → IsPlain name → level_fault load_shape [] nothing_held (codes "-r" ∷ name ∷ []) false [] ≡ []
+unfolding clap_on_literals
+renamed_passes [] h = refl
+renamed_passes (x ∷ xs) h = simp h
+
+renamed_read : (name : Text) → IsPlain name → as_command (rows_at load_shape (codes "-r" ∷ name ∷ [])) ≡ Some (load false (Some name))
+unfolding clap_on_literals
+renamed_read [] h = refl
+renamed_read (x ∷ xs) h = simp h
+
+pub load_renamed : (name : Text) → IsPlain name → command_of (codes "load" ∷ codes "-r" ∷ name ∷ []) ≡ Some (load false (Some name))
+load_renamed name plain =
+    entered_by (codes "load") load_shape (codes "-r" ∷ name ∷ []) load_enters (renamed_passes name plain) ∙ renamed_read name plain
+
+both_passes : (name : Text) → IsPlain name → level_fault load_shape [] nothing_held (codes "-n" ∷ codes "-r" ∷ name ∷ []) false [] ≡ []
+unfolding clap_on_literals
+both_passes [] h = refl
+both_passes (x ∷ xs) h = simp h
+
+both_read : (name : Text) → IsPlain name → as_command (rows_at load_shape (codes "-n" ∷ codes "-r" ∷ name ∷ [])) ≡ Some (load true (Some name))
+unfolding clap_on_literals
+both_read [] h = refl
+both_read (x ∷ xs) h = simp h
+
+pub load_both : (name : Text) → IsPlain name → command_of (codes "load" ∷ codes "-n" ∷ codes "-r" ∷ name ∷ []) ≡ Some (load true (Some name))
+load_both name plain =
+    entered_by (codes "load") load_shape (codes "-n" ∷ codes "-r" ∷ name ∷ []) load_enters (both_passes name plain) ∙ both_read name plain
 
 -- ---- of all the items
 

@@ -14,7 +14,7 @@ use Rattle.wt_line.specs.App.{wt_app}
 use Rattle.wt_line.specs.declared.line.LineFault.{LineFault}
 use Rattle.wt_line.specs.declared.line.LineFault.TheVariants.{Usage, NoMemory}
 use Rattle.wt_line.specs.declared.command.Command.{Command}
-use Rattle.wt_line.specs.declared.command.Command.TheVariants.{Create, Write, Read, List as Listing, Verify, Script, Dump}
+use Rattle.wt_line.specs.declared.command.Command.TheVariants.{Create, Write, Read, List as Listing, Verify, Script, Dump, Load}
 
 -- a command
 pub data Asked : Type 0 where
@@ -25,6 +25,7 @@ pub data Asked : Type 0 where
   verify : Option Text → Asked
   script : Asked
   dump : (hex reverse : Bool) → Text → Asked
+  load : (no_overwrite : Bool) (name : Option Text) → Asked
 
 -- ---- the home
 
@@ -69,6 +70,9 @@ as_verify rows = Some (verify (first_of (codes "uri") rows))
 abbrev pub as_dump : List Row → Option Asked
 as_dump rows = option_map (dump (is_set (codes "hex") rows) (is_set (codes "reverse") rows)) (first_of (codes "uri") rows)
 
+abbrev pub as_load : List Row → Option Asked
+as_load rows = Some (load (is_set (codes "no_overwrite") rows) (first_of (codes "name") rows))
+
 abbrev pub as_command : Text × List Row → Option Asked
 as_command p =
     if bytes_eq p.0 (codes "create") then as_create p.1
@@ -78,6 +82,7 @@ as_command p =
     else if bytes_eq p.0 (codes "verify") then as_verify p.1
     else if bytes_eq p.0 (codes "script") then Some script
     else if bytes_eq p.0 (codes "dump") then as_dump p.1
+    else if bytes_eq p.0 (codes "load") then as_load p.1
     else None
 
 -- the command, where there is no fault
@@ -111,3 +116,4 @@ meaning Listing = list
 meaning (Verify uri) = verify (option_map (λ s. s.now) uri)
 meaning Script = script
 meaning (Dump hex reverse uri) = dump hex reverse uri.now
+meaning (Load no_overwrite name) = load no_overwrite (option_map (λ s. s.now) name)

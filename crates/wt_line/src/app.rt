@@ -2,7 +2,7 @@
 ghost use Rattle.std.specs.Prelude.{◌≡◌, IfOk, false};
 ghost use Rattle.clap.specs.Words.{app_of, rule_of};
 ghost use Rattle.clap.specs.declared.builder.command.Command.TheViews.{out-Command};
-ghost use Rattle.wt_line.specs.App.{create_app, dump_app, list_app, read_app, script_app, top_app, verify_app, write_app, wt_app, items_rule, one_uri_rule, uri_rule};
+ghost use Rattle.wt_line.specs.App.{create_app, dump_app, list_app, load_app, read_app, script_app, top_app, verify_app, write_app, wt_app, items_rule, one_uri_rule, uri_rule};
 
 use clap::{Arg, ArgAction, Command};
 use std::alloc::{AllocError, Global};
@@ -16,6 +16,7 @@ pub(crate) fn app<'a>(alloc: Global) -> Result<Command<'a>, AllocError>
     let read = read(alloc)?;
     let verify = verify(alloc)?;
     let dump = dump(alloc)?;
+    let load = load(alloc)?;
     top(alloc)
         .subcommand(create)?
         .subcommand(write)?
@@ -23,7 +24,8 @@ pub(crate) fn app<'a>(alloc: Global) -> Result<Command<'a>, AllocError>
         .subcommand(list(alloc))?
         .subcommand(verify)?
         .subcommand(script(alloc))?
-        .subcommand(dump)
+        .subcommand(dump)?
+        .subcommand(load)
 }
 
 fn top<'a>(alloc: Global) -> Command<'a>
@@ -126,4 +128,16 @@ fn dump<'a>(alloc: Global) -> Result<Command<'a>, AllocError>
         .arg(hex)?
         .arg(reverse)?
         .arg(uri(alloc))
+}
+
+// load [-n] [-r name]
+fn load<'a>(alloc: Global) -> Result<Command<'a>, AllocError>
+    ensures app { IfOk result (λ c. app_of c ≡ load_app) }
+    ensures local { IfOk result (λ c. (out-Command c).has_globals ≡ false) }
+{
+    let no_overwrite = Arg::new(alloc, "no_overwrite")
+        .short('n')
+        .action(ArgAction::SetTrue);
+    let name = Arg::new(alloc, "name").short('r');
+    Command::new(alloc, "load").arg(no_overwrite)?.arg(name)
 }

@@ -2,7 +2,7 @@
 ghost use Rattle.std.specs.Prelude.{◌≡◌, IfOk, IfErr, Some, None, map};
 ghost use Rattle.std.specs.Option.{option_map};
 ghost use Rattle.clap.specs.Words.{all_of, first_of, found_of, rows_of};
-ghost use Rattle.wt_line.specs.Line.{is_set, as_create, as_dump, as_read, as_verify, as_write, as_command, meaning, pairs_of, pair_texts};
+ghost use Rattle.wt_line.specs.Line.{is_set, as_create, as_dump, as_load, as_read, as_verify, as_write, as_command, meaning, pairs_of, pair_texts};
 ghost use Rattle.wt_line.specs.declared.line.LineFault.TheVariants.{Usage};
 
 use crate::line::LineFault;
@@ -53,6 +53,13 @@ pub enum Command<'a> {
         /// The table.
         uri: &'a str,
     },
+    /// Makes a table, and puts the rows of the dump on the standard input.
+    Load {
+        /// Whether a key that is present is refused.
+        no_overwrite: bool,
+        /// The table, where it is another one than the dump tells.
+        name: Option<&'a str>,
+    },
 }
 
 // The command of this name, of what was found for it.
@@ -78,6 +85,8 @@ pub(crate) fn command_in<'a>(
         Ok(Command::Script)
     } else if name == "dump" {
         dump_in(found)
+    } else if name == "load" {
+        Ok(load_in(found))
     } else {
         Err(LineFault::Usage)
     }
@@ -149,6 +158,15 @@ fn dump_in<'a>(found: &ArgMatches<'a>) -> Result<Command<'a>, LineFault>
         reverse: is_set(found, "reverse"),
         uri,
     })
+}
+
+fn load_in<'a>(found: &ArgMatches<'a>) -> Command<'a>
+    ensures { as_load (rows_of (found_of found.now)) ≡ Some (meaning result) }
+{
+    Command::Load {
+        no_overwrite: is_set(found, "no_overwrite"),
+        name: text_in(found, "name"),
+    }
 }
 
 // The first word of an argument.

@@ -1,13 +1,13 @@
 // What the definition says without `clap`'s words.
 ghost use Rattle.std.specs.Prelude.{◌≡◌, ◌∷◌, [], Some, None, codes, false, List, true};
 ghost use Rattle.clap.specs.Walk.{Text};
-ghost use Rattle.wt_line.specs.Line.{command_of, create, dump, list, read, script, verify, write_of};
+ghost use Rattle.wt_line.specs.Line.{command_of, create, dump, list, load, read, script, verify, write_of};
 ghost use Rattle.wt_line.specs.Plain.{IsPlain, HasItems, HasPlainItems, create_words, write_words, read_words, dashed};
 
 /// Words that do not begin with a hyphen are items, in their order: behind a command's name the
 /// table, then its keys, or its keys and values by turns. The words are fewer than 2^64. Behind
-/// `list` and `script` there is none, behind `verify` a table or none, behind `dump` a table, and one
-/// flag or none before it.
+/// `list`, `script` and `load` there is none, behind `verify` a table or none, behind `dump` a table,
+/// and one flag or none before it. Behind the flag `-r` of `load` there is the name of a table.
 pub fn plain_words_are_items()
     ensures create { (uri : Text) → IsPlain uri → command_of (codes "create" ∷ uri ∷ []) ≡ Some (create None uri) }
     ensures configured { (config uri : Text) → IsPlain config → IsPlain uri → command_of (create_words config uri) ≡ Some (create (Some config) uri) }
@@ -21,6 +21,10 @@ pub fn plain_words_are_items()
     ensures dump { (uri : Text) → IsPlain uri → command_of (codes "dump" ∷ uri ∷ []) ≡ Some (dump false false uri) }
     ensures hex { (uri : Text) → IsPlain uri → command_of (codes "dump" ∷ codes "-x" ∷ uri ∷ []) ≡ Some (dump true false uri) }
     ensures reverse { (uri : Text) → IsPlain uri → command_of (codes "dump" ∷ codes "-r" ∷ uri ∷ []) ≡ Some (dump false true uri) }
+    ensures load { command_of (codes "load" ∷ []) ≡ Some (load false None) }
+    ensures kept { command_of (codes "load" ∷ codes "-n" ∷ []) ≡ Some (load true None) }
+    ensures renamed { (name : Text) → IsPlain name → command_of (codes "load" ∷ codes "-r" ∷ name ∷ []) ≡ Some (load false (Some name)) }
+    ensures both { (name : Text) → IsPlain name → command_of (codes "load" ∷ codes "-n" ∷ codes "-r" ∷ name ∷ []) ≡ Some (load true (Some name)) }
 {}
 
 /// Behind `--` each word is an item, whatever it begins with.

@@ -184,6 +184,20 @@ fn words_are_read_as_a_simple_command_s_are(rt: HostRuntime) -> Result<(), Fail>
             "dump|--|-x",
             ". Dump { hex: false, reverse: false, uri: \"-x\" }",
         ),
+        ("load", ". Load { no_overwrite: false, name: None }"),
+        ("-h|d|load|--", "d Load { no_overwrite: false, name: None }"),
+        (
+            "load|-nr|u",
+            ". Load { no_overwrite: true, name: Some(\"u\") }",
+        ),
+        (
+            "load|-r|table:u|-n",
+            ". Load { no_overwrite: true, name: Some(\"table:u\") }",
+        ),
+        (
+            "load|-r=u",
+            ". Load { no_overwrite: false, name: Some(\"u\") }",
+        ),
     ];
     come_to(&rt, alloc, &rows)
 }
@@ -262,6 +276,12 @@ fn other_words_are_no_command(rt: HostRuntime) -> Result<(), Fail> {
         "dump|-n|t",
         "dump|-x=true|t",
         "dumps|t",
+        "load|t",
+        "load|-r",
+        "load|-n|-n",
+        "load|-r|t|-r|u",
+        "load|-f|t",
+        "loads",
     ];
     for line in &rows {
         let words = split(alloc, line)?;

@@ -36,7 +36,7 @@ use Rattle.wt_tool.specs.Narrow.{ClosesOne}
 use Rattle.wt_tool.specs.Words.{plain_formats}
 use Rattle.wt_tool.specs.Parts.{HasStarted, IsQuiet, IsPlainOn, Makes, NoDamage, Starts, at}
 use Rattle.wt_tool.specs.Top.{status_of}
-use Rattle.wt_tool.specs.Led.{IsMild, Grows, Leads, LedBy, IsWord, OpenedBy, DoneBy, BegunBy, GotBy, IsSteady, PutsBegun}
+use Rattle.wt_tool.specs.Led.{IsMild, Grows, Leads, LedBy, IsWord, MadeBy, OpenedBy, DoneBy, BegunBy, GotBy, IsSteady, PutsBegun}
 use Rattle.wt_tool.proofs.Called.{Keeps, KeepsAll, IsDone, IsValue, keeps_all, word_leaves, get_leaves, create_leaves, word_unstamped, did, same_device, keeps_same, short_put, short_get}
 
 -- ---- refusals
@@ -254,25 +254,40 @@ create_made stays e e' w later stands quiet stands' name formats a is =
     )
 
 module _ (name : List ℕ) (formats : Formats) (e e' : Engine) (w : World) where
-  abbrev pub TableLed : Result (Unit {0}) Refusal → Type 0
-  TableLed result = LedBy (MakesTable name formats ClosesOne) ClosesOne e e' w result
+  abbrev pub MadeAt : Result (Unit {0}) Refusal → Type 0
+  MadeAt result = (later : World) × Leads e e' w later × MadeBy name formats w.machine later.machine result
 
-  abbrev CreateDid : World → Answer (List ℕ) → Type 0
-  CreateDid later a = (d : Device) → Did (at d w.machine) (System 0) (Create name formats) a (at d later.machine)
-
-  pub create_done : (later : World) (a : Answer (List ℕ)) → IsDone a → Leads e e' w later → CreateDid later a → ((r : Refusal) → a ≡ answers.Refused r → ⊥) → TableLed (Ok tt)
-  create_done later answers.Done done leads did none = (later, leads, λ d ran goes. inr (at d later.machine, did d, goes))
-  create_done later (answers.Refused r) done leads did none = absurd (none r refl)
-  create_done later _ done leads did none = absurd done
-
-  pub create_refused : (later : World) (a : Answer (List ℕ)) (r : Refusal) → IsDone a → Leads e e' w later → CreateDid later a → a ≡ answers.Refused r → TableLed (Err r)
-  create_refused later a r done leads did is =
-      (later, leads, subst IsDone is done, λ d. inl (r, at d later.machine, subst (λ (x : Answer (List ℕ)). Did (at d w.machine) (System 0) (Create name formats) x (at d later.machine)) is (did d), refl))
+  -- before what goes on
+  pub made_led : (Goes : Point → Ran → Type 0) (result : Result (Unit {0}) Refusal) → MadeAt result → LedBy (MakesTable name formats Goes) Goes e e' w result
+  made_led Goes (Ok done) (later, leads, did) = (later, leads, λ d ran goes. inr (at d later.machine, did d, goes))
+  made_led Goes (Err r) (later, leads, (mild, did)) = (later, leads, mild, λ d. inl (r, at d later.machine, did d, refl))
 
 -- memory was too short for its name
-pub create_short : (name : List ℕ) (formats : Formats) (e : Engine) (w : World) → Stands e w → IsQuiet w → LedBy (MakesTable name formats ClosesOne) ClosesOne e e w (Err NoMemory)
-create_short name formats e w stands quiet =
-    (w, stands_still e w stands quiet, tt, λ d. inl (NoMemory, at d w.machine, record { later = same_device d; keeps = keeps_same d; answers = inl (refl, refl) }, refl))
+pub make_short : (name : List ℕ) (formats : Formats) (e : Engine) (w : World) → Stands e w → IsQuiet w → MadeAt name formats e e w (Err NoMemory)
+make_short name formats e w stands quiet = (w, stands_still e w stands quiet, (tt, λ d. record { later = same_device d; keeps = keeps_same d; answers = inl (refl, refl) }))
+
+-- by what the call answered
+module _ (stays : StaysPlain) (e e' : Engine) (name table : List ℕ) (formats : Formats) (same : table ≡ name) (a : Answer (List ℕ)) (w : World) (stands : Stands e w) (quiet : IsQuiet w)
+    (answered : (later : World) × MayAnswer w (call.System 0 (system.Create table formats)) a later × Stands e' later) where
+  asked_so : (later : World) × MayAnswer w (call.System 0 (system.Create name formats)) a later × Stands e' later
+  asked_so = subst (λ (n : List ℕ). (later : World) × MayAnswer w (call.System 0 (system.Create n formats)) a later × Stands e' later) same answered
+
+  abbrev CreateDid : World → Answer (List ℕ) → Type 0
+  CreateDid later x = (d : Device) → Did (at d w.machine) (System 0) (Create name formats) x (at d later.machine)
+
+  made : IsDone a × Leads e e' w asked_so.0 × CreateDid asked_so.0 a
+  made = create_made stays e e' w asked_so.0 stands quiet asked_so.2 name formats a asked_so.1
+
+  pub make_done : ((r : Refusal) → a ≡ answers.Refused r → ⊥) → MadeAt name formats e e' w (Ok tt)
+  make_done none = (asked_so.0, made.1, by_answer a made.0 made.2 none)
+    where
+      by_answer : (x : Answer (List ℕ)) → IsDone x → CreateDid asked_so.0 x → ((r : Refusal) → x ≡ answers.Refused r → ⊥) → CreateDid asked_so.0 answers.Done
+      by_answer answers.Done done did none = did
+      by_answer (answers.Refused r) done did none = absurd (none r refl)
+      by_answer _ done did none = absurd done
+
+  pub make_refused : (r : Refusal) → a ≡ answers.Refused r → MadeAt name formats e e' w (Err r)
+  make_refused r is = (asked_so.0, made.1, (subst IsDone is made.0, subst (CreateDid asked_so.0) is made.2))
 
 -- ---- on a plain engine
 
@@ -309,23 +324,3 @@ all_made Run e e' result (content, started) led =
     by_result : (r : Result (Unit {0}) Refusal) → LedBy Run ClosesOne e e' (first_world content e) r → IfErr r IsMild
     by_result (Ok done) first = tt
     by_result (Err r) first = led_mild Run ClosesOne e e' (first_world content e) r first
-
--- a table is made, or is not
-module _ (stays : StaysPlain) (e e' : Engine) (name table : List ℕ) (formats : Formats) (same : table ≡ name) (a : Answer (List ℕ)) (started : HasStarted e)
-    (answered : (w : World) → Stands e w → (later : World) × MayAnswer w (call.System 0 (system.Create table formats)) a later × Stands e' later) where
-  abbrev pub TableMade : Result (Unit {0}) Refusal → Type 0
-  TableMade result = AllMade (MakesTable name formats ClosesOne) e e' result
-
-  asked_so : (w : World) → Stands e w → (later : World) × MayAnswer w (call.System 0 (system.Create name formats)) a later × Stands e' later
-  asked_so w stands = subst (λ (n : List ℕ). (later : World) × MayAnswer w (call.System 0 (system.Create n formats)) a later × Stands e' later) same (answered w stands)
-
-  pub table_refused : (r : Refusal) → a ≡ answers.Refused r → TableMade (Err r)
-  table_refused r is = all_made (MakesTable name formats ClosesOne) e e' (Err r) started (λ w stands quiet.
-      let x = asked_so w stands in let m = create_made stays e e' w x.0 stands quiet x.2 name formats a x.1 in create_refused name formats e e' w x.0 a r m.0 m.1 m.2 is)
-
-  pub table_done : ((r : Refusal) → a ≡ answers.Refused r → ⊥) → TableMade (Ok tt)
-  table_done none = all_made (MakesTable name formats ClosesOne) e e' (Ok tt) started (λ w stands quiet.
-      let x = asked_so w stands in let m = create_made stays e e' w x.0 stands quiet x.2 name formats a x.1 in create_done name formats e e' w x.0 a m.0 m.1 m.2 none)
-
-pub table_short : (name : List ℕ) (formats : Formats) (e : Engine) → HasStarted e → AllMade (MakesTable name formats ClosesOne) e e (Err NoMemory)
-table_short name formats e started = all_made (MakesTable name formats ClosesOne) e e (Err NoMemory) started (λ w stands quiet. create_short name formats e w stands quiet)

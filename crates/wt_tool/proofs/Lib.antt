@@ -5,8 +5,10 @@ mod Gets
 mod Going
 mod Leading
 mod Leaving
+mod Loading
 mod Listing
 mod Naming
+mod Pieces
 mod Putting
 mod RowLists
 mod ScriptRuns

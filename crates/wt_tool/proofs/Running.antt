@@ -1,5 +1,5 @@
 -- What a run of a command is to the definitions.
-use Rattle.std.specs.Prelude.{◌≡◌, ◌⊎◌, ℕ, ◌+◌, ◌<◌, List, [], ◌∷◌, ◌++◌, filter, length, Option, Some, None, IfErr, IfOk, OnOk, Result, Ok, Err, refl}
+use Rattle.std.specs.Prelude.{◌≡◌, ◌⊎◌, ℕ, Bool, not, ◌+◌, ◌<◌, List, [], ◌∷◌, ◌++◌, filter, length, Option, Some, None, IfErr, IfOk, OnOk, Result, Ok, Err, refl}
 use Rattle.std.proofs.Common.{inl, inr, sym, ap, subst, ◌∙◌, arith}
 use Rattle.std.specs.List.{AllByRecursion}
 use Rattle.std.proofs.lemmas.List.{append-nil}
@@ -25,14 +25,15 @@ use Rattle.ckpt_step.specs.Grounds.{AreRoots}
 use Rattle.engine_store.specs.declared.store.Store.{Store}
 use Rattle.engine_store.specs.Opened.{HasNumbers, IsOpened, OpenRefused}
 use Rattle.stored.proofs.Device.{one_content, one_stored}
-use Rattle.wt_line.specs.Line.{Asked, script}
+use Rattle.wt_line.specs.Line.{Asked, load, script}
 use Rattle.script_run.specs.Scripts.{Outside, counts}
 use Rattle.wt_tool.specs.Points.{Point, Ran, point_of, stops}
 use Rattle.engine_store.specs.Devices.{Installed, device_of, last_number, IsWide}
 use Rattle.wt_tool.specs.Openings.{RefusesOpening, MayOpen, Opens}
 use Rattle.wt_tool.specs.Commands.{Runs, RunsOpened}
-use Rattle.wt_tool.specs.Parts.{NoDamage, IsOpenedOn, Starts, Leaves, Reading, Scripting, met_of, end_of, silent_run}
-use Rattle.wt_tool.specs.Top.{Went, Telling, IsSo, Tells, IsTold, IsCut, IsOpenable, Streams, Errors, lines, last_line, status_of, first_status, status_at}
+use Rattle.wt_tool.specs.Parts.{NoDamage, IsOpenedOn, Starts, Leaves, Loading, Reading, Scripting, met_of, end_of, silent_run}
+use Rattle.wt_tool.specs.Loads.{RunsLoad}
+use Rattle.wt_tool.specs.Top.{Went, Telling, IsSo, IsStatus, Tells, IsTold, IsCut, IsOpenable, Streams, Errors, lines, last_line, status_of, first_status, status_at}
 use Rattle.engine_store.specs.Images.{OpensToLast, Stays}
 use Rattle.wt_tool.proofs.Closings.{still_reads, start_opens}
 
@@ -249,3 +250,26 @@ module _ {D : Type 0} (g : Ghosts D) (old mid new : D) (content : Content) (laye
     ever = (joined g old mid new _ _ (widened g old mid _ _ first (λ c reads. inl (content, reads, start_opens content layered))) went.ever (λ c is. is)).each;
     stays = went.stays;
   }
+
+  -- a run of `load`
+  pub load_went : (status : ℕ) (no_overwrite : Bool) (name : Option (List ℕ)) → Opens (point_of g (start content) old) (point_of g (start content) mid) → MayOpen (point_of g (start content) old) → LeavesOnly g old mid (λ c. Reads c content)
+      → Took w.out_before w.out_now [] → Loading g (RunsLoad o.input_failed o.input_ended (not no_overwrite) name) (start content) w.in_before w.in_now w.errors mid new status → Went g o (load no_overwrite name) content w old new status
+  load_went status no_overwrite name opened may first out went = record {
+    ran = went.ran;
+    run = inr (point_of g (start content) mid, opened, may, went.run);
+    there = went.there;
+    taken = went.taken;
+    printed = inl (subst (λ (l : List ℕ). Took w.out_before w.out_now l) (sym went.silent) out);
+    told = went.told;
+    opens = went.opens;
+    ever = (joined g old mid new _ _ (widened g old mid _ _ first (λ c reads. inl (content, reads, start_opens content layered))) went.ever (λ c is. is)).each;
+    stays = went.stays;
+  }
+
+-- a status of a load
+pub load_status : (n : ℕ) → (n ≡ 0) ⊎ ((n ≡ 1) ⊎ ((n ≡ 4) ⊎ ((n ≡ 5) ⊎ (n ≡ 12)))) → IsStatus n × (n ≡ 6 → ⊥)
+load_status n (inl is) = (inl is, λ six. omega (arith, is, six))
+load_status n (inr (inl is)) = (inr (inl is), λ six. omega (arith, is, six))
+load_status n (inr (inr (inl is))) = (inr (inr (inl is)), λ six. omega (arith, is, six))
+load_status n (inr (inr (inr (inl is)))) = (inr (inr (inr (inl is))), λ six. omega (arith, is, six))
+load_status n (inr (inr (inr (inr is)))) = (inr (inr (inr (inr (inr is)))), λ six. omega (arith, is, six))

@@ -1,109 +1,25 @@
 -- The commands that are still to come, as far as they can be said before their crates. No contract cites this file: with its code a command takes its part into a file of its own, its constructor into `Asked` and its case into `RunsOpened`, and nothing else of the contract changes.
-use Rattle.std.specs.Prelude.{◌≡◌, ◌⊎◌, ℕ, ◌≤◌, ◌<◌, ◌+◌, ◌*◌, ◌%◌, ◌/◌, ◌^◌, ◌==◌, zero, suc, Bool, List, [], ◌∷◌, ◌++◌, length, Option, Some, None, if◌then◌else◌}
+use Rattle.std.specs.Prelude.{◌≡◌, ◌⊎◌, ℕ, ◌+◌, ◌*◌, ◌%◌, ◌/◌, ◌^◌, zero, suc, List, [], ◌∷◌, ◌++◌}
 use Rattle.item.specs.declared.formats.Formats.{Formats}
-use Rattle.dump_text.specs.Grammar.{Dump, IsDump, Row}
 use Rattle.wt_code.specs.declared.answers.Answer.{Answer}
 use Rattle.wt_code.specs.declared.answers.Answer.TheVariants.{Done, Left, End as NoneLeft, Refused}
 use Rattle.wt_code.specs.declared.refusals.Refusal.{Refusal}
-use Rattle.wt_code.specs.declared.refusals.Refusal.TheVariants.{NoMemory, Invalid as Refusal_Invalid}
-use Rattle.wt_code.specs.declared.refusals.Invalid.TheVariants.{Text}
 use Rattle.kv_model.specs.Machine.{Machine, Completed}
-use Rattle.kv_model.specs.Decisions.{Demand}
-use Rattle.kv_model.specs.Calls.{Session, System, Call, Begin, PutKey, Commit, Create, CkptStart, CkptStep, CkptFinish, Around, Answers}
+use Rattle.kv_model.specs.Calls.{System, Call, CkptStart, CkptStep, CkptFinish, Around, Answers}
 use Rattle.script_text.specs.declared.line.Line.{Line}
 use Rattle.script_text.specs.declared.replies.Reply.{Reply}
 use Rattle.script_text.specs.declared.replies.Reply.TheVariants.{Answered}
 use Rattle.engine_store.specs.Answers.{Installs}
 use Rattle.engine_store.specs.Devices.{Installed, IsLater}
-use Rattle.script_run.specs.declared.script.End.TheVariants.{Through, Stopped, InputFailed}
-use Rattle.script_run.specs.declared.script.TheConstants.{INPUT_MAX}
-use Rattle.script_run.specs.Scripts.{Outside, Replies, Script, StopsBy, ends as no_more}
-use Rattle.wt_tool.specs.Points.{Point, Ran, ends, stops, prints, Calls as ThenCalls, WithSession, Closes}
-use Rattle.wt_tool.specs.Narrow.{ClosesOne}
-use Rattle.wt_tool.specs.Words.{after_scheme}
+use Rattle.script_run.specs.declared.script.End.TheVariants.{Through, Stopped}
+use Rattle.script_run.specs.Scripts.{Replies, Script, StopsBy, ends as no_more}
+use Rattle.wt_tool.specs.Points.{Point, Ran, ends, prints, Closes}
 use Rattle.wt_tool.specs.Scripts.{ran_by}
-use Rattle.wt_tool.specs.Writes.{demand_of}
 
 -- what the words ask for
 pub data AskedLater : Type 0 where
-  load : (no_overwrite : Bool) (renamed : Option (List ℕ)) → AskedLater
   stress : (seed calls : ℕ) → AskedLater
   workload : (workers turns : ℕ) → AskedLater
-
--- ---- `load`
-
--- a byte before lines, in the first of them
-abbrev pub before_lines : ℕ → List (List ℕ) → List (List ℕ)
-before_lines b [] = (b ∷ []) ∷ []
-before_lines b (line ∷ lines) = (b ∷ line) ∷ lines
-
--- the lines of a text, without their newlines; the last one may have none
-abbrev pub lines_in : List ℕ → List (List ℕ)
-lines_in [] = []
-lines_in (b ∷ rest) = if b == 10 then [] ∷ lines_in rest else before_lines b (lines_in rest)
-
--- the lines go on to be a dump
-abbrev pub GoesOn : List (List ℕ) → Type 0
-GoesOn front = (more : List (List ℕ)) × (dump : Dump) × IsDump dump (front ++ more)
-
--- with the next of these lines behind it the front does not; or there is none, and it is no whole dump
-abbrev pub StopsThere : (front rest : List (List ℕ)) → Type 0
-StopsThere front [] = (dump : Dump) → IsDump dump front → ⊥
-StopsThere front (line ∷ rest) = GoesOn (front ++ line ∷ []) → ⊥
-
--- the line of this number, counted from 1, is the first that is wrong or missing
-abbrev pub IsWrongAt : List (List ℕ) → ℕ → Type 0
-IsWrongAt lines number = (front rest : List (List ℕ)) × (lines ≡ front ++ rest) × (number ≡ length front + 1) × GoesOn front × StopsThere front rest
-
--- of lines that are too long together: the first that is wrong, or the last
-abbrev pub IsOverAt : List (List ℕ) → ℕ → Type 0
-IsOverAt lines number =
-    (front rest : List (List ℕ)) × (line : List ℕ) × (lines ≡ front ++ line ∷ rest) × (number ≡ length front + 1) × GoesOn front
-    × ((rest ≡ []) ⊎ (GoesOn (front ++ line ∷ []) → ⊥))
-
--- the line at which a text is refused
-abbrev pub IsRefusedAt : List ℕ → ℕ → Type 0
-IsRefusedAt text number = ((length text ≤ INPUT_MAX) × IsWrongAt (lines_in text) number) ⊎ ((INPUT_MAX < length text) × IsOverAt (lines_in text) number)
-
--- one transaction for each row, and then Close; the first refusal ends the run, which then has taken no checkpoint
-abbrev pub PutsRows : List ℕ → Demand → List Row → Point → Ran → Type 0
-PutsRows name demand [] p ran = ClosesOne p ran
-PutsRows name demand (row ∷ rows) p ran =
-    ThenCalls (Session 0) (Begin None)
-    (λ begun. ThenCalls (Session 0) (PutKey name row.0 row.1 demand) (λ put. ThenCalls (Session 0) (Commit None None) (λ done. PutsRows name demand rows done) put) begun)
-    p ran
-
--- the table of a dump under a name, and its rows
-abbrev pub LoadsAs : List ℕ → Demand → Dump → Point → Ran → Type 0
-LoadsAs name demand dump p ran = WithSession (λ opened. ThenCalls (System 0) (Create name dump.formats) (λ made. PutsRows name demand dump.rows made) opened) p ran
-
--- the name that the dump tells, or another one
-abbrev pub loaded_name : Option (List ℕ) → Dump → List ℕ
-loaded_name None dump = dump.name
-loaded_name (Some uri) dump = after_scheme uri
-
--- A text is refused at its first wrong line, and nothing is made; or it is that of a dump.
-abbrev pub LoadsText : (overwrite : Bool) → Option (List ℕ) → List ℕ → Point → Ran → Type 0
-LoadsText overwrite renamed text p ran =
-    (ran ≡ stops NoMemory p)
-    ⊎ (((number : ℕ) × IsRefusedAt text number × (ran ≡ stops (Refusal_Invalid (Text number)) p))
-    ⊎ ((length text ≤ INPUT_MAX) × ((dump : Dump) × IsDump dump (lines_in text) × LoadsAs (loaded_name renamed dump) (demand_of overwrite) dump p ran)))
-
--- the same run, with these bytes of the input read before its own
-abbrev pub takes : List ℕ → Ran → Ran
-takes bytes ran = record ran { input = bytes ++ ran.input }
-
--- it was read to its end, or past the greatest length
-abbrev pub IsWhole : Outside → List ℕ → Type 0
-IsWhole o text = (o.input_ended × (length text ≤ INPUT_MAX)) ⊎ (length text ≡ INPUT_MAX + 1)
-
--- before that nothing of it is refused or made
-abbrev pub RunsLoad : Outside → (overwrite : Bool) → Option (List ℕ) → Point → Ran → Type 0
-RunsLoad o overwrite renamed p ran =
-    (taken : List ℕ)
-    × ((o.input_failed × (ran ≡ takes taken (ends InputFailed p)))
-    ⊎ ((ran ≡ takes taken (stops NoMemory p))
-    ⊎ (IsWhole o taken × ((rest : Ran) × (ran ≡ takes taken rest) × LoadsText overwrite renamed taken p rest))))
 
 -- ---- a checkpoint by steps: the line `sys ckpt` takes it in one event
 

@@ -1,10 +1,11 @@
 -- To what the calls of a command lead an engine, whatever the disk.
 use Rattle.std.specs.Prelude.{◌≡◌, ◌⊎◌, ℕ, List, ◌∷◌, ◌++◌, None, Result, Ok, Err}
+use Rattle.item.specs.declared.formats.Formats.{Formats}
 use Rattle.wt_code.specs.declared.answers.Answer.TheVariants.{Done, Value, Refused}
 use Rattle.wt_code.specs.declared.refusals.Refusal.{Refusal}
 use Rattle.wt_code.specs.declared.refusals.Refusal.TheVariants.{Corrupt, DiskFault}
 use Rattle.kv_model.specs.History.{Table}
-use Rattle.kv_model.specs.Calls.{Session, Call, Begin, PutKey, Commit, OpensSession}
+use Rattle.kv_model.specs.Calls.{Session, System, Call, Begin, PutKey, Commit, Create, OpensSession}
 use Rattle.kv_model.specs.Machine.{Machine}
 use Rattle.engine_world.specs.Stands.{Engine, Stands}
 use Rattle.engine_world.specs.Worlds.{World}
@@ -52,6 +53,11 @@ IsWord _ = ⊥
 abbrev pub DoneBy : Call → Machine → Machine → Result (Unit {0}) Refusal → Type 0
 DoneBy call m next (Ok done) = (d : Device) → Did (at d m) (Session 0) call Done (at d next)
 DoneBy call m next (Err r) = IsMild r × ((d : Device) → Did (at d m) (Session 0) call (Refused r) (at d next))
+
+-- a table is made, or is not
+abbrev pub MadeBy : List ℕ → Formats → Machine → Machine → Result (Unit {0}) Refusal → Type 0
+MadeBy name formats m next (Ok done) = (d : Device) → Did (at d m) (System 0) (Create name formats) Done (at d next)
+MadeBy name formats m next (Err r) = IsMild r × ((d : Device) → Did (at d m) (System 0) (Create name formats) (Refused r) (at d next))
 
 -- a session is opened, or refused
 abbrev pub OpenedBy : Machine → Machine → Result (Unit {0}) Refusal → Type 0

@@ -8,6 +8,8 @@ pub mod Writes
 pub mod Lists
 pub mod Reads
 pub mod Dumps
+pub mod Loads
+pub mod Inputs
 pub mod Scripts
 pub mod Commands
 pub mod Top

@@ -1,5 +1,5 @@
 -- What the private functions of the commands leave.
-use Rattle.std.specs.Prelude.{◌≡◌, ◌≢◌, ℕ, List, [], ◌∷◌, ◌++◌, filter, Option, None, slice_index_or, Result, Ok, Err, ◌⊎◌, IsTrue}
+use Rattle.std.specs.Prelude.{◌≡◌, ◌≢◌, ℕ, Bool, List, [], ◌∷◌, ◌++◌, filter, Option, None, slice_index_or, Result, Ok, Err, ◌⊎◌, IsTrue}
 use Rattle.std.specs.Option.{option_to_list}
 use Rattle.failure.specs.Counts.{Rose}
 use Rattle.disk_model.specs.Crash.{LeavesOnly}
@@ -8,14 +8,14 @@ use Rattle.wt_code.specs.declared.refusals.Refusal.{Refusal}
 use Rattle.wt_code.specs.declared.refusals.Refusal.TheVariants.{Corrupt, DiskFault, NoMemory}
 use Rattle.kv_model.specs.Machine.{Machine}
 use Rattle.kv_model.specs.Content.{Content, start}
-use Rattle.wt_io.specs.Streams.{Gave}
+use Rattle.wt_io.specs.Streams.{AtEnd, Gave}
 use Rattle.wt_io.specs.declared.streams.Source.{Ghosts as SourceGhosts}
 use Rattle.wt_io.specs.declared.streams.Sink.{Ghosts as SinkGhosts}
 use Rattle.row_page.specs.Greatest.{no_name}
 use Rattle.engine_world.specs.Stands.{Engine, Stands}
 use Rattle.engine_world.specs.Systems.{first_world}
 use Rattle.script_run.specs.declared.script.End.{End}
-use Rattle.script_run.specs.declared.script.End.TheVariants.{Through, Stopped}
+use Rattle.script_run.specs.declared.script.End.TheVariants.{Through, Stopped, InputFailed, OutputFailed}
 use Rattle.script_run.specs.Scripts.{Outside, outside, counts}
 use Rattle.engine_world.specs.Worlds.{World, Resting, doing_of}
 use Rattle.stored.specs.Stored.{Stored}
@@ -28,6 +28,7 @@ use Rattle.wt_line.specs.Line.{Asked}
 use Rattle.wt_tool.specs.Points.{Point, Ran, point_of, stops}
 use Rattle.engine_store.specs.Devices.{Device, Installed, device_of}
 use Rattle.wt_tool.specs.Narrow.{ClosesOne}
+use Rattle.wt_tool.specs.Loads.{RunsLoad}
 use Rattle.wt_tool.specs.Scripts.{RunsScript, told_at}
 use Rattle.wt_tool.specs.Top.{Errors, Streams, errors_of, streams_of, Printed, Tells, lines, last_line, status_at, status_by, Went}
 use Rattle.engine_store.specs.Images.{OpensToLast, OpensToOne, Stays, EachReads}
@@ -132,6 +133,48 @@ abbrev pub ReadsOn : {K E : Type 0} (k : SinkGhosts K) (e : SinkGhosts E) → En
 ReadsOn k e engine Allowed out out_now err err_now status =
     (content : Content) → Starts content engine → (device : Device)
     → Reading (Allowed (Rose (k.fault_count out) (k.fault_count out_now))) (record { machine = start content; device = device }) (k.written out) (k.written out_now) (errors_of e err err_now) status
+
+-- ---- a load
+
+-- a run of `load` that the definitions allow, what it read and told, and the device that it left, at each moment and in each image
+pub record Loading {D : Type 0} (g : Ghosts D) (Allowed : Point → Ran → Type 0) (m : Machine) (in_before in_now : Option (List ℕ)) (e : Errors) (old new : D) (status : ℕ) : Type 0 where
+  pub ran : Ran
+  pub run : Allowed (point_of g m old) ran
+  pub there : ran.next.device ≡ device_of g new
+  pub taken : Gave in_before in_now ran.input
+  pub silent : ran.text ≡ []
+  pub told : Tells e (lines ran.refusals ++ last_line ran.end) (status_by ran) status
+  pub opens : OpensToLast (g.may_leave new) m.completed ran.next.machine.completed ran.made
+  pub ever : LeavesOnly g old new (OpensToOne m.completed ran.made)
+  pub stays : Stays (g.left_since new) ran.made
+
+-- what the streams of a load allow
+abbrev pub load_allowed : {S : Type 0} → SourceGhosts S → S → S → Bool → Option (List ℕ) → Point → Ran → Type 0
+load_allowed s input input_now overwrite renamed = RunsLoad (Rose (s.fault_count input) (s.fault_count input_now)) (AtEnd (s.left input_now)) overwrite renamed
+
+-- from an honest disk each of whose images reads with one content, such a run
+abbrev pub LoadsFrom : {D S E : Type 0} (g : Ghosts D) (s : SourceGhosts S) (e : SinkGhosts E) → Bool → Option (List ℕ) → S → S → E → E → D → D → ℕ → Type 0
+LoadsFrom g s e overwrite renamed input input_now err err_now old new status =
+    IsTrue (g.honest old) → (content : Content) → EachReads (g.may_leave old) content
+    → Loading g (load_allowed s input input_now overwrite renamed) (start content) (s.left input) (s.left input_now) (errors_of e err err_now) old new status
+
+-- how a load ended, before it is told
+pub record LoadEnds {D : Type 0} (g : Ghosts D) (Allowed : Point → Ran → Type 0) (m : Machine) (in_before in_now : Option (List ℕ)) (old new : D) (end : End) : Type 0 where
+  pub taken : List ℕ
+  pub made : List Installed
+  pub next : Machine
+  pub gave : Gave in_before in_now taken
+  pub run : Allowed (point_of g m old) (record { input = taken; text = []; refusals = told_at end; replies = []; made = made; next = point_of g next new; end = end })
+  pub opens : OpensToLast (g.may_leave new) m.completed next.completed made
+  pub ever : LeavesOnly g old new (OpensToOne m.completed made)
+  pub stays : Stays (g.left_since new) made
+
+-- how a load may end: damage is never told, a fault of the disk or of the input only where its count rose, and the output is not used
+abbrev pub EndsLoad : (disk_failed input_failed : Type 0) → End → Type 0
+EndsLoad disk_failed input_failed Through = Unit {0}
+EndsLoad disk_failed input_failed (Stopped r) = NoDamage r × (r ≡ DiskFault → disk_failed)
+EndsLoad disk_failed input_failed InputFailed = input_failed
+EndsLoad disk_failed input_failed OutputFailed = ⊥
 
 -- ---- scripts
 

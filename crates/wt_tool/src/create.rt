@@ -1,15 +1,16 @@
 // `create`: a table is made, where it is not there, and a checkpoint taken.
-ghost use Rattle.std.specs.Prelude.{◌≡◌, IfErr, IsTrue};
+ghost use Rattle.std.specs.Prelude.{◌≡◌, length, IfErr, IsTrue};
 ghost use Rattle.std.specs.Option.{option_map};
 ghost use Rattle.failure.specs.Counts.{Rose};
 ghost use Rattle.disk_model.specs.Crash.{SameDisk};
 ghost use Rattle.kv_model.specs.Content.{Content};
+ghost use Rattle.engine_world.specs.Stands.{Stands};
 ghost use Rattle.engine_world.specs.Worlds.{World};
 ghost use Rattle.engine_store.specs.Opened.{IsReady};
 ghost use Rattle.wt_tool.specs.Narrow.{ClosesOne};
 ghost use Rattle.wt_tool.specs.Creates.{MakesTable, RunsCreate};
-ghost use Rattle.wt_tool.specs.Parts.{HasStarted, IsOpenedOn, IsPlainOn, LeavesFrom, Makes, NoDamage};
-ghost use Rattle.wt_tool.specs.Led.{Grows, IsMild};
+ghost use Rattle.wt_tool.specs.Parts.{HasStarted, IsOpenedOn, IsPlainOn, IsQuiet, LeavesFrom, Makes, NoDamage};
+ghost use Rattle.wt_tool.specs.Led.{Grows, IsMild, Leads, MadeBy};
 
 use crate::closing::close;
 use crate::names::{formats_asked, item_of, name_of};
@@ -63,6 +64,19 @@ fn make_table(
     ensures makes { (content : Content) (w : World) → IsPlainOn content engine.old w → Makes content (MakesTable name.now formats ClosesOne) w engine.new result }
     ensures mild { IfErr result IsMild }
     ensures grows { Grows engine.old engine.new }
+{
+    make(alloc, engine, name, formats)
+}
+
+// Makes the table, on any quiet engine.
+pub(crate) fn make(
+    alloc: Global,
+    engine: &mut Local,
+    name: &[u8],
+    formats: Formats,
+) -> Result<(), Refusal>
+    ensures led { (w : World) → Stands engine.old w → IsQuiet w → (later : World) × Leads engine.old engine.new w later × MadeBy name.now formats w.machine later.machine result }
+    ensures there { length engine.new.sessions ≡ length engine.old.sessions }
 {
     plain_stays();
     // How many actors there are is known of every engine.

@@ -11,7 +11,9 @@
 mod closing;
 mod create;
 mod dump;
+mod input;
 mod list;
+mod load;
 mod names;
 mod opening;
 mod read;

@@ -48,7 +48,8 @@ pub(crate) fn name_of(uri: &[u8]) -> Option<&[u8]>
     }
 }
 
-fn after_scheme(uri: &[u8]) -> &[u8]
+// What stands behind the scheme of a uri, or all of it.
+pub(crate) fn after_scheme(uri: &[u8]) -> &[u8]
     ensures { result.now ≡ after_scheme uri.now }
 {
     if uri.len() < 6 {

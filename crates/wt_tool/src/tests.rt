@@ -6,6 +6,7 @@ mod damage;
 mod faults;
 mod formats;
 mod lasting;
+mod loads;
 mod openings;
 mod scripts;
 mod slots;

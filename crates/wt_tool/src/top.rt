@@ -10,6 +10,7 @@ ghost use Rattle.wt_tool.specs.Top.{Promise, Tells, Telling, IsSo, IsAt, IsOpena
 use crate::create::create;
 use crate::dump::dump;
 use crate::list::list;
+use crate::load::load;
 use crate::opening::reach;
 use crate::read::read;
 use crate::script::script;
@@ -109,6 +110,9 @@ fn run<S: Source, K: Sink, E: Sink, D: Home>(
         Command::Script => script(alloc, disk, store, input, out, err),
         Command::Dump { hex, reverse, uri } => {
             dump(alloc, out, err, store.engine, *hex, *reverse, uri)
+        }
+        Command::Load { no_overwrite, name } => {
+            load(alloc, disk, store, input, err, *no_overwrite, *name)
         }
     }
 }

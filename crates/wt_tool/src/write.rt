@@ -126,7 +126,7 @@ fn put_begun(
 }
 
 // Commits the transaction of the session.
-fn commit(alloc: Global, engine: &mut Local) -> Result<(), Refusal>
+pub(crate) fn commit(alloc: Global, engine: &mut Local) -> Result<(), Refusal>
     requires there { 0 < length engine.old.sessions }
     ensures led { (w : World) → Stands engine.old w → IsQuiet w → (later : World) × Leads engine.old engine.new w later × DoneBy (Commit None None) w.machine later.machine result }
     ensures there { length engine.new.sessions ≡ length engine.old.sessions }
@@ -168,7 +168,7 @@ fn put_of(
 }
 
 // What a put asks of its key: without -o, that it has no value.
-fn demand_for(overwrite: bool) -> Demand
+pub(crate) fn demand_for(overwrite: bool) -> Demand
     ensures { demand_in result ≡ demand_of overwrite }
 {
     if overwrite {

@@ -1,4 +1,4 @@
-use Rattle.wt_line.proofs.PlainWords.{create_plain, create_configured, dump_hex, dump_plain, dump_reverse, list_alone, overwrite_items, read_items, script_alone, verify_alone, verify_plain, write_items}
+use Rattle.wt_line.proofs.PlainWords.{create_plain, create_configured, dump_hex, dump_plain, dump_reverse, list_alone, load_alone, load_both, load_kept, load_renamed, overwrite_items, read_items, script_alone, verify_alone, verify_plain, write_items}
 use Rattle.wt_line.proofs.law.plain_words_are_items.Goals as goal
 
 pub returns-clause-create : goal.returns-clause-create
@@ -36,3 +36,15 @@ returns-clause-hex c = dump_hex
 
 pub returns-clause-reverse : goal.returns-clause-reverse
 returns-clause-reverse c = dump_reverse
+
+pub returns-clause-load : goal.returns-clause-load
+returns-clause-load c = load_alone
+
+pub returns-clause-kept : goal.returns-clause-kept
+returns-clause-kept c = load_kept
+
+pub returns-clause-renamed : goal.returns-clause-renamed
+returns-clause-renamed c = load_renamed
+
+pub returns-clause-both : goal.returns-clause-both
+returns-clause-both c = load_both

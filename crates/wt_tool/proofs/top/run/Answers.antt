@@ -19,7 +19,7 @@ use Rattle.wt_tool.specs.Lists.{RunsList}
 use Rattle.wt_tool.specs.Verifies.{RunsVerify}
 use Rattle.wt_tool.specs.Commands.{RunsOpened}
 use Rattle.wt_tool.specs.Top.{Errors, IsSo, Streams, Telling, Went, errors_of, streams_of}
-use Rattle.wt_tool.proofs.Running.{refused_open, may_open, opened_reads, starts_on, opens_of, gave_none, telling, no_damage_so, told_so, opening_so, status_some, untold_at, stopped, left_by_calls, reading_went, script_went}
+use Rattle.wt_tool.proofs.Running.{refused_open, may_open, opened_reads, starts_on, opens_of, gave_none, telling, no_damage_so, told_so, opening_so, status_some, untold_at, stopped, left_by_calls, load_status, load_went, reading_went, script_went}
 use Rattle.wt_tool.proofs.top.run.Goals as goal
 
 if_err : {T E : Type 0} (P : E → Type 0) (r : Result T E) (e : E) → r ≡ Err e → IfErr r P → P e
@@ -219,3 +219,29 @@ returns-in-Script-clause-silent g c h = inr (opened_reads g.D.Disk c.args.disk.n
 
 pub returns-in-Script-clause-opened : goal.returns-in-Script-clause-opened
 returns-in-Script-clause-opened g c h none = opened_reads g.D.Disk c.args.disk.now c.reach.new.disk c.in-Ok.store c.reach.ensures.looked (c.in-Ok.ensures.ok h)
+
+pub returns-in-Load-clause-run : goal.returns-in-Load-clause-run
+returns-in-Load-clause-run g c h content each =
+    let D = g.D.Disk in
+    let looked = c.reach.ensures.looked in
+    let o : Outside = outside g.S.Source g.K.Sink c.args.input.now c.load.new.input c.args.out.now c.args.out.now in
+    let w : Streams = streams_of g.S.Source g.K.Sink g.E.Sink c.args.input.now c.load.new.input c.args.out.now c.args.out.now c.args.err.now c.load.new.err in
+    let reads = each.0 _ (g.met.D.Disk.reads_an_image _ h) in
+    let first = looked_only D _ _ _ looked (λ d left. each.0 d (g.met.D.Disk.only_now _ d left)) in
+    let name = option_map {T = Bor (List ℕ)} {U = List ℕ} (λ x. x.now) c.in-Load.name in
+    subst (λ (a : Command). Went D o (meaning a) content w c.args.disk.now c.load.new.disk c.load.result) (sym c.in-Load.is)
+    (load_went D c.args.disk.now c.reach.new.disk c.load.new.disk content each.1 o w c.load.result c.in-Load.no_overwrite name
+    (opens_of D (start content) c.args.disk.now c.reach.new.disk looked) (may_open D c.args.disk.now c.reach.new.disk c.in-Ok.store looked (c.in-Ok.ensures.ok h) content reads) first (took_none _)
+    (c.load.ensures.run (looked.same ∙ h) content ((λ d left. each.0 d (looked.images d left)), each.1)))
+
+pub returns-in-Load-clause-told : goal.returns-in-Load-clause-told
+returns-in-Load-clause-told g c = told_so _ _ _ _ c.load.result c.load.ensures.told
+
+pub returns-in-Load-clause-opened : goal.returns-in-Load-clause-opened
+returns-in-Load-clause-opened g c h none = opened_reads g.D.Disk c.args.disk.now c.reach.new.disk c.in-Ok.store c.reach.ensures.looked (c.in-Ok.ensures.ok h)
+
+pub returns-in-Load-clause-statuses : goal.returns-in-Load-clause-statuses
+returns-in-Load-clause-statuses g c = (load_status c.load.result c.load.ensures.statuses).0
+
+pub returns-in-Load-clause-output_fault : goal.returns-in-Load-clause-output_fault
+returns-in-Load-clause-output_fault g c is = absurd ((load_status c.load.result c.load.ensures.statuses).1 is)

@@ -1,0 +1,11 @@
+use Rattle.std.proofs.Common.{refl}
+use Rattle.dump_text.proofs.Taking.{stop_is, taken_kept}
+use Rattle.dump_text.proofs.whole.Reading.take.Goals as goal
+
+pub returns-in-Ok-clause-taken : goal.returns-in-Ok-clause-taken
+returns-in-Ok-clause-taken c lines t =
+    taken_kept lines c.args.line.now c.args.behind.now c.args.self.now _ c.keep.new.self c.in-Ok.step c.in-Ok.ensures.ok refl c.keep.ensures t
+
+pub returns-in-Err-clause-refused : goal.returns-in-Err-clause-refused
+returns-in-Err-clause-refused c lines left less t =
+    stop_is lines left c.args.line.now c.args.self.now c.in-Err.refusal less t c.in-Err.ensures.refused
