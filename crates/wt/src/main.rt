@@ -2,19 +2,22 @@
 //!
 //! It promises that the words it takes are the arguments behind the first. What a command means,
 //! what it writes and its status are `wt_tool`'s; that failed calls are counted is `disk_file`'s and
-//! `wt_std_io`'s.
+//! `wt_std_io`'s. Where the error stream is a terminal, a count of the bytes that have passed is shown
+//! there for work that may be long; no stream of `wt_tool` has it.
 #![tactic(auto)]
 
 ghost use Rattle.std.specs.Prelude.{◌≡◌, drop, IfOk, IfErr};
 ghost use Rattle.std.specs.Vec.Iter.{into_iter_items};
 
+use byte_meter::{Meter, MeteredDisk, MeteredSink, MeteredSource};
 use disk_file::FileDisk;
 use std::alloc::Global;
 use std::env;
 use std::env::Args;
-use std::io::ErrorKind;
+use std::io::{ErrorKind, IsTerminal, Stderr};
 use std::process::ExitCode;
 use wt_io::write_all;
+use wt_line::{Command, parse};
 use wt_std_io::{StdSink, StdSource};
 use wt_tool::wt_main;
 
@@ -60,15 +63,55 @@ fn behind_the_first(alloc: Global, args: Args) -> Result<Vec<String>, NoWords>
     Ok(words)
 }
 
+/// Where long work passes, of which a terminal shows the count.
+#[derive(Clone, Copy, PartialEq, Eq)]
+enum LongWork {
+    Input,
+    Output,
+    Disk,
+}
+
+// The work of a command that a person may wait for.
+fn long_work(alloc: Global, words: &[String]) -> Option<LongWork> {
+    match parse(alloc, words) {
+        Ok(Command::Load { .. }) => Some(LongWork::Input),
+        Ok(Command::Dump { .. }) => Some(LongWork::Output),
+        Ok(Command::Verify { .. }) => Some(LongWork::Disk),
+        _ => None,
+    }
+}
+
+// A meter of the work, on the error stream where that is a terminal. Rows that go to a terminal
+// themselves tell that it goes on.
+fn meter_of(rt: &HostRuntime, work: Option<LongWork>, here: LongWork) -> Meter<Stderr> {
+    let errors = rt.stderr();
+    let shows_rows = here == LongWork::Output && rt.stdout().is_terminal();
+    let is_shown = work == Some(here) && errors.is_terminal() && !shows_rows;
+    Meter::new(if is_shown { Some(errors) } else { None })
+}
+
 fn main(rt: HostRuntime) -> ExitCode {
     let alloc = rt.alloc();
-    let mut input = StdSource::new(rt.stdin());
-    let mut out = StdSink::new(rt.stdout());
     let mut err = StdSink::new(rt.stderr());
     match words_of(&rt) {
         Ok(words) => {
-            let disk = FileDisk::new(rt);
-            let ended = wt_main(&rt, alloc, &words, &mut input, &mut out, &mut err, disk);
+            let work = long_work(alloc, &words);
+            let mut input = MeteredSource {
+                inner: StdSource::new(rt.stdin()),
+                meter: meter_of(&rt, work, LongWork::Input),
+            };
+            let mut out = MeteredSink {
+                inner: StdSink::new(rt.stdout()),
+                meter: meter_of(&rt, work, LongWork::Output),
+            };
+            let disk = MeteredDisk {
+                meter: meter_of(&rt, work, LongWork::Disk),
+                inner: FileDisk::new(rt),
+            };
+            let mut ended = wt_main(&rt, alloc, &words, &mut input, &mut out, &mut err, disk);
+            input.meter.clear();
+            out.meter.clear();
+            ended.disk.meter.clear();
             ExitCode::from(ended.status)
         }
         Err(NoWords::NotText) => {
