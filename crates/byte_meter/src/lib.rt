@@ -1,9 +1,9 @@
 //! Counts on a terminal, for a person who waits: streams and a disk whose bytes are counted as they
 //! pass.
 //!
-//! Promises that a stream or a disk with a meter is the one that it is made of: each call is one call
-//! of that, with the same answer. What the terminal shows is promised to nobody, and a failed write
-//! of it is no fault.
+//! Promises that a stream or a disk with a meter keeps the contract of its trait with the bytes, the
+//! faults and the content of the one that it is made of. What the terminal shows is promised to
+//! nobody, and a failed write of it is no fault.
 #![tactic(auto)]
 
 mod disk;
