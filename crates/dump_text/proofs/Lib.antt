@@ -1,4 +1,5 @@
 mod DumpRuns
+mod EscapeRuns
 mod FinishedDumps
 mod Joined
 mod Taking

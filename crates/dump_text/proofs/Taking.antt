@@ -1,7 +1,7 @@
 -- What is known of a text that was read line by line.
 use Rattle.std.proofs.Common.{◌≡◌, ◌∙◌, ◌++◌, ◌+◌, ◌<◌, ◌-◌, ◌^◌, ◌⊎◌, ℕ, List, [], ◌∷◌, Option, Some, None, length, inl, inr, refl, sym, ap, subst, arith, append_assoc, min, Bool, true, false}
-use Rattle.std.specs.Prelude.{◌==◌, if◌then◌else◌, Result, Ok, Err, IfOk, IfErr, OnOk}
-use Rattle.std.proofs.lemmas.Bool.{eqb-true}
+use Rattle.std.specs.Prelude.{◌==◌, if◌then◌else◌, Result, Ok, Err, IfOk, IfErr, OnOk, not}
+use Rattle.std.proofs.lemmas.Bool.{eqb-true, false≢true}
 use Rattle.std.proofs.lemmas.List.{append-nil, length_push}
 use Rattle.std.proofs.lemmas.Option.{same_Some}
 use Rattle.item.specs.declared.formats.Formats.{Formats}
@@ -10,12 +10,12 @@ use Rattle.wt_code.specs.declared.refusals.Refusal.TheVariants.{NoMemory, Invali
 use Rattle.wt_code.specs.declared.refusals.Invalid.TheVariants.{Text}
 use Rattle.dump_text.specs.Cuts.{before_lines, lines_in}
 use Rattle.dump_text.specs.Grammar.{AreRows, IsDump, Row}
-use Rattle.dump_text.specs.Items.{item_on}
-use Rattle.dump_text.specs.Lines.{MayEnd, Reads, ReadsNone, Takes, number_behind, refusal_of_next}
+use Rattle.dump_text.specs.Items.{WritesItem, item_on}
+use Rattle.dump_text.specs.Lines.{MayEnd, Reads, ReadsNone, Takes, TakesNone, number_behind, refusal_of_next}
 use Rattle.dump_text.specs.RowLines.{AreRowLines, HasItem, item_at, rows_in}
-use Rattle.dump_text.specs.Runs.{HasRead, Runs, rows_of, table_of}
+use Rattle.dump_text.specs.Runs.{HasRead, rows_of, table_of}
 use Rattle.dump_text.specs.Texts.{GoesOn, IsDumped, IsRefused}
-use Rattle.dump_text.specs.Wholes.{HasTaken, IsCutOff, IsFound, IsFoundIn, IsHead, IsKept, IsStop}
+use Rattle.dump_text.specs.Wholes.{HasTaken, IsCutOff, IsFound, IsFoundIn, IsHead, IsKept, IsNext, IsRowAnswer, IsRowNext, IsStop, format_next, reader_at}
 use Rattle.dump_text.specs.declared.form.Form.{Form}
 use Rattle.dump_text.specs.declared.reader.DumpReader.{DumpReader}
 use Rattle.dump_text.specs.declared.reader.Next.{Next}
@@ -61,29 +61,30 @@ head_no_end (next.Key form formats) is end = is
 head_no_end (next.Value form formats key) is end = end
 head_no_end next.Over is end = end
 
--- what is next is a key or a value, written so
-abbrev InRows : Form → Formats → Next → Type 0
-InRows form formats (next.Key f g) = (f ≡ form) × (g ≡ formats)
-InRows form formats (next.Value f g key) = (f ≡ form) × (g ≡ formats)
-InRows form formats _ = ⊥
+-- a line that writes the item that is next is taken
+abbrev RowTaken : Bool → Found → Next → List ℕ → Type 0
+RowTaken at_value f at line = (to : Next) × (said : Step) × Takes at line to said × IsRowNext (not at_value) f to × ((table : Table) → said ≡ step.Table table → ⊥)
 
-row_step : (form : Form) (formats : Formats) (at : Next) (line : List ℕ) (to : Next) (said : Step) → InRows form formats at → Takes at line to said → InRows form formats to × ((table : Table) → said ≡ step.Table table → ⊥)
-row_step form formats (next.Key f g) line to said is p = (subst (InRows form formats) (sym p.2) is, λ table e. let s = sym p.3 ∙ e in cc (s))
-row_step form formats (next.Value f g key) line to said is p = (subst (InRows form formats) (sym p.2) is, λ table e. let s = sym p.3 ∙ e in cc (s))
-row_step form formats next.Title line to said is p = absurd is
-row_step form formats next.Form line to said is p = absurd is
-row_step form formats (next.Header f) line to said is p = absurd is
-row_step form formats (next.Pair f found) line to said is p = absurd is
-row_step form formats (next.Skipped f found) line to said is p = absurd is
-row_step form formats (next.Config f name) line to said is p = absurd is
-row_step form formats next.Over line to said is p = absurd is
+row_taken : (at_value : Bool) (f : Found) (at : Next) (line : List ℕ) → IsRowNext at_value f at → WritesItem f.form (format_next at_value f.table.formats) line → RowTaken at_value f at line
+row_taken true f at line is writes = (
+  next.Key f.form f.table.formats,
+  step.Row is.0 writes.0,
+  subst (λ (n : Next). Takes n line (next.Key f.form f.table.formats) (step.Row is.0 writes.0)) (sym is.1) (writes.0, writes.1, refl, refl),
+  refl,
+  λ table e. cc (e),
+)
+row_taken false f at line is writes = (
+  next.Value f.form f.table.formats writes.0,
+  step.Key,
+  subst (λ (n : Next). Takes n line (next.Value f.form f.table.formats writes.0) step.Key) (sym is) (writes.0, writes.1, refl, refl),
+  (writes.0, refl),
+  λ table e. cc (e),
+)
 
-row_run : (form : Form) (formats : Formats) (lines : List (List ℕ)) (at to : Next) (said : List Step) → InRows form formats at → Runs at lines to said → InRows form formats to
-row_run form formats [] at to said is ran = subst (InRows form formats) (sym ran.0) is
-row_run form formats (line ∷ lines) at to said is ran = row_run form formats lines ran.0 to ran.2 (row_step form formats at line ran.0 ran.1 is ran.3).0 ran.4
-
-one_form : (form f : Form) (formats g : Formats) (at : Next) → InRows form formats at → at ≡ next.Key f g → f ≡ form
-one_form form f formats g at is e = (subst (InRows form formats) e is).0
+-- and no other line is
+row_refused : (at_value : Bool) (f : Found) (at : Next) (line : List ℕ) → IsRowNext at_value f at → (WritesItem f.form (format_next at_value f.table.formats) line → ⊥) → TakesNone at line
+row_refused true f at line is none to said takes = let t = subst (λ (n : Next). Takes n line to said) is.1 takes in none (t.0, t.1)
+row_refused false f at line is none to said takes = let t = subst (λ (n : Next). Takes n line to said) is takes in none (t.0, t.1)
 
 -- ---- the rows
 
@@ -118,37 +119,24 @@ found_more None lines said last line at to left other takes is = by_step (head_s
     )
     by_step (inr p) = absurd (other p.0 p.2)
 found_more (Some f) lines said last line at to left other takes is = record {
-  form = is.form;
   since = is.since ++ line ∷ [];
   told = is.told ++ last ∷ [];
   lines = is.lines ∙ sym (append_assoc is.since (line ∷ []) left);
-  ran = run-on is.since line (next.Key is.form f.table.formats) at to is.told last is.ran takes;
+  ran = run-on is.since line (next.Key f.form f.table.formats) at to is.told last is.ran takes;
   table = table_behind said last f.table is.table;
   rows = rows_behind said last ∙ ap (λ (l : List Row). l ++ rows_of (last ∷ [])) is.rows ∙ sym (rows_behind is.told last);
 }
 
--- the table is told but once
-found_table : (found : Option Found) (said : List Step) (table : Table) (line : List ℕ) (at to : Next) (left : List (List ℕ)) (f : Found) → f.table ≡ table → lines_in f.rows.now ≡ left → Takes at line to (step.Table table) → IsFound found said at (line ∷ left) → IsFoundIn f (said ++ step.Table table ∷ []) to left
-found_table None said table line at to left f same behind takes is = by_step (head_step at line to (step.Table table) is.0 takes)
-  where
-    by_step : IsHeadStep to (step.Table table) → IsFoundIn f (said ++ step.Table table ∷ []) to left
-    by_step (inl p) = absurd (let e = p.0 in cc (e))
-    by_step (inr p) =
-        let one : table ≡ p.0 = same_table table p.0 p.2 in
-        record {
-          form = p.1;
-          since = [];
-          told = [];
-          lines = behind;
-          ran = (p.3 ∙ ap (λ (t : Table). next.Key p.1 t.formats) (sym one ∙ sym same), refl);
-          table = table_first said (step.Table table) is.1 ∙ ap (λ (t : Table). Some t) (sym same);
-          rows = rows_behind said (step.Table table) ∙ append-nil (rows_of said) ∙ is.2;
-        }
-      where
-        same_table : (a b : Table) → step.Table a ≡ step.Table b → a ≡ b
-        same_table a b e = cc
-found_table (Some g) said table line at to left f same behind takes is =
-    absurd ((row_step is.form g.table.formats at line to (step.Table table) (row_run is.form g.table.formats is.since (next.Key is.form g.table.formats) at is.told (refl, refl) is.ran) takes).1 table refl)
+-- the table is told
+found_table : (said : List Step) (f : Found) (at to : Next) (left : List (List ℕ)) → lines_in f.rows.now ≡ left → to ≡ next.Key f.form f.table.formats → IsFound None said at (left) → IsFoundIn f (said ++ step.Table f.table ∷ []) to left
+found_table said f at to left behind told is = record {
+  since = [];
+  told = [];
+  lines = behind;
+  ran = (told, refl);
+  table = table_first said (step.Table f.table) is.1;
+  rows = rows_behind said (step.Table f.table) ∙ append-nil (rows_of said) ∙ is.2;
+}
 
 -- ---- the ends
 
@@ -159,52 +147,126 @@ pub refused_is : (lines : List (List ℕ)) (reader : DumpReader) (said : List St
 refused_is lines reader said less read = count_is (length lines) reader.lines less read.counted
 
 -- a line is not taken
-pub stop_is : (lines left : List (List ℕ)) (line : List ℕ) (r : Reading) (refusal : Refusal) → length lines < 2 ^ 63 → HasTaken lines left r → (refusal ≡ NoMemory) ⊎ ((refusal ≡ refusal_of_next r.reader) × ReadsNone r.reader line) → IsStop lines line refusal
+pub stop_is : (lines left : List (List ℕ)) (line : List ℕ) (r : Reading) (refusal : Refusal) → length lines < 2 ^ 63 → (t : HasTaken lines left r) → (refusal ≡ NoMemory) ⊎ ((refusal ≡ refusal_of_next r.reader) × TakesNone t.at line) → IsStop lines line refusal
 stop_is lines left line r refusal less t (inl short) = inl short
 stop_is lines left line r refusal less t (inr (is, none)) = inr (
-  is ∙ ap (λ (n : ℕ). Invalid (Text n)) (refused_is lines r.reader t.said less t.read),
-  lines-go-on lines r.reader t.said t.read,
-  λ on. wrong-line lines on.0 line r.reader t.said on.1 t.read none (subst (IsDump on.1) (append_assoc lines (line ∷ []) on.0) on.2),
+  is ∙ ap (λ (n : ℕ). Invalid (Text n)) (refused_is lines (reader_at r.reader.lines t.at) t.said less t.read),
+  lines-go-on lines (reader_at r.reader.lines t.at) t.said t.read,
+  λ on. wrong-line lines on.0 line (reader_at r.reader.lines t.at) t.said on.1 t.read none (subst (IsDump on.1) (append_assoc lines (line ∷ []) on.0) on.2),
 )
 
 -- it is taken, and the table is what it was
-taken_more : (lines left : List (List ℕ)) (line : List ℕ) (old new : Reading) (last : Step) → ((table : Table) → last ≡ step.Table table → ⊥) → Reads old.reader line new.reader last → new.found ≡ old.found → HasTaken lines (line ∷ left) old → HasTaken (lines ++ line ∷ []) left new
-taken_more lines left line old new last other reads same t = record {
+taken_more : (lines left : List (List ℕ)) (line : List ℕ) (old new : Reading) (to : Next) (last : Step) → ((table : Table) → last ≡ step.Table table → ⊥) → (t : HasTaken lines (line ∷ left) old) → Takes t.at line to last
+    → new.reader.lines ≡ number_behind old.reader.lines → new.found ≡ old.found → IsNext new.found new.at_value new.reader.next to → HasTaken (lines ++ line ∷ []) left new
+taken_more lines left line old new to last other t takes counted same stands = record {
   said = t.said ++ last ∷ [];
-  read = line-more lines line old.reader new.reader t.said last t.read reads;
-  found = subst (λ (o : Option Found). IsFound o (t.said ++ last ∷ []) new.reader.next left) (sym same) (found_more old.found lines t.said last line old.reader.next new.reader.next left other reads.0 t.found);
+  at = to;
+  read = line-more lines line (reader_at old.reader.lines t.at) (reader_at new.reader.lines to) t.said last t.read (takes, counted);
+  found = subst (λ (o : Option Found). IsFound o (t.said ++ last ∷ []) to left) (sym same) (found_more old.found lines t.said last line t.at to left other takes t.found);
+  stands = stands;
 }
 
--- or it is told
-taken_table : (lines left : List (List ℕ)) (line : List ℕ) (old new : Reading) (table : Table) (f : Found) → f.table ≡ table → lines_in f.rows.now ≡ left → Reads old.reader line new.reader (step.Table table) → new.found ≡ Some f → HasTaken lines (line ∷ left) old → HasTaken (lines ++ line ∷ []) left new
-taken_table lines left line old new table f one behind reads same t = record {
-  said = t.said ++ step.Table table ∷ [];
-  read = line-more lines line old.reader new.reader t.said (step.Table table) t.read reads;
-  found = subst (λ (o : Option Found). IsFound o (t.said ++ step.Table table ∷ []) new.reader.next left) (sym same) (found_table old.found t.said table line old.reader.next new.reader.next left f one behind reads.0 t.found);
-}
+-- a line of a row is taken
+pub taken_row : (lines left : List (List ℕ)) (line : List ℕ) (old new : Reading) (answer : Option Bool) → answer ≡ Some true → IsRowAnswer old.found old.at_value line answer
+    → new.reader.lines ≡ number_behind old.reader.lines → new.found ≡ old.found → new.at_value ≡ not old.at_value → HasTaken lines (line ∷ left) old → HasTaken (lines ++ line ∷ []) left new
+taken_row lines left line old new answer so row counted same turned t = by_found old.found refl row
+  where
+    by_found : (o : Option Found) → old.found ≡ o → IsRowAnswer o old.at_value line answer → HasTaken (lines ++ line ∷ []) left new
+    by_found None e none = absurd (let e = sym so ∙ none in cc (e))
+    by_found (Some f) e row =
+        let is : row.0 ≡ true = same_Some row.0 true (sym row.1 ∙ so) in
+        let stands : IsRowNext old.at_value f t.at = subst (λ (o : Option Found). IsNext o old.at_value old.reader.next t.at) e t.stands in
+        let more = row_taken old.at_value f t.at line stands (row.2.0 is) in
+        taken_more lines left line old new more.0 more.1 more.4 t more.2 counted same
+        (subst (λ (o : Option Found). IsNext o new.at_value new.reader.next more.0) (sym (same ∙ e)) (subst (λ (b : Bool). IsRowNext b f more.0) (sym turned) more.3))
 
--- what the line told is kept
-pub taken_kept : (lines : List (List ℕ)) (line behind : List ℕ) (old mid new : Reading) (last : Step) → Reads old.reader line mid.reader last → mid.found ≡ old.found → IsKept last behind mid new → HasTaken lines (line ∷ lines_in behind) old → HasTaken (lines ++ line ∷ []) (lines_in behind) new
-taken_kept lines line behind old mid new (step.Table table) reads same kept t =
-    let f = kept.1.0 in
-    taken_table lines (lines_in behind) line old new table f kept.1.2 (ap lines_in kept.1.3) (subst (λ (x : DumpReader). Reads old.reader line x (step.Table table)) (sym kept.0) reads) kept.1.1 t
-taken_kept lines line behind old mid new step.More reads same kept t =
-    subst (HasTaken (lines ++ line ∷ []) (lines_in behind)) (sym kept) (taken_more lines (lines_in behind) line old mid step.More (λ table e. cc (e)) reads same t)
-taken_kept lines line behind old mid new step.Key reads same kept t =
-    subst (HasTaken (lines ++ line ∷ []) (lines_in behind)) (sym kept) (taken_more lines (lines_in behind) line old mid step.Key (λ table e. cc (e)) reads same t)
-taken_kept lines line behind old mid new (step.Row key value) reads same kept t =
-    subst (HasTaken (lines ++ line ∷ []) (lines_in behind)) (sym kept) (taken_more lines (lines_in behind) line old mid (step.Row key value) (λ table e. cc (e)) reads same t)
+-- or it is not
+pub row_none : (lines left : List (List ℕ)) (line : List ℕ) (r : Reading) (answer : Option Bool) → answer ≡ Some false → IsRowAnswer r.found r.at_value line answer → (t : HasTaken lines left r) → TakesNone t.at line
+row_none lines left line r answer so row t = by_found r.found refl row
+  where
+    by_found : (o : Option Found) → r.found ≡ o → IsRowAnswer o r.at_value line answer → TakesNone t.at line
+    by_found None e none = absurd (let e = sym so ∙ none in cc (e))
+    by_found (Some f) e row =
+        let is : row.0 ≡ false = same_Some row.0 false (sym row.1 ∙ so) in
+        let stands : IsRowNext r.at_value f t.at = subst (λ (o : Option Found). IsNext o r.at_value r.reader.next t.at) e t.stands in
+        row_refused r.at_value f t.at line stands (λ writes. false≢true (sym is ∙ row.2.1 writes))
+
+pub is_none : (found : Option Found) → ((f : Found) → found ≡ Some f → ⊥) → found ≡ None
+is_none None other = refl
+is_none (Some f) other = absurd (other f refl)
+
+-- the rows have not come
+pub no_rows : (found : Option Found) (at_value : Bool) (line : List ℕ) (answer : Option Bool) → answer ≡ None → IsRowAnswer found at_value line answer → found ≡ None
+no_rows None at_value line answer none row = refl
+no_rows (Some f) at_value line answer none row = absurd (let some = sym none ∙ row.1 in cc (some))
+
+pub head_next : (lines left : List (List ℕ)) (r : Reading) → r.found ≡ None → (t : HasTaken lines left r) → (t.at ≡ r.reader.next) × (r.at_value ≡ false)
+head_next lines left r none t = subst (λ (o : Option Found). IsNext o r.at_value r.reader.next t.at) none t.stands
+
+pub head_none : (lines left : List (List ℕ)) (line : List ℕ) (r : Reading) → r.found ≡ None → (t : HasTaken lines left r) → ReadsNone r.reader line → TakesNone t.at line
+head_none lines left line r none t refused = subst (λ (n : Next). TakesNone n line) (sym (head_next lines left r none t).0) refused
+
+-- what a line before the rows told is kept
+module _ (lines : List (List ℕ)) (line behind : List ℕ) (old mid new : Reading) (none : old.found ≡ None) (same : mid.found ≡ old.found) (also : mid.at_value ≡ old.at_value) (t : HasTaken lines (line ∷ lines_in behind) old) where
+  takes_there : (last : Step) → Reads old.reader line mid.reader last → Takes t.at line mid.reader.next last
+  takes_there last reads = subst (λ (n : Next). Takes n line mid.reader.next last) (sym (head_next lines (line ∷ lines_in behind) old none t).0) reads.0
+
+  no_table : (last : Step) → ((table : Table) → last ≡ step.Table table → ⊥) → Reads old.reader line mid.reader last → new ≡ mid → HasTaken (lines ++ line ∷ []) (lines_in behind) new
+  no_table last other reads kept =
+      subst (HasTaken (lines ++ line ∷ []) (lines_in behind)) (sym kept)
+      (taken_more lines (lines_in behind) line old mid mid.reader.next last other t (takes_there last reads) reads.1 same
+      (subst (λ (o : Option Found). IsNext o mid.at_value mid.reader.next mid.reader.next) (sym (same ∙ none)) (refl, also ∙ (head_next lines (line ∷ lines_in behind) old none t).1)))
+
+  is_before : IsFound None t.said t.at (line ∷ lines_in behind)
+  is_before = subst (λ (o : Option Found). IsFound o t.said t.at (line ∷ lines_in behind)) none t.found
+
+  told : (table : Table) → Reads old.reader line mid.reader (step.Table table) → IsKept (step.Table table) behind mid new → HasTaken (lines ++ line ∷ []) (lines_in behind) new
+  told table reads kept = by_step (head_step t.at line mid.reader.next (step.Table table) is_before.0 (takes_there (step.Table table) reads))
+    where
+      by_step : IsHeadStep mid.reader.next (step.Table table) → HasTaken (lines ++ line ∷ []) (lines_in behind) new
+      by_step (inl p) = absurd (let e = p.0 in cc (e))
+      by_step (inr p) =
+          let one : table ≡ p.0 = same_table table p.0 p.2 in
+          let k = kept p.1 p.0.formats p.3 in
+          let f : Found = k.0 in
+          let to : mid.reader.next ≡ next.Key f.form f.table.formats = p.3 ∙ (λ i. next.Key (sym k.1 i) (sym (k.2 ∙ one) i).formats) in
+          record {
+            said = t.said ++ step.Table f.table ∷ [];
+            at = mid.reader.next;
+            read = line-more lines line (reader_at old.reader.lines t.at) (reader_at new.reader.lines mid.reader.next) t.said (step.Table f.table) t.read
+                (subst (λ (x : Table). Takes t.at line mid.reader.next (step.Table x)) (sym k.2) (takes_there (step.Table table) reads), ap (λ (x : DumpReader). x.lines) k.4 ∙ reads.1);
+            found = subst (λ (o : Option Found). IsFound o (t.said ++ step.Table f.table ∷ []) mid.reader.next (lines_in behind)) (sym k.5)
+                (found_table t.said f t.at mid.reader.next (lines_in behind) (ap lines_in k.3) to is_before);
+            stands = subst (λ (o : Option Found). IsNext o new.at_value new.reader.next mid.reader.next) (sym k.5)
+                (subst (λ (b : Bool). IsRowNext b f mid.reader.next) (sym (k.6 ∙ also ∙ (head_next lines (line ∷ lines_in behind) old none t).1)) to);
+          }
+        where
+          same_table : (a b : Table) → step.Table a ≡ step.Table b → a ≡ b
+          same_table a b e = cc
+
+  pub taken_kept : (last : Step) → Reads old.reader line mid.reader last → IsKept last behind mid new → HasTaken (lines ++ line ∷ []) (lines_in behind) new
+  taken_kept (step.Table table) reads kept = told table reads kept
+  taken_kept step.More reads kept = no_table step.More (λ table e. cc (e)) reads kept
+  taken_kept step.Key reads kept = no_table step.Key (λ table e. cc (e)) reads kept
+  taken_kept (step.Row key value) reads kept = no_table (step.Row key value) (λ table e. cc (e)) reads kept
 
 -- nothing is left, and it is no end
-pub cut_off : (lines : List (List ℕ)) (r : Reading) → length lines < 2 ^ 63 → HasTaken lines [] r → (MayEnd r.reader.next → ⊥) → IsCutOff lines (Invalid (Text (number_behind r.reader.lines)))
+pub cut_off : (lines : List (List ℕ)) (r : Reading) → length lines < 2 ^ 63 → (t : HasTaken lines [] r) → (MayEnd t.at → ⊥) → IsCutOff lines (Invalid (Text (number_behind r.reader.lines)))
 cut_off lines r less t none = (
-  ap (λ (n : ℕ). Invalid (Text n)) (refused_is lines r.reader t.said less t.read),
-  lines-go-on lines r.reader t.said t.read,
-  λ dump is. none (dump-read dump lines r.reader.next t.said is t.read.ran).0,
+  ap (λ (n : ℕ). Invalid (Text n)) (refused_is lines (reader_at r.reader.lines t.at) t.said less t.read),
+  lines-go-on lines (reader_at r.reader.lines t.at) t.said t.read,
+  λ dump is. none (dump-read dump lines t.at t.said is t.read.ran).0,
 )
 
-pub no_table_no_end : (lines : List (List ℕ)) (r : Reading) → r.found ≡ None → HasTaken lines [] r → MayEnd r.reader.next → ⊥
-no_table_no_end lines r none t end = head_no_end r.reader.next (subst (λ (o : Option Found). IsFound o t.said r.reader.next []) none t.found).0 end
+pub no_table_no_end : (lines : List (List ℕ)) (r : Reading) → r.found ≡ None → (t : HasTaken lines [] r) → MayEnd t.at → ⊥
+no_table_no_end lines r none t end = head_no_end t.at (subst (λ (o : Option Found). IsFound o t.said t.at []) none t.found).0 end
+
+pub no_value_no_end : (lines : List (List ℕ)) (r : Reading) → r.at_value ≡ true → (t : HasTaken lines [] r) → MayEnd t.at → ⊥
+no_value_no_end lines r is t end = by_found r.found (subst (λ (b : Bool). IsNext r.found b r.reader.next t.at) is t.stands)
+  where
+    by_found : (o : Option Found) → IsNext o true r.reader.next t.at → ⊥
+    by_found None stands = false≢true (sym stands.1)
+    by_found (Some f) stands = subst MayEnd stands.1 end
 
 pub no_key_no_end : (at : Next) → ((form : Form) (formats : Formats) → at ≡ next.Key form formats → ⊥) → MayEnd at → ⊥
 no_key_no_end (next.Key form formats) other end = other form formats refl
@@ -218,35 +280,33 @@ no_key_no_end (next.Value form formats key) other end = end
 no_key_no_end next.Over other end = end
 
 -- all was read, and it is a dump
-module _ (lines : List (List ℕ)) (r : Reading) (f : Found) (form : Form) (formats : Formats) (found : r.found ≡ Some f) (at : r.reader.next ≡ next.Key form formats) (t : HasTaken lines [] r) where
-  there : IsFoundIn f t.said r.reader.next []
-  there = subst (λ (o : Option Found). IsFound o t.said r.reader.next []) found t.found
+module _ (lines : List (List ℕ)) (r : Reading) (f : Found) (found : r.found ≡ Some f) (at_key : r.at_value ≡ false) (t : HasTaken lines [] r) where
+  there : IsFoundIn f t.said t.at []
+  there = subst (λ (o : Option Found). IsFound o t.said t.at []) found t.found
 
-  same_form : form ≡ there.form
-  same_form = one_form there.form form f.table.formats formats r.reader.next (row_run there.form f.table.formats there.since (next.Key there.form f.table.formats) r.reader.next there.told (refl, refl) there.ran) at
+  at : t.at ≡ next.Key f.form f.table.formats
+  at = subst (λ (b : Bool). IsRowNext b f t.at) at_key (subst (λ (o : Option Found). IsNext o r.at_value r.reader.next t.at) found t.stands)
 
-  ends : MayEnd r.reader.next
+  ends : MayEnd t.at
   ends = subst MayEnd (sym at) tt
 
-  rows_read : (rows : List Row) × AreRows there.form f.table.formats rows there.since × (rows_of there.told ≡ rows) × (table_of there.told ≡ None)
-  rows_read = rows-sound there.form f.table.formats there.since r.reader.next there.told there.ran ends
+  rows_read : (rows : List Row) × AreRows f.form f.table.formats rows there.since × (rows_of there.told ≡ rows) × (table_of there.told ≡ None)
+  rows_read = rows-sound f.form f.table.formats there.since t.at there.told there.ran ends
 
-  rows_behind_table : AreRows form f.table.formats rows_read.0 (lines_in f.rows.now)
-  rows_behind_table =
-      subst (λ (g : Form). AreRows g f.table.formats rows_read.0 (lines_in f.rows.now)) (sym same_form)
-      (subst (AreRows there.form f.table.formats rows_read.0) (sym (there.lines ∙ append-nil there.since)) rows_read.1)
+  rows_behind_table : AreRows f.form f.table.formats rows_read.0 (lines_in f.rows.now)
+  rows_behind_table = subst (AreRows f.form f.table.formats rows_read.0) (sym (there.lines ∙ append-nil there.since)) rows_read.1
 
-  pub all_row_lines : AreRowLines form (lines_in f.rows.now)
-  all_row_lines = are_row_lines form f.table.formats rows_read.0 (lines_in f.rows.now) rows_behind_table
+  pub all_row_lines : AreRowLines f.form (lines_in f.rows.now)
+  all_row_lines = are_row_lines f.form f.table.formats rows_read.0 (lines_in f.rows.now) rows_behind_table
 
-  pub all_dumped : (d : Dumped) → d.table ≡ f.table → d.rows ≡ rows_in form (lines_in f.rows.now) → IsDumped lines d
+  pub all_dumped : (d : Dumped) → d.table ≡ f.table → d.rows ≡ rows_in f.form (lines_in f.rows.now) → IsDumped lines d
   all_dumped d table rows =
-      let s = dump-sound lines r.reader.next t.said t.read.ran ends in
+      let s = dump-sound lines t.at t.said t.read.ran ends in
       record {
         dump = s.0;
         is = s.1;
         table = table ∙ same_Some f.table (record { name = s.0.name; formats = s.0.formats }) (sym there.table ∙ s.2.table);
-        rows = rows ∙ rows_are form f.table.formats rows_read.0 (lines_in f.rows.now) rows_behind_table ∙ sym rows_read.2 ∙ sym there.rows ∙ s.2.rows;
+        rows = rows ∙ rows_are f.form f.table.formats rows_read.0 (lines_in f.rows.now) rows_behind_table ∙ sym rows_read.2 ∙ sym there.rows ∙ s.2.rows;
       }
 
 -- ---- a text
@@ -320,4 +380,4 @@ pub refused_last : (text : List ℕ) (front : List (List ℕ)) (r : Reading) (en
 refused_last text front r ended count is some same counted t =
     subst (λ (b : Bool). IsRefused b text (Invalid (Text count))) (sym is)
     (subst (λ (n : ℕ). IsRefused false text (Invalid (Text n))) (ap (λ (l : List (List ℕ)). length l) same ∙ sym counted)
-    (refused_over text some (subst GoesOn (sym same) (lines-go-on front r.reader t.said t.read))))
+    (refused_over text some (subst GoesOn (sym same) (lines-go-on front (reader_at r.reader.lines t.at) t.said t.read))))

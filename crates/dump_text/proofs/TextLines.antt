@@ -1,6 +1,6 @@
 -- The lines of a text, and the bytes that no newline is among.
 use Rattle.std.proofs.Common.{◌≡◌, ◌++◌, ◌<◌, ℕ, zero, suc, true, false, List, [], ◌∷◌, Some, None, length, take, drop, refl, ap, arith}
-use Rattle.std.specs.Prelude.{◌==◌, slice_index_or}
+use Rattle.std.specs.Prelude.{◌==◌, Bool, not, slice_index_or}
 use Rattle.std.specs.List.{list_all}
 use Rattle.std.proofs.lemmas.Bool.{and_parts, and_from, not-true, not_from_false, eq-eqb}
 use Rattle.dump_text.specs.Grammar.{Row}
@@ -63,3 +63,14 @@ unbroken_more (b ∷ rest) zero one less is = and_from (is_of_line b) true (not_
 unbroken_more (b ∷ rest) (suc n) one less is =
     let parts = and_parts (is_of_line b) (list_all is_of_line (take n rest)) one in
     and_from (is_of_line b) (list_all is_of_line (take (suc n) rest)) parts.0 (unbroken_more rest n parts.1 (omega (arith, less)) is)
+
+-- no newline stands before a place
+pub one_line : (text : List ℕ) (n : ℕ) → ((k : ℕ) → k < n → (slice_index_or text k 0 == 10) ≡ true → ⊥) → IsOneLine (take n text)
+one_line text zero none = refl
+one_line [] (suc n) none = refl
+one_line (b ∷ rest) (suc n) none =
+    and_from (is_of_line b) (list_all is_of_line (take n rest)) (here (b == 10) (none 0 (omega arith))) (one_line rest n (λ k less is. none (suc k) (omega (arith, less)) is))
+  where
+    here : (is : Bool) → (is ≡ true → ⊥) → not is ≡ true
+    here true f = absurd (f refl)
+    here false f = refl

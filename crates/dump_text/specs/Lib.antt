@@ -7,3 +7,4 @@ pub mod Runs
 pub mod Texts
 pub mod Wholes
 pub mod Written
+pub mod Zeros

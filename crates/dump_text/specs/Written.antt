@@ -1,5 +1,5 @@
 -- What is written of a dump.
-use Rattle.std.specs.Prelude.{ℕ, List, [], ◌∷◌, ◌++◌, codes}
+use Rattle.std.specs.Prelude.{◌≡◌, ℕ, List, [], ◌∷◌, ◌++◌, codes}
 use Rattle.std.specs.List.{flat_map}
 use Rattle.item.specs.declared.formats.Format.{Format}
 use Rattle.item.specs.declared.formats.Format.TheVariants.{S, U}
@@ -35,3 +35,7 @@ dump_lines form name formats rows = head_lines form name formats ++ flat_map (ro
 abbrev pub text_of : List (List ℕ) → List ℕ
 text_of [] = []
 text_of (line ∷ lines) = line ++ 10 ∷ text_of lines
+
+-- a text begins with another one
+abbrev pub HasMore : List ℕ → List ℕ → Type 0
+HasMore front text = (more : List ℕ) × (text ≡ front ++ more)

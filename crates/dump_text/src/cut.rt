@@ -3,6 +3,8 @@ ghost use Rattle.std.specs.Prelude.{◌≡◌, ◌≤◌, ◌<◌, ◌∷◌, le
 ghost use Rattle.dump_text.specs.Runs.{IsOneLine};
 ghost use Rattle.dump_text.specs.Cuts.{lines_in};
 
+use memchr::memchr;
+
 // The first line of a text, without its newline, and what is behind it.
 pub(crate) fn first_line(text: &[u8]) -> (&[u8], &[u8])
     requires { 0 < length text.now }
@@ -22,10 +24,8 @@ fn line_end(text: &[u8]) -> usize
     ensures line { IsOneLine (take result text.now) }
     ensures newline { result < length text.now → slice_index_or text.now result 0 ≡ 10 }
 {
-    for (i, b) in text.iter().enumerate() {
-        if *b == b'\n' {
-            return i;
-        }
+    match memchr(b'\n', text) {
+        None => text.len(),
+        Some(end) => end,
     }
-    text.len()
 }

@@ -1,23 +1,34 @@
 // Items as a dump writes them.
-ghost use Rattle.std.specs.Prelude.{◌≡◌, ◌++◌, ◌∷◌, [], ◌↔◌, IfOk, IfSome, IfNone, IsTrue, ℕ, List};
-ghost use Rattle.dump_text.specs.Items.{item_line, item_on, HasFormat, IsItemLine};
+ghost use Rattle.std.specs.Prelude.{◌≡◌, ◌++◌, ◌∷◌, [], ◌↔◌, IfOk, IfSome, IfNone, IsTrue, OnOk, ℕ, List, false, option_map};
+ghost use Rattle.dump_text.specs.Items.{item_line, item_on, HasFormat, IsItemLine, WritesItem, pair_of};
+ghost use Rattle.dump_text.specs.Written.{HasMore};
+ghost use Rattle.dump_text.specs.Zeros.{zero_behind};
 
+use crate::escape::push_escaped;
 use crate::form::Form;
+use crate::unescape::{ends_with_zero as text_ends_with_zero, item_in, value_of_digit};
 use failure::NoMemory;
 use hex::FromHexError;
-use item::{Format, Item, escape, unescape};
+use item::{Format, Item};
 use std::alloc::Global;
 
-// The line of an item, with its newline.
-pub(crate) fn item_line(alloc: Global, form: Form, item: &Item) -> Result<Vec<u8>, NoMemory>
-    ensures { IfOk result (λ line. line.items ≡ item_line form item.now ++ 10 ∷ []) }
+// Puts the line of an item behind what is written, with its newline; where memory is wanted, a part
+// of it.
+pub(crate) fn push_line(
+    alloc: Global,
+    out: &mut Vec<u8>,
+    form: Form,
+    item: &Item,
+) -> Result<(), NoMemory>
+    ensures line { OnOk result (out.new.items ≡ out.old.items ++ item_line form item.now ++ 10 ∷ []) }
+    ensures more { HasMore out.old.items out.new.items }
 {
-    let mut line = match form {
-        Form::Print => escape(alloc, item)?,
-        Form::Hex => hex::encode(alloc, item.as_bytes())?.into_bytes(),
-    };
-    line.extend_from_slice(b"\n")?;
-    Ok(line)
+    match form {
+        Form::Print => push_escaped(out, item.as_bytes())?,
+        Form::Hex => out.extend_from_slice(hex::encode(alloc, item.as_bytes())?.as_bytes())?,
+    }
+    out.extend_from_slice(b"\n")?;
+    Ok(())
 }
 
 // The bytes that hexadecimal digits of either case write.
@@ -36,7 +47,7 @@ pub(crate) fn item_on(alloc: Global, form: Form, line: &[u8]) -> Result<Option<I
     ensures { IfOk result (λ r. r ≡ item_on form line.now) }
 {
     match form {
-        Form::Print => unescape(alloc, line),
+        Form::Print => item_in(alloc, line),
         Form::Hex => decoded(alloc, line),
     }
 }
@@ -77,5 +88,56 @@ pub(crate) fn item_of(
         Ok(Some(item))
     } else {
         Ok(None)
+    }
+}
+
+// The number of two hexadecimal digits.
+fn byte_of(high: u8, low: u8) -> Option<u8>
+    ensures { result ≡ pair_of high low }
+{
+    Some(value_of_digit(high)? * 16 + value_of_digit(low)?)
+}
+
+// Whether the bytes that hexadecimal digits write end with a zero; none where they write none.
+fn digits_end_with_zero(line: &[u8]) -> Option<bool>
+    ensures { result ≡ option_map (zero_behind false) (item_on Form.Hex line.now) }
+{
+    let mut zero = false;
+    let mut rest = line;
+    'pairs: loop {
+        match rest {
+            [] => return Some(zero),
+            [_] => return None,
+            [high, low, behind @ ..] => {
+                let Some(b) = byte_of(*high, *low) else {
+                    return None;
+                };
+                zero = b == 0;
+                rest = behind;
+            }
+        }
+    }
+}
+
+// Whether the item that a line writes ends with a zero byte; none where the line writes none.
+fn zero_at_end(form: Form, line: &[u8]) -> Option<bool>
+    ensures { result ≡ option_map (zero_behind false) (item_on form line.now) }
+{
+    match form {
+        Form::Print => text_ends_with_zero(line),
+        Form::Hex => digits_end_with_zero(line),
+    }
+}
+
+// Whether a line writes an item that a table of the format may have. `O(bytes)`, and no allocation.
+pub(crate) fn is_item_line(form: Form, format: Format, line: &[u8]) -> bool
+    ensures { IsTrue result ↔ WritesItem form format line.now }
+{
+    let Some(zero) = zero_at_end(form, line) else {
+        return false;
+    };
+    match format {
+        Format::S => zero,
+        Format::U => true,
     }
 }

@@ -6,6 +6,7 @@
 #![tactic(auto)]
 
 mod cut;
+mod escape;
 mod form;
 mod items;
 mod laws;
@@ -14,6 +15,7 @@ mod rows;
 mod taken;
 #[cfg(test)]
 mod tests;
+mod unescape;
 mod whole;
 mod write;
 

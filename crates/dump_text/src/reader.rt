@@ -81,6 +81,13 @@ impl DumpReader {
         self.lines.saturating_add(1)
     }
 
+    // Counts a line that is taken elsewhere.
+    pub(crate) fn count_line(&mut self)
+        ensures { self.new ≡ record self.old { lines = number_behind self.old.lines } }
+    {
+        self.lines = self.number();
+    }
+
     /// Takes the next line, without its newline, and tells what it completes. `O(bytes)`.
     ///
     /// # Errors

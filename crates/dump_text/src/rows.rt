@@ -41,7 +41,8 @@ impl<'a> DumpRows<'a> {
         DumpRows { form, rest }
     }
 
-    /// The next row, where there is one. `O(bytes)` of the row's lines.
+    /// The next row, where there is one. `O(bytes)` of the row's lines, and one allocation for each
+    /// item.
     ///
     /// # Errors
     ///

@@ -1,10 +1,12 @@
 // A dump, read as a whole.
-ghost use Rattle.std.specs.Prelude.{◌≡◌, ◌<◌, ◌^◌, ◌++◌, ◌∷◌, [], ℕ, List, length, true, false, IfOk, IfErr, OnOk};
+ghost use Rattle.std.specs.Prelude.{◌≡◌, ◌<◌, ◌^◌, ◌++◌, ◌∷◌, [], ℕ, List, length, true, false, IfOk, IfErr, OnOk, None};
 ghost use Rattle.dump_text.specs.Cuts.{lines_in};
 ghost use Rattle.dump_text.specs.Texts.{IsDumped, IsRefused};
-ghost use Rattle.dump_text.specs.Wholes.{HasTaken, IsCutOff, IsKept, IsStop};
+ghost use Rattle.dump_text.specs.Wholes.{HasTaken, IsCutOff, IsKept, IsRowAnswer, IsStop};
 
 use crate::cut::first_line;
+use crate::form::Form;
+use crate::items::is_item_line;
 use crate::reader::{DumpReader, Step, Table};
 use crate::rows::DumpRows;
 use std::alloc::Global;
@@ -19,22 +21,27 @@ pub struct Dumped<'a> {
     pub rows: DumpRows<'a>,
 }
 
-// The table that was told, and the text behind the lines that tell it.
+// The table that was told, the form of its rows, and the text behind the lines that tell it.
 #[derive(Drop)]
 pub(crate) struct Found<'a> {
+    form: Form,
     table: Table,
     rows: &'a [u8],
 }
 
-// A reader of a text, and the table once it was told.
+// A text that is read. The reader takes the lines before the rows; those of the rows are looked at
+// where they stand, and it counts them.
 #[derive(Drop)]
 pub(crate) struct Reading<'a> {
     reader: DumpReader,
+    // The table once it was told.
     found: Option<Found<'a>>,
+    // Whether a key was read, whose value is on the next line.
+    at_value: bool,
 }
 
 /// The dump that a text is. `ended` tells whether the text is all of its input. Every line is looked
-/// at; of the rows none is kept, so it takes the memory of one row. `O(bytes)`.
+/// at; no item of a row is made, so the rows take no memory. `O(bytes)`.
 ///
 /// # Errors
 ///
@@ -74,11 +81,46 @@ impl<'a> Reading<'a> {
         Reading {
             reader: DumpReader::new(),
             found: None,
+            at_value: false,
         }
     }
 
     // Takes one line more. This text is behind it.
     fn take(&mut self, alloc: Global, line: &[u8], behind: &'a [u8]) -> Result<(), Refusal>
+        ensures taken { (lines : List (List ℕ)) → HasTaken lines (line.now ∷ lines_in behind.now) self.old → OnOk result (HasTaken (lines ++ line.now ∷ []) (lines_in behind.now) self.new) }
+        ensures refused { (lines left : List (List ℕ)) → length lines < 2 ^ 63 → HasTaken lines left self.old → IfErr result (IsStop lines line.now) }
+    {
+        match self.is_row_line(line) {
+            None => self.take_head(alloc, line, behind),
+            Some(true) => {
+                self.reader.count_line();
+                self.at_value = !self.at_value;
+                Ok(())
+            }
+            Some(false) => Err(Refusal::Invalid(Invalid::Text {
+                line: self.reader.number(),
+            })),
+        }
+    }
+
+    // Whether a line writes the item that is next; none where the rows have not come.
+    fn is_row_line(&self, line: &[u8]) -> Option<bool>
+        ensures { IsRowAnswer self.now.found self.now.at_value line.now result }
+    {
+        let Some(found) = &self.found else {
+            return None;
+        };
+        let format = if self.at_value {
+            found.table.formats.value
+        } else {
+            found.table.formats.key
+        };
+        Some(is_item_line(found.form, format, line))
+    }
+
+    // Takes a line before the rows.
+    fn take_head(&mut self, alloc: Global, line: &[u8], behind: &'a [u8]) -> Result<(), Refusal>
+        requires { self.old.found ≡ None }
         ensures taken { (lines : List (List ℕ)) → HasTaken lines (line.now ∷ lines_in behind.now) self.old → OnOk result (HasTaken (lines ++ line.now ∷ []) (lines_in behind.now) self.new) }
         ensures refused { (lines left : List (List ℕ)) → length lines < 2 ^ 63 → HasTaken lines left self.old → IfErr result (IsStop lines line.now) }
     {
@@ -95,17 +137,17 @@ impl<'a> Reading<'a> {
     fn keep(&mut self, step: Step, behind: &'a [u8])
         ensures { IsKept step behind.now self.old self.new }
     {
-        match step {
-            Step::Table(table) => {
-                self.found = Some(Found {
-                    table,
-                    rows: behind,
-                });
-            }
-            Step::More => {}
-            Step::Key => {}
-            Step::Row(_, _) => {}
-        }
+        let Step::Table(table) = step else {
+            return;
+        };
+        let Some(form) = self.reader.rows_form() else {
+            return;
+        };
+        self.found = Some(Found {
+            form,
+            table,
+            rows: behind,
+        });
     }
 
     // What was read, where it is a whole dump.
@@ -114,17 +156,21 @@ impl<'a> Reading<'a> {
         ensures dump { (lines : List (List ℕ)) → HasTaken lines [] self.entry → IfOk result (IsDumped lines) }
         ensures refused { (lines : List (List ℕ)) → length lines < 2 ^ 63 → HasTaken lines [] self.entry → IfErr result (IsCutOff lines) }
     {
-        let Reading { reader, found } = self;
+        let Reading {
+            reader,
+            found,
+            at_value,
+        } = self;
         let number = reader.number();
-        let Some(form) = reader.rows_form() else {
+        if at_value {
             return Err(Refusal::Invalid(Invalid::Text { line: number }));
-        };
+        }
         let Some(found) = found else {
             return Err(Refusal::Invalid(Invalid::Text { line: number }));
         };
         Ok(Dumped {
             table: found.table,
-            rows: DumpRows::new(form, found.rows),
+            rows: DumpRows::new(found.form, found.rows),
         })
     }
 }

@@ -1,9 +1,9 @@
 // What is written of a dump.
 ghost use Rattle.std.specs.Prelude.{◌≡◌, ◌++◌, IfOk, OnOk, OnErr};
-ghost use Rattle.dump_text.specs.Written.{config_line, format_word, form_line, head_lines, row_lines, text_of};
+ghost use Rattle.dump_text.specs.Written.{HasMore, config_line, format_word, form_line, head_lines, row_lines, text_of};
 
 use crate::form::Form;
-use crate::items::item_line;
+use crate::items::push_line;
 use failure::NoMemory;
 use item::{Format, Formats, Item};
 use std::alloc::{AllocError, Global};
@@ -60,6 +60,21 @@ pub fn dump_head(
     Ok(head)
 }
 
+// Puts the two lines of a row behind what is written; where memory is wanted, a part of them.
+fn push_lines(
+    alloc: Global,
+    out: &mut Vec<u8>,
+    form: Form,
+    key: &Item,
+    value: &Item,
+) -> Result<(), NoMemory>
+    ensures row { OnOk result (out.new.items ≡ out.old.items ++ text_of (row_lines form (key.now, value.now))) }
+    ensures more { HasMore out.old.items out.new.items }
+{
+    push_line(alloc, out, form, key)?;
+    push_line(alloc, out, form, value)
+}
+
 /// Puts the two lines of a row behind what is written, each with its newline; nothing where memory
 /// is wanted. `O(bytes)`.
 ///
@@ -76,9 +91,12 @@ pub fn push_row(
     ensures row { OnOk result (out.new.items ≡ out.old.items ++ text_of (row_lines form (key.now, value.now))) }
     ensures same { OnErr result (out.new.items ≡ out.old.items) }
 {
-    let mut lines = item_line(alloc, form, key)?;
-    let value = item_line(alloc, form, value)?;
-    lines.extend_from_slice(&value)?;
-    out.extend_from_slice(&lines)?;
-    Ok(())
+    let before = out.len();
+    match push_lines(alloc, out, form, key, value) {
+        Ok(()) => Ok(()),
+        Err(wanted) => {
+            out.truncate(before);
+            Err(wanted)
+        }
+    }
 }
