@@ -59,6 +59,7 @@ impl<'a> Held<'a> {
     }
 
     // The next update of the chain. `O(1)`.
+    #[inline(always)]
     fn next_update(&mut self) -> Option<Cell<'a>>
         ensures after { updates_left self.old.there self.old.place ≡ option_to_list (option_map row_seen result) ++ updates_left self.new.there self.new.place }
         ensures cell { self.new.cell ≡ self.old.cell }
@@ -74,6 +75,7 @@ impl<'a> Held<'a> {
     }
 
     // The next version. `O(1)`.
+    #[inline(always)]
     fn next_version(&mut self) -> Option<Cell<'a>>
         ensures after { left self.old ≡ option_to_list (option_map row_seen result) ++ left self.new }
         ensures ends { IfNone result (left self.new ≡ []) }
@@ -85,6 +87,7 @@ impl<'a> Held<'a> {
     }
 
     // The next version that is live. `O(k)` with k versions that are not.
+    #[inline(always)]
     pub(crate) fn next_live(&mut self, rule: &Rule<'_>) -> Option<Cell<'a>>
         ensures after { filter (λ (r : Row). lives rule.now.live r.1.window) (left self.old) ≡ option_to_list (option_map row_seen result) ++ filter (λ (r : Row). lives rule.now.live r.1.window) (left self.new) }
         ensures ends { IfNone result (left self.new ≡ []) }
@@ -99,6 +102,7 @@ impl<'a> Held<'a> {
 }
 
 // The row of a key's version, lent.
+#[inline(always)]
 fn cell_of<'a>(there: &'a KeyChain, version: &'a Version<Change>) -> Cell<'a>
     ensures { row_seen result ≡ (there.now.key, cell_version version.now) }
 {
@@ -109,6 +113,7 @@ fn cell_of<'a>(there: &'a KeyChain, version: &'a Version<Change>) -> Cell<'a>
     }
 }
 
+#[inline(always)]
 fn change_of(change: &Change) -> CellChange<&[u8]>
     ensures { change_seen result ≡ cell_change change.now }
 {

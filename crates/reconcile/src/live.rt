@@ -24,6 +24,7 @@ pub(crate) struct Rule<'a> {
 }
 
 // Whether a version may be written.
+#[inline(always)]
 pub(crate) fn is_live(rule: &Rule<'_>, window: &Window) -> bool
     ensures { result ≡ lives rule.now.live window.now }
 {
@@ -34,6 +35,7 @@ pub(crate) fn is_live(rule: &Rule<'_>, window: &Window) -> bool
 }
 
 // Whether a version makes what is older unreachable.
+#[inline(always)]
 pub(crate) fn is_past(rule: &Rule<'_>, window: &Window) -> bool
     ensures { result ≡ passes rule.now.pin rule.now.floor window.now }
 {

@@ -46,6 +46,7 @@ impl OpenImage {
 
     // Puts a row behind the others. False where there is no room for it, and then nothing is
     // changed. Its bytes are copied once.
+    #[inline(always)]
     pub(crate) fn push(&mut self, cell: &Cell<'_>) -> bool
         requires { RowFits [] key_most (row_seen cell.now) }
         ensures { (rows : List Row) → HasRows self.old rows → MatchBool result (HasRows self.new (rows ++ row_seen cell.now ∷ [])) (HasRows self.new rows × (32768 < image_length (rows ++ row_seen cell.now ∷ []))) }

@@ -40,6 +40,7 @@ pub(crate) fn numbers_of(cell: &Cell<'_>) -> [u8; NUMBERS]
     )
 }
 
+#[inline(always)]
 fn code_of(cell: &Cell<'_>) -> u8
     ensures { result ≡ code_of (row_seen cell.now).1.change }
 {
@@ -49,6 +50,7 @@ fn code_of(cell: &Cell<'_>) -> u8
     }
 }
 
+#[inline(always)]
 fn number_bytes(key: u16, code: u8, value: u32, window: &Window) -> [u8; NUMBERS]
     ensures { result ≡ lengths_text key code value ++ window_text window.now }
 {

@@ -54,6 +54,7 @@ impl LeafWriter {
 
     /// Writes the row behind the others. False exactly where the image would pass the limit, and
     /// then nothing is written. `O(bytes)` of the row, and it takes no memory.
+    #[inline(always)]
     pub fn push(&mut self, cell: &Cell<'_>) -> bool
         requires { RowFits [] key_most (row_seen cell.now) }
         ensures room { IsTrue result ↔ (size_with self.old (row_seen cell.now) ≤ self.old.limit) }
@@ -90,6 +91,7 @@ impl LeafWriter {
 }
 
 // There is room for the cell.
+#[inline(always)]
 fn append_cell(out: &mut Vec<u8>, cell: &Cell<'_>)
     requires fits { RowFits [] key_most (row_seen cell.now) }
     requires room { vec_len out.old + length (cell_text (row_seen cell.now)) ≤ vec_capacity out.old }
@@ -112,6 +114,7 @@ fn set_front(bytes: &mut Vec<u8>, header: &[u8; HEADER])
 }
 
 // There is room for the bytes, so it takes no memory.
+#[inline(always)]
 fn append(out: &mut Vec<u8>, bytes: &[u8])
     requires { vec_len out.old + length bytes.now ≤ vec_capacity out.old }
     ensures written { out.new.items ≡ out.old.items ++ bytes.now }
