@@ -5,6 +5,9 @@
 //! difference of two runs.
 #![tactic(auto)]
 
+ghost use Rattle.std.specs.Prelude.{IsTrue};
+ghost use Rattle.ckpt_step.specs.Trees.{AreLow};
+
 mod counted;
 
 use counted::Counted;
@@ -13,6 +16,7 @@ use failure::NoMemory;
 use item::{Format, Formats, Item};
 use std::alloc::{AllocError, Global};
 use std::{env, io};
+use tree_open::TreePlace;
 use wt_calls::{Call, Demand, SessionCall, SystemCall};
 use wt_code::{Answer, Invalid, Refusal};
 
@@ -85,9 +89,22 @@ fn put(alloc: Global, store: &mut Store, table: u32, row: u32, byte: u8) -> Resu
     Ok(!matches!(made, Answer::Refused(_)) && !matches!(ended, Answer::Refused(_)))
 }
 
+// Whether no tree has more levels than a record tells.
+fn are_low(trees: &[TreePlace]) -> bool
+    ensures { IsTrue result → AreLow trees.now }
+{
+    for tree in trees {
+        if tree.root.level > 60 {
+            return false;
+        }
+    }
+    true
+}
+
 // A checkpoint, where the store is as one asks: calls leave it so.
 fn checkpoint(alloc: Global, store: &mut Store, disk: &mut Counted) -> bool {
-    let known = store.ground.leaves.len() <= store.engine.tables().len();
+    let trees = &store.ground.trees;
+    let known = trees.len() <= store.engine.tables().len() && are_low(trees);
     let run = store.engine.marks().run;
     if !known || run > store.ground.number.saturating_add(1) {
         return false;

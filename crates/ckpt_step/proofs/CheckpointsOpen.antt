@@ -1,5 +1,5 @@
 -- What a device opens as that has a checkpoint of a machine.
-use Rattle.std.proofs.Common.{◌≡◌, ◌∙◌, ℕ, Bool, true, false, List, [], ◌∷◌, ◌++◌, length, map, reverse, Option, Some, None, refl, ap, sym, subst, inl, inr, ◌⊎◌, arith}
+use Rattle.std.proofs.Common.{◌≡◌, ◌∙◌, ℕ, Bool, true, false, List, [], ◌∷◌, ◌++◌, length, reverse, Option, Some, None, refl, ap, sym, subst, inl, inr, ◌⊎◌, arith}
 use Rattle.std.specs.Prelude.{◌≢◌, ◌==◌, nat_lt, filter}
 use Rattle.std.specs.Option.{option_to_list}
 use Rattle.std.specs.List.{AllByRecursion}
@@ -9,7 +9,6 @@ use Rattle.std.proofs.lemmas.List.{append-nil, reverse-reverse}
 use Rattle.item.specs.declared.Change.{Change}
 use Rattle.stamp.specs.declared.Version.{Version}
 use Rattle.device_layout.specs.declared.slot.Slot.{Slot}
-use Rattle.row_page.specs.Rows.{Row}
 use Rattle.kv_model.specs.AgreementLaws.{head_of}
 use Rattle.kv_model.specs.Content.{Content, OpensAs, base, descending, is_kept_version, kept, kept_cells, placed_lt, sees_name, table_lt}
 use Rattle.kv_model.specs.Holds.{Descends, Member}
@@ -25,14 +24,14 @@ use Rattle.kv_model.proofs.Opening.{at-placed}
 use Rattle.kv_model.proofs.Sorting.{Lt, Sorts, descending-descends, descending-member, member-descending}
 use Rattle.stored.specs.Records.{NumbersOnce, Record, TableRoot}
 use Rattle.stored.specs.Stored.{Stored, cells_in, content_of, placed_in, tables_of}
-use Rattle.stored.specs.Tree.{join}
 use Rattle.catalog.specs.Known.{by_name}
 use Rattle.catalog.proofs.InOrder.{order_keeps}
 use Rattle.catalog.proofs.Turning.{turn_one}
 use Rattle.rows_shown.proofs.Keyed.{of_key_descending, of_key_elsewhere, of_key_rows}
 use Rattle.leaf_capture.proofs.Sifting.{cut_core, keys_sifted, one_stable, passes, stable_one}
-use Rattle.recover_open.specs.Flat.{flat_stored, leaf_tree}
-use Rattle.ckpt_step.specs.Checkpoints.{AreLeavesOf, IsRecordOf}
+use Rattle.stored.specs.TableTree.{TableTree}
+use Rattle.recover_open.specs.Bare.{bare_stored, tree_rows}
+use Rattle.ckpt_step.specs.Checkpoints.{AreRowsOf, IsRecordOf}
 use Rattle.ckpt_step.specs.Laws.{AllNewestSuffice, CheckpointsOpen}
 use Rattle.ckpt_step.proofs.KeysPlaced.{both_keys, none_away, once_away}
 
@@ -134,32 +133,27 @@ has_still lt known number there = let t = from (descending lt known) there in to
 
 -- ---- the rows of a table
 
-join_one : (rows : List Row) → join (rows ∷ []) ≡ rows
-join_one rows = append-nil rows
-
 -- a table's rows, and behind them those of the others
-cells_parts : (table : ℕ) (key : List ℕ) (r : TableRoot) (roots : List TableRoot) (rows : List Row) (leaves : List (List Row))
-    → of_key table key (cells_in (r ∷ roots) (map leaf_tree (rows ∷ leaves))) ≡ of_key table key (placed_in r.table.number rows) ++ of_key table key (cells_in roots (map leaf_tree leaves))
-cells_parts table key r roots rows leaves =
-    both_keys table key (placed_in r.table.number (join (rows ∷ []))) (cells_in roots (map leaf_tree leaves))
-    ∙ ap (λ (l : List Row). of_key table key (placed_in r.table.number l) ++ of_key table key (cells_in roots (map leaf_tree leaves))) (join_one rows)
+cells_parts : (table : ℕ) (key : List ℕ) (r : TableRoot) (roots : List TableRoot) (tree : TableTree) (trees : List TableTree)
+    → of_key table key (cells_in (r ∷ roots) (tree ∷ trees)) ≡ of_key table key (placed_in r.table.number (tree_rows tree)) ++ of_key table key (cells_in roots trees)
+cells_parts table key r roots tree trees = both_keys table key (placed_in r.table.number (tree_rows tree)) (cells_in roots trees)
 
 -- of a key of a table there is its newest version
-cells_here : (m : Machine) (table : ℕ) (key : List ℕ) (roots : List TableRoot) (leaves : List (List Row)) → NumbersOnce roots → AreLeavesOf m (tables_of roots) leaves → has_table (tables_of roots) table ≡ true
-    → of_key table key (cells_in roots (map leaf_tree leaves)) ≡ option_to_list (head_of (line m.history table key))
-cells_here m table key [] leaves once are there = absurd cc
+cells_here : (m : Machine) (table : ℕ) (key : List ℕ) (roots : List TableRoot) (trees : List TableTree) → NumbersOnce roots → AreRowsOf m (tables_of roots) trees → has_table (tables_of roots) table ≡ true
+    → of_key table key (cells_in roots trees) ≡ option_to_list (head_of (line m.history table key))
+cells_here m table key [] trees once are there = absurd cc
 cells_here m table key (r ∷ roots) [] once are there = absurd are
-cells_here m table key (r ∷ roots) (rows ∷ leaves) once are there = cells_parts table key r roots rows leaves ∙ elim (cases_Bool (r.table.number == table)) [
-  | inl here ↦ subst (λ (n : ℕ). of_key n key (placed_in r.table.number rows) ++ of_key n key (cells_in roots (map leaf_tree leaves)) ≡ option_to_list (head_of (line m.history n key))) (eqb-true r.table.number table here) mine
+cells_here m table key (r ∷ roots) (tree ∷ trees) once are there = cells_parts table key r roots tree trees ∙ elim (cases_Bool (r.table.number == table)) [
+  | inl here ↦ subst (λ (n : ℕ). of_key n key (placed_in r.table.number (tree_rows tree)) ++ of_key n key (cells_in roots trees) ≡ option_to_list (head_of (line m.history n key))) (eqb-true r.table.number table here) mine
   | inr other ↦
-      ap (λ (l : List (Version Change)). l ++ of_key table key (cells_in roots (map leaf_tree leaves))) (of_key_elsewhere r.table.number table key rows other)
-      ∙ cells_here m table key roots leaves once.1 are.1 (rw other at there)
+      ap (λ (l : List (Version Change)). l ++ of_key table key (cells_in roots trees)) (of_key_elsewhere r.table.number table key (tree_rows tree) other)
+      ∙ cells_here m table key roots trees once.1 are.1 (rw other at there)
 ] where
-  mine : of_key r.table.number key (placed_in r.table.number rows) ++ of_key r.table.number key (cells_in roots (map leaf_tree leaves)) ≡ option_to_list (head_of (line m.history r.table.number key))
+  mine : of_key r.table.number key (placed_in r.table.number (tree_rows tree)) ++ of_key r.table.number key (cells_in roots trees) ≡ option_to_list (head_of (line m.history r.table.number key))
   mine =
-      ap (λ (l : List (Version Change)). of_key r.table.number key (placed_in r.table.number rows) ++ l) (none_away r.table.number key roots (map leaf_tree leaves) (once_away r.table.number roots once.0))
-      ∙ (append-nil (of_key r.table.number key (placed_in r.table.number rows))
-      ∙ (of_key_rows r.table.number key None rows are.0.fit.ascend ∙ ap option_to_list (sym (are.0.newest key))))
+      ap (λ (l : List (Version Change)). of_key r.table.number key (placed_in r.table.number (tree_rows tree)) ++ l) (none_away r.table.number key roots trees (once_away r.table.number roots once.0))
+      ∙ (append-nil (of_key r.table.number key (placed_in r.table.number (tree_rows tree)))
+      ∙ (of_key_rows r.table.number key None (tree_rows tree) are.0.fit.ascend ∙ ap option_to_list (sym (are.0.newest key))))
 
 -- ---- the lines
 
@@ -176,10 +170,10 @@ none_there : (l : List (Version Change)) → ((v : Version Change) → Member v 
 none_there [] none = refl
 none_there (v ∷ l) none = absurd (none v (inl refl))
 
-module _ (m : Machine) (number : ℕ) (slot : Slot) (r : Record) (leaves : List (List Row)) (valid : Valid m) (once : NumbersOnce r.tables) (suffice : AllNewestSuffice m) (names : IsRecordOf m number r)
-    (rows : AreLeavesOf m (tables_of r.tables) leaves) where
+module _ (m : Machine) (number : ℕ) (slot : Slot) (r : Record) (trees : List TableTree) (valid : Valid m) (once : NumbersOnce r.tables) (suffice : AllNewestSuffice m) (names : IsRecordOf m number r)
+    (rows : AreRowsOf m (tables_of r.tables) trees) where
   abbrev c : Content
-  c = content_of (flat_stored slot r leaves)
+  c = content_of (bare_stored slot r trees)
 
   same_tables : descending table_lt c.tables ≡ tables m.history
   same_tables = tables_open m r valid once names.tables_are
@@ -210,13 +204,13 @@ module _ (m : Machine) (number : ℕ) (slot : Slot) (r : Record) (leaves : List 
   line_here : (table : ℕ) (key : List ℕ) → has_table c.tables table ≡ true → line (base c) table key ≡ option_to_list (stable_one m.stable (head_of (line m.history table key)))
   line_here table key known =
       let newest = head_of (line m.history table key) in
-      let cells = cells_here m table key r.tables leaves once rows known in
+      let cells = cells_here m table key r.tables trees once rows known in
       base_line table key (stable_one m.stable newest) (ap (of_key table key) kept_is
       ∙ (keys_sifted (is_kept_version c) (is_stable m.stable) table key c.cells (kept_here table key known cells) ∙ (ap (filter (is_stable m.stable)) cells ∙ one_stable m.stable newest)))
 
   line_away : (table : ℕ) (key : List ℕ) → has_table c.tables table ≡ false → line (base c) table key ≡ []
   line_away table key away =
-      let none = none_away table key r.tables (map leaf_tree leaves) away in
+      let none = none_away table key r.tables trees away in
       base_line table key None (ap (of_key table key) kept_is
       ∙ (keys_sifted (is_kept_version c) (is_stable m.stable) table key c.cells (λ p there at. absurd (subst (λ (vs : List (Version Change)). Member p.version vs) none (of-key-into table key c.cells p there at)))
       ∙ ap (filter (is_stable m.stable)) none))
@@ -249,5 +243,5 @@ module _ (m : Machine) (number : ℕ) (slot : Slot) (r : Record) (leaves : List 
 
 pub checkpoints_open : CheckpointsOpen
 checkpoints_open m number s valid is_record suffice is =
-    subst (λ (x : Stored). OpensAs (content_of x) (record { content = cut m.history (length m.history) m.stable; oldest = m.oldest; stable = m.stable })) (sym is.stored)
-    (opens m number s.slot s.kept is.leaves valid is_record.once suffice is.names is.rows)
+    subst (λ (x : Stored). OpensAs (content_of x) (record { content = cut m.history (length m.history) m.stable; oldest = m.oldest; stable = m.stable })) (sym is.bare)
+    (opens m number s.slot s.kept s.trees valid is_record.once suffice is.names is.rows)

@@ -3,7 +3,7 @@ use Rattle.std.proofs.Common.{◌≡◌, ◌⊎◌, ◌∙◌, ◌+◌, ◌<◌,
 use Rattle.std.specs.Prelude.{MatchOption, ◌==◌, ◌&&◌, ◌||◌, filter, nat_lt, option_map}
 use Rattle.std.proofs.Math.Bool.{and-false}
 use Rattle.std.proofs.lemmas.Bool.{and_parts, cases_eq, cases_lt, eqb-true, le-ltb, ltb-true, ne_eqb}
-use Rattle.device_layout.specs.declared.link.Link.{Link}
+use Rattle.tree_open.specs.declared.place.TreePlace.{TreePlace}
 use Rattle.item.specs.declared.Change.{Change}
 use Rattle.stamp.specs.declared.Name.{Name}
 use Rattle.stamp.specs.declared.Version.{Version}
@@ -225,21 +225,21 @@ goes_rolled m = rolls_on m 0 m.sessions
 
 -- ---- over what goes on
 
-pub follows_goes : (old : Option Stored) (known : List Table) (links : List Link) (floor : Name) (m next : Machine) → GoesOn m next → Follows old known links floor m → Follows old known links floor next
-follows_goes old known links floor m next goes follows =
+pub follows_goes : (old : Option Stored) (known : List Table) (places : List TreePlace) (floor : Name) (m next : Machine) → GoesOn m next → Follows old known places floor m → Follows old known places floor next
+follows_goes old known places floor m next goes follows =
     let on = goes floor follows.respects in
     record {
       respects = on.0;
-      leaves = λ place t link at leads below.
-          let before = follows.leaves place t link at leads below in
-          record { rows = before.rows; leaf = before.leaf; fit = before.fit; newest = λ key. on.1 t.number key ∙ before.newest key };
+      trees = λ i t place at stands below.
+          let before = follows.trees i t place at stands below in
+          record { tree = before.tree; has = before.has; fit = before.fit; newest = λ key. on.1 t.number key ∙ before.newest key };
     }
 
--- no leaf is clean before the first checkpoint
-pub follows_none : (old : Option Stored) (known : List Table) (links : List Link) (m : Machine) → Follows old known links (record { run = 0; id = 0 }) m
-follows_none old known links m = record {
+-- no tree is clean before the first checkpoint
+pub follows_none : (old : Option Stored) (known : List Table) (places : List TreePlace) (m : Machine) → Follows old known places (record { run = 0; id = 0 }) m
+follows_none old known places m = record {
   respects = record { next = elim (cases_lt 0 m.run) [ inl more ↦ inl more | inr none ↦ inr (omega (arith, none), omega arith) ]; living = λ session. each (transaction_of m session) };
-  leaves = λ place t link at leads below. absurd (nothing link.greatest (lower_of link.greatest (record { run = 0; id = 0 }) below));
+  trees = λ i t place at stands below. absurd (nothing place.root.link.greatest (lower_of place.root.link.greatest (record { run = 0; id = 0 }) below));
 }
   where
     each : (o : Option Transaction) → MatchOption o (Unit {0}) (λ t. is_before (record { run = 0; id = 0 }) (name_of m t) ≡ false)

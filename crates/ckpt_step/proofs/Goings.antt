@@ -1,62 +1,60 @@
--- Leaves that are captured one after the other.
-use Rattle.std.specs.Prelude.{◌≡◌, ◌≢◌, ◌⊎◌, ℕ, zero, suc, ◌+◌, ◌*◌, ◌≤◌, true, List, [], ◌∷◌, ◌++◌, length, drop, Option, Some, None, slice_get, slice_index_or, refl}
-use Rattle.std.specs.List.{fold, AllByRecursion}
+-- Trees that are captured one after the other.
+use Rattle.std.specs.Prelude.{◌≡◌, ◌⊎◌, ℕ, zero, suc, ◌*◌, ◌≤◌, true, List, [], ◌∷◌, ◌++◌, length, drop, Option, Some, None, slice_get, refl}
+use Rattle.std.specs.List.{AllByRecursion}
 use Rattle.std.proofs.Common.{inl, inr, sym, ◌∙◌, ap, subst, arith, append_assoc}
-use Rattle.std.proofs.lemmas.Bool.{cases_lt, cases_eq, eq-eqb, false≢true}
-use Rattle.std.proofs.lemmas.List.{append-nil, get_or_past, length-append}
+use Rattle.std.proofs.lemmas.Bool.{cases_lt, false≢true}
+use Rattle.std.proofs.lemmas.List.{append-nil, length-append}
 use Rattle.std.proofs.lemmas.List.Sums.{fold-append}
-use Rattle.std.proofs.lemmas.Option.{slice_get_within, slice_get-get_or}
+use Rattle.std.proofs.lemmas.Option.{slice_get_within}
 use Rattle.disk_model.specs.Crash.{Keeps}
 use Rattle.disk_model.specs.declared.disk.Disk.{Ghosts}
 use Rattle.disk_model.proofs.Crash.{joined, keeps_fewer, keeps_refl, keeps_trans, started}
-use Rattle.extent_list.specs.Space.{Space, HasNoRoom, end_of}
+use Rattle.extent_list.specs.Space.{Space}
 use Rattle.block_mgr.specs.declared.cell.Cell.{Cell}
 use Rattle.block_mgr.specs.Blocks.{Books, Has, HasLive}
 use Rattle.block_mgr.specs.Cells.{AreUnits, cell_at, is_used, nothing}
 use Rattle.block_mgr.specs.Open.{found_cell}
 use Rattle.block_mgr.proofs.HasLemmas.{used_some}
+use Rattle.block_mgr.proofs.HolderLemmas.{used_live}
 use Rattle.device_layout.specs.declared.addr.Addr.{Addr}
 use Rattle.device_layout.specs.declared.link.Link.{Link}
+use Rattle.wt_code.specs.declared.store_error.StoreError.{StoreError}
 use Rattle.kv_model.specs.Holds.{Member}
-use Rattle.kv_model.specs.History.{Table, tables}
+use Rattle.kv_model.specs.History.{Table}
 use Rattle.kv_model.specs.Machine.{Machine}
-use Rattle.row_page.specs.Rows.{Row}
-use Rattle.leaf_rows.specs.Rows.{image_length}
-use Rattle.le_codec.specs.Images.{block_size}
-use Rattle.stored.specs.Blocks.{Block, AreApart, Apart, Holds, IsAt}
-use Rattle.stored.specs.Links.{nowhere}
-use Rattle.stored.specs.Stored.{Stored, stored_blocks}
 use Rattle.catalog.specs.Known.{NumbersAscend}
-use Rattle.checkpoint_core.specs.Stands.{AreInUse, HasStill, blocks_of}
+use Rattle.stored.specs.Blocks.{Block, AreApart, Apart}
+use Rattle.stored.specs.Records.{Root}
+use Rattle.stored.specs.Stored.{Stored}
+use Rattle.stored.specs.TableTree.{TableTree, root_entry, table_kind}
+use Rattle.stored.specs.Tree.{tree_blocks}
+use Rattle.checkpoint_core.specs.Stands.{AreInUse}
 use Rattle.checkpoint_core.specs.Finishes.{IsOld}
 use Rattle.checkpoint_core.proofs.Holding.{holds_kept}
 use Rattle.engine_world.proofs.Appended.{append-finds}
-use Rattle.engine_world.proofs.EditedLeaves.{got-member}
-use Rattle.device_leaf.specs.Leaves.{LeafIs, blocks_at}
-use Rattle.device_leaf.proofs.Leaves.{block_at, leaf_there, no_block, stored_block}
-use Rattle.ckpt_step.specs.declared.leaf_error.LeafError.{LeafError}
-use Rattle.ckpt_step.specs.Checkpoints.{AreLeavesOf, IsLeafOf}
-use Rattle.ckpt_step.specs.Goings.{Going, NotOneMore, OneMore}
-use Rattle.ckpt_step.specs.Grounds.{AreRoots, found_in, link_in}
-use Rattle.ckpt_step.specs.Halves.{AllWritten, AreLeavesAt, AreOwn, Half, IsOldLeaf, IsOwn, KeepSame, SomeWritten, blocks_at_all, half_cell, leaf_cell, with_last, with_link}
-use Rattle.ckpt_step.specs.Ones.{IsOne, MayWrite, StandsThere}
-use Rattle.ckpt_step.specs.Sizes.{LeavesLack, Places, PlacesLeaves, TableWrites, WritesLeaf}
-use Rattle.ckpt_step.proofs.Frees.{which}
-use Rattle.ckpt_step.proofs.News.{live_used, unnamed_with}
-use Rattle.ckpt_step.proofs.OldLeaves.{all_of, known_link}
-use Rattle.ckpt_step.proofs.OneLeaf.{leaf_one}
-use Rattle.ckpt_step.proofs.Settles.{IsPast, captured_far, captured_here, captured_over, found_past, last_far, last_over, leaf_is_some}
+use Rattle.recover_open.specs.Bare.{tree_rows}
+use Rattle.tree_open.specs.declared.place.TreePlace.{TreePlace}
+use Rattle.tree_open.specs.Trees.{HasTree, IsPlaceOf}
+use Rattle.tree_write.specs.Captures.{Captures, IsNewOrLive, IsPlaced, MayWrite, places_of, with_addr, with_addrs}
+use Rattle.tree_write.specs.Sizes.{LacksAll, PlacesAll, WritesTree}
+use Rattle.tree_write.specs.Writes.{KeepSame}
+use Rattle.ckpt_step.specs.Checkpoints.{AreRowsOf}
+use Rattle.ckpt_step.specs.Goings.{BeginsIn, Going, IsFrom, MayGo, NotOneMore, OneMore}
+use Rattle.ckpt_step.specs.Grounds.{AreRoots, found_in}
+use Rattle.ckpt_step.specs.Halves.{AllWritten, AreOwn, Half, IsNewBlock, IsOldBlock, Runs, SomeWritten, TreesKeep, body_cell, half_cell}
+use Rattle.ckpt_step.specs.Sizes.{HasRowsOf, LacksTables, PlacesTables, TableWrites}
+use Rattle.ckpt_step.specs.Trees.{AreTreesAt, HasTreeAt, addrs_of, leaf_links, leaves_at, links_in, table_root, trees_blocks}
+use Rattle.ckpt_step.proofs.Cells.{OldCell, old_cell, which}
+use Rattle.ckpt_step.proofs.Members.{all_made, all_of, flat_member, get_within, in_back, in_either, in_front, map_member, member_flat, member_map, none_some, some_same}
+use Rattle.ckpt_step.proofs.Moving.{AllThere, back_all, keeps_moved, keeps_self, writes_moved}
+use Rattle.ckpt_step.proofs.OldTrees.{are_live_leaves, begins_old, begins_within, known_links, leaf_listed_at, leaves_apart, leaves_past, leaves_there, live_of_old, one_begins}
+use Rattle.ckpt_step.proofs.OneTree.{apart_join}
+use Rattle.ckpt_step.proofs.Within.{ends_within}
 
 -- ---- lists
 
-some_same : {A : Type 0} {x y : A} → Some x ≡ Some y → x ≡ y
-some_same same = cc
-
 pub drop_at : {A : Type 0} (l : List A) (i : ℕ) (x : A) → slice_get l i ≡ Some x → drop i l ≡ x ∷ drop (suc i) l
 drop_at [] i x at = absurd (none_some at)
-  where
-    none_some : None ≡ Some x → ⊥
-    none_some same = cc
 drop_at (y ∷ l) zero x at = ap (λ z. z ∷ l) (some_same at)
 drop_at (y ∷ l) (suc i) x at = drop_at l i x at
 
@@ -78,76 +76,74 @@ all_both : {A : Type 0} (P : A → Type 0) (xs ys : List A) → AllByRecursion P
 all_both P [] ys all more = more
 all_both P (x ∷ xs) ys all more = (all.0, all_both P xs ys all.1 more)
 
--- a fact of each member
-all_made : {A : Type 0} (P : A → Type 0) (xs : List A) → ((x : A) → Member x xs → P x) → AllByRecursion P xs
-all_made P [] each = tt
-all_made P (x ∷ xs) each = (each x (inl refl), all_made P xs (λ y there. each y (inr there)))
+in_append : {A : Type 0} (x : A) (xs : List A) (y : A) → Member x (xs ++ y ∷ []) → Member x xs ⊎ (x ≡ y)
+in_append x xs y there = elim (in_either xs (y ∷ []) x there) [ inl before ↦ inl before | inr last ↦ elim last [ inl same ↦ inr same | inr none ↦ absurd none ] ]
 
-in_either : {A : Type 0} (x : A) (xs ys : List A) → Member x (xs ++ ys) → Member x xs ⊎ Member x ys
-in_either x [] ys there = inr there
-in_either x (y ∷ xs) ys (inl same) = inl (inl same)
-in_either x (y ∷ xs) ys (inr there) = elim (in_either x xs ys there) [ inl left ↦ inl (inr left) | inr right ↦ inr right ]
+-- ---- trees by place
 
-apart_both : (xs ys : List Block) → Apart xs → Apart ys → ((b c : Block) → Member b xs → Member c ys → AreApart b.place c.place) → Apart (xs ++ ys)
-apart_both [] ys apart also each = also
-apart_both (x ∷ xs) ys apart also each =
-    (all_both (λ (c : Block). AreApart x.place c.place) xs ys apart.0 (all_made (λ (c : Block). AreApart x.place c.place) ys (λ c there. each x c (inl refl) there)), apart_both xs ys apart.1 also (λ b c there other. each b c (inr there) other))
+pub tree_kept : (cells : List Cell) (bytes later : List ℕ) (root : Root) (tree : TableTree) → HasTree bytes root tree → AreInUse cells (tree_blocks table_kind (root_entry root.link) tree) → Keeps (Has cells) bytes later → HasTree later root tree
+tree_kept cells bytes later root tree has used keeps = record { is = has.is; addressed = has.addressed; holds = holds_kept cells bytes later (tree_blocks table_kind (root_entry root.link) tree) has.holds used keeps }
 
--- ---- leaves and their blocks
+pub trees_kept : (cells : List Cell) (bytes later : List ℕ) (places : List TreePlace) (trees : List TableTree) → AreTreesAt bytes places trees → AreInUse cells (trees_blocks places trees) → Keeps (Has cells) bytes later → AreTreesAt later places trees
+trees_kept cells bytes later [] [] are used keeps = tt
+trees_kept cells bytes later [] (tree ∷ trees) are used keeps = absurd are
+trees_kept cells bytes later (p ∷ places) [] are used keeps = absurd are
+trees_kept cells bytes later (p ∷ places) (tree ∷ trees) are used keeps =
+    let own = tree_blocks table_kind (root_entry p.root.link) tree in (
+      tree_kept cells bytes later p.root tree are.0 (all_front (λ (b : Block). Has cells b.place.offset b.place.size) own (trees_blocks places trees) used) keeps,
+      are.1,
+      trees_kept cells bytes later places trees are.2 (all_back (λ (b : Block). Has cells b.place.offset b.place.size) own (trees_blocks places trees) used) keeps,
+    )
 
-pub leaf_kept : (cells : List Cell) (bytes later : List ℕ) (link : Link) (rows : List Row) → LeafIs bytes link rows → AreInUse cells (blocks_at link rows) → Keeps (Has cells) bytes later → LeafIs later link rows
-leaf_kept cells bytes later link rows leaf in_use keeps = record { bears = leaf.bears; addressed = leaf.addressed; holds = holds_kept cells bytes later (blocks_at link rows) leaf.holds in_use keeps }
+trees_more : (bytes : List ℕ) (places : List TreePlace) (trees : List TableTree) (p : TreePlace) (tree : TableTree) → AreTreesAt bytes places trees → HasTree bytes p.root tree → IsPlaceOf p tree → AreTreesAt bytes (places ++ p ∷ []) (trees ++ tree ∷ [])
+trees_more bytes [] [] p tree are has is = (has, is, tt)
+trees_more bytes [] (x ∷ trees) p tree are has is = absurd are
+trees_more bytes (q ∷ places) [] p tree are has is = absurd are
+trees_more bytes (q ∷ places) (x ∷ trees) p tree are has is = (are.0, are.1, trees_more bytes places trees p tree are.2 has is)
 
-pub leaves_kept : (cells : List Cell) (bytes later : List ℕ) (links : List Link) (leaves : List (List Row)) → AreLeavesAt bytes links leaves → AreInUse cells (blocks_at_all links leaves) → Keeps (Has cells) bytes later → AreLeavesAt later links leaves
-leaves_kept cells bytes later [] [] are in_use keeps = tt
-leaves_kept cells bytes later [] (rows ∷ leaves) are in_use keeps = absurd are
-leaves_kept cells bytes later (link ∷ links) [] are in_use keeps = absurd are
-leaves_kept cells bytes later (link ∷ links) (rows ∷ leaves) are in_use keeps = (
-  leaf_kept cells bytes later link rows are.0 (all_front (λ (b : Block). Has cells b.place.offset b.place.size) (blocks_at link rows) (blocks_at_all links leaves) in_use) keeps,
-  leaves_kept cells bytes later links leaves are.1 (all_back (λ (b : Block). Has cells b.place.offset b.place.size) (blocks_at link rows) (blocks_at_all links leaves) in_use) keeps,
-)
+blocks_more : (bytes : List ℕ) (places : List TreePlace) (trees : List TableTree) (p : TreePlace) (tree : TableTree) → AreTreesAt bytes places trees → trees_blocks (places ++ p ∷ []) (trees ++ tree ∷ []) ≡ trees_blocks places trees ++ tree_blocks table_kind (root_entry p.root.link) tree
+blocks_more bytes [] [] p tree are = append-nil (tree_blocks table_kind (root_entry p.root.link) tree)
+blocks_more bytes [] (x ∷ trees) p tree are = absurd are
+blocks_more bytes (q ∷ places) [] p tree are = absurd are
+blocks_more bytes (q ∷ places) (x ∷ trees) p tree are =
+    let own = tree_blocks table_kind (root_entry q.root.link) x in
+    ap (λ (l : List Block). own ++ l) (blocks_more bytes places trees p tree are.2) ∙ sym (append_assoc own (trees_blocks places trees) (tree_blocks table_kind (root_entry p.root.link) tree))
 
-leaves_more : (bytes : List ℕ) (links : List Link) (leaves : List (List Row)) (link : Link) (rows : List Row) → AreLeavesAt bytes links leaves → LeafIs bytes link rows → AreLeavesAt bytes (links ++ link ∷ []) (leaves ++ rows ∷ [])
-leaves_more bytes [] [] link rows are leaf = (leaf, tt)
-leaves_more bytes [] (other ∷ leaves) link rows are leaf = absurd are
-leaves_more bytes (other ∷ links) [] link rows are leaf = absurd are
-leaves_more bytes (other ∷ links) (others ∷ leaves) link rows are leaf = (are.0, leaves_more bytes links leaves link rows are.1 leaf)
+-- where their blocks stand
+pub block_addr : (bytes : List ℕ) (places : List TreePlace) (trees : List TableTree) (b : Block) → AreTreesAt bytes places trees → Member b (trees_blocks places trees) → Member b.place (addrs_of places)
+block_addr bytes [] trees b are there = absurd there
+block_addr bytes (p ∷ places) [] b are there = absurd there
+block_addr bytes (p ∷ places) (tree ∷ trees) b are there =
+    let own = tree_blocks table_kind (root_entry p.root.link) tree in
+    elim (in_either own (trees_blocks places trees) b there) [
+      | inl mine ↦ in_front p.addrs.items (addrs_of places) b.place (subst (λ (l : List Addr). Member b.place l) (sym are.1.addrs) (map_member {A = Block} (λ x. x.place) b own mine))
+      | inr later ↦ in_back p.addrs.items (addrs_of places) b.place (block_addr bytes places trees b are.2 later)
+    ]
 
-blocks_more : (bytes : List ℕ) (links : List Link) (leaves : List (List Row)) (link : Link) (rows : List Row) → AreLeavesAt bytes links leaves → blocks_at_all (links ++ link ∷ []) (leaves ++ rows ∷ []) ≡ blocks_at_all links leaves ++ blocks_at link rows
-blocks_more bytes [] [] link rows are = append-nil (blocks_at link rows)
-blocks_more bytes [] (other ∷ leaves) link rows are = absurd are
-blocks_more bytes (other ∷ links) [] link rows are = absurd are
-blocks_more bytes (other ∷ links) (others ∷ leaves) link rows are =
-    ap (λ (l : List Block). blocks_at other others ++ l) (blocks_more bytes links leaves link rows are.1) ∙ sym (append_assoc (blocks_at other others) (blocks_at_all links leaves) (blocks_at link rows))
+pub addr_block : (bytes : List ℕ) (places : List TreePlace) (trees : List TableTree) (a : Addr) → AreTreesAt bytes places trees → Member a (addrs_of places) → (b : Block) × Member b (trees_blocks places trees) × (a ≡ b.place)
+addr_block bytes [] trees a are there = absurd there
+addr_block bytes (p ∷ places) [] a are there = absurd are
+addr_block bytes (p ∷ places) (tree ∷ trees) a are there =
+    let own = tree_blocks table_kind (root_entry p.root.link) tree in
+    elim (in_either p.addrs.items (addrs_of places) a there) [
+      | inl mine ↦ let b = member_map {A = Block} (λ x. x.place) a own (subst (λ (l : List Addr). Member a l) are.1.addrs mine) in (b.0, in_front own (trees_blocks places trees) b.0 b.1, b.2)
+      | inr later ↦ let b = addr_block bytes places trees a are.2 later in (b.0, in_back own (trees_blocks places trees) b.0 b.1, b.2)
+    ]
 
--- a block of a leaf is that of its link
-record IsBlockOf (link : Link) (b : Block) : Type 0 where
-  stored : link.addr.offset ≡ 0 → ⊥
-  place : b.place ≡ link.addr
-
-block_from : (link : Link) (rows : List Row) (b : Block) → Member b (blocks_at link rows) → IsBlockOf link b
-block_from link rows b there = elim (cases_eq link.addr.offset 0) [
-  | inl at_zero ↦ absurd (subst (λ (l : List Block). Member b l) (no_block link rows at_zero) there)
-  | inr some ↦ record { stored = some; place = only (subst (λ (l : List Block). Member b l) (stored_block link rows some) there) }
-]
+addrs_more : (places : List TreePlace) (p : TreePlace) (a : Addr) → (Member a (addrs_of (places ++ p ∷ [])) → Member a (addrs_of places) ⊎ Member a p.addrs.items) × (Member a (addrs_of places) ⊎ Member a p.addrs.items → Member a (addrs_of (places ++ p ∷ [])))
+addrs_more places p a = (split, joined_)
   where
-    only : Member b (block_at link rows ∷ []) → b.place ≡ link.addr
-    only (inl same) = ap (λ (x : Block). x.place) same
-    only (inr none) = absurd none
+    split : Member a (addrs_of (places ++ p ∷ [])) → Member a (addrs_of places) ⊎ Member a p.addrs.items
+    split there =
+        let q = member_flat {A = TreePlace} (λ x. x.addrs.items) (places ++ p ∷ []) a there in
+        elim (in_append q.0 places p q.1) [
+          | inl before ↦ inl (flat_member {A = TreePlace} (λ x. x.addrs.items) q.0 places a before q.2)
+          | inr same ↦ inr (subst (λ (x : TreePlace). Member a x.addrs.items) same q.2)
+        ]
 
-blocks_from : (links : List Link) (leaves : List (List Row)) (b : Block) → Member b (blocks_at_all links leaves) → (k : ℕ) × (x : Link) × (slice_get links k ≡ Some x) × IsBlockOf x b
-blocks_from [] leaves b there = absurd there
-blocks_from (link ∷ links) [] b there = absurd there
-blocks_from (link ∷ links) (rows ∷ leaves) b there = elim (in_either b (blocks_at link rows) (blocks_at_all links leaves) there) [
-  | inl here ↦ (0, link, refl, block_from link rows b here)
-  | inr later ↦ let more = blocks_from links leaves b later in (suc more.0, more.1, more.2, more.3)
-]
-
-alone : (link : Link) (rows : List Row) → Apart (blocks_at link rows)
-alone link rows = elim (cases_eq link.addr.offset 0) [
-  | inl at_zero ↦ subst Apart (sym (no_block link rows at_zero)) tt
-  | inr some ↦ subst Apart (sym (stored_block link rows some)) (tt, tt)
-]
+    joined_ : Member a (addrs_of places) ⊎ Member a p.addrs.items → Member a (addrs_of (places ++ p ∷ []))
+    joined_ (inl before) = let q = member_flat {A = TreePlace} (λ x. x.addrs.items) places a before in flat_member {A = TreePlace} (λ x. x.addrs.items) q.0 (places ++ p ∷ []) a (in_front places (p ∷ []) q.0 q.1) q.2
+    joined_ (inr last) = flat_member {A = TreePlace} (λ x. x.addrs.items) p (places ++ p ∷ []) a (in_back places (p ∷ []) p (inl refl)) last
 
 -- two blocks in use that begin at two places
 has_apart : (cells : List Cell) (space : Space) (x y : Addr) → AreUnits cells space → Has cells x.offset x.size → Has cells y.offset y.size → (x.offset ≡ y.offset → ⊥) → AreApart x y
@@ -161,276 +157,312 @@ has_apart cells space x y units (u, at, size, used) (v, also, other, too) differ
 
 -- ---- what may be written
 
-unnamed_all : (u : ℕ) (links : List Link) (c : Cell) → c.names ≡ 0 → (fold (with_link u) c links).names ≡ 0
-unnamed_all u [] c none = none
-unnamed_all u (x ∷ links) c none = unnamed_all u links (with_link u c x) (unnamed_with u c x none)
+no_names : (c : Cell) → OldCell c → c.names ≡ 0
+no_names c (inl is) = ap (λ (x : Cell). x.names) is
+no_names c (inr (inl (a, is))) = ap (λ (x : Cell). x.names) is
+no_names c (inr (inr (n, is))) = ap (λ (x : Cell). x.names) is
 
-unnamed_past : (c : Cell) → (c ≡ nothing) ⊎ IsPast c → c.names ≡ 0
-unnamed_past c (inl none) = ap (λ (x : Cell). x.names) none
-unnamed_past c (inr past) = past.unnamed
-
-pub may_of : (seen : List ℕ) (images : List ℕ → Type 0) (books : Books) (old : Option Stored) (was links : List Link) (leaves : List (List Row)) → Half seen images books old was links leaves → MayWrite seen images books old
-may_of seen images books old was links leaves half = record {
-  stands = half.stands;
-  units = half.units;
-  unnamed = λ u. ap (λ (c : Cell). c.names) (half.cells u) ∙ unnamed_all u links (found_cell (found_in old) u) (unnamed_past (found_cell (found_in old) u) (found_past old u));
-}
-
--- where nothing is, nothing was found
-none_found : (old : Option Stored) (links : List Link) (u : ℕ) → half_cell old links u ≡ nothing → found_cell (found_in old) u ≡ nothing
-none_found old links u none = elim (which (with_link u) (with_last u) u (captured_far u) (last_far u) (captured_over u) (last_over u) links) [
-  | inl leads ↦ absurd (false≢true (sym (ap (λ (c : Cell). c.is_live) (sym (leads.first (found_cell (found_in old) u) ∙ captured_here u (found_cell (found_in old) u) leads.link leads.at) ∙ none))))
-  | inr far ↦ sym (far.first (found_cell (found_in old) u)) ∙ none
+half_unnamed : (old : Option Stored) (captured : List Addr) (u : ℕ) → (half_cell old captured u).names ≡ 0
+half_unnamed old captured u = elim (which u captured) [
+  | inl one ↦ ap (λ (c : Cell). c.names) (one.half (found_cell (found_in old) u))
+  | inr none ↦ ap (λ (c : Cell). c.names) (none.half (found_cell (found_in old) u)) ∙ no_names (found_cell (found_in old) u) (old_cell u old)
 ]
 
-half_looked : (seen later : List ℕ) (images left : List ℕ → Type 0) (books : Books) (old : Option Stored) (was links : List Link) (leaves : List (List Row)) → later ≡ seen → ((c : List ℕ) → left c → images c) → Half seen images books old was links leaves → Half later left books old was links leaves
-half_looked seen later images left books old was links leaves same fewer half = record {
-  stands = record {
-    seen_has = subst (λ (l : List ℕ). HasStill old l) (sym same) half.stands.seen_has;
-    images_have = λ is c there. half.stands.images_have is c (fewer c there);
-    in_use = half.stands.in_use;
-  };
-  cells = half.cells;
-  units = half.units;
-  held = half.held;
-  long = subst (λ (l : List ℕ). 8192 ≤ length l) (sym same) half.long;
-  within = subst (λ (l : List ℕ). end_of books.space ≤ length l) (sym same) half.within;
-  there = subst (λ (l : List ℕ). AreLeavesAt l links leaves) (sym same) half.there;
-  in_use = half.in_use;
-  apart = half.apart;
-  was_are = half.was_are;
-  own = half.own;
-}
+-- where nothing is, nothing was found
+pub none_found : (old : Option Stored) (captured : List Addr) (u : ℕ) → half_cell old captured u ≡ nothing → found_cell (found_in old) u ≡ nothing
+none_found old captured u none = elim (which u captured) [
+  | inl one ↦ absurd (false≢true (sym (ap (λ (c : Cell). c.is_live) (sym (one.half (found_cell (found_in old) u)) ∙ none))))
+  | inr far ↦ sym (far.half (found_cell (found_in old) u)) ∙ none
+]
+
+pub may_of : (seen : List ℕ) (images : List ℕ → Type 0) (books : Books) (old : Option Stored) (captured : List Addr) → Runs seen images books old captured → MayWrite seen images books old
+may_of seen images books old captured runs = record { stands = runs.stands; units = runs.units; unnamed = λ u. ap (λ (c : Cell). c.names) (runs.cells u) ∙ half_unnamed old captured u }
+
+-- a cell of the live tree that an opening found
+live_cell : (c : Cell) → OldCell c → c.is_live ≡ true → (n : ℕ) × (c ≡ body_cell n)
+live_cell c (inl is) live = absurd (false≢true (sym (ap (λ (x : Cell). x.is_live) is) ∙ live))
+live_cell c (inr (inl (a, is))) live = absurd (false≢true (sym (ap (λ (x : Cell). x.is_live) is) ∙ live))
+live_cell c (inr (inr body)) live = body
 
 -- ---- one after the other
 
-pub holds_of : (old : Option Stored) (bytes : List ℕ) (b : Block) → HasStill old bytes → Member b (blocks_of old) → IsAt bytes b
-holds_of None bytes b still there = absurd there
-holds_of (Some s) bytes b on there = all_of (λ (x : Block). IsAt bytes x) (stored_blocks s) b on.holds there
+module _ {D : Type 0} (g : Ghosts D) (old : Option Stored) (was : List TreePlace) (m : Machine) (known : List Table) (next : ℕ) (books0 : Books) (start : D) (half0 : Half (g.seen start) (g.may_leave start) books0 old [] [] [])
+    (roots : AreRoots known was old) (ascend : NumbersAscend 1 known next) where
+  cells0 : (u : ℕ) → cell_at books0.cells u ≡ found_cell (found_in old) u
+  cells0 u = half0.runs.cells u
 
-module _ {D : Type 0} (g : Ghosts D) (old : Option Stored) (was : List Link) (m : Machine) (known : List Table) (low next : ℕ) (books0 : Books) (start : D) (half0 : Half (g.seen start) (g.may_leave start) books0 old was [] [])
-    (roots : AreRoots known was old) (ascend : NumbersAscend low known next) where
-  abbrev was_at : ℕ → Link
-  was_at p = slice_index_or was p nowhere
-
-  pub begun : ((c : List ℕ) → g.left_since start (g.moment start) c → g.may_leave start c) → Going g old was m known books0 books0 [] 0 start start
+  pub begun : ((c : List ℕ) → g.left_since start (g.moment start) c → g.may_leave start c) → Going g old was m known books0 books0 [] [] 0 start start
   begun only = record {
-    leaves = [];
-    count = refl;
+    trees = [];
+    many = refl;
     half = half0;
+    from = λ a there. absurd there;
     left = started g start (IsOld (g.may_leave start) old) (λ c left. inl (only c left));
     images = λ c left. inl left;
     rows = λ rest are. are;
     placed = λ last places. places;
     lacks = λ lacks. lacks;
-    same = λ p u x others known_at none. absurd cc;
+    same = λ i t place tree known_at place_at tree_at. absurd (none_some place_at);
     keeps = keeps_refl (Has books0.cells) (g.seen start);
     used = λ at n has. has;
     live = λ at n has. has;
   }
 
-  -- a link of the checkpoint before that leads somewhere
-  old_at : (p : ℕ) → ((was_at p).addr.offset ≡ 0 → ⊥) → (slice_get was p ≡ Some (was_at p)) × IsOldLeaf old (was_at p)
-  old_at p some = elim (cases_lt p (length was)) [
-    | inr past ↦ absurd (some (ap (λ (l : Link). l.addr.offset) (get_or_past was p nowhere past)))
-    | inl lt ↦
-        let is = slice_get-get_or was p nowhere lt in (
-          is,
-          elim (half0.was_are.each p (was_at p) is) [
-            | inl none ↦ absurd (some (ap (λ (l : Link). l.addr.offset) none))
-            | inr leaf ↦ leaf
-          ],
-        )
-  ]
-
-  live0 : (p : ℕ) → ((was_at p).addr.offset ≡ 0 → ⊥) → HasLive books0.cells (was_at p).addr.offset (was_at p).addr.size
-  live0 p some =
-      let leaf = (old_at p some).1 in
-      let cell : cell_at books0.cells leaf.unit ≡ leaf_cell leaf.units = half0.cells leaf.unit ∙ leaf.cell in
-      (leaf.unit, leaf.offset, leaf.size ∙ ap (λ (c : Cell). 4096 * c.units) (sym cell), ap (λ (c : Cell). c.is_live) cell)
-
-  module _ (place : ℕ) (t : Table) (books : Books) (links : List Link) (mid : D) (going : Going g old was m known books0 books links place start mid) (at : slice_get known place ≡ Some t) (room : g.capacity mid ≡ g.capacity start) where
+  module _ (i : ℕ) (t : Table) (books : Books) (places : List TreePlace) (taken : List Addr) (mid : D) (going : Going g old was m known books0 books places taken i start mid) (at : slice_get known i ≡ Some t) (room : g.capacity mid ≡ g.capacity start) where
     old_mid : (c : List ℕ) → IsOld (g.may_leave mid) old c → IsOld (g.may_leave start) old c
     old_mid c (inl left) = going.images c left
     old_mid c (inr has) = inr has
 
-    -- the leaf of the checkpoint before, as it was and as it is
-    pub forward : (rows : List Row) → rows ≢ [] → LeafIs (g.seen start) (was_at place) rows → StandsThere (g.seen mid) books (was_at place) rows
-    forward rows some leaf =
-        let live = live0 place stored in (
-          leaf_kept books0.cells (g.seen start) (g.seen mid) (was_at place) rows leaf (subst (λ (l : List Block). AreInUse books0.cells l) (sym (stored_block (was_at place) rows stored)) (live_used books0.cells (was_at place).addr.offset (was_at place).addr.size live, tt)) going.keeps,
-          going.live (was_at place).addr.offset (was_at place).addr.size live,
-        )
-      where
-        stored : (was_at place).addr.offset ≡ 0 → ⊥
-        stored at_zero = some (leaf.bears.empty (eq-eqb (was_at place).addr.offset 0 at_zero)).1
+    old_of : (p : TreePlace) (a : Addr) → slice_get was i ≡ Some p → Member a p.addrs.items → IsOldBlock old a
+    old_of p a is there = begins_old (g.seen start) (g.may_leave start) books0 known next ascend was old half0.runs.stands roots cells0 half0.runs.units i p a is there
 
-    pub backward : (rows : List Row) → StandsThere (g.seen mid) books (was_at place) rows → LeafIs (g.seen start) (was_at place) rows
-    backward rows there =
-        let leaf = (old_at place stored).1 in
-        let live = live0 place stored in
-        let before : IsAt (g.seen start) leaf.block = holds_of old (g.seen start) leaf.block half0.stands.seen_has leaf.among in
-        let within : (was_at place).addr.offset + (was_at place).addr.size ≤ length (g.seen start) = subst (λ (a : Addr). a.offset + a.size ≤ length (g.seen start)) leaf.place before.within in
-        let now : IsAt (g.seen mid) (block_at (was_at place) rows) = (leaf_there (g.seen mid) (was_at place) rows stored there.0).1 in
-        let same = going.keeps.part (was_at place).addr.offset (was_at place).addr.size (live_used books0.cells (was_at place).addr.offset (was_at place).addr.size live) within in
-        let is : IsAt (g.seen start) (block_at (was_at place) rows) = record { within = within; is = sym same ∙ now.is } in
-        record {
-          bears = there.0.bears;
-          addressed = there.0.addressed;
-          holds = subst (λ (l : List Block). Holds (g.seen start) l) (sym (stored_block (was_at place) rows stored)) (is, tt);
-        }
-      where
-        stored : (was_at place).addr.offset ≡ 0 → ⊥
-        stored at_zero = omega (arith, at_zero, there.1.1)
+    live0 : (p : TreePlace) (a : Addr) → slice_get was i ≡ Some p → Member a p.addrs.items → HasLive books0.cells a.offset a.size
+    live0 p a is there = live_of_old old books0 a cells0 (old_of p a is there)
 
-    -- what is written of the table
-    writes_of : (rows : List Row) (link : Link) (size : Option ℕ) → IsOne (g.seen mid) books (was_at place) rows link size → WritesLeaf (g.seen start) (was_at place) rows size
-    writes_of rows link size (inl (none, nowhere_is, is)) = subst (λ (o : Option ℕ). WritesLeaf (g.seen start) (was_at place) rows o) (sym is) (inl none)
-    writes_of rows link size (inr (some, inl (same, is, there))) = subst (λ (o : Option ℕ). WritesLeaf (g.seen start) (was_at place) rows o) (sym is) (inr (backward rows there))
-    writes_of rows link size (inr (some, inr (is, none, placed))) = subst (λ (o : Option ℕ). WritesLeaf (g.seen start) (was_at place) rows o) (sym is) (some, (λ leaf. none (forward rows some leaf)), refl)
+    pub may_go : MayGo (g.seen mid) (g.may_leave mid) books0 books old was i
+    may_go = record {
+      over = record {
+        may = may_of (g.seen mid) (g.may_leave mid) books old taken going.half.runs;
+        live = going.live;
+        leaves = are_live_leaves (g.seen start) (g.may_leave start) books0 known next ascend was old half0.runs.stands roots cells0 half0.runs.units i;
+      };
+      apart = leaves_apart (g.seen start) (g.may_leave start) books0 known next ascend was old half0.runs.stands roots cells0 half0.runs.units i;
+      blocks = live0;
+      listed = leaf_listed_at (g.seen start) (g.may_leave start) books0 known next ascend was old half0.runs.stands roots cells0 half0.runs.units i;
+    }
 
-    own_link : link_in old t ≡ was_at place
-    own_link = known_link known was old low next place t roots ascend at
+    -- the leaves of before, as they were and as they are
+    there : AllThere (g.seen start) (g.seen mid) (leaves_at was i)
+    there link among some = elim (cases_lt i (length was)) [
+      | inr past ↦ absurd (subst (λ (l : List Link). Member link l) (leaves_past was i past) among)
+      | inl lt ↦
+          let p = get_within was i lt in
+          let own : Member link p.0.leaves.items = subst (λ (l : List Link). Member link l) (leaves_there was i p.0 p.1) among in
+          let listed : Member link.addr p.0.addrs.items = leaf_listed_at (g.seen start) (g.may_leave start) books0 known next ascend was old half0.runs.stands roots cells0 half0.runs.units i p.0 link p.1 own some in
+          let within = begins_within (g.seen start) (g.may_leave start) books0 known next ascend was old half0.runs.stands roots cells0 half0.runs.units i p.0 link.addr p.1 listed in
+          let live = live0 p.0 link.addr p.1 listed in
+          record {
+            within = within;
+            also = omega (arith, within, going.keeps.no_shorter);
+            same = going.keeps.part link.addr.offset link.addr.size (live.0, live.1, live.2, used_live (cell_at books0.cells live.0) live.3) within;
+          }
+    ]
 
-    table_writes : (rows : List Row) (size : Option ℕ) → IsLeafOf m t rows → WritesLeaf (g.seen start) (was_at place) rows size → TableWrites (g.seen start) (g.capacity start) old m t size
-    table_writes rows size leaf writes = record { rows = rows; leaf = leaf; writes = subst (λ (l : Link). WritesLeaf (g.seen start) l rows size) (sym own_link) writes }
+    own_links : links_in old t ≡ leaves_at was i
+    own_links = known_links (g.seen start) (g.may_leave start) books0 known next ascend was old half0.runs.stands roots cells0 half0.runs.units i t at
 
-    module _ (books' : Books) (links' : List Link) (end : D) where
-      -- it fails
-      pub failed : (e : LeafError) → ((x : Table) → Member x known → Member x (tables m.history)) → NotOneMore g old (was_at place) m t books books' links links' mid end e → SomeWritten g old was m known books0 books' links' start end e
-      failed e made fail = record {
-        leaves = going.leaves;
-        half = λ safe. subst (λ (l : List Link). Half (g.seen end) (g.may_leave end) books' old was l going.leaves) (sym fail.links_are)
-            (subst (λ (b : Books). Half (g.seen end) (g.may_leave end) b old was links going.leaves) (sym fail.fails.same) (half_looked (g.seen mid) (g.seen end) (g.may_leave mid) (g.may_leave end) books old was links going.leaves (fail.fails.seen safe) (fail.fails.images safe) going.half));
-        left = joined g start mid end _ _ going.left fail.fails.left old_mid;
-        lacks = λ is.
-            let why = fail.lacks is in
-            going.lacks (subst (λ (l : List Table). LeavesLack (g.seen start) (g.capacity start) old m books.space l) (sym (drop_at known place t at))
-            (Some (block_size (image_length fail.rows)), table_writes fail.rows (Some (block_size (image_length fail.rows))) why.0 (why.1, (λ leaf. why.2 (forward fail.rows why.1 leaf)), refl), inl (subst (λ (k : ℕ). HasNoRoom books.space (block_size (image_length fail.rows)) k) room why.3)));
-        over = λ is. (t, fail.rows, made t (got-member known place t at), (fail.over is).0, (fail.over is).1);
+    -- blocks that are captured more
+    module _ (blocks : List Block) (sizes : List ℕ) (books' : Books) (end : D) (caught : Captures g old books0 blocks sizes books books' mid end) where
+      long_end : 8192 ≤ length (g.seen end)
+      long_end = omega (arith, going.half.runs.long, caught.keeps.no_shorter)
+
+      own_new : (a : Addr) → IsPlaced books a → IsNewBlock old a
+      own_new a placed = record { unit = placed.unit; units = placed.units; offset = placed.offset; size = placed.size; none = none_found old taken placed.unit (sym (going.half.runs.cells placed.unit) ∙ placed.none) }
+
+      own_live : (a : Addr) → HasLive books0.cells a.offset a.size → IsOldBlock old a
+      own_live a (u, offset, size, live) =
+          let body = live_cell (found_cell (found_in old) u) (old_cell u old) (ap (λ (c : Cell). c.is_live) (sym (cells0 u)) ∙ live) in
+          record { unit = u; units = body.0; offset = offset; size = size ∙ ap (λ (c : Cell). 4096 * c.units) (cells0 u ∙ body.1); cell = body.1 }
+
+      own_more : AreOwn old (taken ++ places_of blocks)
+      own_more a among = elim (in_either taken (places_of blocks) a among) [
+        | inl before ↦ going.half.runs.own a before
+        | inr more ↦
+            let b = member_map {A = Block} (λ x. x.place) a blocks more in
+            elim (subst (λ (x : Addr). IsNewOrLive books0 books x) (sym b.2) (all_of (λ (x : Block). IsNewOrLive books0 books x.place) blocks b.0 caught.each b.1)) [ inl placed ↦ inr (own_new a placed) | inr live ↦ inl (own_live a live) ]
+      ]
+
+      pub runs_more : Runs (g.seen end) (g.may_leave end) books' old (taken ++ places_of blocks)
+      runs_more = record {
+        stands = caught.may.stands;
+        cells = λ u. caught.cells u ∙ (ap (λ (c : Cell). with_addrs u c (places_of blocks)) (going.half.runs.cells u) ∙ sym (fold-append (with_addr u) (found_cell (found_in old) u) taken (places_of blocks)));
+        units = caught.may.units;
+        long = long_end;
+        within = ends_within books books' (g.capacity mid) sizes blocks (g.seen end) going.half.runs.units caught.may.units (omega (arith, going.half.runs.within, caught.keeps.no_shorter)) long_end caught.places caught.holds caught.in_use caught.cells;
+        own = own_more;
       }
 
-      module _ (held : books'.is_held ≡ true) (ready : end_of books'.space ≤ length (g.seen end)) (one : OneMore g old (was_at place) m t books books' links links' mid end) where
-        abbrev link : Link
-        link = one.link
+    module _ (books' : Books) (places' : List TreePlace) (taken' : List Addr) (end : D) where
+      -- it fails
+      pub failed : (e : StoreError) → NotOneMore g old books0 was m t i books books' places places' taken taken' mid end e → SomeWritten g old m known books0 books' places' taken' start end e
+      failed e fail = record {
+        runs = λ safe. subst (λ (l : List Addr). Runs (g.seen end) (g.may_leave end) books' old l) (sym fail.captured_are) (runs_more fail.blocks fail.sizes books' end (fail.captures safe));
+        left = joined g start mid end _ _ going.left fail.left old_mid;
+        lacks = λ is.
+            let why = fail.lacks is in
+            let tree = why.1 in
+            going.lacks (subst (λ (l : List Table). LacksTables (g.seen start) (g.capacity start) old m books.space l) (sym (drop_at known i t at)) (
+              tree.sizes,
+              record { rows = fail.rows; are = why.0; writes = inr (record { root = tree.root; tree = tree.tree; cut = tree.cut; writes = subst (λ (l : List Link). WritesTree (g.seen start) l tree.tree tree.sizes) (sym own_links) (writes_moved (g.seen mid) (g.seen start) (leaves_at was i) tree.tree tree.sizes (back_all (g.seen start) (g.seen mid) (leaves_at was i) there) tree.writes) }) },
+              inl (subst (λ (k : ℕ). LacksAll books.space k tree.sizes) room tree.lacks),
+            ));
+      }
 
-        abbrev rows : List Row
-        rows = one.rows
+      module _ (held : books'.is_held ≡ true) (one : OneMore g old books0 was m t i books books' places places' taken taken' mid end) where
+        abbrev place : TreePlace
+        place = one.place
 
-        -- the block of the link is at none of those before
-        differs : (k : ℕ) (x : Link) → slice_get links k ≡ Some x → (x.addr.offset ≡ 0 → ⊥) → Has books.cells x.addr.offset x.addr.size → (link.addr.offset ≡ 0 → ⊥) → x.addr.offset ≡ link.addr.offset → ⊥
-        differs k x is stored used some same = by one.is
-          where
-            by : IsOne (g.seen mid) books (was_at place) rows link one.size → ⊥
-            by (inl (none, nowhere_is, size)) = some (ap (λ (l : Link). l.addr.offset) nowhere_is)
-            by (inr (full, inr (size, none, placed))) =
-                let unit : used.0 ≡ placed.unit = omega (arith, same, used.1, placed.offset) in
-                false≢true (sym (ap is_used (ap (cell_at books.cells) unit ∙ placed.none)) ∙ used.3)
-            by (inr (full, inl (own, size, there))) =
-                let kept : (was_at place).addr.offset ≡ x.addr.offset = ap (λ (l : Link). l.addr.offset) (sym own) ∙ sym same in
-                let leaf = old_at place (λ at_zero. stored (sym kept ∙ at_zero)) in
-                elim (going.half.own k x is) [
-                  | inl none ↦ stored (ap (λ (l : Link). l.addr.offset) none)
-                  | inr (inl (equal, full)) ↦
-                      let other = old_at k (λ at_zero. stored (ap (λ (l : Link). l.addr.offset) equal ∙ at_zero)) in
-                      omega (arith, slice_get_within links k x is, going.count, half0.was_are.one k place (was_at k) (was_at place) other.0 leaf.0 full (ap (λ (l : Link). l.addr.offset) (sym equal) ∙ sym kept))
-                  | inr (inr new) ↦ leaf_is_some leaf.1.units (sym leaf.1.cell ∙ (ap (found_cell (found_in old)) (let unit : leaf.1.unit ≡ new.unit = omega (arith, kept, leaf.1.offset, new.offset) in unit) ∙ new.none))
-                ]
+        abbrev tree : TableTree
+        tree = one.tree
 
-        blocks_apart : (b c : Block) → Member b (blocks_at_all links going.leaves) → Member c (blocks_at link rows) → AreApart b.place c.place
-        blocks_apart b c there also =
-            let from = blocks_from links going.leaves b there in
-            let x = from.1 in
-            let to = block_from link rows c also in
-            let used : Has books.cells x.addr.offset x.addr.size = subst (λ (a : Addr). Has books.cells a.offset a.size) from.3.place (all_of (λ (z : Block). Has books.cells z.place.offset z.place.size) (blocks_at_all links going.leaves) b going.half.in_use there) in
-            let mine : Has books'.cells link.addr.offset link.addr.size = subst (λ (a : Addr). Has books'.cells a.offset a.size) to.place (all_of (λ (z : Block). Has books'.cells z.place.offset z.place.size) (blocks_at link rows) c one.captures.in_use also) in
-            let apart : AreApart x.addr link.addr = has_apart books'.cells books'.space x.addr link.addr one.captures.may.units (one.captures.used x.addr.offset x.addr.size used) mine (differs from.0 x from.2 from.3.stored used to.stored) in
-            subst (λ (a : Addr). AreApart a c.place) (sym from.3.place) (subst (λ (a : Addr). AreApart x.addr a) (sym to.place) apart)
+        abbrev own_blocks : List Block
+        own_blocks = tree_blocks table_kind (root_entry place.root.link) tree
 
-        used_more : (blocks : List Block) → AreInUse books.cells blocks → AreInUse books'.cells blocks
-        used_more [] in_use = tt
-        used_more (b ∷ blocks) in_use = (one.captures.used b.place.offset b.place.size in_use.0, used_more blocks in_use.1)
+        abbrev all_blocks : List Block
+        all_blocks = trees_blocks places going.trees
 
-        all_blocks : blocks_at_all (links ++ link ∷ []) (going.leaves ++ rows ∷ []) ≡ blocks_at_all links going.leaves ++ blocks_at link rows
-        all_blocks = blocks_more (g.seen mid) links going.leaves link rows going.half.there
+        runs : Runs (g.seen end) (g.may_leave end) books' old (taken ++ places_of one.blocks)
+        runs = runs_more one.blocks one.sizes books' end one.captures
 
-        own_is : IsOne (g.seen mid) books (was_at place) rows link one.size → IsOwn old (was_at place) link
-        own_is (inl (none, nowhere_is, size)) = inl nowhere_is
-        own_is (inr (full, inl (same, size, there))) = inr (inl (same, λ none. omega (arith, ap (λ (l : Link). l.addr.offset) none, there.1.1)))
-        own_is (inr (full, inr (size, none, placed))) = inr (inr (record { unit = placed.unit; units = placed.units; offset = placed.offset; size = placed.size; none = none_found old links placed.unit (sym (going.half.cells placed.unit) ∙ placed.none) }))
+        -- a block of the tree is one of those that were captured
+        caught_addr : (b : Block) → Member b own_blocks → Member b.place (places_of one.blocks)
+        caught_addr b mine = (one.listed b.place).1 (subst (λ (l : List Addr). Member b.place l) (sym one.is.addrs) (map_member {A = Block} (λ x. x.place) b own_blocks mine))
 
-        own_more : AreOwn old was (links ++ link ∷ [])
-        own_more p x is = elim (append-finds links link x p is) [
-          | inl before ↦ going.half.own p x before
-          | inr (last, same) ↦ subst (λ (k : ℕ). IsOwn old (was_at k) x) (sym (last ∙ going.count)) (subst (λ (l : Link). IsOwn old (was_at place) l) same (own_is one.is))
+        has_own : (b : Block) → Member b own_blocks → Has books'.cells b.place.offset b.place.size
+        has_own b mine =
+            let c = member_map {A = Block} (λ x. x.place) b.place one.blocks (caught_addr b mine) in
+            subst (λ (a : Addr). Has books'.cells a.offset a.size) (sym c.2) (all_of (λ (x : Block). Has books'.cells x.place.offset x.place.size) one.blocks c.0 one.captures.in_use c.1)
+
+        has_before : (b : Block) → Member b all_blocks → Has books.cells b.place.offset b.place.size
+        has_before b before = all_of (λ (x : Block). Has books.cells x.place.offset x.place.size) all_blocks b going.half.in_use before
+
+        -- it begins where none of those before does
+        differs : (b c : Block) → Member b all_blocks → Member c own_blocks → b.place.offset ≡ c.place.offset → ⊥
+        differs b c before mine same = elim (one.own c.place (caught_addr c mine)) [
+          | inl placed ↦
+              let used = has_before b before in
+              let unit : used.0 ≡ placed.unit = omega (arith, same, used.1, placed.offset) in
+              false≢true (sym (ap is_used (ap (cell_at books.cells) unit ∙ placed.none)) ∙ used.3)
+          | inr begins ↦ elim (going.from b.place ((going.half.listed b.place).1 (block_addr (g.seen mid) places going.trees b going.half.there before))) [
+            | inl new ↦
+                let o = old_of begins.0 begins.1 begins.2 begins.3 in
+                let unit : o.unit ≡ new.unit = omega (arith, o.offset, new.offset, begins.4, same) in
+                false≢true (sym (ap (λ (c : Cell). c.is_live) (sym o.cell ∙ (ap (found_cell (found_in old)) unit ∙ new.none))))
+            | inr (j, lt, earlier) ↦
+                let also : BeginsIn was j c.place = (earlier.0, earlier.1, earlier.2, earlier.3, earlier.4 ∙ same) in
+                omega (arith, lt, one_begins (g.seen start) (g.may_leave start) books0 known next ascend was old half0.runs.stands roots cells0 half0.runs.units j i c.place also begins)
+          ]
         ]
 
-        half_more : Half (g.seen end) (g.may_leave end) books' old was (links ++ link ∷ []) (going.leaves ++ rows ∷ [])
+        blocks_are : trees_blocks (places ++ place ∷ []) (going.trees ++ tree ∷ []) ≡ all_blocks ++ own_blocks
+        blocks_are = blocks_more (g.seen mid) places going.trees place tree going.half.there
+
+        half_more : Half (g.seen end) (g.may_leave end) books' old (taken ++ places_of one.blocks) (places ++ place ∷ []) (going.trees ++ tree ∷ [])
         half_more = record {
-          stands = one.captures.may.stands;
-          cells = λ u. one.captures.cells u ∙ (ap (λ (c : Cell). with_link u c link) (going.half.cells u) ∙ sym (fold-append (with_link u) (found_cell (found_in old) u) links (link ∷ [])));
-          units = one.captures.may.units;
+          runs = runs;
           held = held;
-          long = omega (arith, going.half.long, one.captures.keeps.no_shorter);
-          within = ready;
-          there = leaves_more (g.seen end) links going.leaves link rows (leaves_kept books.cells (g.seen mid) (g.seen end) links going.leaves going.half.there going.half.in_use one.captures.keeps) one.captures.leaf;
-          in_use = subst (λ (l : List Block). AreInUse books'.cells l) (sym all_blocks) (all_both (λ (b : Block). Has books'.cells b.place.offset b.place.size) (blocks_at_all links going.leaves) (blocks_at link rows) (used_more (blocks_at_all links going.leaves) going.half.in_use) one.captures.in_use);
-          apart = subst Apart (sym all_blocks) (apart_both (blocks_at_all links going.leaves) (blocks_at link rows) going.half.apart (alone link rows) blocks_apart);
-          was_are = going.half.was_are;
-          own = own_more;
+          there = trees_more (g.seen end) places going.trees place tree (trees_kept books.cells (g.seen mid) (g.seen end) places going.trees going.half.there going.half.in_use one.captures.keeps) one.has one.is;
+          in_use = subst (λ (l : List Block). AreInUse books'.cells l) (sym blocks_are)
+              (all_both (λ (b : Block). Has books'.cells b.place.offset b.place.size) all_blocks own_blocks
+              (all_made (λ (b : Block). Has books'.cells b.place.offset b.place.size) all_blocks (λ b before. one.captures.used b.place.offset b.place.size (has_before b before)))
+              (all_made (λ (b : Block). Has books'.cells b.place.offset b.place.size) own_blocks has_own));
+          apart = subst Apart (sym blocks_are) (apart_join all_blocks own_blocks going.half.apart one.apart (λ b c before mine.
+              has_apart books'.cells books'.space b.place c.place one.captures.may.units (one.captures.used b.place.offset b.place.size (has_before b before)) (has_own c mine) (differs b c before mine)));
+          listed = λ a. (
+            (λ among. elim (in_either taken (places_of one.blocks) a among) [
+              | inl before ↦ (addrs_more places place a).1 (inl ((going.half.listed a).0 before))
+              | inr mine ↦ (addrs_more places place a).1 (inr ((one.listed a).0 mine))
+            ]),
+            (λ among. elim ((addrs_more places place a).0 among) [
+              | inl before ↦ in_front taken (places_of one.blocks) a ((going.half.listed a).1 before)
+              | inr mine ↦ in_back taken (places_of one.blocks) a ((one.listed a).1 mine)
+            ]),
+          );
         }
 
-        places : Places books.space (g.capacity start) one.size books'.space
-        places = subst (λ (k : ℕ). Places books.space k one.size books'.space) room one.captures.places
-
-        writes : TableWrites (g.seen start) (g.capacity start) old m t one.size
-        writes = table_writes rows one.size one.leaf (writes_of rows link one.size one.is)
-
-        same_here : (others : List Row) → others ≡ rows → others ≢ [] → LeafIs (g.seen start) (was_at place) others → IsOne (g.seen mid) books (was_at place) rows link one.size → link ≡ was_at place
-        same_here others are some leaf (inl (none, nowhere_is, size)) = absurd (some (are ∙ none))
-        same_here others are some leaf (inr (full, inl (own, size, there))) = own
-        same_here others are some leaf (inr (full, inr (size, none, placed))) = absurd (none (forward rows full (subst (λ (l : List Row). LeafIs (g.seen start) (was_at place) l) are leaf)))
-
-        same_more : KeepSame (g.seen start) old m known (links ++ link ∷ [])
-        same_more p u x others known_at is leaf some there = elim (append-finds links link x p is) [
-          | inl before ↦ going.same p u x others known_at before leaf some there
-          | inr (last, equal) ↦ (
-              let here : p ≡ place = last ∙ going.count in
-              let this : t ≡ u = some_same (sym at ∙ (ap (λ (k : ℕ). slice_get known k) (sym here) ∙ known_at)) in
-              let mine : IsLeafOf m t others = subst (λ (z : Table). IsLeafOf m z others) (sym this) leaf in
-              let stood : LeafIs (g.seen start) (was_at place) others = subst (λ (l : Link). LeafIs (g.seen start) l others) (ap (λ (z : Table). link_in old z) (sym this) ∙ own_link) there in
-              sym equal ∙ (same_here others (leaf_one m t others rows mine one.leaf) some stood one.is ∙ (sym own_link ∙ ap (λ (z : Table). link_in old z) this)))
+        from_more : (a : Addr) → Member a (taken ++ places_of one.blocks) → IsFrom old was (suc i) a
+        from_more a among = elim (in_either taken (places_of one.blocks) a among) [
+          | inl before ↦ elim (going.from a before) [ inl new ↦ inl new | inr (j, lt, begins) ↦ inr (j, omega (arith, lt), begins) ]
+          | inr mine ↦ elim (one.own a mine) [ inl placed ↦ inl (own_new one.blocks one.sizes books' end one.captures a placed) | inr begins ↦ inr (i, omega arith, begins) ]
         ]
 
-        longer : length (links ++ link ∷ []) ≡ suc place
-        longer = omega (arith, length-append links (link ∷ []), going.count)
+        rows_in : (o : Option Stored) (p : TreePlace) → HasTreeAt o t p tree → HasRowsOf o t (tree_rows tree)
+        rows_in None p has = absurd has
+        rows_in (Some s) p has = (table_root t p.root, tree, has.0, refl, refl)
 
-        going_more : Going g old was m known books0 books' (links ++ link ∷ []) (suc place) start end
+        links_self : (o : Option Stored) (p : TreePlace) → HasTreeAt o t p tree → p.leaves.items ≡ leaf_links p.root tree
+        links_self None p has = absurd has
+        links_self (Some s) p has = has.1.leaves
+
+        writes : TableWrites (g.seen start) (g.capacity start) old m t one.sizes
+        writes = record {
+          rows = tree_rows tree;
+          are = one.rows;
+          writes = elim one.how [
+            | inl keeps ↦ inl (keeps.none, rows_in old keeps.kept keeps.has)
+            | inr cuts ↦ inr (record {
+              root = place.root;
+              tree = tree;
+              cut = cuts.cut;
+              writes = subst (λ (l : List Link). WritesTree (g.seen start) l tree one.sizes) (sym own_links) (writes_moved (g.seen mid) (g.seen start) (leaves_at was i) tree one.sizes (back_all (g.seen start) (g.seen mid) (leaves_at was i) there) cuts.writes);
+            })
+          ];
+        }
+
+        placed_all : PlacesAll books.space (g.capacity start) one.sizes books'.space
+        placed_all = subst (λ (k : ℕ). PlacesAll books.space k one.sizes books'.space) room one.captures.places
+
+        keep_one : KeepSame (g.seen start) (links_in old t) (leaf_links place.root tree) tree.leaves
+        keep_one = elim one.how [
+          | inl keeps ↦
+              let same : leaf_links place.root tree ≡ links_in old t = ap (λ (r : Root). leaf_links r tree) keeps.root ∙ (sym (links_self old keeps.kept keeps.has) ∙ (sym (leaves_there was i keeps.kept keeps.at) ∙ sym own_links)) in
+              subst (λ (l : List Link). KeepSame (g.seen start) (links_in old t) l tree.leaves) (sym same) (keeps_self (g.seen start) (links_in old t) tree.leaves)
+          | inr cuts ↦ subst (λ (l : List Link). KeepSame (g.seen start) l (leaf_links place.root tree) tree.leaves) (sym own_links) (keeps_moved (g.seen mid) (g.seen start) (leaves_at was i) (leaf_links place.root tree) tree.leaves (back_all (g.seen start) (g.seen mid) (leaves_at was i) there) cuts.same)
+        ]
+
+        trees_long : (bytes : List ℕ) (ps : List TreePlace) (ts : List TableTree) → AreTreesAt bytes ps ts → length ts ≡ length ps
+        trees_long bytes [] [] are = refl
+        trees_long bytes [] (x ∷ ts) are = absurd are
+        trees_long bytes (p ∷ ps) [] are = absurd are
+        trees_long bytes (p ∷ ps) (x ∷ ts) are = omega (arith, trees_long bytes ps ts are.2)
+
+        same_more : TreesKeep (g.seen start) old known (places ++ place ∷ []) (going.trees ++ tree ∷ [])
+        same_more j u p x known_at place_at tree_at = elim (append-finds places place p j place_at) [
+          | inl before ↦ elim (append-finds going.trees tree x j tree_at) [
+            | inl earlier ↦ going.same j u p x known_at before earlier
+            | inr (last, same) ↦ absurd (omega (arith, last, trees_long (g.seen mid) places going.trees going.half.there, slice_get_within places j p before))
+          ]
+          | inr (last, same) ↦ elim (append-finds going.trees tree x j tree_at) [
+            | inl earlier ↦ absurd (omega (arith, last, trees_long (g.seen mid) places going.trees going.half.there, slice_get_within going.trees j x earlier))
+            | inr (also, equal) ↦
+                let here : j ≡ i = last ∙ going.many in
+                let this : t ≡ u = some_same (sym at ∙ (ap (λ (k : ℕ). slice_get known k) (sym here) ∙ known_at)) in
+                subst (λ (z : Table). KeepSame (g.seen start) (links_in old z) (leaf_links p.root x) x.leaves) this
+                (subst (λ (q : TreePlace). KeepSame (g.seen start) (links_in old t) (leaf_links q.root x) x.leaves) same
+                (subst (λ (y : TableTree). KeepSame (g.seen start) (links_in old t) (leaf_links place.root y) y.leaves) equal keep_one))
+          ]
+        ]
+
+        going_more : Going g old was m known books0 books' (places ++ place ∷ []) (taken ++ places_of one.blocks) (suc i) start end
         going_more = record {
-          leaves = going.leaves ++ rows ∷ [];
-          count = longer;
+          trees = going.trees ++ tree ∷ [];
+          many = omega (arith, length-append places (place ∷ []), going.many);
           half = half_more;
+          from = from_more;
           left = joined g start mid end _ _ going.left one.captures.left old_mid;
           images = λ c left. old_mid c (one.captures.images c left);
-          rows = λ rest are. subst (λ (l : List (List Row)). AreLeavesOf m known l) (sym (append_assoc going.leaves (rows ∷ []) rest)) (going.rows (rows ∷ rest) (subst (λ (l : List Table). AreLeavesOf m l (rows ∷ rest)) (sym (drop_at known place t at)) (one.leaf, are)));
-          placed = λ last later. going.placed last (subst (λ (l : List Table). PlacesLeaves (g.seen start) (g.capacity start) old m books.space l last) (sym (drop_at known place t at)) (one.size, books'.space, writes, places, later));
-          lacks = λ later. going.lacks (subst (λ (l : List Table). LeavesLack (g.seen start) (g.capacity start) old m books.space l) (sym (drop_at known place t at)) (one.size, writes, inr (books'.space, places, later)));
+          rows = λ rest are. subst (λ (l : List TableTree). AreRowsOf m known l) (sym (append_assoc going.trees (tree ∷ []) rest)) (going.rows (tree ∷ rest) (subst (λ (l : List Table). AreRowsOf m l (tree ∷ rest)) (sym (drop_at known i t at)) (one.rows, are)));
+          placed = λ last later. going.placed last (subst (λ (l : List Table). PlacesTables (g.seen start) (g.capacity start) old m books.space l last) (sym (drop_at known i t at)) (one.sizes, books'.space, writes, placed_all, later));
+          lacks = λ later. going.lacks (subst (λ (l : List Table). LacksTables (g.seen start) (g.capacity start) old m books.space l) (sym (drop_at known i t at)) (one.sizes, writes, inr (books'.space, placed_all, later)));
           same = same_more;
           keeps = keeps_trans (Has books0.cells) (g.seen start) (g.seen mid) (g.seen end) going.keeps (keeps_fewer (Has books.cells) (Has books0.cells) (g.seen mid) (g.seen end) going.used one.captures.keeps);
-          used = λ i n has. one.captures.used i n (going.used i n has);
-          live = λ i n has. one.captures.live i n (going.live i n has);
+          used = λ n k has. one.captures.used n k (going.used n k has);
+          live = λ n k has. one.captures.live n k (going.live n k has);
         }
 
-        pub more : (n : ℕ) → n ≡ suc place → Going g old was m known books0 books' links' n start end
-        more n is = subst (λ (k : ℕ). Going g old was m known books0 books' links' k start end) (sym is) (subst (λ (l : List Link). Going g old was m known books0 books' l (suc place) start end) (sym one.links_are) going_more)
+        pub more : (n : ℕ) → n ≡ suc i → Going g old was m known books0 books' places' taken' n start end
+        more n is =
+            subst (λ (k : ℕ). Going g old was m known books0 books' places' taken' k start end) (sym is)
+            (subst (λ (l : List TreePlace). Going g old was m known books0 books' l taken' (suc i) start end) (sym one.places_are)
+            (subst (λ (l : List Addr). Going g old was m known books0 books' (places ++ place ∷ []) l (suc i) start end) (sym one.captured_are) going_more))
 
   -- all are captured
-  pub ended : (place : ℕ) (books : Books) (links : List Link) (end : D) → Going g old was m known books0 books links place start end → length known ≤ place → AllWritten g old was m known books0 books links start end
-  ended place books links end going all = record {
-    leaves = going.leaves;
+  pub ended : (count : ℕ) (books : Books) (places : List TreePlace) (taken : List Addr) (end : D) → Going g old was m known books0 books places taken count start end → length known ≤ count → AllWritten g old m known books0 books places taken start end
+  ended count books places taken end going all = record {
+    trees = going.trees;
     half = going.half;
-    rows = subst (λ (l : List (List Row)). AreLeavesOf m known l) (append-nil going.leaves) (going.rows [] (subst (λ (l : List Table). AreLeavesOf m l []) (sym (drop_none known place all)) tt));
+    rows = subst (λ (l : List TableTree). AreRowsOf m known l) (append-nil going.trees) (going.rows [] (subst (λ (l : List Table). AreRowsOf m l []) (sym (drop_none known count all)) tt));
     left = going.left;
-    placed = going.placed books.space (subst (λ (l : List Table). PlacesLeaves (g.seen start) (g.capacity start) old m books.space l books.space) (sym (drop_none known place all)) refl);
+    placed = going.placed books.space (subst (λ (l : List Table). PlacesTables (g.seen start) (g.capacity start) old m books.space l books.space) (sym (drop_none known count all)) refl);
     same = going.same;
   }

@@ -8,27 +8,32 @@ pub mod PlainCalls
 pub mod CalmWorlds
 pub mod Ordinary
 pub mod PlainStarts
-pub mod OneLeaf
+pub mod Members
+pub mod Mapped
+pub mod Told
+mod Places
+pub mod OneTable
 pub mod ByPlace
 pub mod ByName
 pub mod RecordsFit
 pub mod Frees
-pub mod Settles
-pub mod News
-pub mod OldLeaves
+pub mod Cells
+mod Left
+pub mod Pairs
+pub mod OldTrees
+pub mod Moving
+pub mod Within
+pub mod OneTree
 pub mod Made
-pub mod Settling
 pub mod Putting
 pub mod Standing
 pub mod Past
-pub mod PastLeaves
 pub mod Starting
-pub mod SameLeaves
+pub mod SameTrees
 pub mod Concluding
 pub mod OrderedByName
 pub mod Goings
-pub mod Tables
-pub mod Bases
 pub mod Floors
-mod CleanLeaves
+mod CleanTrees
+mod Below
 mod Following

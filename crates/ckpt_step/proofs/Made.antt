@@ -1,73 +1,101 @@
--- The checkpoint that is made of leaves by place.
-use Rattle.std.specs.Prelude.{◌≡◌, ℕ, List, [], ◌∷◌, ◌++◌, length, map, refl}
+-- The checkpoint that is made of trees by place.
+use Rattle.std.specs.Prelude.{◌≡◌, ℕ, zero, suc, List, [], ◌∷◌, ◌++◌, length, map, Option, Some, option_map, slice_get, refl}
 use Rattle.std.specs.List.{AllByRecursion, flat_map}
 use Rattle.std.proofs.Common.{sym, ◌∙◌, ap, subst, arith}
-use Rattle.std.proofs.lemmas.List.{append-nil}
+use Rattle.std.proofs.lemmas.List.{append-nil, length-map}
+use Rattle.std.proofs.lemmas.Option.{slice_get-map}
 use Rattle.std.proofs.lemmas.Simd.{map-map}
 use Rattle.block_mgr.specs.Blocks.{Books, Has}
 use Rattle.device_layout.specs.declared.addr.Addr.{Addr}
-use Rattle.device_layout.specs.declared.link.Link.{Link}
 use Rattle.kv_model.specs.History.{Table}
 use Rattle.kv_model.specs.Machine.{Machine}
-use Rattle.row_page.specs.Rows.{Row}
 use Rattle.catalog.specs.Known.{NumbersAscend, by_name}
+use Rattle.catalog.proofs.InOrder.{order_keeps}
 use Rattle.stored.specs.Blocks.{Block, IsAddressed, IsAt, Apart}
-use Rattle.stored.specs.Tree.{IsTree}
+use Rattle.stored.specs.Tree.{IsTree, tree_blocks}
 use Rattle.stored.specs.HistoryTree.{history_kind, HistoryTree, history_root_entry}
-use Rattle.stored.specs.Links.{nowhere}
 use Rattle.stored.specs.Records.{TableRoot, Root, Record, IsRecord, record_image}
 use Rattle.stored.specs.Stored.{AreTrees, tables_blocks, history_blocks, tables_of}
-use Rattle.stored.specs.Tree.{tree_blocks}
+use Rattle.stored.specs.TableTree.{TableTree, root_entry, table_kind}
 use Rattle.stored.proofs.EmptyTrees.{history_empty}
 use Rattle.checkpoint_core.specs.Stands.{AreInUse, IsReady, body_blocks}
-use Rattle.device_leaf.specs.Leaves.{LeafIs, blocks_at}
-use Rattle.device_leaf.proofs.Shapes.{leaf_tree as leaf_is_tree}
-use Rattle.recover_open.specs.Flat.{IsFlat, leaf_tree}
-use Rattle.ckpt_step.specs.Checkpoints.{AreLeavesOf, IsLeafOf, IsCheckpointOf, IsRecordOf}
-use Rattle.ckpt_step.specs.Grounds.{leaf_root}
-use Rattle.ckpt_step.specs.Halves.{AreLeavesAt, blocks_at_all}
-use Rattle.ckpt_step.specs.Records.{of_number, roots_by_name, leaves_by_name}
+use Rattle.device_leaf.specs.NoHistory.{no_root}
+use Rattle.tree_open.specs.declared.place.TreePlace.{TreePlace}
+use Rattle.tree_open.specs.Trees.{HasTree, IsPlaceOf}
+use Rattle.recover_open.specs.Bare.{IsBare, tree_rows}
+use Rattle.ckpt_step.specs.Checkpoints.{AreRowsOf, IsCheckpointOf, IsRecordOf, IsRowsOf}
+use Rattle.ckpt_step.specs.Grounds.{HasRoots}
+use Rattle.ckpt_step.specs.Records.{no_tree, of_number, roots_by_name, trees_by_name}
 use Rattle.ckpt_step.specs.Runs.{made_of}
-use Rattle.ckpt_step.proofs.OrderedByName.{all_by_name, apart_by_name, by_number, flat_all, flat_by_name}
+use Rattle.ckpt_step.specs.Trees.{AreTreesAt, HasTreeAt, roots_of, table_root, trees_blocks}
+use Rattle.ckpt_step.proofs.Members.{get_member, member_at, none_some, some_same}
+use Rattle.ckpt_step.proofs.OrderedByName.{all_by_name, apart_by_name, by_number, flat_all, flat_by_name, length_by_name}
 
 abbrev no_records : HistoryTree
 no_records = record { layers = []; leaves = [] ∷ [] }
 
--- ---- links and rows that are told of each table
+-- ---- by roots
 
-module _ (L : Table → Link) (W : Table → List Row) where
+abbrev root_tree : Root → TableTree → List Block
+root_tree root tree = tree_blocks table_kind (root_entry root.link) tree
+
+abbrev rooted_blocks : List Root → List TableTree → List Block
+rooted_blocks [] trees = []
+rooted_blocks (r ∷ roots) [] = []
+rooted_blocks (r ∷ roots) (tree ∷ trees) = root_tree r tree ++ rooted_blocks roots trees
+
+blocks_rooted : (places : List TreePlace) (trees : List TableTree) → trees_blocks places trees ≡ rooted_blocks (roots_of places) trees
+blocks_rooted [] trees = refl
+blocks_rooted (p ∷ places) [] = refl
+blocks_rooted (p ∷ places) (tree ∷ trees) = ap (λ (l : List Block). root_tree p.root tree ++ l) (blocks_rooted places trees)
+
+abbrev RootedAt : List ℕ → List Root → List TableTree → Type 0
+RootedAt bytes [] [] = Unit {0}
+RootedAt bytes [] (tree ∷ trees) = ⊥
+RootedAt bytes (r ∷ roots) [] = ⊥
+RootedAt bytes (r ∷ roots) (tree ∷ trees) = HasTree bytes r tree × RootedAt bytes roots trees
+
+rooted_at : (bytes : List ℕ) (places : List TreePlace) (trees : List TableTree) → AreTreesAt bytes places trees → RootedAt bytes (roots_of places) trees
+rooted_at bytes [] [] are = tt
+rooted_at bytes [] (tree ∷ trees) are = absurd are
+rooted_at bytes (p ∷ places) [] are = absurd are
+rooted_at bytes (p ∷ places) (tree ∷ trees) are = (are.0, rooted_at bytes places trees are.2)
+
+-- ---- roots and trees that are told of each table
+
+module _ (R : Table → Root) (W : Table → TableTree) where
   abbrev pub blocks_of_table : Table → List Block
-  blocks_of_table t = blocks_at (L t) (W t)
+  blocks_of_table t = root_tree (R t) (W t)
 
-  pub leaves_each : (bytes : List ℕ) (tables : List Table) → AreLeavesAt bytes (map L tables) (map W tables) → AllByRecursion (λ (t : Table). LeafIs bytes (L t) (W t)) tables
-  leaves_each bytes [] are = tt
-  leaves_each bytes (t ∷ tables) are = (are.0, leaves_each bytes tables are.1)
+  trees_each : (bytes : List ℕ) (tables : List Table) → RootedAt bytes (map R tables) (map W tables) → AllByRecursion (λ (t : Table). HasTree bytes (R t) (W t)) tables
+  trees_each bytes [] are = tt
+  trees_each bytes (t ∷ tables) are = (are.0, trees_each bytes tables are.1)
 
-  pub blocks_are : (tables : List Table) → blocks_at_all (map L tables) (map W tables) ≡ flat_map blocks_of_table tables
+  blocks_are : (tables : List Table) → rooted_blocks (map R tables) (map W tables) ≡ flat_map blocks_of_table tables
   blocks_are [] = refl
-  blocks_are (t ∷ tables) = ap (λ (l : List Block). blocks_at (L t) (W t) ++ l) (blocks_are tables)
+  blocks_are (t ∷ tables) = ap (λ (l : List Block). root_tree (R t) (W t) ++ l) (blocks_are tables)
 
-  pub tables_blocks_are : (tables : List Table) → tables_blocks (map (λ (t : Table). leaf_root t (L t)) tables) (map leaf_tree (map W tables)) ≡ flat_map blocks_of_table tables
+  tables_blocks_are : (tables : List Table) → tables_blocks (map (λ (t : Table). table_root t (R t)) tables) (map W tables) ≡ flat_map blocks_of_table tables
   tables_blocks_are [] = refl
-  tables_blocks_are (t ∷ tables) = ap (λ (l : List Block). blocks_at (L t) (W t) ++ l) (tables_blocks_are tables)
+  tables_blocks_are (t ∷ tables) = ap (λ (l : List Block). root_tree (R t) (W t) ++ l) (tables_blocks_are tables)
 
-  trees_of : (bytes : List ℕ) (tables : List Table) → AllByRecursion (λ (t : Table). LeafIs bytes (L t) (W t)) tables → AreTrees (map (λ (t : Table). leaf_root t (L t)) tables) (map leaf_tree (map W tables))
+  trees_of : (bytes : List ℕ) (tables : List Table) → AllByRecursion (λ (t : Table). HasTree bytes (R t) (W t)) tables → AreTrees (map (λ (t : Table). table_root t (R t)) tables) (map W tables)
   trees_of bytes [] all = tt
-  trees_of bytes (t ∷ tables) all = (leaf_is_tree (L t) (W t) all.0.bears, trees_of bytes tables all.1)
+  trees_of bytes (t ∷ tables) all = (all.0.is, trees_of bytes tables all.1)
 
-  addressed_each : (bytes : List ℕ) (tables : List Table) → AllByRecursion (λ (t : Table). LeafIs bytes (L t) (W t)) tables → AllByRecursion (λ (t : Table). AllByRecursion (λ (b : Block). IsAddressed b) (blocks_of_table t)) tables
+  addressed_each : (bytes : List ℕ) (tables : List Table) → AllByRecursion (λ (t : Table). HasTree bytes (R t) (W t)) tables → AllByRecursion (λ (t : Table). AllByRecursion (λ (b : Block). IsAddressed b) (blocks_of_table t)) tables
   addressed_each bytes [] all = tt
   addressed_each bytes (t ∷ tables) all = (all.0.addressed, addressed_each bytes tables all.1)
 
-  held_each : (bytes : List ℕ) (tables : List Table) → AllByRecursion (λ (t : Table). LeafIs bytes (L t) (W t)) tables → AllByRecursion (λ (t : Table). AllByRecursion (λ (b : Block). IsAt bytes b) (blocks_of_table t)) tables
+  held_each : (bytes : List ℕ) (tables : List Table) → AllByRecursion (λ (t : Table). HasTree bytes (R t) (W t)) tables → AllByRecursion (λ (t : Table). AllByRecursion (λ (b : Block). IsAt bytes b) (blocks_of_table t)) tables
   held_each bytes [] all = tt
   held_each bytes (t ∷ tables) all = (all.0.holds, held_each bytes tables all.1)
 
-  pub rows_each : (m : Machine) (tables : List Table) → AreLeavesOf m tables (map W tables) → AllByRecursion (λ (t : Table). IsLeafOf m t (W t)) tables
+  pub rows_each : (m : Machine) (tables : List Table) → AreRowsOf m tables (map W tables) → AllByRecursion (λ (t : Table). IsRowsOf m t (tree_rows (W t))) tables
   rows_each m [] are = tt
   rows_each m (t ∷ tables) are = (are.0, rows_each m tables are.1)
 
-  rows_all : (m : Machine) (tables : List Table) → AllByRecursion (λ (t : Table). IsLeafOf m t (W t)) tables → AreLeavesOf m tables (map W tables)
+  rows_all : (m : Machine) (tables : List Table) → AllByRecursion (λ (t : Table). IsRowsOf m t (tree_rows (W t))) tables → AreRowsOf m tables (map W tables)
   rows_all m [] all = tt
   rows_all m (t ∷ tables) all = (all.0, rows_all m tables all.1)
 
@@ -75,72 +103,104 @@ map_same : (tables : List Table) → map (λ (t : Table). t) tables ≡ tables
 map_same [] = refl
 map_same (t ∷ tables) = ap (λ (l : List Table). t ∷ l) (map_same tables)
 
-pub tables_of_roots : (known : List Table) (links : List Link) → tables_of (roots_by_name known links) ≡ by_name known
-tables_of_roots known links = map-map (λ (r : TableRoot). r.table) (λ (t : Table). leaf_root t (of_number nowhere known links t.number)) (by_name known) ∙ map_same (by_name known)
+pub tables_of_roots : (known : List Table) (roots : List Root) → tables_of (roots_by_name known roots) ≡ by_name known
+tables_of_roots known roots = map-map (λ (r : TableRoot). r.table) (λ (t : Table). table_root t (of_number no_root known roots t.number)) (by_name known) ∙ map_same (by_name known)
 
 -- ---- by place
 
-pub count_leaves : (bytes : List ℕ) (links : List Link) (leaves : List (List Row)) → AreLeavesAt bytes links leaves → length leaves ≡ length links
-count_leaves bytes [] [] are = refl
-count_leaves bytes [] (rows ∷ leaves) are = absurd are
-count_leaves bytes (link ∷ links) [] are = absurd are
-count_leaves bytes (link ∷ links) (rows ∷ leaves) are = omega (arith, count_leaves bytes links leaves are.1)
+pub count_trees : (bytes : List ℕ) (places : List TreePlace) (trees : List TableTree) → AreTreesAt bytes places trees → length trees ≡ length places
+count_trees bytes [] [] are = refl
+count_trees bytes [] (tree ∷ trees) are = absurd are
+count_trees bytes (p ∷ places) [] are = absurd are
+count_trees bytes (p ∷ places) (tree ∷ trees) are = omega (arith, count_trees bytes places trees are.2)
 
-module _ (known : List Table) (next : ℕ) (ascend : NumbersAscend 1 known next) (links : List Link) (leaves : List (List Row)) (count : length links ≡ length known) (rows : length leaves ≡ length known) where
-  abbrev pub link_at : Table → Link
-  link_at t = of_number nowhere known links t.number
+-- the tree at a place
+pub tree_there : (bytes : List ℕ) (places : List TreePlace) (trees : List TableTree) (i : ℕ) (p : TreePlace) → AreTreesAt bytes places trees → slice_get places i ≡ Some p → (tree : TableTree) × (slice_get trees i ≡ Some tree) × HasTree bytes p.root tree × IsPlaceOf p tree
+tree_there bytes [] trees i p are at = absurd (none_some at)
+tree_there bytes (q ∷ places) [] i p are at = absurd are
+tree_there bytes (q ∷ places) (tree ∷ trees) zero p are at = (tree, refl, subst (λ (x : TreePlace). HasTree bytes x.root tree) (some_same at) are.0, subst (λ (x : TreePlace). IsPlaceOf x tree) (some_same at) are.1)
+tree_there bytes (q ∷ places) (tree ∷ trees) (suc i) p are at = tree_there bytes places trees i p are.2 at
 
-  abbrev pub rows_at : Table → List Row
-  rows_at t = of_number [] known leaves t.number
+module _ (known : List Table) (next : ℕ) (ascend : NumbersAscend 1 known next) (places : List TreePlace) (trees : List TableTree) (count : length places ≡ length known) (bytes : List ℕ) (there : AreTreesAt bytes places trees) where
+  abbrev pub root_at : Table → Root
+  root_at t = of_number no_root known (roots_of places) t.number
 
-  pub links_are : map link_at known ≡ links
-  links_are = by_number nowhere known links 1 next ascend count
+  abbrev pub tree_at : Table → TableTree
+  tree_at t = of_number no_tree known trees t.number
 
-  pub leaves_are : map rows_at known ≡ leaves
-  leaves_are = by_number [] known leaves 1 next ascend rows
+  roots_are : map root_at known ≡ roots_of places
+  roots_are = by_number no_root known (roots_of places) 1 next ascend (length-map places (λ (p : TreePlace). p.root) ∙ count)
+
+  pub trees_are : map tree_at known ≡ trees
+  trees_are = by_number no_tree known trees 1 next ascend (count_trees bytes places trees there ∙ count)
 
   abbrev pub table_blocks : Table → List Block
-  table_blocks t = blocks_of_table link_at rows_at t
+  table_blocks t = blocks_of_table root_at tree_at t
 
-  pub all_blocks : blocks_at_all links leaves ≡ flat_map table_blocks known
-  all_blocks = sym (ap (λ (l : List Link). blocks_at_all l leaves) links_are) ∙ (sym (ap (λ (l : List (List Row)). blocks_at_all (map link_at known) l) leaves_are) ∙ blocks_are link_at rows_at known)
+  pub all_blocks : trees_blocks places trees ≡ flat_map table_blocks known
+  all_blocks = blocks_rooted places trees ∙ (sym (ap (λ (l : List Root). rooted_blocks l trees) roots_are) ∙ (sym (ap (λ (l : List TableTree). rooted_blocks (map root_at known) l) trees_are) ∙ blocks_are root_at tree_at known))
 
-  pub there_each : (bytes : List ℕ) → AreLeavesAt bytes links leaves → AllByRecursion (λ (t : Table). LeafIs bytes (link_at t) (rows_at t)) known
-  there_each bytes are = leaves_each link_at rows_at bytes known (subst (λ (l : List Link). AreLeavesAt bytes l (map rows_at known)) (sym links_are) (subst (λ (l : List (List Row)). AreLeavesAt bytes links l) (sym leaves_are) are))
+  there_each : AllByRecursion (λ (t : Table). HasTree bytes (root_at t) (tree_at t)) known
+  there_each = trees_each root_at tree_at bytes known (subst (λ (l : List Root). RootedAt bytes l (map tree_at known)) (sym roots_are) (subst (λ (l : List TableTree). RootedAt bytes (roots_of places) l) (sym trees_are) (rooted_at bytes places trees there)))
+
+  by_name_each : AllByRecursion (λ (t : Table). HasTree bytes (root_at t) (tree_at t)) (by_name known)
+  by_name_each = all_by_name (λ (t : Table). HasTree bytes (root_at t) (tree_at t)) known there_each
 
   -- the rows of the machine, in the order of the names
-  pub rows_by_name : (m : Machine) → AreLeavesOf m known leaves → AreLeavesOf m (by_name known) (leaves_by_name known leaves)
-  rows_by_name m are = rows_all link_at rows_at m (by_name known) (all_by_name (λ (t : Table). IsLeafOf m t (rows_at t)) known (rows_each link_at rows_at m known (subst (λ (l : List (List Row)). AreLeavesOf m known l) (sym leaves_are) are)))
+  pub rows_by_name : (m : Machine) → AreRowsOf m known trees → AreRowsOf m (by_name known) (trees_by_name known trees)
+  rows_by_name m are = rows_all root_at tree_at m (by_name known) (all_by_name (λ (t : Table). IsRowsOf m t (tree_rows (tree_at t))) known (rows_each root_at tree_at m known (subst (λ (l : List TableTree). AreRowsOf m known l) (sym trees_are) are)))
 
-  module _ (r : Record) (a : Addr) (flat : IsFlat r) (tables : r.tables ≡ roots_by_name known links) where
+  -- what a table has by number it has by place
+  pub root_is : (i : ℕ) (t : Table) (p : TreePlace) → slice_get known i ≡ Some t → slice_get places i ≡ Some p → root_at t ≡ p.root
+  root_is i t p at stands = some_same (sym (slice_get-map root_at known i ∙ ap (λ (o : Option Table). option_map root_at o) at) ∙ (ap (λ (l : List Root). slice_get l i) roots_are ∙ (slice_get-map {A = TreePlace} (λ q. q.root) places i ∙ ap (λ (o : Option TreePlace). option_map (λ q. q.root) o) stands)))
+
+  pub tree_is : (i : ℕ) (t : Table) (tree : TableTree) → slice_get known i ≡ Some t → slice_get trees i ≡ Some tree → tree_at t ≡ tree
+  tree_is i t tree at stands = some_same (sym (slice_get-map tree_at known i ∙ ap (λ (o : Option Table). option_map tree_at o) at) ∙ (ap (λ (l : List TableTree). slice_get l i) trees_are ∙ stands))
+
+  module _ (r : Record) (a : Addr) (bare : IsBare r) (tables : r.tables ≡ roots_by_name known (roots_of places)) where
     no_history : history_blocks r no_records ≡ []
-    no_history = ap (λ (h : Root). tree_blocks history_kind (history_root_entry h.link) no_records) flat.history
+    no_history = ap (λ (h : Root). tree_blocks history_kind (history_root_entry h.link) no_records) bare
 
-    pub body_are : body_blocks (made_of r known leaves a) ≡ flat_map table_blocks (by_name known)
-    body_are =
-        ap (λ (l : List Block). tables_blocks r.tables (map leaf_tree (leaves_by_name known leaves)) ++ l) no_history
-        ∙ append-nil (tables_blocks r.tables (map leaf_tree (leaves_by_name known leaves)))
-        ∙ ap (λ (l : List TableRoot). tables_blocks l (map leaf_tree (leaves_by_name known leaves))) tables
-        ∙ tables_blocks_are link_at rows_at (by_name known)
+    pub tables_are : tables_blocks r.tables (trees_by_name known trees) ≡ flat_map table_blocks (by_name known)
+    tables_are = ap (λ (l : List TableRoot). tables_blocks l (trees_by_name known trees)) tables ∙ tables_blocks_are root_at tree_at (by_name known)
 
-    pub made_ready : (bytes image : List ℕ) (books : Books) → IsRecord r → image ≡ record_image r → AreLeavesAt bytes links leaves → AreInUse books.cells (blocks_at_all links leaves) → Apart (blocks_at_all links leaves) → IsReady bytes books image (made_of r known leaves a)
-    made_ready bytes image books admitted spelled are in_use apart =
-        let each = all_by_name (λ (t : Table). LeafIs bytes (link_at t) (rows_at t)) known (there_each bytes are) in
-        record {
-          is_record = admitted;
-          is_image = spelled;
-          trees = subst (λ (l : List TableRoot). AreTrees l (map leaf_tree (leaves_by_name known leaves))) (sym tables) (trees_of link_at rows_at bytes (by_name known) each);
-          history = subst (λ (h : Root). IsTree history_kind h.level (history_root_entry h.link) no_records) (sym flat.history) history_empty;
-          addressed = subst (λ (l : List Block). AllByRecursion (λ (b : Block). IsAddressed b) l) (sym body_are) (flat_all table_blocks (λ (b : Block). IsAddressed b) (by_name known) (addressed_each link_at rows_at bytes (by_name known) each));
-          apart = subst Apart (sym body_are) (apart_by_name table_blocks known (subst Apart all_blocks apart));
-          holds = subst (λ (l : List Block). AllByRecursion (λ (b : Block). IsAt bytes b) l) (sym body_are) (flat_all table_blocks (λ (b : Block). IsAt bytes b) (by_name known) (held_each link_at rows_at bytes (by_name known) each));
-          in_use = subst (λ (l : List Block). AreInUse books.cells l) (sym body_are) (flat_by_name table_blocks (λ (b : Block). Has books.cells b.place.offset b.place.size) known (subst (λ (l : List Block). AreInUse books.cells l) all_blocks in_use));
-        }
+    pub body_are : body_blocks (made_of r known trees a) ≡ flat_map table_blocks (by_name known)
+    body_are = ap (λ (l : List Block). tables_blocks r.tables (trees_by_name known trees) ++ l) no_history ∙ append-nil (tables_blocks r.tables (trees_by_name known trees)) ∙ tables_are
 
-    pub made_is : (m : Machine) (number : ℕ) → IsRecordOf m number r → AreLeavesOf m known leaves → IsCheckpointOf m number (made_of r known leaves a)
+    pub made_ready : (image : List ℕ) (books : Books) → IsRecord r → image ≡ record_image r → AreInUse books.cells (trees_blocks places trees) → Apart (trees_blocks places trees) → IsReady bytes books image (made_of r known trees a)
+    made_ready image books admitted spelled in_use apart = record {
+      is_record = admitted;
+      is_image = spelled;
+      trees = subst (λ (l : List TableRoot). AreTrees l (trees_by_name known trees)) (sym tables) (trees_of root_at tree_at bytes (by_name known) by_name_each);
+      history = subst (λ (h : Root). IsTree history_kind h.level (history_root_entry h.link) no_records) (sym bare) history_empty;
+      addressed = subst (λ (l : List Block). AllByRecursion (λ (b : Block). IsAddressed b) l) (sym body_are) (flat_all table_blocks (λ (b : Block). IsAddressed b) (by_name known) (addressed_each root_at tree_at bytes (by_name known) by_name_each));
+      apart = subst Apart (sym body_are) (apart_by_name table_blocks known (subst Apart all_blocks apart));
+      holds = subst (λ (l : List Block). AllByRecursion (λ (b : Block). IsAt bytes b) l) (sym body_are) (flat_all table_blocks (λ (b : Block). IsAt bytes b) (by_name known) (held_each root_at tree_at bytes (by_name known) by_name_each));
+      in_use = subst (λ (l : List Block). AreInUse books.cells l) (sym body_are) (flat_by_name table_blocks (λ (b : Block). Has books.cells b.place.offset b.place.size) known (subst (λ (l : List Block). AreInUse books.cells l) all_blocks in_use));
+    }
+
+    pub made_is : (m : Machine) (number : ℕ) → IsRecordOf m number r → AreRowsOf m known trees → IsCheckpointOf m number (made_of r known trees a)
     made_is m number is are = record {
       names = is;
-      leaves = leaves_by_name known leaves;
-      stored = refl;
-      rows = subst (λ (l : List Table). AreLeavesOf m l (leaves_by_name known leaves)) (sym (ap tables_of tables ∙ tables_of_roots known links)) (rows_by_name m are);
+      bare = refl;
+      rows = subst (λ (l : List Table). AreRowsOf m l (trees_by_name known trees)) (sym (ap tables_of tables ∙ tables_of_roots known (roots_of places))) (rows_by_name m are);
+    }
+
+    -- the tree of a table is that of the checkpoint
+    pub made_tree : (i : ℕ) (t : Table) (p : TreePlace) → slice_get known i ≡ Some t → slice_get places i ≡ Some p → (tree : TableTree) × (slice_get trees i ≡ Some tree) × HasTreeAt (Some (made_of r known trees a)) t p tree
+    made_tree i t p at stands =
+        let one = tree_there bytes places trees i p there stands in
+        let j = member_at t (by_name known) ((order_keeps known t).1 (get_member known i t at)) in
+        let root : slice_get r.tables j.0 ≡ Some (table_root t p.root) =
+        ap (λ (l : List TableRoot). slice_get l j.0) tables ∙ (slice_get-map (λ (u : Table). table_root u (root_at u)) (by_name known) j.0 ∙ (ap (λ (o : Option Table). option_map (λ (u : Table). table_root u (root_at u)) o) j.1 ∙ ap (λ (x : Root). Some (table_root t x)) (root_is i t p at stands))) in
+        let tree : slice_get (trees_by_name known trees) j.0 ≡ Some one.0 =
+        slice_get-map tree_at (by_name known) j.0 ∙ (ap (λ (o : Option Table). option_map tree_at o) j.1 ∙ ap (λ (x : TableTree). Some x) (tree_is i t one.0 at one.1)) in
+        (one.0, one.1, ((j.0, root, tree), one.3))
+
+    pub made_roots : HasRoots known places (made_of r known trees a)
+    made_roots = record {
+      bare = bare;
+      few = omega (arith, count);
+      count = ap length tables ∙ (length-map (by_name known) (λ (t : Table). table_root t (of_number no_root known (roots_of places) t.number)) ∙ (length_by_name known ∙ sym count));
+      trees = λ i t p at stands. let one = made_tree i t p at stands in (one.0, one.2);
     }

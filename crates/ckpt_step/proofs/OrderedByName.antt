@@ -110,7 +110,7 @@ away_flip xs (y ∷ ys) away = (
   away_flip xs ys (all_map (λ (b : Block). AllByRecursion (λ (c : Block). AreApart b.place c.place) (y ∷ ys)) (λ (b : Block). AllByRecursion (λ (c : Block). AreApart b.place c.place) ys) xs away (λ b row. row.1)),
 )
 
-apart_join : (xs ys : List Block) → Apart xs → Apart ys → Away xs ys → Apart (xs ++ ys)
+pub apart_join : (xs ys : List Block) → Apart xs → Apart ys → Away xs ys → Apart (xs ++ ys)
 apart_join [] ys apart more away = more
 apart_join (x ∷ xs) ys apart more away = (all_join (λ (c : Block). AreApart x.place c.place) xs ys apart.0 away.0, apart_join xs ys apart.1 more away.1)
 

@@ -6,14 +6,14 @@ use Rattle.std.proofs.lemmas.List.{get_or-set_same, get_or-set_other}
 use Rattle.disk_model.specs.declared.disk.Disk.{Ghosts}
 use Rattle.disk_model.specs.Crash.{LeavesOnly}
 use Rattle.disk_model.proofs.Crash.{joined, widened}
-use Rattle.extent_list.specs.Space.{Taken, HasNoRoom}
+use Rattle.extent_list.specs.Space.{Taken, HasNoRoom, end_of}
 use Rattle.le_codec.specs.Images.{block_size}
 use Rattle.block_mgr.specs.declared.cell.Cell.{Cell}
 use Rattle.block_mgr.specs.Blocks.{Books, unit_of}
 use Rattle.block_mgr.specs.Cells.{AreUnits, cell_at, captured, done_cell, freed, fresh, kept, nothing}
 use Rattle.block_mgr.proofs.HolderLemmas.{at_map, is_there}
 use Rattle.device_layout.specs.declared.addr.Addr.{Addr}
-use Rattle.device_layout.specs.declared.link.Link.{Link}
+use Rattle.tree_open.specs.declared.place.TreePlace.{TreePlace}
 use Rattle.device_layout.specs.declared.slot.Slot.{Slot}
 use Rattle.wt_code.specs.declared.store_error.StoreError.{StoreError}
 use Rattle.wt_code.specs.declared.store_error.StoreError.TheVariants.{NoMemory, NoSpace, Read, Down}
@@ -21,20 +21,18 @@ use Rattle.turtle.specs.Slots.{IsNext}
 use Rattle.kv_model.specs.History.{Table}
 use Rattle.kv_model.specs.Machine.{Machine}
 use Rattle.catalog.specs.Known.{NumbersAscend}
-use Rattle.row_page.specs.Rows.{Row}
 use Rattle.stored.specs.Records.{Record, record_image}
 use Rattle.stored.specs.Stored.{Stored}
 use Rattle.device_leaf.proofs.Opens.{record_bytes}
-use Rattle.checkpoint_core.specs.Stands.{HasStill, IsReady, chosen_of}
+use Rattle.checkpoint_core.specs.Stands.{HasStill, IsReady, Stands, chosen_of}
+use Rattle.checkpoint_core.proofs.Holding.{still_long}
 use Rattle.checkpoint_core.specs.Finishes.{IsOld, IsEither, Finishes, Fails, IsLastNow, ReadsAfter, AreBack, units_of}
 use Rattle.ckpt_step.specs.Checkpoints.{IsCheckpointOf, IsRecordOf}
 use Rattle.ckpt_step.specs.Grounds.{number_of}
-use Rattle.ckpt_step.specs.Halves.{AllWritten, SomeWritten, Half, IsFresh, done_at, half_cell, record_cell}
-use Rattle.ckpt_step.specs.Runs.{AllPut, IsImageOf, Runs, SomePut, made_of}
-use Rattle.ckpt_step.specs.declared.leaf_error.LeafError.{LeafError}
-use Rattle.ckpt_step.specs.declared.leaf_error.LeafError.TheVariants.{Store}
+use Rattle.ckpt_step.specs.Halves.{AllWritten, SomeWritten, IsFresh, Runs, done_at, half_cell, record_cell}
+use Rattle.ckpt_step.specs.Runs.{AllPut, IsImageOf, SomePut, made_of}
 use Rattle.ckpt_step.proofs.Following.{follows_new}
-use Rattle.ckpt_step.proofs.Made.{count_leaves, made_is, made_ready}
+use Rattle.ckpt_step.proofs.Made.{made_is, made_ready}
 
 pub if_ok_map : {T E : Type 0} {P Q : T → Type 0} (r : Result T E) → IfOk r P → ((x : T) → P x → Q x) → IfOk r Q
 if_ok_map (Ok x) is more = more x is
@@ -53,8 +51,8 @@ done_nothing = refl
 pub freed_there : (cells : List Cell) (v : ℕ) → v < length cells → cell_at (freed cells v) v ≡ kept (record (cell_at cells v) { is_live = false })
 freed_there cells v lt = get_or-set_same cells v (kept (record (cell_at cells v) { is_live = false })) nothing lt
 
-pub last_cells : (before after : Books) (a : Addr) (old : Option Stored) (links : List Link) → 1 ≤ a.size → ((u : ℕ) → cell_at before.cells u ≡ half_cell old links u) → IsLastNow before after a → (u : ℕ) → cell_at after.cells u ≡ done_at old links a u
-last_cells before after a old links some half (mid, added, is) u =
+pub last_cells : (before after : Books) (a : Addr) (old : Option Stored) (captured_ : List Addr) → 1 ≤ a.size → ((u : ℕ) → cell_at before.cells u ≡ half_cell old captured_ u) → IsLastNow before after a → (u : ℕ) → cell_at after.cells u ≡ done_at old captured_ a u
+last_cells before after a old captured_ some half (mid, added, is) u =
     ap (λ (l : List Cell). cell_at l u) is ∙ (at_map done_cell (freed (captured mid.cells v) v) u done_nothing ∙ elim (cases_eq a.offset (8192 + 4096 * u)) [
       | inl here ↦
           let same : u ≡ v = omega (arith, here) in
@@ -87,48 +85,40 @@ last_cells before after a old links some half (mid, added, is) u =
     sized : done_cell (record { units = added.units; is_live = false; is_running = true; is_last = false; names = 0 }) ≡ record_cell a
     sized = ap (λ (n : ℕ). let c : Cell = record { units = n; is_live = false; is_running = false; is_last = true; names = 0 } in c) (omega (arith, added.size))
 
-pub fresh_there : (before after : Books) (a : Addr) (old : Option Stored) (links : List Link) → ((u : ℕ) → cell_at before.cells u ≡ half_cell old links u) → IsLastNow before after a → IsFresh old links a
-fresh_there before after a old links half (mid, added, is) = (added.unit, added.offset, sym (half added.unit) ∙ added.none)
+pub fresh_there : (before after : Books) (a : Addr) (old : Option Stored) (captured_ : List Addr) → ((u : ℕ) → cell_at before.cells u ≡ half_cell old captured_ u) → IsLastNow before after a → IsFresh old captured_ a
+fresh_there before after a old captured_ half (mid, added, is) = (added.unit, added.offset, sym (half added.unit) ∙ added.none)
 
 pub whole_there : (before after : Books) (a : Addr) → IsLastNow before after a → a.size ≡ 4096 * (a.size / 4096)
 whole_there before after a (mid, added, is) = omega (arith, added.size)
 
 -- ---- the steps
 
-module _ {D : Type 0} (g : Ghosts D) (old : Option Stored) (was : List Link) (m : Machine) (known : List Table) (books : Books) (links : List Link) (before : D) where
-  half_runs : (seen : List ℕ) (images : List ℕ → Type 0) (mid : Books) (leaves : List (List Row)) → Half seen images mid old was links leaves → Runs seen images mid old was links
-  half_runs seen images mid leaves half = record { stands = half.stands; cells = half.cells; units = half.units; within = half.within; own = half.own }
-
-  -- the leaves were not all written
-  pub leaves_failed : (books' : Books) (after : D) (e : LeafError) → SomeWritten g old was m known books books' links before after e → SomePut g old was m known books books' links before after e
-  leaves_failed books' after e some = record {
+module _ {D : Type 0} (g : Ghosts D) (old : Option Stored) (m : Machine) (known : List Table) (books : Books) (places : List TreePlace) (taken : List Addr) (before : D) where
+  -- the trees were not all written
+  pub trees_failed : (books' : Books) (after : D) (e : StoreError) → SomeWritten g old m known books books' places taken before after e → SomePut g old m known books books' places taken before after e
+  trees_failed books' after e some = record {
     left = inl some.left;
     kept = λ safe. some.left;
-    runs = λ safe. half_runs (g.seen after) (g.may_leave after) books' some.leaves (some.half safe);
+    runs = some.runs;
     lacks = λ is. inl (some.lacks is);
-    over = some.over;
   }
 
-  module _ (mid : D) (books' : Books) (all : AllWritten g old was m known books books' links before mid) where
+  module _ (mid : D) (books' : Books) (all : AllWritten g old m known books books' places taken before mid) where
     -- there was no memory for the record
-    pub no_image : SomePut g old was m known books books' links before mid (Store NoMemory)
+    pub no_image : SomePut g old m known books books' places taken before mid NoMemory
     no_image = record {
       left = inl all.left;
       kept = λ safe. all.left;
-      runs = λ safe. half_runs (g.seen mid) (g.may_leave mid) books' all.leaves all.half;
+      runs = λ safe. all.half.runs;
       lacks = λ is. absurd (cc);
-      over = λ is. absurd (cc);
     }
 
-    module _ (next : ℕ) (ascend : NumbersAscend 1 known next) (count : length links ≡ length known) (image : List ℕ) (number : ℕ) (is_number : number ≡ number_of old) (img : IsImageOf m number known links image) (counts : (c : List ℕ) → g.may_leave mid c → g.left_since mid (g.moment before) c) where
+    module _ (next : ℕ) (ascend : NumbersAscend 1 known next) (count : length places ≡ length known) (image : List ℕ) (number : ℕ) (is_number : number ≡ number_of old) (img : IsImageOf m number known places image) (counts : (c : List ℕ) → g.may_leave mid c → g.left_since mid (g.moment before) c) where
       abbrev pub made : Addr → Stored
-      made a = made_of img.r known all.leaves a
-
-      rows : length all.leaves ≡ length known
-      rows = count_leaves (g.seen mid) links all.leaves all.half.there ∙ count
+      made a = made_of img.r known all.trees a
 
       pub ready : (a : Addr) → IsReady (g.seen mid) books' image (made a)
-      ready a = made_ready known next ascend links all.leaves count rows img.r a img.is.flat img.tables (g.seen mid) image books' img.admitted img.spelled all.half.there all.half.in_use all.half.apart
+      ready a = made_ready known next ascend places all.trees count (g.seen mid) all.half.there img.r a img.is.bare img.tables image books' img.admitted img.spelled all.half.in_use all.half.apart
 
       since : (c : List ℕ) → g.may_leave mid c → IsOld (g.may_leave before) old c
       since c there = all.left.each c (counts c there)
@@ -148,69 +138,70 @@ module _ {D : Type 0} (g : Ghosts D) (old : Option Stored) (was : List Link) (m 
       turns after a left = joined g before mid after _ _ (widened g before mid _ _ all.left (λ c is. inl is)) left (either_since a)
 
       is_made : (a : Addr) → IsCheckpointOf m (number_of old) (made a)
-      is_made a = subst (λ (n : ℕ). IsCheckpointOf m n (made a)) is_number (made_is known next ascend links all.leaves count rows img.r a img.is.flat img.tables m number img.is all.rows)
+      is_made a = subst (λ (n : ℕ). IsCheckpointOf m n (made a)) is_number (made_is known next ascend places all.trees count (g.seen mid) all.half.there img.r a img.is.bare img.tables m number img.is all.rows)
 
-      sized : (capacity : ℕ) (P : ℕ → ℕ → Type 0) → g.capacity mid ≡ g.capacity before → P (units_of (length image)) (g.capacity mid) → P (block_size (length (record_image img.r))) (g.capacity before)
-      sized capacity P room is = subst (λ (k : ℕ). P (block_size (length (record_image img.r))) k) room (subst (λ (l : List ℕ). P (block_size (length l)) (g.capacity mid)) img.spelled is)
+      sized : (P : ℕ → ℕ → Type 0) → g.capacity mid ≡ g.capacity before → P (units_of (length image)) (g.capacity mid) → P (block_size (length (record_image img.r))) (g.capacity before)
+      sized P room is = subst (λ (k : ℕ). P (block_size (length (record_image img.r))) k) room (subst (λ (l : List ℕ). P (block_size (length l)) (g.capacity mid)) img.spelled is)
 
       record_size : (r : Record) × IsRecordOf m (number_of old) r × (block_size (length (record_image img.r)) ≡ block_size (length (record_image r)))
       record_size = (img.r, subst (λ (n : ℕ). IsRecordOf m n img.r) is_number img.is, refl)
 
       pub all_put : (last : Books) (after : D) (a : Addr) → g.capacity mid ≡ g.capacity before → Finishes g books'.space (length image) (g.capacity mid) old (made a) mid after (Ok a) → ReadsAfter g last old (made a) after (Ok a) → IsLastNow books' last a → AreUnits last.cells last.space → last.is_held ≡ false
-          → AllPut g old was m known books last links before after a
-      all_put last after a room (left, each, (space, at, taken)) (on, within) now units idle = record {
+          → AllPut g old m known books last places taken before after a
+      all_put last after a room (left, each, (space, at, got)) (on, within) now units idle = record {
         r = img.r;
-        leaves = all.leaves;
+        trees = all.trees;
         is = is_made a;
         left = turns after a left;
         each = each;
-        places = (books'.space, block_size (length (record_image img.r)), space, at, all.placed, record_size, sized (g.capacity mid) (λ (n capacity : ℕ). Taken books'.space space n capacity at) room taken);
+        placed = (books'.space, block_size (length (record_image img.r)), space, at, all.placed, record_size, sized (λ (n capacity : ℕ). Taken books'.space space n capacity at) room got);
         same = all.same;
         done = record {
           on = on;
           tables = img.tables;
-          count = count_leaves (g.seen mid) links all.leaves all.half.there;
+          bytes = g.seen mid;
+          there = all.half.there;
           half = books'.cells;
-          half_are = all.half.cells;
+          half_are = all.half.runs.cells;
           half_use = all.half.in_use;
-          own = all.half.own;
-          fresh = fresh_there books' last a old links all.half.cells now;
+          listed = all.half.listed;
+          own = all.half.runs.own;
+          fresh = fresh_there books' last a old taken all.half.runs.cells now;
           sized = whole_there books' last a now;
-          cells = last_cells books' last a old links (omega (arith, on.whole.addressed.0.size, record_bytes img.r)) all.half.cells now;
+          cells = last_cells books' last a old taken (omega (arith, on.whole.addressed.0.size, record_bytes img.r)) all.half.runs.cells now;
           units = units;
           idle = idle;
           within = within;
         };
-        follows = follows_new known next ascend links all.leaves count rows img.r a img.is.flat img.tables (g.seen mid) all.half.there m all.rows;
+        follows = follows_new known next ascend places all.trees count (g.seen mid) all.half.there img.r a img.is.bare img.tables m all.rows;
       }
 
+      runs_back : (last : Books) (after : D) (a : Addr) (e : StoreError) → ReadsAfter g last old (made a) after (Err e) → AreBack books' last → ((ReadsAfter g last old (made a) after (Err e)) → Stands (g.seen after) (g.may_leave after) last old × (end_of last.space ≤ length (g.seen after))) → 8192 ≤ length (g.seen after) → Runs (g.seen after) (g.may_leave after) last old taken
+      runs_back last after a e reads back is long = let r = is reads in record { stands = r.0; cells = λ u. back.cells u ∙ all.half.runs.cells u; units = back.units all.half.runs.units; long = long; within = r.1; own = all.half.runs.own }
+
       -- the record was not installed
-      pub not_put : (last : Books) (after : D) (a : Addr) (e : StoreError) → g.capacity mid ≡ g.capacity before → Fails g books'.space (length image) (g.capacity mid) old (made a) mid after e → ReadsAfter g last old (made a) after (Err e) → AreBack books' last → SomePut g old was m known books last links before after (Store e)
+      pub not_put : (last : Books) (after : D) (a : Addr) (e : StoreError) → g.capacity mid ≡ g.capacity before → Fails g books'.space (length image) (g.capacity mid) old (made a) mid after e → ReadsAfter g last old (made a) after (Err e) → AreBack books' last → SomePut g old m known books last places taken before after e
       not_put last after a NoMemory room left reads back = record {
         left = inl (keeps after left);
         kept = λ safe. keeps after left;
-        runs = λ safe. record { stands = reads.0; cells = λ u. back.cells u ∙ all.half.cells u; units = back.units all.half.units; within = reads.1; own = all.half.own };
+        runs = λ safe. runs_back last after a NoMemory reads back (λ r. r) (still_long old (g.seen after) reads.0.seen_has);
         lacks = λ is. absurd (cc);
-        over = λ is. absurd (cc);
       }
       not_put last after a NoSpace room left reads back = record {
         left = inl (keeps after left.1);
         kept = λ safe. keeps after left.1;
-        runs = λ safe. record { stands = reads.0; cells = λ u. back.cells u ∙ all.half.cells u; units = back.units all.half.units; within = reads.1; own = all.half.own };
-        lacks = λ is. inr (books'.space, block_size (length (record_image img.r)), all.placed, record_size, sized (g.capacity mid) (λ (n capacity : ℕ). HasNoRoom books'.space n capacity) room left.0);
-        over = λ is. absurd (cc);
+        runs = λ safe. runs_back last after a NoSpace reads back (λ r. r) (still_long old (g.seen after) reads.0.seen_has);
+        lacks = λ is. inr (books'.space, block_size (length (record_image img.r)), all.placed, record_size, sized (λ (n capacity : ℕ). HasNoRoom books'.space n capacity) room left.0);
       }
       not_put last after a Read room left reads back = record {
         left = inl (keeps after left);
         kept = λ safe. keeps after left;
-        runs = λ safe. record { stands = reads.0; cells = λ u. back.cells u ∙ all.half.cells u; units = back.units all.half.units; within = reads.1; own = all.half.own };
+        runs = λ safe. runs_back last after a Read reads back (λ r. r) (still_long old (g.seen after) reads.0.seen_has);
         lacks = λ is. absurd (cc);
-        over = λ is. absurd (cc);
       }
       not_put last after a (Down fault) room left reads back = record {
         left = elim left [ inl kept ↦ inl (keeps after kept) | inr (b, either) ↦ inr (made b, is_made b, turns after b either) ];
         kept = λ safe. absurd safe;
         runs = λ safe. absurd safe;
         lacks = λ is. absurd (cc);
-        over = λ is. absurd (cc);
       }

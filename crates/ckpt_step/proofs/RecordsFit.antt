@@ -6,14 +6,13 @@ use Rattle.std.proofs.lemmas.Bool.{and_parts, both_ways, eq-eqb, leb-true, ltb-t
 use Rattle.std.proofs.lemmas.List.{length-map}
 use Rattle.std.proofs.lemmas.Option.{same_Some}
 use Rattle.le_codec.specs.Fields.{IsBytes}
-use Rattle.device_layout.specs.declared.link.Link.{Link}
 use Rattle.kv_model.specs.Decisions.{is_name, is_name_byte}
 use Rattle.kv_model.specs.Holds.{Member}
 use Rattle.kv_model.specs.History.{Table}
 use Rattle.snapshot.specs.Sight.{Ascends, IsSight, Sight}
 use Rattle.snapshot.proofs.Listed.{ascends-bound}
 use Rattle.stored.specs.Links.{nowhere}
-use Rattle.stored.specs.Records.{IdsAscend, IsNameByte, IsTableName, NumbersOnce, RootFits, SnapshotFits, TableFits, TableRoot, TablesClimb}
+use Rattle.stored.specs.Records.{IdsAscend, IsNameByte, IsTableName, NumbersOnce, Root, RootFits, SnapshotFits, TableFits, TableRoot, TablesClimb}
 use Rattle.stored.specs.Stored.{tables_of}
 use Rattle.catalog.specs.Known.{AreTables, Known, NamesAscend, by_name, is_below}
 use Rattle.catalog.specs.Order.{Ascend}
@@ -21,7 +20,7 @@ use Rattle.catalog.proofs.InOrder.{order_ascends, order_keeps, sorted_ascends}
 use Rattle.catalog.proofs.NameOrder.{below_self}
 use Rattle.catalog.proofs.Turning.{all_member}
 use Rattle.engine_world.proofs.Fronts.{index-of, one-place}
-use Rattle.ckpt_step.specs.Grounds.{leaf_root}
+use Rattle.ckpt_step.specs.Trees.{table_root}
 use Rattle.ckpt_step.specs.Records.{IsTyped}
 use Rattle.ckpt_step.proofs.ByName.{by_name_length}
 use Rattle.ckpt_step.proofs.ByPlace.{number_least, number_most}
@@ -49,10 +48,10 @@ name_fits name is fits =
     let rest = and_parts (nat_le (length name) 128) (list_all is_name_byte name) parts.1 in
     record { some = (let some = ltb-true 0 (length name) parts.0 in omega arith); most = leb-true (length name) 128 rest.0; bytes = bytes_fit name rest.1 fits }
 
--- ---- tables, each with its leaf
+-- ---- tables, each with the root of its tree
 
-abbrev pub rooted : (Table → Link) → List Table → List TableRoot
-rooted links tables = map {A = Table} (λ t. leaf_root t (links t)) tables
+abbrev pub rooted : (Table → Root) → List Table → List TableRoot
+rooted roots tables = map {A = Table} (λ t. table_root t (roots t)) tables
 
 -- what is known of a table of a catalog
 record IsNamed (next : ℕ) (t : Table) : Type 0 where
@@ -60,22 +59,22 @@ record IsNamed (next : ℕ) (t : Table) : Type 0 where
   below_next : t.number < next
   name : is_name t.name ≡ true
 
-each_fits : (next : ℕ) (links : Table → Link) (tables : List Table) → ((t : Table) → Member t tables → IsNamed next t) → AllByRecursion IsTyped (rooted links tables) → AllByRecursion (λ (t : TableRoot). TableFits next t) (rooted links tables)
-each_fits next links [] each typed = tt
-each_fits next links (t ∷ later) each typed =
+each_fits : (next : ℕ) (roots : Table → Root) (tables : List Table) → ((t : Table) → Member t tables → IsNamed next t) → AllByRecursion IsTyped (rooted roots tables) → AllByRecursion (λ (t : TableRoot). TableFits next t) (rooted roots tables)
+each_fits next roots [] each typed = tt
+each_fits next roots (t ∷ later) each typed =
     let own = each t (inl refl) in (
       record {
         number = (own.from_one, own.below_next);
         name = name_fits t.name own.name typed.0.name;
-        root = record { level = omega arith; link = typed.0.link };
+        root = typed.0.root;
       },
-      each_fits next links later (λ u there. each u (inr there)) typed.1,
+      each_fits next roots later (λ u there. each u (inr there)) typed.1,
     )
 
-names_climb : (links : Table → Link) (tables : List Table) → NamesAscend tables → TablesClimb (rooted links tables)
-names_climb links [] ascend = tt
-names_climb links (t ∷ []) ascend = tt
-names_climb links (t ∷ u ∷ later) ascend = (ascend.0, names_climb links (u ∷ later) ascend.1)
+names_climb : (roots : Table → Root) (tables : List Table) → NamesAscend tables → TablesClimb (rooted roots tables)
+names_climb roots [] ascend = tt
+names_climb roots (t ∷ []) ascend = tt
+names_climb roots (t ∷ u ∷ later) ascend = (ascend.0, names_climb roots (u ∷ later) ascend.1)
 
 -- a number has one table
 number_one : (known : Known) (t u : Table) → AreTables known → Member t known.tables → Member u known.tables → u.number ≡ t.number → u ≡ t
@@ -85,18 +84,18 @@ number_one known t u are there also same =
     let place = one-place 1 known.tables known.next i.0 j.0 u t are.numbers i.1 j.1 same in
     same_Some u t (sym i.1 ∙ (ap (slice_get known.tables) place ∙ j.1))
 
-others_differ : (known : Known) (links : Table → Link) (t : Table) (later : List Table) → AreTables known → Member t known.tables → ((u : Table) → Member u later → Member u known.tables)
-    → AllByRecursion (λ (u : Table). is_below t.name u.name ≡ true) later → AllByRecursion (λ (u : TableRoot). u.table.number ≢ t.number) (rooted links later)
-others_differ known links t [] are there within above = tt
-others_differ known links t (u ∷ later) are there within above = (
+others_differ : (known : Known) (roots : Table → Root) (t : Table) (later : List Table) → AreTables known → Member t known.tables → ((u : Table) → Member u later → Member u known.tables)
+    → AllByRecursion (λ (u : Table). is_below t.name u.name ≡ true) later → AllByRecursion (λ (u : TableRoot). u.table.number ≢ t.number) (rooted roots later)
+others_differ known roots t [] are there within above = tt
+others_differ known roots t (u ∷ later) are there within above = (
   (λ same. below_self t.name (subst (λ (z : Table). is_below t.name z.name ≡ true) (number_one known t u are there (within u (inl refl)) same) above.0)),
-  others_differ known links t later are there (λ v at. within v (inr at)) above.1,
+  others_differ known roots t later are there (λ v at. within v (inr at)) above.1,
 )
 
-numbers_once : (known : Known) (links : Table → Link) (tables : List Table) → AreTables known → ((t : Table) → Member t tables → Member t known.tables) → Ascend tables → NumbersOnce (rooted links tables)
-numbers_once known links [] are within ascend = tt
-numbers_once known links (t ∷ later) are within ascend =
-    (others_differ known links t later are (within t (inl refl)) (λ u there. within u (inr there)) ascend.0, numbers_once known links later are (λ u there. within u (inr there)) ascend.1)
+numbers_once : (known : Known) (roots : Table → Root) (tables : List Table) → AreTables known → ((t : Table) → Member t tables → Member t known.tables) → Ascend tables → NumbersOnce (rooted roots tables)
+numbers_once known roots [] are within ascend = tt
+numbers_once known roots (t ∷ later) are within ascend =
+    (others_differ known roots t later are (within t (inl refl)) (λ u there. within u (inr there)) ascend.0, numbers_once known roots later are (λ u there. within u (inr there)) ascend.1)
 
 -- ---- the tables of a catalog
 
@@ -107,12 +106,12 @@ pub record TablesFit (next : ℕ) (tables : List TableRoot) : Type 0 where
   pub climb : TablesClimb tables
   pub once : NumbersOnce tables
 
-pub tables_fit : (known : Known) (links : Table → Link) → AreTables known → AllByRecursion IsTyped (rooted links (by_name known.tables)) → TablesFit known.next (rooted links (by_name known.tables))
-tables_fit known links are typed = record {
-  count = omega (arith, are.few, by_name_length known.tables, length-map (by_name known.tables) (λ (t : Table). leaf_root t (links t)));
-  each = each_fits known.next links (by_name known.tables) (λ t there. named t (within t there)) typed;
-  climb = names_climb links (by_name known.tables) (order_ascends known.tables are.distinct);
-  once = numbers_once known links (by_name known.tables) are within (sorted_ascends known.tables are.distinct);
+pub tables_fit : (known : Known) (roots : Table → Root) → AreTables known → AllByRecursion IsTyped (rooted roots (by_name known.tables)) → TablesFit known.next (rooted roots (by_name known.tables))
+tables_fit known roots are typed = record {
+  count = omega (arith, are.few, by_name_length known.tables, length-map (by_name known.tables) (λ (t : Table). table_root t (roots t)));
+  each = each_fits known.next roots (by_name known.tables) (λ t there. named t (within t there)) typed;
+  climb = names_climb roots (by_name known.tables) (order_ascends known.tables are.distinct);
+  once = numbers_once known roots (by_name known.tables) are within (sorted_ascends known.tables are.distinct);
 } where
   within : (t : Table) → Member t (by_name known.tables) → Member t known.tables
   within t there = (order_keeps known.tables t).0 there
@@ -126,13 +125,9 @@ tables_fit known links are typed = record {
 
 -- ---- as a record has them
 
-pub rooted_tables : (links : Table → Link) (tables : List Table) → tables_of (rooted links tables) ≡ tables
-rooted_tables links [] = refl
-rooted_tables links (t ∷ later) = ap (λ (l : List Table). t ∷ l) (rooted_tables links later)
-
-pub rooted_flat : (links : Table → Link) (tables : List Table) → AllByRecursion (λ (t : TableRoot). t.root.level ≡ 0) (rooted links tables)
-rooted_flat links [] = tt
-rooted_flat links (t ∷ later) = (refl, rooted_flat links later)
+pub rooted_tables : (roots : Table → Root) (tables : List Table) → tables_of (rooted roots tables) ≡ tables
+rooted_tables roots [] = refl
+rooted_tables roots (t ∷ later) = ap (λ (l : List Table). t ∷ l) (rooted_tables roots later)
 
 pub nowhere_fits : RootFits (record { level = 0; link = nowhere })
 nowhere_fits = record {

@@ -7,7 +7,8 @@ use Rattle.block_mgr.specs.declared.cell.Cell.{Cell}
 use Rattle.block_mgr.specs.Blocks.{Books}
 use Rattle.block_mgr.specs.Cells.{AreUnits, cell_at}
 use Rattle.block_mgr.specs.Open.{found_cell}
-use Rattle.device_layout.specs.declared.link.Link.{Link}
+use Rattle.device_layout.specs.declared.addr.Addr.{Addr}
+use Rattle.tree_open.specs.declared.place.TreePlace.{TreePlace}
 use Rattle.kv_model.specs.History.{Table}
 use Rattle.catalog.specs.Known.{NumbersAscend}
 use Rattle.stored.specs.Stored.{Stored}
@@ -16,34 +17,36 @@ use Rattle.checkpoint_core.proofs.Holding.{in_use_same, still_long}
 use Rattle.device_leaf.proofs.Writes.{stands_begun}
 use Rattle.ckpt_step.specs.declared.ground.Ground.{Ground}
 use Rattle.ckpt_step.specs.Grounds.{AreRoots, StandsOn, found_in}
-use Rattle.ckpt_step.specs.Halves.{AreOldLeaves, Half}
-use Rattle.ckpt_step.specs.Runs.{Runs}
-use Rattle.ckpt_step.proofs.PastLeaves.{are_old_leaves}
+use Rattle.ckpt_step.specs.Halves.{AreOldBlocks, Half, Runs}
+use Rattle.ckpt_step.specs.Trees.{addrs_of}
+use Rattle.ckpt_step.proofs.OldTrees.{are_old_blocks}
 
 module _ (seen : List ℕ) (images : List ℕ → Type 0) (known : List Table) (next : ℕ) (ascend : NumbersAscend 1 known next) (g : Ground) (old : Option Stored) (on : StandsOn seen images known g old) where
-  pub past_leaves : AreOldLeaves old g.leaves.items
-  past_leaves = are_old_leaves seen images g.place.blocks known next g.leaves.items old ascend on.stands on.roots on.cells on.units
+  pub past_blocks : AreOldBlocks old (addrs_of g.trees.items)
+  past_blocks = are_old_blocks seen images g.place.blocks known next ascend g.trees.items old on.stands on.roots on.cells on.units
 
   -- a checkpoint runs that has captured nothing yet
-  pub half_start : (books : Books) → books.cells ≡ g.place.blocks.cells → books.space ≡ g.place.blocks.space → books.is_synced ≡ g.place.blocks.is_synced → books.is_held ≡ true → Half seen images books old g.leaves.items [] []
+  pub half_start : (books : Books) → books.cells ≡ g.place.blocks.cells → books.space ≡ g.place.blocks.space → books.is_synced ≡ g.place.blocks.is_synced → books.is_held ≡ true → Half seen images books old [] [] []
   half_start books cells space synced held = record {
-    stands = stands_begun seen images g.place.blocks books old cells synced on.stands;
-    cells = λ u. ap (λ (l : List Cell). cell_at l u) cells ∙ on.cells u;
-    units = subst (λ (s : Space). AreUnits books.cells s) (sym space) (subst (λ (l : List Cell). AreUnits l g.place.blocks.space) (sym cells) on.units);
+    runs = record {
+      stands = stands_begun seen images g.place.blocks books old cells synced on.stands;
+      cells = λ u. ap (λ (l : List Cell). cell_at l u) cells ∙ on.cells u;
+      units = subst (λ (s : Space). AreUnits books.cells s) (sym space) (subst (λ (l : List Cell). AreUnits l g.place.blocks.space) (sym cells) on.units);
+      long = on.long;
+      within = omega (arith, ap end_of space, on.within);
+      own = λ a there. absurd there;
+    };
     held = held;
-    long = on.long;
-    within = omega (arith, ap end_of space, on.within);
     there = tt;
     in_use = tt;
     apart = tt;
-    was_are = past_leaves;
-    own = λ place link is. absurd (cc);
+    listed = λ a. ((λ there. there), (λ there. there));
   }
 
   -- it was given up
-  pub old_ground : (later : List ℕ) (left : List ℕ → Type 0) (links : List Link) (books : Books) (after : Ground) → Runs later left books old g.leaves.items links → ((u : ℕ) → cell_at after.place.blocks.cells u ≡ found_cell (found_in old) u) → AreUnits after.place.blocks.cells after.place.blocks.space → end_of after.place.blocks.space ≡ end_of books.space
-      → after.place.blocks.is_synced ≡ books.is_synced → after.place.blocks.is_held ≡ false → after.place.slot ≡ g.place.slot → after.number ≡ g.number → after.leaves.items ≡ g.leaves.items → StandsOn later left known after old
-  old_ground later left links books after runs cells units end synced idle slot number leaves = record {
+  pub old_ground : (later : List ℕ) (left : List ℕ → Type 0) (captured : List Addr) (books : Books) (after : Ground) → Runs later left books old captured → ((u : ℕ) → cell_at after.place.blocks.cells u ≡ found_cell (found_in old) u) → AreUnits after.place.blocks.cells after.place.blocks.space → end_of after.place.blocks.space ≡ end_of books.space
+      → after.place.blocks.is_synced ≡ books.is_synced → after.place.blocks.is_held ≡ false → after.place.slot ≡ g.place.slot → after.number ≡ g.number → after.trees.items ≡ g.trees.items → StandsOn later left known after old
+  old_ground later left captured books after runs cells units end synced idle slot number trees = record {
     stands = record {
       seen_has = runs.stands.seen_has;
       images_have = λ is. runs.stands.images_have (sym synced ∙ is);
@@ -56,7 +59,7 @@ module _ (seen : List ℕ) (images : List ℕ → Type 0) (known : List Table) (
     idle = idle;
     long = still_long old later runs.stands.seen_has;
     within = omega (arith, end, runs.within);
-    roots = subst (λ (l : List Link). AreRoots known l old) (sym leaves) on.roots;
+    roots = subst (λ (l : List TreePlace). AreRoots known l old) (sym trees) on.roots;
   }
 
 pub known_is : (known made : List Table) → reverse known ≡ made → reverse made ≡ known

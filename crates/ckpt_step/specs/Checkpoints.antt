@@ -1,4 +1,4 @@
--- What a checkpoint keeps of a machine whose tables have one leaf each.
+-- What a checkpoint keeps of a machine.
 use Rattle.std.specs.Prelude.{◌≡◌, ℕ, ◌+◌, List, [], ◌∷◌, length, reverse}
 use Rattle.kv_model.specs.AgreementLaws.{head_of}
 use Rattle.kv_model.specs.History.{Table, line, tables}
@@ -9,22 +9,23 @@ use Rattle.rows_shown.specs.Shows.{shown_at}
 use Rattle.snapshot.specs.Matters.{AreUnended, SeesCommitted}
 use Rattle.stored.specs.Records.{Record}
 use Rattle.stored.specs.Stored.{Stored, tables_of}
+use Rattle.stored.specs.TableTree.{TableTree}
 use Rattle.catalog.specs.Known.{by_name}
-use Rattle.recover_open.specs.Flat.{IsFlat, flat_stored}
+use Rattle.recover_open.specs.Bare.{IsBare, bare_stored, tree_rows}
 
 -- the rows have the newest version of each key of the table, a removal too
-pub record IsLeafOf (m : Machine) (t : Table) (rows : List Row) : Type 0 where
+pub record IsRowsOf (m : Machine) (t : Table) (rows : List Row) : Type 0 where
   pub fit : AreFit rows
   pub newest : (key : List ℕ) → head_of (line m.history t.number key) ≡ shown_at key rows
 
--- the leaf of each table
-abbrev pub AreLeavesOf : Machine → List Table → List (List Row) → Type 0
-AreLeavesOf m [] [] = Unit {0}
-AreLeavesOf m [] (rows ∷ leaves) = ⊥
-AreLeavesOf m (t ∷ tables) [] = ⊥
-AreLeavesOf m (t ∷ tables) (rows ∷ leaves) = IsLeafOf m t rows × AreLeavesOf m tables leaves
+-- so have those of each table's tree
+abbrev pub AreRowsOf : Machine → List Table → List TableTree → Type 0
+AreRowsOf m [] [] = Unit {0}
+AreRowsOf m [] (tree ∷ trees) = ⊥
+AreRowsOf m (t ∷ tables) [] = ⊥
+AreRowsOf m (t ∷ tables) (tree ∷ trees) = IsRowsOf m t (tree_rows tree) × AreRowsOf m tables trees
 
--- number: that of the checkpoint before, 0 where there is none. Where the leaves stand is left open.
+-- number: that of the checkpoint before, 0 where there is none. Where the trees stand is left open.
 pub record IsRecordOf (m : Machine) (number : ℕ) (r : Record) : Type 0 where
   pub sequence : r.sequence ≡ number + 1
   pub run : r.run ≡ m.run
@@ -33,12 +34,11 @@ pub record IsRecordOf (m : Machine) (number : ℕ) (r : Record) : Type 0 where
   pub max : r.snapshot.max ≡ m.next
   pub unended : AreUnended m r.snapshot.ids
   pub sees : SeesCommitted m (length m.history) (record { run = r.run; min = r.snapshot.min; max = r.snapshot.max; list = r.snapshot.ids })
-  pub flat : IsFlat r
+  pub bare : IsBare r
   pub tables_are : tables_of r.tables ≡ by_name (reverse (tables m.history))
 
--- what a device stores that has the checkpoint that the machine takes
+-- what a device stores that has the checkpoint that the machine takes: a tree for each table, and no history
 pub record IsCheckpointOf (m : Machine) (number : ℕ) (s : Stored) : Type 0 where
   pub names : IsRecordOf m number s.kept
-  pub leaves : List (List Row)
-  pub stored : s ≡ flat_stored s.slot s.kept leaves
-  pub rows : AreLeavesOf m (tables_of s.kept.tables) leaves
+  pub bare : s ≡ bare_stored s.slot s.kept s.trees
+  pub rows : AreRowsOf m (tables_of s.kept.tables) s.trees

@@ -1,58 +1,45 @@
 -- On what the next checkpoint stands.
-use Rattle.std.specs.Prelude.{◌≡◌, ℕ, ◌≤◌, ◌==◌, false, List, [], ◌∷◌, length, Option, Some, None, slice_get, if◌then◌else◌}
+use Rattle.std.specs.Prelude.{◌≡◌, ℕ, ◌≤◌, false, List, [], length, Option, Some, None, slice_get}
 use Rattle.extent_list.specs.Space.{end_of}
 use Rattle.block_mgr.specs.declared.found.Found.{Found}
 use Rattle.block_mgr.specs.Cells.{AreUnits, cell_at}
 use Rattle.block_mgr.specs.Open.{found_cell}
-use Rattle.device_layout.specs.declared.link.Link.{Link}
-use Rattle.kv_model.specs.Holds.{Member}
 use Rattle.kv_model.specs.History.{Table}
-use Rattle.stored.specs.Links.{nowhere}
-use Rattle.stored.specs.Records.{TableRoot, Record}
 use Rattle.stored.specs.Stored.{Stored}
+use Rattle.stored.specs.TableTree.{TableTree}
 use Rattle.disk_model.specs.declared.disk.Disk.{Ghosts}
 use Rattle.engine_world.specs.Stands.{Engine, Stands as Stands_engine}
 use Rattle.engine_world.specs.Worlds.{World}
 use Rattle.checkpoint_core.specs.Stands.{Stands, chosen_of}
+use Rattle.tree_open.specs.declared.place.TreePlace.{TreePlace}
+use Rattle.recover_open.specs.Bare.{IsBare}
 use Rattle.recover_open.specs.Damage.{blocks_found}
-use Rattle.recover_open.specs.Flat.{IsFlat}
 use Rattle.ckpt_step.specs.declared.ground.Ground.{Ground}
 use Rattle.ckpt_step.specs.Floors.{Follows}
+use Rattle.ckpt_step.specs.Trees.{HasTreeAt}
 
 -- the number of a checkpoint, 0 where there is none
 abbrev pub number_of : Option Stored → ℕ
 number_of None = 0
 number_of (Some s) = s.kept.sequence
 
--- where the leaf of the table of this number stands; nowhere where the checkpoint has no such table
-abbrev pub link_of : List TableRoot → ℕ → Link
-link_of [] number = nowhere
-link_of (r ∷ later) number = if r.table.number == number then r.root.link else link_of later number
-
-abbrev pub link_in : Option Stored → Table → Link
-link_in None t = nowhere
-link_in (Some s) t = link_of s.kept.tables t.number
-
 -- the blocks that an opening finds
 abbrev pub found_in : Option Stored → List Found
 found_in None = []
-found_in (Some s) = blocks_found s.slot s.kept.tables
+found_in (Some s) = blocks_found s.slot s.kept.tables s.trees
 
-abbrev pub leaf_root : Table → Link → TableRoot
-leaf_root t link = record { table = t; root = record { level = 0; link = link } }
+-- the checkpoint has the first of these tables, as many as there are places, each with its tree there
+pub record HasRoots (known : List Table) (places : List TreePlace) (s : Stored) : Type 0 where
+  pub bare : IsBare s.kept
+  pub few : length places ≤ length known
+  pub count : length s.kept.tables ≡ length places
+  pub trees : (i : ℕ) (t : Table) (place : TreePlace) → slice_get known i ≡ Some t → slice_get places i ≡ Some place → (tree : TableTree) × HasTreeAt (Some s) t place tree
 
--- the checkpoint has the first of these tables, as many as there are links, each with its leaf there
-pub record HasRoots (known : List Table) (links : List Link) (r : Record) : Type 0 where
-  pub flat : IsFlat r
-  pub few : length links ≤ length known
-  pub count : length r.tables ≡ length links
-  pub roots : (place : ℕ) (t : Table) (link : Link) → slice_get known place ≡ Some t → slice_get links place ≡ Some link → Member (leaf_root t link) r.tables
+abbrev pub AreRoots : List Table → List TreePlace → Option Stored → Type 0
+AreRoots known places None = places ≡ []
+AreRoots known places (Some s) = HasRoots known places s
 
-abbrev pub AreRoots : List Table → List Link → Option Stored → Type 0
-AreRoots known links None = links ≡ []
-AreRoots known links (Some s) = HasRoots known links s.kept
-
--- The device has this checkpoint, or none, and the ground is that of it: its number, its slot, its blocks and no others in use, and by place the leaves of the engine's tables that it has.
+-- The device has this checkpoint, or none, and the ground is that of it: its number, its slot, its blocks and no others in use, and by place the trees of the engine's tables that it has.
 pub record StandsOn (seen : List ℕ) (images : List ℕ → Type 0) (known : List Table) (g : Ground) (old : Option Stored) : Type 0 where
   pub stands : Stands seen images g.place.blocks old
   pub number : g.number ≡ number_of old
@@ -62,16 +49,16 @@ pub record StandsOn (seen : List ℕ) (images : List ℕ → Type 0) (known : Li
   pub idle : g.place.blocks.is_held ≡ false
   pub long : 8192 ≤ length seen
   pub within : end_of g.place.blocks.space ≤ length seen
-  pub roots : AreRoots known g.leaves.items old
+  pub roots : AreRoots known g.trees.items old
 
--- The engine stands for a world in which no checkpoint runs. The ground is that of the last completed checkpoint of the disk, whose clean leaves are those of the machine.
+-- The engine stands for a world in which no checkpoint runs. The ground is that of the last completed checkpoint of the disk, whose clean trees are those of the machine.
 pub record IsOnGround (seen : List ℕ) (images : List ℕ → Type 0) (e : Engine) (g : Ground) : Type 0 where
   pub world : World
   pub stands : Stands_engine e world
   pub idle : world.machine.checkpoint ≡ None
   pub old : Option Stored
   pub on : StandsOn seen images e.hub.tables.tables g old
-  pub follows : Follows old e.hub.tables.tables g.leaves.items g.floor world.machine
+  pub follows : Follows old e.hub.tables.tables g.trees.items g.floor world.machine
 
 -- so where the engine is up
 abbrev pub IsSteady : {D : Type 0} → Ghosts D → Engine → Ground → D → Type 0

@@ -8,7 +8,7 @@ pub mod Records
 pub mod Plain
 pub mod Runs
 pub mod Frees
-pub mod Ones
+pub mod Trees
 pub mod Goings
 pub mod Calm
 pub mod Keeps

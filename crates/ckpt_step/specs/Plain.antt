@@ -8,7 +8,7 @@ use Rattle.kv_model.specs.Valid.{Valid}
 use Rattle.stored.specs.Stored.{Stored}
 use Rattle.checkpoint_core.specs.Stands.{HasStill}
 use Rattle.device_leaf.specs.Closings.{content_was}
-use Rattle.recover_open.specs.Flat.{IsFlat}
+use Rattle.recover_open.specs.Bare.{IsBare}
 use Rattle.engine_world.specs.Whole.{nothing_around}
 use Rattle.ckpt_step.specs.Laws.{AllNewestSuffice}
 
@@ -34,13 +34,13 @@ IsUnstamped Rts = ⊥
 IsUnstamped Close = ⊥
 IsUnstamped _ = Unit {0}
 
-abbrev pub IsFlatStill : Option Stored → Type 0
-IsFlatStill None = Unit {0}
-IsFlatStill (Some s) = IsFlat s.kept
+abbrev pub IsBareStill : Option Stored → Type 0
+IsBareStill None = Unit {0}
+IsBareStill (Some s) = IsBare s.kept
 
--- so is a machine as an opening makes it, of a device whose tables have one leaf each
+-- so is a machine as an opening makes it, of a device without a history
 abbrev pub StartsPlain : Type 0
-StartsPlain = (bytes : List ℕ) (old : Option Stored) → HasStill old bytes → IsFlatStill old → IsPlain (start (content_was old))
+StartsPlain = (bytes : List ℕ) (old : Option Stored) → HasStill old bytes → IsBareStill old → IsPlain (start (content_was old))
 
 -- and a call that commits without a stamp leaves it so
 abbrev pub StaysPlain : Type 0

@@ -6,7 +6,7 @@ use Rattle.disk_model.specs.Crash.{Each, LeavesOnly}
 use Rattle.disk_model.specs.declared.disk.Disk.{Ghosts}
 use Rattle.wt_code.specs.declared.refusals.Refusal.{Refusal}
 use Rattle.wt_code.specs.declared.refusals.Refusal.TheVariants.{NoMemory, NoSpace, DiskFault, Panic, Busy as Refusal_Busy, Limit as Refusal_Limit}
-use Rattle.wt_code.specs.declared.refusals.Limit.TheVariants.{Checkpoints, Image}
+use Rattle.wt_code.specs.declared.refusals.Limit.TheVariants.{Checkpoints}
 use Rattle.wt_code.specs.declared.refusals.Busy.TheVariants.{Resolving}
 use Rattle.kv_model.specs.Machine.{Machine}
 use Rattle.stored.specs.Stored.{Stored, IsOn}
@@ -19,7 +19,7 @@ use Rattle.ckpt_step.specs.declared.ground.Ground.{Ground}
 use Rattle.ckpt_step.specs.Checkpoints.{IsCheckpointOf}
 use Rattle.ckpt_step.specs.Floors.{Follows}
 use Rattle.ckpt_step.specs.Grounds.{StandsOn, number_of}
-use Rattle.ckpt_step.specs.Sizes.{IsFullFor, HasRoomFor, IsOver, KeepsLeaves}
+use Rattle.ckpt_step.specs.Sizes.{IsFullFor, HasRoomFor, KeepsLeaves}
 
 -- the machine refuses that a checkpoint starts
 abbrev pub IsBarred : Machine → ℕ → Refusal → Type 0
@@ -31,8 +31,7 @@ WhyNot fault bytes capacity m number r =
     IsBarred m number r
     ⊎ ((r ≡ NoMemory)
     ⊎ (MayStart m number (Ok tt)
-    × (((r ≡ Refusal_Limit Image) × IsOver m)
-    ⊎ ((IsOver m → ⊥) × (((r ≡ NoSpace) × IsFullFor bytes capacity m) ⊎ ((r ≡ DiskFault) × fault))))))
+    × (((r ≡ NoSpace) × IsFullFor bytes capacity m) ⊎ ((r ≡ DiskFault) × fault))))
 
 module _ {D : Type 0} (g : Ghosts D) (old : Option Stored) (w : World) (stand stand' : Ground) (e e' : Engine) (before after : D) where
   -- the checkpoint is the last completed one now, and nothing changes of the engine
@@ -42,10 +41,9 @@ module _ {D : Type 0} (g : Ghosts D) (old : Option Stored) (w : World) (stand st
     pub leaves : LeavesOnly g before after (IsEither (g.may_leave before) old new)
     pub each : Each (g.may_leave after) (λ c. IsOn c new)
     pub on : StandsOn (g.seen after) (g.may_leave after) e.hub.tables.tables stand' (Some new)
-    pub follows : Follows (Some new) e.hub.tables.tables stand'.leaves.items stand'.floor (checkpointed w.machine)
+    pub follows : Follows (Some new) e.hub.tables.tables stand'.trees.items stand'.floor (checkpointed w.machine)
     pub had_room : HasRoomFor (g.seen before) (g.capacity before) w.machine
-    pub kept : KeepsLeaves (g.seen before) old w.machine new
-    pub fit : IsOver w.machine → ⊥
+    pub kept : KeepsLeaves (g.seen before) old new
     pub may : MayStart w.machine (number_of old) (Ok tt)
     pub same : e' ≡ e
     pub stands : Stands e' (record w { machine = checkpointed w.machine })
@@ -55,14 +53,13 @@ module _ {D : Type 0} (g : Ghosts D) (old : Option Stored) (w : World) (stand st
     pub why : WhyNot (Rose (g.faults before) (g.faults after)) (g.seen before) (g.capacity before) w.machine (number_of old) r
     pub leaves : LeavesOnly g before after (IsOld (g.may_leave before) old)
     pub on : StandsOn (g.seen after) (g.may_leave after) e.hub.tables.tables stand' old
-    pub follows : Follows old e.hub.tables.tables stand'.leaves.items stand'.floor w.machine
+    pub follows : Follows old e.hub.tables.tables stand'.trees.items stand'.floor w.machine
     pub same : e' ≡ e
 
   -- a write or sync failed, and the engine is down; the device has the checkpoint before, or at a fault of its gate the new one
   pub record Fallen (r : Refusal) : Type 0 where
     pub is : r ≡ DiskFault
     pub may : MayStart w.machine (number_of old) (Ok tt)
-    pub fit : IsOver w.machine → ⊥
     pub rose : Rose (g.faults before) (g.faults after)
     pub fault : Fault
     pub down : e' ≡ with_fault e fault
@@ -79,7 +76,6 @@ abbrev pub IsOfCheckpoint : Refusal → Type 0
 IsOfCheckpoint (Panic fault) = Unit {0}
 IsOfCheckpoint (Refusal_Busy (Resolving session)) = Unit {0}
 IsOfCheckpoint (Refusal_Limit Checkpoints) = Unit {0}
-IsOfCheckpoint (Refusal_Limit Image) = Unit {0}
 IsOfCheckpoint NoMemory = Unit {0}
 IsOfCheckpoint NoSpace = Unit {0}
 IsOfCheckpoint DiskFault = Unit {0}

@@ -1,80 +1,95 @@
-// What a checkpoint does to the books beside its leaves.
-ghost use Rattle.std.specs.Prelude.{◌≡◌, Option, length, true, false, ℕ};
+// What a checkpoint does to the books beside its trees.
+ghost use Rattle.std.specs.Prelude.{◌≡◌, List, Option, None, Some, true, false, ℕ, slice_get, IsTrue};
 ghost use Rattle.extent_list.specs.Space.{end_of};
 ghost use Rattle.block_mgr.specs.Cells.{AreUnits, cell_at};
 ghost use Rattle.block_mgr.specs.Open.{found_cell};
 ghost use Rattle.device_layout.specs.declared.addr.Addr.{Addr as AnAddr};
+ghost use Rattle.kv_model.specs.Holds.{Member};
 ghost use Rattle.stored.specs.Stored.{Stored};
-ghost use Rattle.ckpt_step.specs.Frees.{without, without_first, without_other};
+ghost use Rattle.ckpt_step.specs.Frees.{without, without_all};
 ghost use Rattle.ckpt_step.specs.Grounds.{found_in};
-ghost use Rattle.ckpt_step.specs.Halves.{AreOldLeaves, AreOwn, IsFresh, done_at, half_cell, settled_at};
+ghost use Rattle.ckpt_step.specs.Halves.{AreOldBlocks, AreOwn, IsFresh, done_at, half_cell, settled_at};
+ghost use Rattle.ckpt_step.specs.Trees.{addrs_of, kept_by, left_by};
 
-use crate::links::link_at;
 use block_mgr::Blocks;
-use device_layout::{Addr, Link};
+use device_layout::Addr;
+use tree_open::TreePlace;
 
-// The running checkpoint is given up, with the leaves that were captured: those that it wrote are
-// free again. `O(n)` in the links, and one pass over the units of the device.
-pub(crate) fn give_up(blocks: &mut Blocks, was: &[Link], links: &[Link])
+// The running checkpoint is given up, with the blocks that it captured: those that it wrote are free
+// again. `O(n)` in the blocks, and one pass over the units of the device.
+pub(crate) fn give_up(blocks: &mut Blocks, captured: &[Addr])
     requires held { blocks.old.is_held ≡ true }
-    ensures cells { (old : Option Stored) → AreOldLeaves old was.now → AreOwn old was.now links.now → ((u : ℕ) → cell_at blocks.old.cells u ≡ half_cell old links.now u) → (u : ℕ) → cell_at blocks.new.cells u ≡ found_cell (found_in old) u }
+    ensures cells { (old : Option Stored) → AreOwn old captured.now → ((u : ℕ) → cell_at blocks.old.cells u ≡ half_cell old captured.now u) → (u : ℕ) → cell_at blocks.new.cells u ≡ found_cell (found_in old) u }
     ensures units { AreUnits blocks.old.cells blocks.old.space → AreUnits blocks.new.cells blocks.new.space }
     ensures end { end_of blocks.new.space ≡ end_of blocks.old.space }
     ensures synced { blocks.new.is_synced ≡ blocks.old.is_synced }
     ensures held { blocks.new.is_held ≡ false }
 {
-    let_go_others(blocks, links, was);
+    let_go_unless_last(blocks, captured);
     blocks.ckpt_drop();
 }
 
-// The live tree lets go of the leaves of the checkpoint before that the last one has no more.
-// `O(n)` in the links.
-pub(crate) fn let_go(blocks: &mut Blocks, was: &[Link], links: &[Link])
-    ensures cells { (old : Option Stored) (a : AnAddr) → AreOldLeaves old was.now → AreOwn old was.now links.now → IsFresh old links.now a → ((u : ℕ) → cell_at blocks.old.cells u ≡ done_at old links.now a u) → (u : ℕ) → cell_at blocks.new.cells u ≡ settled_at links.now a u }
+// The live tree lets go of the trees of the checkpoint before that do not stay where they are, but of
+// the blocks that the last one has too. `O(n)` in the blocks of these trees.
+pub(crate) fn let_go(blocks: &mut Blocks, was: &[TreePlace], told: &[Option<TreePlace>])
+    ensures cells { (old : Option Stored) (captured : List AnAddr) (a : AnAddr) → AreOldBlocks old (addrs_of was.now) → ((x : AnAddr) → Member x (addrs_of (kept_by was.now told.now)) → Member x captured) → AreOwn old captured → IsFresh old captured a → ((u : ℕ) → cell_at blocks.old.cells u ≡ done_at old captured a u) → (u : ℕ) → cell_at blocks.new.cells u ≡ settled_at captured a u }
     ensures end { end_of blocks.new.space ≡ end_of blocks.old.space }
     ensures units { AreUnits blocks.old.cells blocks.old.space → AreUnits blocks.new.cells blocks.new.space }
     ensures synced { blocks.new.is_synced ≡ blocks.old.is_synced }
     ensures held { blocks.new.is_held ≡ blocks.old.is_held }
 {
-    let_go_others(blocks, was, links);
+    let_go_trees(blocks, was, told);
 }
 
-// The live tree lets go of the leaves of the links that lead elsewhere than the other link of their
-// place.
-fn let_go_others(blocks: &mut Blocks, links: &[Link], others: &[Link])
-    ensures cells { (u : ℕ) → cell_at blocks.new.cells u ≡ without_first links.now others.now u (cell_at blocks.old.cells u) (length links.now) }
+// The same, by what the cells are made of.
+fn let_go_trees(blocks: &mut Blocks, trees: &[TreePlace], told: &[Option<TreePlace>])
+    ensures cells { (u : ℕ) → cell_at blocks.new.cells u ≡ without_all u (cell_at blocks.old.cells u) (addrs_of (left_by trees.now told.now)) }
     ensures end { end_of blocks.new.space ≡ end_of blocks.old.space }
     ensures units { AreUnits blocks.old.cells blocks.old.space → AreUnits blocks.new.cells blocks.new.space }
     ensures synced { blocks.new.is_synced ≡ blocks.old.is_synced }
     ensures held { blocks.new.is_held ≡ blocks.old.is_held }
 {
-    for place in 0..links.len() {
-        let_go_other(blocks, links[place], link_at(others, place));
+    for place in 0..trees.len() {
+        if !stays(told, place) {
+            let_go_unless_last(blocks, &trees[place].addrs);
+        }
     }
 }
 
-// The live tree lets go of the leaf of a link, unless the other link leads there too.
-fn let_go_other(blocks: &mut Blocks, link: Link, other: Link)
-    ensures cells { (u : ℕ) → cell_at blocks.new.cells u ≡ without_other u link other (cell_at blocks.old.cells u) }
+// Whether the tree at a place stands where it did.
+fn stays(told: &[Option<TreePlace>], place: usize) -> bool
+    ensures yes { IsTrue result → slice_get told.now place ≡ Some None }
+    ensures no { result ≡ false → slice_get told.now place ≡ Some None → ⊥ }
+{
+    match told.get(place) {
+        Some(tree) => tree.is_none(),
+        None => false,
+    }
+}
+
+// The live tree lets go of these blocks, but of those that the last checkpoint has.
+fn let_go_unless_last(blocks: &mut Blocks, addrs: &[Addr])
+    ensures cells { (u : ℕ) → cell_at blocks.new.cells u ≡ without_all u (cell_at blocks.old.cells u) addrs.now }
     ensures end { end_of blocks.new.space ≡ end_of blocks.old.space }
     ensures units { AreUnits blocks.old.cells blocks.old.space → AreUnits blocks.new.cells blocks.new.space }
     ensures synced { blocks.new.is_synced ≡ blocks.old.is_synced }
     ensures held { blocks.new.is_held ≡ blocks.old.is_held }
 {
-    if link.addr.offset != other.addr.offset {
-        let_go_of(blocks, link.addr);
+    for i in 0..addrs.len() {
+        let_go_of(blocks, addrs[i]);
     }
 }
 
-// The live tree lets go of a block, where it has one of this place and size.
+// The live tree lets go of a block, where it has one of this place and size and the last checkpoint
+// has not.
 fn let_go_of(blocks: &mut Blocks, addr: Addr)
-    ensures cells { (u : ℕ) → cell_at blocks.new.cells u ≡ without u addr (cell_at blocks.old.cells u) }
+    ensures cells { (u : ℕ) → cell_at blocks.new.cells u ≡ without u (cell_at blocks.old.cells u) addr }
     ensures end { end_of blocks.new.space ≡ end_of blocks.old.space }
     ensures units { AreUnits blocks.old.cells blocks.old.space → AreUnits blocks.new.cells blocks.new.space }
     ensures synced { blocks.new.is_synced ≡ blocks.old.is_synced }
     ensures held { blocks.new.is_held ≡ blocks.old.is_held }
 {
-    if blocks.is_live(addr) {
+    if blocks.is_live(addr) && !blocks.is_last(addr) {
         blocks.free(addr);
     }
 }

@@ -4,6 +4,8 @@ ghost use Rattle.ckpt_step.specs.Calm.{AnswersCalm, OpensCalm, StartsCalm, Steps
 ghost use Rattle.ckpt_step.specs.Keeps.{EnginesAreOrdinary, FitsAreOrdinary, StepsKeep};
 ghost use Rattle.ckpt_step.specs.Plain.{OpensPlain, RollsBackPlain, StartsPlain, StaysPlain};
 
+use stored::what_is_read_is_regular;
+
 /// A device that has a checkpoint of a machine, of each key of which the newest version suffices,
 /// opens as the checkpoint that the machine takes.
 pub fn checkpoints_open()
@@ -17,7 +19,9 @@ pub fn plain_stays()
     ensures opens { OpensPlain }
     ensures stays { StaysPlain }
     ensures rolls_back { RollsBackPlain }
-{}
+{
+    what_is_read_is_regular();
+}
 
 /// So does it, with the calls that are under way, after each such step and call, and after a
 /// checkpoint in one event, a fault of the device, and a close.

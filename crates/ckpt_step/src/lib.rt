@@ -1,7 +1,7 @@
-//! A checkpoint in one event, of an engine whose tables have one leaf each.
+//! A checkpoint in one event: of each table the tree of its rows, the record, and the slot.
 //!
 //! Stands for the last completed checkpoint of the engine's device (`Ground`): its blocks, its
-//! number, and where its leaves stand. Promises that a checkpoint keeps of each table the newest
+//! number, and where its trees stand. Promises that a checkpoint keeps of each table the newest
 //! version of each key, that at each moment the device has the checkpoint before or the new one,
 //! whole, and that what is refused gives back what it wrote; and that the new one opens as the
 //! checkpoint that the machine takes (`checkpoints_open`). Leaves to the caller to open the device,
@@ -10,18 +10,13 @@
 
 mod books;
 mod clean;
-mod fitting;
 mod ground;
 mod laws;
-mod leaf;
-mod leaf_error;
-mod leaves;
-mod links;
 mod record;
 mod roots;
+mod taken;
 mod taking;
-#[cfg(test)]
-mod tests;
+mod trees;
 mod writing;
 
 pub use ground::Ground;

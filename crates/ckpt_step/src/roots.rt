@@ -1,77 +1,133 @@
-// What leads to the leaves of the tables, by name.
-ghost use Rattle.std.specs.Prelude.{◌≡◌, ◌++◌, ◌∷◌, [], Some, None, slice_get, IfOk, OnOk, IfSome, IfNone};
+// What leads to the trees of the tables, by name.
+ghost use Rattle.std.specs.Prelude.{◌≡◌, ◌≤◌, ◌++◌, ◌∷◌, [], Some, None, slice_get, slice_index_or, IfOk, OnOk, IfSome, IfNone};
 ghost use Rattle.std.specs.List.{AllByRecursion};
 ghost use Rattle.le_codec.specs.Fields.{IsBytes};
-ghost use Rattle.stored.specs.Links.{nowhere};
+ghost use Rattle.stored.specs.Links.{LinkFits, nowhere};
+ghost use Rattle.stored.specs.Records.{RootFits};
 ghost use Rattle.catalog.specs.Known.{AreTables, by_name};
-ghost use Rattle.ckpt_step.specs.Grounds.{leaf_root};
+ghost use Rattle.device_leaf.specs.NoHistory.{no_root as the_no_root};
 ghost use Rattle.ckpt_step.specs.Records.{IsTyped, of_number, roots_by_name};
+ghost use Rattle.ckpt_step.specs.Trees.{AreTold, placed_by, roots_of as roots_in, table_root};
 
-use crate::links::link_at;
 use catalog::{Catalog, Table};
 use checkpoint_record::{LentRoot, Root};
-use device_layout::Link;
+use device_layout::{Addr, Link};
 use failure::NoMemory;
+use stamp::Name;
 use std::alloc::Global;
+use tree_open::TreePlace;
 
-// The tables of a record, in the order of their names. The links lead to the leaves of the
-// catalog's tables, by place. The error is want of memory. `O(n)` in the tables, and one allocation;
-// the names are lent.
+// The root of a tree of no rows, which is not stored.
+pub(crate) fn no_root() -> Root
+    ensures { result ≡ the_no_root }
+{
+    Root {
+        level: 0,
+        link: Link {
+            addr: Addr {
+                offset: 0,
+                size: 0,
+                sum: 0,
+            },
+            greatest: Name { run: 0, id: 0 },
+            durable: 0,
+        },
+    }
+}
+
+// The tables of a record, in the order of their names. The trees are those of the catalog's tables,
+// by place; where none is told, it stands where it did before. The error is want of memory. `O(n)` in
+// the tables, and one allocation; the names are lent.
 pub(crate) fn roots_of<'a>(
     alloc: Global,
     tables: &'a Catalog,
-    links: &[Link],
+    was: &[TreePlace],
+    told: &[Option<TreePlace>],
 ) -> Result<Vec<LentRoot<'a>>, NoMemory>
     requires known { AreTables tables.now }
-    ensures roots { IfOk result (λ roots. roots.items ≡ roots_by_name tables.now.tables links.now) }
+    requires told { AreTold was.now told.now }
+    ensures roots { IfOk result (λ roots. roots.items ≡ roots_by_name tables.now.tables (roots_in (placed_by was.now told.now))) }
     ensures typed { IfOk result (λ roots. AllByRecursion IsTyped roots.items) }
 {
     let mut roots = Vec::with_capacity(alloc, tables.len())?;
     let mut i = 0;
-    while let Some((table, link)) = entry_at(tables, links, i) {
-        push_root(&mut roots, table, link)?;
+    while let Some(entry) = entry_at(tables, was, told, i) {
+        push_root(&mut roots, entry)?;
         i += 1;
     }
     Ok(roots)
 }
 
-// The i-th table in the order of names, and what leads to its leaf.
-fn entry_at<'a>(tables: &'a Catalog, links: &[Link], i: u32) -> Option<(&'a Table, Link)>
+// The i-th table in the order of names, with its tree.
+fn entry_at<'a>(
+    tables: &'a Catalog,
+    was: &[TreePlace],
+    told: &[Option<TreePlace>],
+    i: u32,
+) -> Option<LentRoot<'a>>
     requires known { AreTables tables.now }
-    ensures table { IfSome result (λ e. slice_get (by_name tables.now.tables) i ≡ Some e.0.now) }
-    ensures link { IfSome result (λ e. e.1 ≡ of_number nowhere tables.now.tables links.now e.0.now.number) }
+    requires told { AreTold was.now told.now }
+    ensures table { IfSome result (λ e. slice_get (by_name tables.now.tables) i ≡ Some e.table) }
+    ensures root { IfSome result (λ e. e.root ≡ of_number the_no_root tables.now.tables (roots_in (placed_by was.now told.now)) e.table.number) }
+    ensures typed { IfSome result IsTyped }
     ensures none { IfNone result (slice_get (by_name tables.now.tables) i ≡ None) }
 {
     let place = tables.place_at(i)?;
     let table = tables.table(place)?;
-    Some((table, link_at(links, place as usize)))
+    Some(root_of(table, root_at(was, told, place as usize)))
 }
 
-// Puts a table with its leaf behind the others.
-fn push_root<'a>(
-    roots: &mut Vec<LentRoot<'a>>,
-    table: &'a Table,
-    link: Link,
-) -> Result<(), NoMemory>
+// The root of a place, that of a tree of no rows where there is none.
+fn root_at(was: &[TreePlace], told: &[Option<TreePlace>], place: usize) -> Root
+    requires told { AreTold was.now told.now }
+    ensures is { result ≡ slice_index_or (roots_in (placed_by was.now told.now)) place the_no_root }
+    ensures fits { RootFits result }
+{
+    match told.get(place) {
+        Some(Some(tree)) => typed(tree.root),
+        Some(None) => root_in(was, place),
+        None => no_root(),
+    }
+}
+
+// The same root. That each number of its link fits its type is known of every root.
+fn typed(root: Root) -> Root
+    ensures is { result ≡ root }
+    ensures link { LinkFits result.link }
+{
+    root
+}
+
+// The root of a place of before, that of a tree of no rows where there is none.
+fn root_in(was: &[TreePlace], place: usize) -> Root
+    ensures { result ≡ slice_index_or (roots_in was.now) place the_no_root }
+{
+    match was.get(place) {
+        Some(tree) => tree.root,
+        None => no_root(),
+    }
+}
+
+// Puts a table with its tree behind the others.
+fn push_root<'a>(roots: &mut Vec<LentRoot<'a>>, root: LentRoot<'a>) -> Result<(), NoMemory>
+    requires fits { IsTyped root }
     requires typed { AllByRecursion IsTyped roots.old.items }
-    ensures pushed { OnOk result (roots.new.items ≡ roots.old.items ++ leaf_root table.now link ∷ []) }
+    ensures pushed { OnOk result (roots.new.items ≡ roots.old.items ++ root.entry ∷ []) }
     ensures typed { OnOk result (AllByRecursion IsTyped roots.new.items) }
 {
     roots.reserve(1)?;
-    roots.push_reserved(root_of(table, link));
+    roots.push_reserved(root);
     Ok(())
 }
 
-// The table with its leaf.
-fn root_of(table: &Table, link: Link) -> LentRoot<'_>
-    ensures root { result ≡ leaf_root table.now link }
+// The table with its tree.
+fn root_of(table: &Table, root: Root) -> LentRoot<'_>
+    requires fits { RootFits root }
+    ensures root { result ≡ table_root table.now root }
     ensures typed { IsTyped result }
 {
     are_bytes(table.name.as_bytes());
-    LentRoot {
-        table,
-        root: Root { level: 0, link },
-    }
+    LentRoot { table, root }
 }
 
 // That each is a byte is known of every slice of bytes.

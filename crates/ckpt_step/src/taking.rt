@@ -12,29 +12,29 @@ ghost use Rattle.engine_world.specs.Systems.{checkpointed, with_fault};
 ghost use Rattle.snapshot.specs.Matters.{NoneResolves};
 ghost use Rattle.ckpt_step.specs.Runs.{Concludes};
 ghost use Rattle.ckpt_step.specs.Takes.{Takes, IsOfCheckpoint};
+ghost use Rattle.ckpt_step.specs.Trees.{AreLow};
 
-use crate::fitting::fit_leaves;
 use crate::ground::Ground;
-use crate::leaf_error::LeafError;
 use crate::writing::write;
 use disk_model::Disk;
 use engine::Local;
 use std::alloc::Global;
-use wt_code::{Limit, Refusal, StoreError};
+use wt_code::{Refusal, StoreError};
 
-/// A checkpoint in one event: of each table the leaf with the newest versions that are committed,
-/// the record, a sync, and the slot that names it. A leaf that has the rows which the checkpoint
-/// before has of it keeps its block.
+/// A checkpoint in one event: of each table the tree of the newest versions that are committed, the
+/// record, a sync, and the slot that names it. A leaf that the checkpoint before has at the same
+/// place among its table's, with the same rows, keeps its block.
 ///
 /// After `Ok` it is the last completed one. Refused where the engine is down, a prepared
-/// transaction is being resolved or there were too many checkpoints; `75 limit image` where the rows
-/// of a table pass one leaf; `28 no space` where a block has no place: what was written is given
-/// back. A failed read leaves the engine up; a failed write or sync takes it down, and the device has
-/// the checkpoint before or, where the gate of the slot was being opened, the new one.
+/// transaction is being resolved or there were too many checkpoints; `28 no space` where a block has
+/// no place: what was written is given back. A failed read leaves the engine up; a failed write or
+/// sync takes it down, and the device has the checkpoint before or, where the gate of the slot was
+/// being opened, the new one.
 ///
-/// `O(1)` for a clean leaf, to which nothing was committed since the last checkpoint of this engine:
-/// it keeps its block. `O(rows)` for any other, captured once; the block of before is read where it
-/// may be the same, and one is written where it is not.
+/// `O(blocks)` for a clean table, to which nothing was committed since the last checkpoint of this
+/// engine: it keeps its tree. `O(rows)` for any other, whose rows are copied once into images: a
+/// block of before is read where it may be the same, one is written where it is not, and so is each
+/// inner page.
 pub fn checkpoint<D: Disk>(
     alloc: Global,
     disk: &mut D,
@@ -42,16 +42,18 @@ pub fn checkpoint<D: Disk>(
     engine: &mut Local,
 ) -> Result<(), Refusal>
     requires run { engine.old.hub.txns.run ≤ ground.old.number + 1 }
-    requires leaves { length ground.old.leaves.items ≤ length engine.old.hub.tables.tables }
+    requires trees { length ground.old.trees.items ≤ length engine.old.hub.tables.tables }
+    requires low { AreLow ground.old.trees.items }
     requires steady { IsTrue (D.honest disk.old) → IsSteady D.Disk engine.old ground.old disk.old }
     ensures takes { IsTrue (D.honest disk.old) → (w : World) → Stands engine.old w → w.machine.checkpoint ≡ None → (old : Option Stored) → StandsOn (D.seen disk.old) (D.may_leave disk.old) engine.old.hub.tables.tables ground.old old
-        → Follows old engine.old.hub.tables.tables ground.old.leaves.items ground.old.floor w.machine → Takes D.Disk old w ground.old ground.new engine.old engine.new disk.old disk.new result }
+        → Follows old engine.old.hub.tables.tables ground.old.trees.items ground.old.floor w.machine → Takes D.Disk old w ground.old ground.new engine.old engine.new disk.old disk.new result }
     ensures down { (fault : AFault) → engine.old.hub.fault ≡ Some fault → (result ≡ Err (Refusal.Panic fault)) × (engine.new ≡ engine.old) × (ground.new ≡ ground.old) × (disk.new ≡ disk.old) }
     ensures steady { IsTrue (D.honest disk.old) → IsSteady D.Disk engine.new ground.new disk.new }
     ensures refusals { IfErr result IsOfCheckpoint }
     ensures fault { IfErr result (λ r. r ≡ Refusal.DiskFault → Rose (D.faults disk.old) (D.faults disk.new)) }
     ensures run { ground.old.number ≤ ground.new.number }
-    ensures leaves { length ground.new.leaves.items ≤ length engine.old.hub.tables.tables }
+    ensures trees { length ground.new.trees.items ≤ length engine.old.hub.tables.tables }
+    ensures low { AreLow ground.new.trees.items }
     ensures sessions { length engine.new.sessions ≡ length engine.old.sessions }
     ensures hub { (engine.new.hub.tables ≡ engine.old.hub.tables) × (engine.new.hub.txns ≡ engine.old.hub.txns) }
     ensures engine { (engine.new ≡ engine.old) ⊎ ((fault : AFault) × (engine.new ≡ with_fault engine.old fault)) }
@@ -64,15 +66,12 @@ pub fn checkpoint<D: Disk>(
     let Ok(snapshot) = engine.checkpoint_snapshot(alloc) else {
         return Err(Refusal::NoMemory);
     };
-    if !fit_leaves(engine, &snapshot, &ground.leaves, ground.floor) {
-        return Err(Refusal::Limit(Limit::Image));
-    }
     let outcome = write(alloc, disk, ground, engine, &snapshot);
     conclude(engine, outcome)
 }
 
 // The engine is told how the checkpoint went, and the answer tells it too.
-fn conclude(engine: &mut Local, outcome: Result<(), LeafError>) -> Result<(), Refusal>
+fn conclude(engine: &mut Local, outcome: Result<(), StoreError>) -> Result<(), Refusal>
     ensures concludes { Concludes engine.old engine.new outcome result }
     ensures stands { (w : World) → Stands engine.old w → w.machine.checkpoint ≡ None → NoneResolves w.machine → OnOk result (Stands engine.new (record w { machine = checkpointed w.machine })) }
     ensures refusals { IfErr result IsOfCheckpoint }
@@ -84,8 +83,7 @@ fn conclude(engine: &mut Local, outcome: Result<(), LeafError>) -> Result<(), Re
             engine.checkpointed();
             Ok(())
         }
-        Err(LeafError::Over) => Err(Refusal::Limit(Limit::Image)),
-        Err(LeafError::Store(error)) => {
+        Err(error) => {
             if let StoreError::Down(fault) = error {
                 engine.go_down(fault);
             }

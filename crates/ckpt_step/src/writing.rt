@@ -1,6 +1,7 @@
 // How a checkpoint is written and installed.
-ghost use Rattle.std.specs.Prelude.{◌≡◌, ◌≤◌, ◌<◌, ◌+◌, ◌-◌, ◌^◌, Option, Some, length, [], true, false, ℕ, IfErr, IfOk, OnOk, IsTrue};
+ghost use Rattle.std.specs.Prelude.{◌≡◌, ◌≤◌, ◌<◌, ◌+◌, ◌-◌, ◌^◌, ◌++◌, ◌∷◌, List, Option, Some, length, slice_set, [], true, ℕ, vec_capacity, IfErr, IfOk, OnOk, IsTrue};
 ghost use Rattle.failure.specs.Counts.{Rose};
+ghost use Rattle.wt_code.specs.StoreErrors.{IsOfDisk};
 ghost use Rattle.disk_model.specs.Crash.{SameDisk};
 ghost use Rattle.extent_list.specs.Space.{end_of};
 ghost use Rattle.block_mgr.specs.Cells.{AreUnits, cell_at};
@@ -9,30 +10,33 @@ ghost use Rattle.device_layout.specs.Slots.{slot_at};
 ghost use Rattle.snapshot.specs.Matters.{NoneResolves, SeesCommitted};
 ghost use Rattle.snapshot.specs.Sight.{sight_at};
 ghost use Rattle.txn_table.specs.Tabled.{unended};
+ghost use Rattle.kv_model.specs.Holds.{Member};
 ghost use Rattle.stored.specs.Stored.{Stored};
 ghost use Rattle.engine_world.specs.Stands.{Stands};
 ghost use Rattle.engine_world.specs.Worlds.{World};
 ghost use Rattle.ckpt_step.specs.Floors.{Follows};
 ghost use Rattle.ckpt_step.specs.Grounds.{AreRoots, StandsOn, number_of};
-ghost use Rattle.ckpt_step.specs.Halves.{Half, AreOldLeaves, AreOwn, IsFresh, IsOfDisk, done_at, settled_at};
+ghost use Rattle.ckpt_step.specs.Halves.{AreOldBlocks, AreOwn, Half, IsFresh, done_at, settled_at};
 ghost use Rattle.ckpt_step.specs.Runs.{IsImageOf, Puts, Wrote};
+ghost use Rattle.ckpt_step.specs.Trees.{AreKept, AreLow, AreTold, addrs_of, kept_by, placed_by};
 
 use crate::books::{give_up, let_go};
 use crate::clean::floor_of;
 use crate::ground::Ground;
-use crate::leaf_error::LeafError;
-use crate::leaves::write_leaves;
 use crate::record::record_of;
+use crate::taken::Taken;
+use crate::trees::write_trees;
 use block_mgr::Blocks;
 use checkpoint_core::finish;
 use checkpoint_record::encode;
-use device_layout::{Addr, Link, Slot};
+use device_layout::{Addr, Slot};
 use disk_model::Disk;
 use engine::Local;
 use failure::NoMemory;
 use snapshot::Snapshot;
 use stamp::Name;
 use std::alloc::Global;
+use tree_open::TreePlace;
 use wt_code::StoreError;
 
 // Writes a checkpoint of the engine and installs it: the ground is that of the new one. After an
@@ -43,29 +47,31 @@ pub(crate) fn write<D: Disk>(
     ground: &mut Ground,
     engine: &Local,
     snapshot: &Snapshot,
-) -> Result<(), LeafError>
+) -> Result<(), StoreError>
     requires number { ground.old.number < 2 ^ 62 - 1 }
     requires run { engine.now.hub.txns.run ≤ ground.old.number + 1 }
     requires sight { snapshot.now.sight ≡ sight_at engine.now.hub.txns.run engine.now.hub.txns.next (unended engine.now.hub.txns) }
-    requires leaves { length ground.old.leaves.items ≤ length engine.now.hub.tables.tables }
-    requires ready { IsTrue (D.honest disk.old) → (w : World) × Stands engine.now w × NoneResolves w.machine × SeesCommitted w.machine (length w.machine.history) snapshot.now.sight × ((old : Option Stored) × StandsOn (D.seen disk.old) (D.may_leave disk.old) engine.now.hub.tables.tables ground.old old × Follows old engine.now.hub.tables.tables ground.old.leaves.items ground.old.floor w.machine) }
+    requires trees { length ground.old.trees.items ≤ length engine.now.hub.tables.tables }
+    requires low { AreLow ground.old.trees.items }
+    requires ready { IsTrue (D.honest disk.old) → (w : World) × Stands engine.now w × NoneResolves w.machine × SeesCommitted w.machine (length w.machine.history) snapshot.now.sight × ((old : Option Stored) × StandsOn (D.seen disk.old) (D.may_leave disk.old) engine.now.hub.tables.tables ground.old old × Follows old engine.now.hub.tables.tables ground.old.trees.items ground.old.floor w.machine) }
     ensures wrote { IsTrue (D.honest disk.old) → (w : World) → Stands engine.now w → NoneResolves w.machine → SeesCommitted w.machine (length w.machine.history) snapshot.now.sight → (old : Option Stored)
-        → StandsOn (D.seen disk.old) (D.may_leave disk.old) engine.now.hub.tables.tables ground.old old → Follows old engine.now.hub.tables.tables ground.old.leaves.items ground.old.floor w.machine
+        → StandsOn (D.seen disk.old) (D.may_leave disk.old) engine.now.hub.tables.tables ground.old old → Follows old engine.now.hub.tables.tables ground.old.trees.items ground.old.floor w.machine
         → Wrote D.Disk old w.machine engine.now.hub.tables.tables ground.old ground.new disk.old disk.new result }
     ensures number { ground.old.number ≤ ground.new.number }
-    ensures leaves { length ground.new.leaves.items ≤ length engine.now.hub.tables.tables }
+    ensures trees { length ground.new.trees.items ≤ length engine.now.hub.tables.tables }
+    ensures low { AreLow ground.new.trees.items }
     ensures fault { IfErr result (λ e. IsOfDisk e → Rose (D.faults disk.old) (D.faults disk.new)) }
     ensures disk { SameDisk D.Disk disk.old disk.new }
 {
     begin(&mut ground.place.blocks);
-    let mut links = Vec::new(alloc);
-    match write_blocks(alloc, disk, ground, engine, snapshot, &mut links) {
+    let mut taken = Taken::new(alloc);
+    match write_blocks(alloc, disk, ground, engine, snapshot, &mut taken) {
         Ok(addr) => {
-            settle(ground, links, addr, floor_of(snapshot));
+            settle(ground, taken.trees, addr, floor_of(snapshot));
             Ok(())
         }
         Err(error) => {
-            give_up(&mut ground.place.blocks, &ground.leaves, &links);
+            give_up(&mut ground.place.blocks, &taken.captured);
             Err(error)
         }
     }
@@ -83,93 +89,153 @@ fn begin(blocks: &mut Blocks)
     }
 }
 
-// Writes and captures the leaves, whose links it gives, and then writes and installs the record,
-// whose address is the answer.
+// Writes and captures the trees, which `taken` gets, and then writes and installs the record, whose
+// address is the answer.
 fn write_blocks<D: Disk>(
     alloc: Global,
     disk: &mut D,
     ground: &mut Ground,
     engine: &Local,
     snapshot: &Snapshot,
-    links: &mut Vec<Link>,
-) -> Result<Addr, LeafError>
+    taken: &mut Taken,
+) -> Result<Addr, StoreError>
     requires number { ground.old.number < 2 ^ 62 - 1 }
     requires run { engine.now.hub.txns.run ≤ ground.old.number + 1 }
     requires sight { snapshot.now.sight ≡ sight_at engine.now.hub.txns.run engine.now.hub.txns.next (unended engine.now.hub.txns) }
     requires held { ground.old.place.blocks.is_held ≡ true }
-    requires none { links.old.items ≡ [] }
-    requires ready { IsTrue (D.honest disk.old) → (w : World) × Stands engine.now w × NoneResolves w.machine × SeesCommitted w.machine (length w.machine.history) snapshot.now.sight × ((old : Option Stored) × Half (D.seen disk.old) (D.may_leave disk.old) ground.old.place.blocks old ground.old.leaves.items [] [] × AreRoots engine.now.hub.tables.tables ground.old.leaves.items old × Follows old engine.now.hub.tables.tables ground.old.leaves.items ground.old.floor w.machine) }
+    requires low { AreLow ground.old.trees.items }
+    requires none { taken.old.trees.items ≡ [] }
+    requires unlisted { taken.old.captured.items ≡ [] }
+    requires ready { IsTrue (D.honest disk.old) → (w : World) × Stands engine.now w × NoneResolves w.machine × SeesCommitted w.machine (length w.machine.history) snapshot.now.sight × ((old : Option Stored) × Half (D.seen disk.old) (D.may_leave disk.old) ground.old.place.blocks old [] [] [] × AreRoots engine.now.hub.tables.tables ground.old.trees.items old × Follows old engine.now.hub.tables.tables ground.old.trees.items ground.old.floor w.machine) }
     ensures puts { IsTrue (D.honest disk.old) → (w : World) → Stands engine.now w → NoneResolves w.machine → SeesCommitted w.machine (length w.machine.history) snapshot.now.sight → (old : Option Stored)
-        → Half (D.seen disk.old) (D.may_leave disk.old) ground.old.place.blocks old ground.old.leaves.items [] [] → AreRoots engine.now.hub.tables.tables ground.old.leaves.items old → ground.old.number ≡ number_of old
-        → Follows old engine.now.hub.tables.tables ground.old.leaves.items ground.old.floor w.machine
-        → Puts D.Disk old ground.old.leaves.items w.machine engine.now.hub.tables.tables ground.old.place.blocks ground.new.place.blocks links.new.items disk.old disk.new result }
-    ensures count { OnOk result (length links.new.items ≡ length engine.now.hub.tables.tables) }
+        → Half (D.seen disk.old) (D.may_leave disk.old) ground.old.place.blocks old [] [] [] → AreRoots engine.now.hub.tables.tables ground.old.trees.items old → ground.old.number ≡ number_of old
+        → Follows old engine.now.hub.tables.tables ground.old.trees.items ground.old.floor w.machine
+        → Puts D.Disk old w.machine engine.now.hub.tables.tables ground.old.place.blocks ground.new.place.blocks (placed_by ground.old.trees.items taken.new.trees.items) taken.new.captured.items disk.old disk.new result }
+    ensures count { OnOk result (length taken.new.trees.items ≡ length engine.now.hub.tables.tables) }
+    ensures told { OnOk result (AreTold ground.old.trees.items taken.new.trees.items) }
+    ensures room { OnOk result (length taken.new.trees.items ≤ vec_capacity ground.new.trees) }
     ensures held { IfErr result (λ e. ground.new.place.blocks.is_held ≡ true) }
     ensures slot { ground.new.place.slot ≡ ground.old.place.slot }
     ensures number { ground.new.number ≡ ground.old.number }
-    ensures leaves { ground.new.leaves ≡ ground.old.leaves }
+    ensures trees { ground.new.trees.items ≡ ground.old.trees.items }
     ensures floor { ground.new.floor ≡ ground.old.floor }
     ensures fault { IfErr result (λ e. IsOfDisk e → Rose (D.faults disk.old) (D.faults disk.new)) }
     ensures disk { SameDisk D.Disk disk.old disk.new }
 {
     let blocks = &mut ground.place.blocks;
-    match write_leaves(
+    match write_trees(
         alloc,
         disk,
         blocks,
-        &ground.leaves,
+        &ground.trees,
         ground.floor,
         engine,
         snapshot,
-        links,
+        taken,
     ) {
         Ok(()) => {}
         Err(error) => return Err(error),
     }
-    let Ok(image) = image_of(alloc, engine, snapshot, ground.number, links) else {
-        return Err(LeafError::Store(StoreError::NoMemory));
+    let Ok(()) = reserve_for(&mut ground.trees, engine) else {
+        return Err(StoreError::NoMemory);
+    };
+    let Ok(image) = image_of(
+        alloc,
+        engine,
+        snapshot,
+        ground.number,
+        &ground.trees,
+        &taken.trees,
+    ) else {
+        return Err(StoreError::NoMemory);
     };
     match finish(disk, blocks, ground.number + 1, image) {
         Ok(addr) => Ok(addr),
-        Err(error) => Err(LeafError::Store(error)),
+        Err(error) => Err(error),
     }
 }
 
-// The image of the record of a checkpoint with these leaves.
+// Takes room for a tree of each table of the engine.
+fn reserve_for(trees: &mut Vec<TreePlace>, engine: &Local) -> Result<(), NoMemory>
+    ensures items { trees.new.items ≡ trees.old.items }
+    ensures room { OnOk result (length engine.now.hub.tables.tables ≤ vec_capacity trees.new) }
+{
+    let count = engine.tables().len();
+    trees.reserve(count.saturating_sub(trees.len()))?;
+    Ok(())
+}
+
+// The image of the record of a checkpoint with these trees.
 fn image_of(
     alloc: Global,
     engine: &Local,
     snapshot: &Snapshot,
     number: u64,
-    links: &[Link],
+    was: &[TreePlace],
+    told: &[Option<TreePlace>],
 ) -> Result<Vec<u8>, NoMemory>
     requires number { number < 2 ^ 62 - 1 }
     requires run { engine.now.hub.txns.run ≤ number + 1 }
     requires sight { snapshot.now.sight ≡ sight_at engine.now.hub.txns.run engine.now.hub.txns.next (unended engine.now.hub.txns) }
-    ensures image { (w : World) → Stands engine.now w → NoneResolves w.machine → IfOk result (λ v. IsImageOf w.machine number engine.now.hub.tables.tables links.now v.items) }
+    requires told { AreTold was.now told.now }
+    ensures image { (w : World) → Stands engine.now w → NoneResolves w.machine → IfOk result (λ v. IsImageOf w.machine number engine.now.hub.tables.tables (placed_by was.now told.now) v.items) }
     ensures some { IfOk result (λ v. 1 ≤ length v.items) }
     ensures most { IfOk result (λ v. length v.items ≤ 2 ^ 18) }
 {
-    let record = record_of(alloc, engine, snapshot, number, links)?;
+    let record = record_of(alloc, engine, snapshot, number, was, told)?;
     encode(alloc, &record)
 }
 
-// The ground is that of the checkpoint with these leaves and this floor, whose record stands at the
+// The ground is that of the checkpoint with these trees and this floor, whose record stands at the
 // address.
-fn settle(ground: &mut Ground, links: Vec<Link>, addr: Addr, floor: Name)
+fn settle(ground: &mut Ground, told: Vec<Option<TreePlace>>, addr: Addr, floor: Name)
     requires number { ground.old.number < 2 ^ 62 - 1 }
+    requires kept { AreKept ground.old.trees.items told.items }
+    requires few { length ground.old.trees.items ≤ length told.items }
+    requires room { length told.items ≤ vec_capacity ground.old.trees }
     ensures number { ground.new.number ≡ ground.old.number + 1 }
-    ensures leaves { ground.new.leaves.items ≡ links.items }
+    ensures trees { ground.new.trees.items ≡ placed_by ground.old.trees.items told.items }
     ensures floor { ground.new.floor ≡ floor }
     ensures slot { ground.new.place.slot ≡ Some (slot_at (ground.old.number + 1) addr) }
-    ensures cells { (old : Option Stored) (a : AnAddr) → AreOldLeaves old ground.old.leaves.items → AreOwn old ground.old.leaves.items links.items → IsFresh old links.items a → ((u : ℕ) → cell_at ground.old.place.blocks.cells u ≡ done_at old links.items a u) → (u : ℕ) → cell_at ground.new.place.blocks.cells u ≡ settled_at links.items a u }
+    ensures cells { (old : Option Stored) (captured : List AnAddr) (a : AnAddr) → AreOldBlocks old (addrs_of ground.old.trees.items) → ((x : AnAddr) → Member x (addrs_of (kept_by ground.old.trees.items told.items)) → Member x captured) → AreOwn old captured → IsFresh old captured a → ((u : ℕ) → cell_at ground.old.place.blocks.cells u ≡ done_at old captured a u) → (u : ℕ) → cell_at ground.new.place.blocks.cells u ≡ settled_at captured a u }
     ensures end { end_of ground.new.place.blocks.space ≡ end_of ground.old.place.blocks.space }
     ensures units { AreUnits ground.old.place.blocks.cells ground.old.place.blocks.space → AreUnits ground.new.place.blocks.cells ground.new.place.blocks.space }
     ensures held { ground.new.place.blocks.is_held ≡ ground.old.place.blocks.is_held }
 {
-    let_go(&mut ground.place.blocks, &ground.leaves, &links);
-    ground.leaves = links;
+    let_go(&mut ground.place.blocks, &ground.trees, &told);
+    put_trees(&mut ground.trees, told);
     ground.floor = floor;
     ground.number += 1;
     ground.place.slot = Some(Slot::new(ground.number, addr));
+}
+
+// The trees that are told take the places of those of before.
+fn put_trees(places: &mut Vec<TreePlace>, told: Vec<Option<TreePlace>>)
+    requires kept { AreKept places.old.items told.items }
+    requires few { length places.old.items ≤ length told.items }
+    requires room { length told.items ≤ vec_capacity places.old }
+    ensures { places.new.items ≡ placed_by places.old.items told.items }
+{
+    let mut place = 0;
+    for tree in told {
+        match tree {
+            Some(tree) => put_tree(places, place, tree),
+            None => {}
+        }
+        place += 1;
+    }
+}
+
+// Puts a tree at its place, or behind the others.
+fn put_tree(places: &mut Vec<TreePlace>, place: usize, tree: TreePlace)
+    requires within { place ≤ length places.old.items }
+    requires room { place < vec_capacity places.old }
+    ensures there { place < length places.old.items → places.new.items ≡ slice_set places.old.items place tree }
+    ensures behind { place ≡ length places.old.items → places.new.items ≡ places.old.items ++ tree ∷ [] }
+    ensures capacity { vec_capacity places.old ≤ vec_capacity places.new }
+{
+    match places.get_mut(place) {
+        Some(there) => *there = tree,
+        None => places.push_reserved(tree),
+    }
 }

@@ -5,7 +5,6 @@ use Rattle.disk_model.specs.Crash.{Each, LeavesOnly, Looked}
 use Rattle.disk_model.specs.Disk.{NoMore}
 use Rattle.disk_model.specs.declared.disk.Disk.{Ghosts}
 use Rattle.extent_list.specs.Space.{end_of}
-use Rattle.device_layout.specs.declared.link.Link.{Link}
 use Rattle.wt_code.specs.declared.refusals.Refusal.{Refusal}
 use Rattle.wt_code.specs.declared.refusals.Refusal.TheVariants.{Corrupt, DiskFault, NoMemory, Limit as Refusal_Limit}
 use Rattle.wt_code.specs.declared.refusals.Limit.TheVariants.{Checkpoints, Image, Tables}
@@ -19,14 +18,15 @@ use Rattle.stored.proofs.Device.{one_content}
 use Rattle.checkpoint_core.specs.Stands.{HasStill}
 use Rattle.device_leaf.specs.Closings.{content_was}
 use Rattle.recover_open.specs.Damage.{IsDamage}
-use Rattle.recover_open.specs.Flat.{IsFlat}
+use Rattle.tree_open.specs.declared.place.TreePlace.{TreePlace}
+use Rattle.recover_open.specs.Bare.{IsBare}
 use Rattle.recover_open.proofs.Devices.{damage_no_content}
 use Rattle.engine_world.specs.Systems.{first_world}
 use Rattle.engine_world.specs.Worlds.{World}
 use Rattle.ckpt_step.specs.declared.ground.Ground.{Ground}
 use Rattle.ckpt_step.specs.Floors.{Follows}
 use Rattle.ckpt_step.specs.Grounds.{AreRoots, IsOnGround, StandsOn}
-use Rattle.ckpt_step.specs.Plain.{IsFlatStill, StartsPlain}
+use Rattle.ckpt_step.specs.Plain.{IsBareStill, StartsPlain}
 use Rattle.ckpt_step.proofs.Floors.{follows_none}
 use Rattle.engine_store.specs.declared.store.Store.{Store}
 use Rattle.engine_store.specs.Answers.{RefusesReopening}
@@ -56,14 +56,14 @@ stands_looked bytes seen was images known g old same fewer on = record {
   roots = on.roots;
 }
 
-flat_still : (known : List Table) (links : List Link) (old : Option Stored) → AreRoots known links old → IsFlatStill old
-flat_still known links None roots = tt
-flat_still known links (Some s) roots = roots.flat
+bare_still : (known : List Table) (places : List TreePlace) (old : Option Stored) → AreRoots known places old → IsBareStill old
+bare_still known places None roots = tt
+bare_still known places (Some s) roots = roots.bare
 
 -- no leaf is clean at first
-pub follows_opened : {seen : List ℕ} {images : List ℕ → Type 0} (s : Store) (is : IsOpened seen images s) → Follows is.old s.engine.hub.tables.tables s.ground.leaves.items s.ground.floor (first_world (content_was is.old) s.engine).machine
-follows_opened s is = subst (λ (n : Name). Follows is.old s.engine.hub.tables.tables s.ground.leaves.items n (first_world (content_was is.old) s.engine).machine) (sym is.floor)
-    (follows_none is.old s.engine.hub.tables.tables s.ground.leaves.items (first_world (content_was is.old) s.engine).machine)
+pub follows_opened : {seen : List ℕ} {images : List ℕ → Type 0} (s : Store) (is : IsOpened seen images s) → Follows is.old s.engine.hub.tables.tables s.ground.trees.items s.ground.floor (first_world (content_was is.old) s.engine).machine
+follows_opened s is = subst (λ (n : Name). Follows is.old s.engine.hub.tables.tables s.ground.trees.items n (first_world (content_was is.old) s.engine).machine) (sym is.floor)
+    (follows_none is.old s.engine.hub.tables.tables s.ground.trees.items (first_world (content_was is.old) s.engine).machine)
 
 pub steady_opened : {seen : List ℕ} {images : List ℕ → Type 0} (s : Store) → IsOpened seen images s → IsOnGround seen images s.engine s.ground
 steady_opened s is = record { world = first_world (content_was is.old) s.engine; stands = is.world; idle = refl; old = is.old; on = is.on; follows = follows_opened s is }
@@ -147,20 +147,20 @@ module _ {D : Type 0} (g : Ghosts D) (start_disk before after : D) (looked : Loo
       seen = looked.content;
       capacity = looked.capacity;
       held = held_reopened;
-      plain = plain (g.seen after) is.old is.on.stands.seen_has (flat_still s'.engine.hub.tables.tables s'.ground.leaves.items is.old is.on.roots);
+      plain = plain (g.seen after) is.old is.on.stands.seen_has (bare_still s'.engine.hub.tables.tables s'.ground.trees.items is.old is.on.roots);
     }
 
   -- ---- it is not
 
-  wide : (content : Content) → Reads (g.seen before) content → ((s : Stored) → IsOn (g.seen before) s → IsFlat s.kept → ⊥) → (IsBlank (g.seen before) → ⊥) → IsWide (g.seen before)
-  wide content (inl blank) not_flat not_blank = absurd (not_blank blank.0)
-  wide content (inr (s, on, same)) not_flat not_blank = (s, on, not_flat s on)
+  wide : (content : Content) → Reads (g.seen before) content → ((s : Stored) → IsOn (g.seen before) s → IsBare s.kept → ⊥) → (IsBlank (g.seen before) → ⊥) → IsWide (g.seen before)
+  wide content (inl blank) not_bare not_blank = absurd (not_blank blank.0)
+  wide content (inr (s, on, same)) not_bare not_blank = (s, on, not_bare s on)
 
   why_not : (known : Type 0) → known → (content : Content) → Reads (g.seen before) content → (r : Refusal) → OpenRefused (Rose (g.faults before) (g.faults after)) known (g.seen before) r → RefusesReopening (device_of g before) (device_of g after) r
   why_not known k content reads r (inl (inl disk)) = inl disk
   why_not known k content reads r (inl (inr (inl none))) = inr (inl none)
   why_not known k content reads r (inl (inr (inr (inl (is, last))))) = inr (inr (inr (inr (is, last k))))
-  why_not known k content reads r (inl (inr (inr (inr (inl (is, not_flat, not_blank)))))) = inr (inr (inl (is, wide content reads (not_flat k) (not_blank k))))
+  why_not known k content reads r (inl (inr (inr (inr (inl (is, not_bare, not_blank)))))) = inr (inr (inl (is, wide content reads (not_bare k) (not_blank k))))
   why_not known k content reads r (inl (inr (inr (inr (inr (at, want, found, is, damage)))))) = absurd (damage_no_content (g.seen before) at want found content (damage k) reads)
   why_not known k content reads r (inr (is, used)) = inr (inr (inr (inl (is, used k))))
 
@@ -180,7 +180,7 @@ pub damage_of : (fault known : Type 0) (bytes : List ℕ) (r : Refusal) → Open
 damage_of fault known bytes r (inl (inl (is, rose))) at want found same k = let e : DiskFault ≡ Corrupt at want found = sym is ∙ same in absurd (cc)
 damage_of fault known bytes r (inl (inr (inl is))) at want found same k = let e : NoMemory ≡ Corrupt at want found = sym is ∙ same in absurd (cc)
 damage_of fault known bytes r (inl (inr (inr (inl (is, last))))) at want found same k = let e : Refusal_Limit Checkpoints ≡ Corrupt at want found = sym is ∙ same in absurd (cc)
-damage_of fault known bytes r (inl (inr (inr (inr (inl (is, not_flat, not_blank)))))) at want found same k = let e : Refusal_Limit Image ≡ Corrupt at want found = sym is ∙ same in absurd (cc)
+damage_of fault known bytes r (inl (inr (inr (inr (inl (is, not_bare, not_blank)))))) at want found same k = let e : Refusal_Limit Image ≡ Corrupt at want found = sym is ∙ same in absurd (cc)
 damage_of fault known bytes r (inl (inr (inr (inr (inr (at', want', found', is, damage)))))) at want found same k =
     let e : Corrupt at' want' found' ≡ Corrupt at want found = sym is ∙ same in
     let place : at' ≡ at = cc in
@@ -194,6 +194,6 @@ pub fault_of : (fault known : Type 0) (bytes : List ℕ) (r : Refusal) → OpenR
 fault_of fault known bytes r (inl (inl (is, rose))) same = rose
 fault_of fault known bytes r (inl (inr (inl is))) same = let e : NoMemory ≡ DiskFault = sym is ∙ same in absurd (cc)
 fault_of fault known bytes r (inl (inr (inr (inl (is, last))))) same = let e : Refusal_Limit Checkpoints ≡ DiskFault = sym is ∙ same in absurd (cc)
-fault_of fault known bytes r (inl (inr (inr (inr (inl (is, not_flat, not_blank)))))) same = let e : Refusal_Limit Image ≡ DiskFault = sym is ∙ same in absurd (cc)
+fault_of fault known bytes r (inl (inr (inr (inr (inl (is, not_bare, not_blank)))))) same = let e : Refusal_Limit Image ≡ DiskFault = sym is ∙ same in absurd (cc)
 fault_of fault known bytes r (inl (inr (inr (inr (inr (at, want, found, is, damage)))))) same = let e : Corrupt at want found ≡ DiskFault = sym is ∙ same in absurd (cc)
 fault_of fault known bytes r (inr (is, used)) same = let e : Refusal_Limit Tables ≡ DiskFault = sym is ∙ same in absurd (cc)

@@ -43,7 +43,7 @@ use Rattle.engine_store.specs.Devices.{Device, Installed, IsNumberOf, device_of,
 use Rattle.engine_store.specs.Held.{Checkpoints, IsGrounded, IsHeld, Shuts}
 use Rattle.engine_store.specs.Images.{OpensToLast}
 use Rattle.engine_store.proofs.Closings.{stays_rolled, free_of, up_of}
-use Rattle.engine_store.proofs.Contents.{most_number, not_last}
+use Rattle.engine_store.proofs.Contents.{most_number}
 use Rattle.engine_store.proofs.Taking.{by_takes, number_held}
 
 -- ---- what is decided
@@ -144,59 +144,48 @@ module _ (old new : Device) (before : Option Stored) (has : HasStill before old.
   -- the last number was taken
   last_taken : (answer : Answer (List ℕ)) (next : Machine) → IsNumberOf old.seen last_number → answer ≡ Refused (Refusal_Limit TooMany) → next ≡ rolled_back m → CloseTakes old new w answer next
   last_taken answer next counted is same = inr (inr (
-    inr (inl counted),
-    inr (
-      last_number,
-      StoredWhole,
-      NotDone (Refusal_Limit TooMany),
-      rolling_back 0 m.sessions ++ [],
-      counted,
-      inr (λ other. decides m u up free last_number other ∙ sym (decides m u up free last_number StoredWhole)),
-      decides m u up free last_number StoredWhole,
-      is,
-      same ∙ sym (rolls_first m u up free []),
-    ),
+    last_number,
+    StoredWhole,
+    NotDone (Refusal_Limit TooMany),
+    rolling_back 0 m.sessions ++ [],
+    counted,
+    inr (λ other. decides m u up free last_number other ∙ sym (decides m u up free last_number StoredWhole)),
+    decides m u up free last_number StoredWhole,
+    is,
+    same ∙ sym (rolls_first m u up free []),
   ))
 
   by_start : (answer : Answer (List ℕ)) (next : Machine) (number : ℕ) (start : Result (Unit {0}) Refusal) → IsNumberOf old.seen number → MayStart (rolled_back m) number start → StartedAs old new (rolled_back m) answer next start → CloseTakes old new w answer next
   by_start answer next number (Err r) counted barred (is, same) =
       let last = barred_last (rolled_back m) number (goes.fault ∙ up) goes.plain.idle none r barred in
       last_taken answer next (subst (λ (n : ℕ). IsNumberOf old.seen n) (most_number old.seen before number has counted last.1) counted) (is ∙ ap (λ (x : Refusal). let a : Answer (List ℕ) = Refused x in a) last.0) same
-  by_start answer next number (Ok done) counted started (inl (over, is, same)) =
-      inl (may, over, not_last old.seen before number has counted (started_below (rolled_back m) number (goes.fault ∙ up) goes.plain.idle none started), is, same)
-  by_start answer next number (Ok done) counted started (inr (fit, stored)) = inr (inr (
-    inl fit,
-    inr (
-      number,
-      stored.storing,
-      (last_stored stored.storing).0,
-      rolling_back 0 m.sessions ++ (last_stored stored.storing).1,
-      counted,
-      inl stored.takes,
-      decides m u up free number stored.storing ∙ ap (closing m) (below_last number stored.storing (started_below (rolled_back m) number (goes.fault ∙ up) goes.plain.idle none started)),
-      stored.told,
-      stored.leaves ∙ sym (rolls_first m u up free (last_stored stored.storing).1),
-    ),
+  by_start answer next number (Ok done) counted started stored = inr (inr (
+    number,
+    stored.storing,
+    (last_stored stored.storing).0,
+    rolling_back 0 m.sessions ++ (last_stored stored.storing).1,
+    counted,
+    inl stored.takes,
+    decides m u up free number stored.storing ∙ ap (closing m) (below_last number stored.storing (started_below (rolled_back m) number (goes.fault ∙ up) goes.plain.idle none started)),
+    stored.told,
+    stored.leaves ∙ sym (rolls_first m u up free (last_stored stored.storing).1),
   ))
 
   closes_by : (answer : Answer (List ℕ)) (next : Machine) → CheckpointTakes old new (rolled_back m) answer next → CloseTakes old new w answer next
-  closes_by answer next (inl (is, same)) = inr (inl (record { is = is; up = up; idle = free; left = same }))
+  closes_by answer next (inl (is, same)) = inl (record { is = is; up = up; idle = free; left = same })
   closes_by answer next (inr (number, start, counted, may_start, so)) = by_start answer next number start counted may_start so
 
 refused_takes : (old new : Device) (w : World) (r : Refusal) (number : ℕ) → IsNumberOf old.seen number → close_told w.machine.fault (busy_in w) ≡ Err r → CloseTakes old new w (Refused r) w.machine
 refused_takes old new w r number counted why = inr (inr (
-  inr (inr (λ may. let e : Ok tt ≡ Err r = sym may ∙ why in cc)),
-  inr (
-    number,
-    StoredWhole,
-    NotDone r,
-    [],
-    counted,
-    inr (λ other. decided other ∙ sym (decided StoredWhole)),
-    decided StoredWhole,
-    refl,
-    refl,
-  ),
+  number,
+  StoredWhole,
+  NotDone r,
+  [],
+  counted,
+  inr (λ other. decided other ∙ sym (decided StoredWhole)),
+  decided StoredWhole,
+  refl,
+  refl,
 ))
   where
     decided : (storing : Storing) → close_decision w.machine (unfinished_in w) number storing ≡ close_refused r
@@ -204,10 +193,10 @@ refused_takes old new w r number counted why = inr (inr (
 
 -- ---- what the rolling back leaves of the ground
 
-pub follows_rolled : (old : Option Stored) (w : World) (ground : Ground) (e middle : Engine) → middle.hub.tables.tables ≡ e.hub.tables.tables → Follows old e.hub.tables.tables ground.leaves.items ground.floor w.machine → Follows old middle.hub.tables.tables ground.leaves.items ground.floor (rolled_back w.machine)
+pub follows_rolled : (old : Option Stored) (w : World) (ground : Ground) (e middle : Engine) → middle.hub.tables.tables ≡ e.hub.tables.tables → Follows old e.hub.tables.tables ground.trees.items ground.floor w.machine → Follows old middle.hub.tables.tables ground.trees.items ground.floor (rolled_back w.machine)
 follows_rolled old w ground e middle same follows =
-    subst (λ (l : List Table). Follows old l ground.leaves.items ground.floor (rolled_back w.machine)) (sym same)
-    (follows_goes old e.hub.tables.tables ground.leaves.items ground.floor w.machine (rolled_back w.machine) (goes_rolled w.machine) follows)
+    subst (λ (l : List Table). Follows old l ground.trees.items ground.floor (rolled_back w.machine)) (sym same)
+    (follows_goes old e.hub.tables.tables ground.trees.items ground.floor w.machine (rolled_back w.machine) (goes_rolled w.machine) follows)
 
 pub steady_rolled : (seen : List ℕ) (images : List ℕ → Type 0) (e middle : Engine) (ground : Ground) (on : IsOnGround seen images e ground) → Stands middle (rolled on.world) → middle.hub.tables.tables ≡ e.hub.tables.tables → IsOnGround seen images middle ground
 steady_rolled seen images e middle ground on stands same = record {
@@ -279,5 +268,5 @@ module _ {D : Type 0} (g : Ghosts D) (start_disk before : D) (image : g.may_leav
         plain = t.plain;
       }
 
-      pub shuts_by : ((old : Option Stored) → StandsOn (g.seen before) (g.may_leave before) middle.hub.tables.tables s.ground old → Follows old middle.hub.tables.tables s.ground.leaves.items s.ground.floor (rolled_back w.machine) → Takes g old (rolled w) s.ground s'.ground middle s'.engine before after result) → Shuts g start_disk w first made s s' before after result
+      pub shuts_by : ((old : Option Stored) → StandsOn (g.seen before) (g.may_leave before) middle.hub.tables.tables s.ground old → Follows old middle.hub.tables.tables s.ground.trees.items s.ground.floor (rolled_back w.machine) → Takes g old (rolled w) s.ground s'.ground middle s'.engine before after result) → Shuts g start_disk w first made s s' before after result
       shuts_by takes = from_checkpoint (by_takes g start_disk before after counts only image s1 s' (rolled w) first made held_rolled on_rolled count room law downs goes.plain result (takes on_rolled.old on_rolled.on on_rolled.follows))

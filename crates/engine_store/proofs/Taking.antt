@@ -28,7 +28,6 @@ use Rattle.ckpt_step.specs.Floors.{Follows}
 use Rattle.ckpt_step.specs.Grounds.{StandsOn, number_of}
 use Rattle.ckpt_step.specs.Laws.{CheckpointsOpen}
 use Rattle.ckpt_step.specs.Plain.{IsPlain}
-use Rattle.ckpt_step.specs.Sizes.{IsOver}
 use Rattle.ckpt_step.specs.Takes.{Fallen, NotTaken, Taken, Takes, WhyNot}
 use Rattle.engine_store.specs.declared.store.Store.{Store}
 use Rattle.engine_store.specs.Answers.{CheckpointTakes}
@@ -70,7 +69,7 @@ module _ {D : Type 0} (g : Ghosts D) (start_disk before after : D)
 
   -- nothing was installed
   kept_held : (next : World) → Stands s'.engine next → next.machine.checkpoint ≡ None → next.machine.completed ≡ w.machine.completed → KeptAll
-      → (next.machine.fault ≡ None → StandsOn (g.seen after) (g.may_leave after) s'.engine.hub.tables.tables s'.ground grounded.old × Follows grounded.old s'.engine.hub.tables.tables s'.ground.leaves.items s'.ground.floor next.machine) → IsHeld g start_disk s' after next first made
+      → (next.machine.fault ≡ None → StandsOn (g.seen after) (g.may_leave after) s'.engine.hub.tables.tables s'.ground grounded.old × Follows grounded.old s'.engine.hub.tables.tables s'.ground.trees.items s'.ground.floor next.machine) → IsHeld g start_disk s' after next first made
   kept_held next stands idle same kept on = record {
     stands = stands;
     idle = idle;
@@ -103,7 +102,7 @@ module _ {D : Type 0} (g : Ghosts D) (start_disk before after : D)
 
     -- each image has it
     done_held : (next : World) → Stands s'.engine next → next.machine.checkpoint ≡ None → own.at ≡ g.moment after → next.machine.completed ≡ own.checkpoint → Each (g.may_leave after) (λ c. IsOn c new)
-        → StandsOn (g.seen after) (g.may_leave after) s'.engine.hub.tables.tables s'.ground (Some new) → Follows (Some new) s'.engine.hub.tables.tables s'.ground.leaves.items s'.ground.floor next.machine → OpensAs (content_of new) own.checkpoint → IsHeld g start_disk s' after next first (made ++ own ∷ [])
+        → StandsOn (g.seen after) (g.may_leave after) s'.engine.hub.tables.tables s'.ground (Some new) → Follows (Some new) s'.engine.hub.tables.tables s'.ground.trees.items s'.ground.floor next.machine → OpensAs (content_of new) own.checkpoint → IsHeld g start_disk s' after next first (made ++ own ∷ [])
     done_held next stands idle now same each on follows new_opens = record {
       stands = stands;
       idle = idle;
@@ -174,20 +173,19 @@ module _ {D : Type 0} (g : Ghosts D) (start_disk before after : D)
       next = checkpointed m;
       now = made ++ installed None ∷ [];
       behind = record { later = is_later t.leaves.later; capacity = room; has = (t.new, number, t.is, t.on.stands.seen_has) };
-      takes = inr (number, Ok tt, counted, t.may, inr (t.fit, record { storing = StoredWhole; takes = t.had_room; told = refl; leaves = refl }));
+      takes = inr (number, Ok tt, counted, t.may, record { storing = StoredWhole; takes = t.had_room; told = refl; leaves = refl });
       installs = refl;
       held = done_held t.new (installed None) (opens_new t.new t.is) t.leaves (record w { machine = checkpointed m }) t.stands refl refl refl t.each
           (subst (λ (e : Engine). StandsOn (g.seen after) (g.may_leave after) e.hub.tables.tables s'.ground (Some t.new)) (sym t.same) t.on)
-          (subst (λ (e : Engine). Follows (Some t.new) e.hub.tables.tables s'.ground.leaves.items s'.ground.floor (checkpointed m)) (sym t.same) t.follows) (new_opens t.new t.is (g.seen after) t.on.stands.seen_has);
+          (subst (λ (e : Engine). Follows (Some t.new) e.hub.tables.tables s'.ground.trees.items s'.ground.floor (checkpointed m)) (sym t.same) t.follows) (new_opens t.new t.is (g.seen after) t.on.stands.seen_has);
       plain = record { idle = refl; suffice = λ table key. record { reached = (plain.suffice table key).reached } };
     }
 
     refused_by : (r : Refusal) → WhyNot (Rose (g.faults before) (g.faults after)) (g.seen before) (g.capacity before) m number r → CheckpointTakes (device_of g before) (device_of g after) m (Refused r) m
     refused_by r (inl barred) = inr (number, Err r, counted, barred, (refl, refl))
     refused_by r (inr (inl none)) = inl (cc, refl)
-    refused_by r (inr (inr (may, inl (is, over)))) = inr (number, Ok tt, counted, may, inl (over, cc, refl))
-    refused_by r (inr (inr (may, inr (fit, inl (is, full))))) = inr (number, Ok tt, counted, may, inr (fit, record { storing = NoPlace; takes = full; told = cc; leaves = refl }))
-    refused_by r (inr (inr (may, inr (fit, inr (is, rose))))) = inr (number, Ok tt, counted, may, inr (fit, record { storing = ReadFailed; takes = rose; told = cc; leaves = refl }))
+    refused_by r (inr (inr (may, inl (is, full)))) = inr (number, Ok tt, counted, may, record { storing = NoPlace; takes = full; told = cc; leaves = refl })
+    refused_by r (inr (inr (may, inr (is, rose)))) = inr (number, Ok tt, counted, may, record { storing = ReadFailed; takes = rose; told = cc; leaves = refl })
 
     not_taken : (r : Refusal) → NotTaken g grounded.old w s.ground s'.ground s.engine s'.engine before after r → Gives (Err r)
     not_taken r n = record {
@@ -199,12 +197,12 @@ module _ {D : Type 0} (g : Ghosts D) (start_disk before after : D)
       held = kept_held w (subst (λ (e : Engine). Stands e w) (sym n.same) held.stands) held.idle refl n.leaves
           (λ up. (
             subst (λ (e : Engine). StandsOn (g.seen after) (g.may_leave after) e.hub.tables.tables s'.ground grounded.old) (sym n.same) n.on,
-            subst (λ (e : Engine). Follows grounded.old e.hub.tables.tables s'.ground.leaves.items s'.ground.floor m) (sym n.same) n.follows,
+            subst (λ (e : Engine). Follows grounded.old e.hub.tables.tables s'.ground.trees.items s'.ground.floor m) (sym n.same) n.follows,
           ));
       plain = plain;
     }
 
-    module _ (fault : Fault) (may : MayStart m number (Ok tt)) (fit : IsOver m → ⊥) (rose : Rose (g.faults before) (g.faults after)) (is : s'.engine ≡ with_fault s.engine fault) where
+    module _ (fault : Fault) (may : MayStart m number (Ok tt)) (rose : Rose (g.faults before) (g.faults after)) (is : s'.engine ≡ with_fault s.engine fault) where
       abbrev down : Machine
       down = after_event m (GoDown fault)
 
@@ -212,7 +210,7 @@ module _ {D : Type 0} (g : Ghosts D) (start_disk before after : D)
       fell_stands = subst (λ (e : Engine). Stands e (record w { machine = down })) (sym is) (downs s.engine w fault held.stands)
 
       fell_takes : CheckpointTakes (device_of g before) (device_of g after) m (Refused DiskFault) down
-      fell_takes = inr (number, Ok tt, counted, may, inr (fit, record { storing = WriteFailed fault; takes = rose; told = refl; leaves = refl }))
+      fell_takes = inr (number, Ok tt, counted, may, record { storing = WriteFailed fault; takes = rose; told = refl; leaves = refl })
 
       fell_plain : IsPlain down
       fell_plain = record { idle = held.idle; suffice = λ table key. record { reached = (plain.suffice table key).reached } }
@@ -244,8 +242,8 @@ module _ {D : Type 0} (g : Ghosts D) (start_disk before after : D)
 
     fallen : (r : Refusal) → Fallen g grounded.old w s.ground s'.ground s.engine s'.engine before after r → Gives (Err r)
     fallen r f = subst (λ (x : Refusal). Gives (Err x)) (sym f.is) (elim f.leaves [
-      | inl kept ↦ fell_before f.fault f.may f.fit f.rose f.down kept
-      | inr (new, checkpoint, left) ↦ fell_at f.fault f.may f.fit f.rose f.down new checkpoint left
+      | inl kept ↦ fell_before f.fault f.may f.rose f.down kept
+      | inr (new, checkpoint, left) ↦ fell_at f.fault f.may f.rose f.down new checkpoint left
     ])
 
     pub by_takes : (result : Result (Unit {0}) Refusal) → Takes g grounded.old w s.ground s'.ground s.engine s'.engine before after result → Gives result
@@ -302,7 +300,7 @@ module _ {D : Type 0} (g : Ghosts D) (start_disk before after : D)
     (counts : g.moment before ≤ g.moment after → (c : List ℕ) → g.may_leave after c → g.left_since after (g.moment before) c) (only : (c : List ℕ) → g.left_since after (g.moment after) c → g.may_leave after c)
     (image : g.may_leave before (g.seen before)) (s s' : Store) (w : World) (first : Completed) (made : List Installed) (held : IsHeld g start_disk s before w first made)
     (count : g.faults before ≤ g.faults after) (room : g.capacity after ≡ g.capacity before) (law : CheckpointsOpen) (downs : DownsGo) (plain : IsPlain w.machine) (result : Result (Unit {0}) Refusal)
-    (takes : (old : Option Stored) → StandsOn (g.seen before) (g.may_leave before) s.engine.hub.tables.tables s.ground old → Follows old s.engine.hub.tables.tables s.ground.leaves.items s.ground.floor w.machine → Takes g old w s.ground s'.ground s.engine s'.engine before after result)
+    (takes : (old : Option Stored) → StandsOn (g.seen before) (g.may_leave before) s.engine.hub.tables.tables s.ground old → Follows old s.engine.hub.tables.tables s.ground.trees.items s.ground.floor w.machine → Takes g old w s.ground s'.ground s.engine s'.engine before after result)
     (down : (fault : Fault) → s.engine.hub.fault ≡ Some fault → (result ≡ Err (Panic fault)) × (s'.engine ≡ s.engine) × (s'.ground ≡ s.ground) × (after ≡ before)) where
   by_fault : (f : Option Fault) → w.machine.fault ≡ f → Checkpoints g start_disk w first made s s' before after result
   by_fault None up =

@@ -1,6 +1,6 @@
 -- Tables with the rows of their leaves: as a start takes them, and as a device with them is read.
 use Rattle.std.proofs.Common.{◌≡◌, ◌+◌, ℕ, List, [], ◌∷◌, ◌++◌, length, map, reverse, refl, sym, ap, ◌∙◌, arith}
-use Rattle.std.proofs.lemmas.List.{append-nil, append_assoc}
+use Rattle.std.proofs.lemmas.List.{append_assoc, length-map}
 use Rattle.device_layout.specs.declared.slot.Slot.{Slot}
 use Rattle.kv_model.specs.History.{Table, Placed}
 use Rattle.kv_model.specs.Content.{Content}
@@ -9,7 +9,8 @@ use Rattle.stored.specs.Records.{TableRoot, Record}
 use Rattle.stored.specs.Stored.{content_of, tables_of, placed_in, cells_in as stored_cells}
 use Rattle.leaf_rows.specs.declared.marks.Marks.{Marks}
 use Rattle.leaf_rows.specs.Contents.{seen_rows}
-use Rattle.recover_open.specs.Flat.{flat_stored, leaf_tree, marks_of}
+use Rattle.stored.specs.TableTree.{TableTree}
+use Rattle.recover_open.specs.Bare.{bare_stored, marks_of, tree_rows}
 use Rattle.engine_start.specs.declared.table_leaf.TableLeaf.{TableLeaf}
 use Rattle.engine_start.specs.Contents.{cells_in, leaves_content_with, seen_leaves, tables_in}
 use Rattle.engine_start.proofs.Inserting.{reverse_last}
@@ -54,12 +55,10 @@ seen_with m ids [] leaves = refl
 seen_with m ids (t ∷ tables) [] = refl
 seen_with m ids (t ∷ tables) (rows ∷ leaves) = ap (λ (l : List TableLeaf). record { table = t.table; rows = seen_rows m ids rows } ∷ l) (seen_with m ids tables leaves)
 
-cells_with : (tables : List TableRoot) (leaves : List (List Row)) → stored_cells tables (map leaf_tree leaves) ≡ cells_in (with_leaves tables leaves)
-cells_with [] leaves = refl
+cells_with : (tables : List TableRoot) (trees : List TableTree) → stored_cells tables trees ≡ cells_in (with_leaves tables (map tree_rows trees))
+cells_with [] trees = refl
 cells_with (t ∷ tables) [] = refl
-cells_with (t ∷ tables) (rows ∷ leaves) =
-    ap (λ (l : List Row). placed_in t.table.number l ++ stored_cells tables (map leaf_tree leaves)) (append-nil rows)
-    ∙ ap (λ (c : List Placed). placed_in t.table.number rows ++ c) (cells_with tables leaves)
+cells_with (t ∷ tables) (tree ∷ trees) = ap (λ (c : List Placed). placed_in t.table.number (tree_rows tree) ++ c) (cells_with tables trees)
 
 -- as the content of a device
 abbrev content_with : Record → List Table → List Placed → Content
@@ -73,7 +72,7 @@ content_with r tables cells = record {
   records = [];
 }
 
-pub content_is : (slot : Slot) (r : Record) (leaves : List (List Row)) → length leaves ≡ length r.tables → leaves_content_with (marks_of r) r.snapshot.ids (with_leaves r.tables leaves) ≡ content_of (flat_stored slot r leaves)
-content_is slot r leaves same =
-    ap (λ (l : List Table). content_with r l (cells_in (with_leaves r.tables leaves))) (tables_with r.tables leaves same)
-    ∙ ap (λ (c : List Placed). content_with r (tables_of r.tables) c) (sym (cells_with r.tables leaves))
+pub content_is : (slot : Slot) (r : Record) (trees : List TableTree) → length trees ≡ length r.tables → leaves_content_with (marks_of r) r.snapshot.ids (with_leaves r.tables (map tree_rows trees)) ≡ content_of (bare_stored slot r trees)
+content_is slot r trees same =
+    ap (λ (l : List Table). content_with r l (cells_in (with_leaves r.tables (map tree_rows trees)))) (tables_with r.tables (map tree_rows trees) (length-map trees tree_rows ∙ same))
+    ∙ ap (λ (c : List Placed). content_with r (tables_of r.tables) c) (sym (cells_with r.tables trees))

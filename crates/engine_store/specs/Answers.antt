@@ -10,7 +10,7 @@ use Rattle.wt_code.specs.declared.refusals.Limit.TheVariants.{Checkpoints, Image
 use Rattle.kv_model.specs.Machine.{Machine, Completed}
 use Rattle.kv_model.specs.Outside.{Storing}
 use Rattle.kv_model.specs.Closing.{after_all, last_stored}
-use Rattle.kv_model.specs.Calls.{Around, Close, IsCloseShort, IsShort, SystemAnswers, rolled_back}
+use Rattle.kv_model.specs.Calls.{Around, Close, IsCloseShort, IsShort, SystemAnswers}
 use Rattle.kv_model.specs.Content.{Content}
 use Rattle.kv_model.specs.Decisions.{is_there}
 use Rattle.kv_model.specs.Told.{Tells}
@@ -18,9 +18,8 @@ use Rattle.stored.specs.Stored.{Stored as OnDevice, IsOn, Reads}
 use Rattle.checkpoint_core.specs.Stands.{HasStill}
 use Rattle.engine_world.specs.Worlds.{World}
 use Rattle.engine.specs.Checkpoints.{MayStart}
-use Rattle.engine.specs.Closes.{MayClose, unfinished_in}
+use Rattle.engine.specs.Closes.{unfinished_in}
 use Rattle.ckpt_step.specs.Checkpoints.{IsCheckpointOf}
-use Rattle.ckpt_step.specs.Sizes.{IsOver}
 use Rattle.engine_store.specs.Devices.{Device, Installed, IsLater, IsNumberOf, IsUsedUp, IsWide, MayTakeAt, last_number}
 
 -- done, or refused
@@ -35,11 +34,10 @@ pub record IsStored (old new : Device) (m : Machine) (answer : Answer (List ℕ)
   pub told : Tells (last_stored storing).0 answer
   pub leaves : next ≡ after_all m (last_stored storing).1
 
--- the answer where the start of a checkpoint is decided so; rows of a table that pass one leaf are refused
+-- the answer where the start of a checkpoint is decided so
 abbrev pub StartedAs : Device → Device → Machine → Answer (List ℕ) → Machine → Result (Unit {0}) Refusal → Type 0
 StartedAs old new m answer next (Err r) = (answer ≡ Refused r) × (next ≡ m)
-StartedAs old new m answer next (Ok done) =
-    (IsOver m × (answer ≡ Refused (Refusal_Limit Image)) × (next ≡ m)) ⊎ ((IsOver m → ⊥) × IsStored old new m answer next)
+StartedAs old new m answer next (Ok done) = IsStored old new m answer next
 
 -- a checkpoint in one event, of a machine that has none running
 abbrev pub CheckpointTakes : Device → Device → Machine → Answer (List ℕ) → Machine → Type 0
@@ -70,12 +68,9 @@ around_at w old new = record {
   MayKeepOut = λ r. ⊥;
 }
 
--- Close, which refuses rows of a table that pass one leaf, where it may number another checkpoint. Want of memory may come before they are looked at.
+-- a close, for which memory may be short
 abbrev pub CloseTakes : Device → Device → World → Answer (List ℕ) → Machine → Type 0
-CloseTakes old new w answer next =
-    (MayClose w × IsOver (rolled_back w.machine) × (IsNumberOf old.seen last_number → ⊥) × (answer ≡ Refused (Refusal_Limit Image)) × (next ≡ rolled_back w.machine))
-    ⊎ (IsCloseShort (around_at w old new) w.machine answer next
-    ⊎ (((IsOver (rolled_back w.machine) → ⊥) ⊎ (IsNumberOf old.seen last_number ⊎ (MayClose w → ⊥))) × SystemAnswers (around_at w old new) w.machine Close answer next))
+CloseTakes old new w answer next = IsCloseShort (around_at w old new) w.machine answer next ⊎ SystemAnswers (around_at w old new) w.machine Close answer next
 
 -- what a call installed that takes this checkpoint, or was installing at a fault of its gate, behind those before
 abbrev pub Installs : Answer (List ℕ) → Completed → Device → Machine → List Installed → List Installed → Type 0

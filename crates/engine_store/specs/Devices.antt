@@ -10,7 +10,7 @@ use Rattle.kv_model.specs.Machine.{Machine, Completed}
 use Rattle.kv_model.specs.Outside.{Storing, Stored, NoPlace, ReadFailed, Damaged, WriteFailed}
 use Rattle.stored.specs.Stored.{Stored as OnDevice, IsOn, IsBlank}
 use Rattle.checkpoint_core.specs.Stands.{HasStill}
-use Rattle.recover_open.specs.Flat.{IsFlat}
+use Rattle.recover_open.specs.Bare.{IsBare}
 use Rattle.ckpt_step.specs.Sizes.{HasRoomFor, IsFullFor}
 
 -- a device at a point of a run: what a read gives, how much it may hold, how often it has failed, and its moment
@@ -59,9 +59,9 @@ last_number = 2 ^ 62 - 1
 abbrev pub IsNumberOf : List ℕ → ℕ → Type 0
 IsNumberOf bytes n = (IsBlank bytes × (n ≡ 0)) ⊎ ((slot : Slot) × Chooses bytes (Some slot) × (slot.sequence ≡ n))
 
--- the device has a checkpoint with a tree of more levels, or with a history
+-- the device has a checkpoint with a history
 abbrev pub IsWide : List ℕ → Type 0
-IsWide bytes = (s : OnDevice) × IsOn bytes s × (IsFlat s.kept → ⊥)
+IsWide bytes = (s : OnDevice) × IsOn bytes s × (IsBare s.kept → ⊥)
 
 -- its next number leaves none for as many tables as an engine may have
 abbrev pub IsUsedUp : List ℕ → Type 0

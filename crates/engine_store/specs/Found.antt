@@ -25,7 +25,7 @@ pub record IsGroundOf (bytes : List ℕ) (known : List Table) (g : Ground) (old 
   pub serves : Serves bytes g.place old
   pub books : Counts (found_in old) g.place.blocks
   pub number : g.number ≡ number_of old
-  pub roots : AreRoots known g.leaves.items old
+  pub roots : AreRoots known g.trees.items old
   pub floor : g.floor ≡ no_name
 
 -- the engine begins with what the device holds

@@ -21,11 +21,11 @@ use Rattle.engine_store.specs.Answers.{CheckpointTakes, CloseTakes, Installs, Is
 use Rattle.engine_store.specs.Devices.{Installed, IsLater, device_of, may_open_to}
 use Rattle.engine_store.specs.Images.{OpensToAny, OpensToLast, OpensToOne, Stays}
 
--- the next checkpoint stands on the one that the device has, whose clean leaves are those of the machine; it opens as the machine's last one, and is one of those to which the device may open
+-- the next checkpoint stands on the one that the device has, whose clean trees are those of the machine; it opens as the machine's last one, and is one of those to which the device may open
 pub record IsGrounded (seen : List ℕ) (images : List ℕ → Type 0) (s : Store) (m : Machine) (these : List Completed) : Type 0 where
   pub old : Option Stored
   pub on : StandsOn seen images s.engine.hub.tables.tables s.ground old
-  pub follows : Follows old s.engine.hub.tables.tables s.ground.leaves.items s.ground.floor m
+  pub follows : Follows old s.engine.hub.tables.tables s.ground.trees.items s.ground.floor m
   pub opens : OpensAs (content_was old) m.completed
   pub one : (k : Completed) × Member k these × OpensAs (content_was old) k
 

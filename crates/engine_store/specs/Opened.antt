@@ -14,12 +14,14 @@ use Rattle.recover_open.specs.Recoveries.{RecoveryRefused}
 use Rattle.device_leaf.specs.Openings.{last_number}
 use Rattle.device_leaf.specs.Closings.{content_was}
 use Rattle.ckpt_step.specs.Grounds.{StandsOn}
+use Rattle.ckpt_step.specs.Trees.{AreLow}
 use Rattle.engine_store.specs.declared.store.Store.{Store}
 
--- whatever the disk: another checkpoint by the engine's run may follow, and each leaf is that of a table
+-- whatever the disk: another checkpoint by the engine's run may follow, and each tree is that of a table, with as many levels as a record can tell
 pub record IsReady (s : Store) : Type 0 where
   pub run : s.engine.hub.txns.run ≤ s.ground.number + 1
-  pub leaves : length s.ground.leaves.items ≤ length s.engine.hub.tables.tables
+  pub trees : length s.ground.trees.items ≤ length s.engine.hub.tables.tables
+  pub low : AreLow s.ground.trees.items
 
 -- another run may follow the checkpoint, and its next number leaves one for each of as many tables as an engine may have
 abbrev pub HasNumbers : Option Stored → Type 0

@@ -3,14 +3,14 @@
 ghost use Rattle.std.specs.Prelude.{◌≡◌, ℕ, ◌+◌, ◌^◌, ◌<◌, List, length, false, IfOk, IfErr, IsTrue};
 ghost use Rattle.limits.specs.declared.TheConstants.{TABLES_MAX};
 ghost use Rattle.kv_model.specs.Content.{Content};
-ghost use Rattle.recover_open.specs.Flat.{marks_of};
+ghost use Rattle.recover_open.specs.Bare.{marks_of};
 ghost use Rattle.recover_open.specs.Recoveries.{Keeps, KeptInForm};
 ghost use Rattle.engine_world.specs.Stands.{Stands};
 ghost use Rattle.engine_world.specs.Systems.{first_world};
 ghost use Rattle.engine_store.specs.Found.{IsFound, LacksNumbers, RefusesBegin};
 ghost use Rattle.engine_store.specs.Opened.{IsReady};
 
-use crate::by_place::links_by_place;
+use crate::by_place::trees_by_place;
 use crate::store::Store;
 use crate::tables::with_leaves;
 use checkpoint_record::{Record, TableRoot, records_are_recorded};
@@ -52,11 +52,15 @@ fn begin(alloc: Global, place: Place, kept: Kept) -> Result<Store, NoMemory>
     ensures sessions { IfOk result (λ s. length s.engine.sessions ≡ 0) }
     ensures started { IfOk result (λ s. (c : Content) × Stands s.engine (first_world c s.engine)) }
 {
-    let Kept { record, leaves } = kept;
+    let Kept {
+        record,
+        trees,
+        leaves,
+    } = kept;
     let marks = marks_of(&record);
     let number = number_of(&record);
     let next_table = next_table_of(&record);
-    let links = links_by_place(alloc, tables_of(&record))?;
+    let trees = trees_by_place(alloc, tables_of(&record), trees)?;
     let tables = with_leaves(alloc, into_tables(record), leaves)?;
     records_are_recorded();
     seen_stay();
@@ -66,7 +70,7 @@ fn begin(alloc: Global, place: Place, kept: Kept) -> Result<Store, NoMemory>
         ground: Ground {
             place,
             number,
-            leaves: links,
+            trees,
             floor: Name { run: 0, id: 0 },
         },
     })

@@ -13,8 +13,6 @@ mod kept;
 mod opening;
 mod store;
 mod tables;
-#[cfg(test)]
-mod tests;
 
 pub use opening::open_on;
 pub use store::Store;

@@ -70,7 +70,7 @@ fn store_on_nothing(alloc: Global, place: Place) -> Result<Store, NoMemory>
         ground: Ground {
             place,
             number: 0,
-            leaves: Vec::new(alloc),
+            trees: Vec::new(alloc),
             floor: Name { run: 0, id: 0 },
         },
     })

@@ -63,7 +63,7 @@ impl Store {
         requires ready { IsReady self.old }
         requires steady { IsTrue (D.honest disk.old) → IsSteady D.Disk self.old.engine self.old.ground disk.old }
         ensures closes { IsTrue (D.honest disk.old) → (w : World) → Stands self.old.engine w → w.machine.checkpoint ≡ None → (old : Option Stored) → StandsOn (D.seen disk.old) (D.may_leave disk.old) self.old.engine.hub.tables.tables self.old.ground old
-            → Follows old self.old.engine.hub.tables.tables self.old.ground.leaves.items self.old.ground.floor w.machine → Closes D.Disk old w self.old self.new disk.old disk.new result }
+            → Follows old self.old.engine.hub.tables.tables self.old.ground.trees.items self.old.ground.floor w.machine → Closes D.Disk old w self.old self.new disk.old disk.new result }
         ensures shuts { IsTrue (D.honest disk.old) → (first_disk : D) → (w : World) → (first : Completed) → (made : List Installed) → IsHeld D.Disk first_disk self.old disk.old w first made → IsPlain w.machine
             → Shuts D.Disk first_disk w first made self.old self.new disk.old disk.new result }
         ensures refusals { IfErr result IsOfCheckpoint }

@@ -1,4 +1,3 @@
 pub mod Capture
 pub mod Laws
 pub mod CutLaws
-pub mod SeenRows

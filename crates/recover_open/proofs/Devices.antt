@@ -1,15 +1,16 @@
--- What a device has whose record is of a flat checkpoint.
-use Rattle.std.specs.Prelude.{◌≡◌, ℕ, zero, suc, ◌<◌, List, [], ◌∷◌, ◌++◌, length, map, slice_index_or, Some, false, refl}
+-- What a device has whose record is of a bare checkpoint.
+use Rattle.std.specs.Prelude.{◌≡◌, ℕ, zero, suc, ◌<◌, List, [], ◌∷◌, ◌++◌, length, slice_index_or, Some, false, refl}
 use Rattle.std.specs.List.{AllByRecursion}
 use Rattle.std.proofs.Common.{inl, inr, sym, ◌∙◌, ap, subst, arith}
-use Rattle.std.proofs.lemmas.List.{append-nil}
+use Rattle.std.proofs.lemmas.List.{append-nil, map-append}
 use Rattle.block_sum.specs.Sum.{sum_of}
 use Rattle.disk_model.specs.Ranges.{range}
 use Rattle.device_layout.specs.declared.slot.Slot.{Slot}
 use Rattle.le_codec.specs.Images.{padded, block_size, block_of}
+use Rattle.device_layout.specs.declared.addr.Addr.{Addr}
+use Rattle.block_mgr.specs.declared.found.Found.{Found}
 use Rattle.block_mgr.specs.Open.{AreStored}
 use Rattle.kv_model.specs.Content.{Content}
-use Rattle.row_page.specs.Rows.{Row}
 use Rattle.stored.specs.Blocks.{Block, IsAddressed, IsAt, Holds, Apart, AreApart}
 use Rattle.stored.specs.Tree.{IsTree, tree_blocks}
 use Rattle.stored.specs.TableTree.{table_kind, TableTree, root_entry}
@@ -22,15 +23,16 @@ use Rattle.stored.proofs.OneTree.{holds_front, holds_back}
 use Rattle.checkpoint_core.specs.Stands.{AreInUse}
 use Rattle.checkpoint_core.specs.Room.{IsSpaceOf}
 use Rattle.device_leaf.specs.declared.place.Place.{Place}
-use Rattle.device_leaf.specs.Damage.{IsChosen}
-use Rattle.device_leaf.specs.Leaves.{LeafIs, blocks_at}
+use Rattle.device_leaf.specs.Damage.{IsChosen, record_found}
 use Rattle.device_leaf.specs.Openings.{Serves, HasBooks}
 use Rattle.device_leaf.proofs.Leaves.{length_block}
-use Rattle.device_leaf.proofs.Shapes.{all_front, all_join, one_leaf, leaf_tree as leaf_is_tree}
+use Rattle.device_leaf.proofs.Shapes.{all_front, all_join}
 use Rattle.device_leaf.proofs.Opens.{slot_is, no_blank, spoilt_no_content, corrupt_no_content, record_bytes, range_length}
-use Rattle.recover_open.specs.Flat.{IsFlat, leaf_tree, flat_stored, AreLeaves}
-use Rattle.recover_open.specs.Damage.{Names, HasNoRecord, IsAmong, IsDamage, LeafSpoils, BlocksMeet, blocks_found}
-use Rattle.recover_open.proofs.Places.{Matches, tables_match, tables_long, found_last, stored_of, apart_of, told_of}
+use Rattle.tree_open.specs.Trees.{HasTree, places}
+use Rattle.recover_open.specs.Bare.{IsBare, HaveTrees, bare_stored}
+use Rattle.recover_open.specs.Damage.{Names, HasNoRecord, IsAmong, IsDamage, TablesSpoil, BlocksMeet, blocks_found}
+use Rattle.recover_open.proofs.TreeLeaves.{same_places, spoilt_no_tree}
+use Rattle.recover_open.proofs.Places.{Matches, found_of, blocks_match, same_found, tables_long, found_last, stored_of, apart_of, told_of}
 
 -- ---- the record
 
@@ -47,19 +49,13 @@ same_record block r q is also spelled too = record_exact (block_size (length (re
 pub kept_is : (bytes : List ℕ) (slot : Slot) (s : Stored) (r : Record) → IsChosen bytes slot → IsRecord r → range bytes slot.offset slot.size ≡ block_of (record_image r) → IsOn bytes s → s.kept ≡ r
 kept_is bytes slot s r chosen is spelled on = same_record (range bytes slot.offset slot.size) s.kept r on.whole.is_record is (block_spelled bytes slot s chosen on) spelled
 
--- ---- from the device to its leaves
+-- ---- from the device to its trees
 
-pub leaves_count : (bytes : List ℕ) (tables : List TableRoot) (leaves : List (List Row)) → AreLeaves bytes tables leaves → length leaves ≡ length tables
-leaves_count bytes [] [] are = refl
-leaves_count bytes [] (rows ∷ leaves) are = absurd are
-leaves_count bytes (t ∷ tables) [] are = absurd are
-leaves_count bytes (t ∷ tables) (rows ∷ leaves) are = omega (arith, leaves_count bytes tables leaves are.1)
-
-leaf_at : (bytes : List ℕ) (tables : List TableRoot) (leaves : List (List Row)) (t : TableRoot) (i : ℕ) → AreLeaves bytes tables leaves → i < length tables → t ≡ slice_index_or tables i t → (rows : List Row) × LeafIs bytes t.root.link rows
-leaf_at bytes [] leaves t i are lt is = absurd (omega (arith, lt))
-leaf_at bytes (u ∷ tables) [] t i are lt is = absurd are
-leaf_at bytes (u ∷ tables) (rows ∷ leaves) t zero are lt is = (rows, subst (λ (x : TableRoot). LeafIs bytes x.root.link rows) (sym is) are.0)
-leaf_at bytes (u ∷ tables) (rows ∷ leaves) t (suc i) are lt is = leaf_at bytes tables leaves t i are.1 (omega (arith, lt)) is
+pub tree_at : (bytes : List ℕ) (tables : List TableRoot) (trees : List TableTree) (t : TableRoot) (i : ℕ) → HaveTrees bytes tables trees → i < length tables → t ≡ slice_index_or tables i t → (tree : TableTree) × HasTree bytes t.root tree
+tree_at bytes [] trees t i have lt is = absurd (omega (arith, lt))
+tree_at bytes (u ∷ tables) [] t i have lt is = absurd have
+tree_at bytes (u ∷ tables) (tree ∷ trees) t zero have lt is = (tree, subst (λ (x : TableRoot). HasTree bytes x.root tree) (sym is) have.0)
+tree_at bytes (u ∷ tables) (tree ∷ trees) t (suc i) have lt is = tree_at bytes tables trees t i have.1 (omega (arith, lt)) is
 
 all_back : (P : Block → Type 0) (xs ys : List Block) → AllByRecursion P (xs ++ ys) → AllByRecursion P ys
 all_back P [] ys all = all
@@ -69,56 +65,45 @@ apart_front : (xs ys : List Block) → Apart (xs ++ ys) → Apart xs
 apart_front [] ys apart = tt
 apart_front (x ∷ xs) ys apart = (all_front (λ (c : Block). AreApart x.place c.place) xs ys apart.0, apart_front xs ys apart.1)
 
--- the leaves of trees of level 0
-record LeavesOf (bytes : List ℕ) (tables : List TableRoot) (trees : List TableTree) : Type 0 where
-  pub leaves : List (List Row)
-  pub trees_are : trees ≡ map leaf_tree leaves
-  pub are : AreLeaves bytes tables leaves
-
-leaves_of : (bytes : List ℕ) (tables : List TableRoot) (trees : List TableTree) → AllByRecursion (λ (t : TableRoot). t.root.level ≡ 0) tables → AreTrees tables trees
-    → AllByRecursion (λ (b : Block). IsAddressed b) (tables_blocks tables trees) → Holds bytes (tables_blocks tables trees) → LeavesOf bytes tables trees
-leaves_of bytes [] [] levels are addressed holds = record { leaves = []; trees_are = refl; are = tt }
-leaves_of bytes [] (tree ∷ trees) levels are addressed holds = absurd are
-leaves_of bytes (t ∷ tables) [] levels are addressed holds = absurd are
-leaves_of bytes (t ∷ tables) (tree ∷ trees) levels are addressed holds =
+have_trees : (bytes : List ℕ) (tables : List TableRoot) (trees : List TableTree) → AreTrees tables trees → AllByRecursion (λ (b : Block). IsAddressed b) (tables_blocks tables trees) → Holds bytes (tables_blocks tables trees) → HaveTrees bytes tables trees
+have_trees bytes [] [] are addressed holds = tt
+have_trees bytes [] (tree ∷ trees) are addressed holds = absurd are
+have_trees bytes (t ∷ tables) [] are addressed holds = absurd are
+have_trees bytes (t ∷ tables) (tree ∷ trees) are addressed holds =
     let own : List Block = tree_blocks table_kind (root_entry t.root.link) tree in
-    let others : List Block = tables_blocks tables trees in
-    let leaf = one_leaf t.root.link tree (subst (λ (n : ℕ). IsTree table_kind n (root_entry t.root.link) tree) levels.0 are.0) in
-    let blocks : own ≡ blocks_at t.root.link leaf.0 = ap (λ (x : TableTree). tree_blocks table_kind (root_entry t.root.link) x) leaf.1 in
-    let rest = leaves_of bytes tables trees levels.1 are.1 (all_back (λ (b : Block). IsAddressed b) own others addressed) (holds_back bytes own others holds) in
-    record {
-      leaves = leaf.0 ∷ rest.leaves;
-      trees_are = ap (λ (x : TableTree). x ∷ trees) leaf.1 ∙ ap (λ (l : List TableTree). leaf_tree leaf.0 ∷ l) rest.trees_are;
-      are = (
-        record {
-          bears = leaf.2;
-          addressed = subst (λ (l : List Block). AllByRecursion (λ (b : Block). IsAddressed b) l) blocks (all_front (λ (b : Block). IsAddressed b) own others addressed);
-          holds = subst (λ (l : List Block). Holds bytes l) blocks (holds_front bytes own others holds);
-        },
-        rest.are,
-      );
-    }
+    let others : List Block = tables_blocks tables trees in (
+      record { is = are.0; addressed = all_front (λ (b : Block). IsAddressed b) own others addressed; holds = holds_front bytes own others holds },
+      have_trees bytes tables trees are.1 (all_back (λ (b : Block). IsAddressed b) own others addressed) (holds_back bytes own others holds),
+    )
 
-leaves_on : (bytes : List ℕ) (s : Stored) → IsOn bytes s → IsFlat s.kept → LeavesOf bytes s.kept.tables s.trees
-leaves_on bytes s on flat =
+trees_on : (bytes : List ℕ) (s : Stored) → IsOn bytes s → HaveTrees bytes s.kept.tables s.trees
+trees_on bytes s on =
     let tables : List Block = tables_blocks s.kept.tables s.trees in
     let history : List Block = history_blocks s.kept s.history in
-    leaves_of bytes s.kept.tables s.trees flat.levels on.whole.trees (all_front (λ (b : Block). IsAddressed b) tables history on.whole.addressed.1) (holds_front bytes tables history on.holds.1)
+    have_trees bytes s.kept.tables s.trees on.whole.trees (all_front (λ (b : Block). IsAddressed b) tables history on.whole.addressed.1) (holds_front bytes tables history on.holds.1)
+
+-- trees of the same roots stand in the same places
+same_tables : (bytes : List ℕ) (tables : List TableRoot) (trees others : List TableTree) → HaveTrees bytes tables trees → HaveTrees bytes tables others → places (tables_blocks tables trees) ≡ places (tables_blocks tables others)
+same_tables bytes [] trees others have also = refl
+same_tables bytes (t ∷ tables) [] others have also = absurd have
+same_tables bytes (t ∷ tables) (tree ∷ trees) [] have also = absurd also
+same_tables bytes (t ∷ tables) (tree ∷ trees) (other ∷ others) have also =
+    let mine : List Block = tree_blocks table_kind (root_entry t.root.link) tree in
+    let its : List Block = tree_blocks table_kind (root_entry t.root.link) other in
+    map-append {A = Block} (λ b. b.place) mine (tables_blocks tables trees)
+    ∙ ap (λ (l : List Addr). l ++ places (tables_blocks tables trees)) (same_places bytes t.root tree other have.0 also.0)
+    ∙ ap (λ (l : List Addr). places its ++ l) (same_tables bytes tables trees others have.1 also.1)
+    ∙ sym (map-append {A = Block} (λ b. b.place) its (tables_blocks tables others))
 
 -- its blocks can all be in use
-stored_on : (bytes : List ℕ) (slot : Slot) (s : Stored) → IsChosen bytes slot → IsOn bytes s → IsFlat s.kept → AreStored (blocks_found slot s.kept.tables) (length bytes)
-stored_on bytes slot s chosen on flat =
-    let has = leaves_on bytes s on flat in
+stored_on : (bytes : List ℕ) (slot : Slot) (s : Stored) → IsChosen bytes slot → IsOn bytes s → AreStored (blocks_found slot s.kept.tables s.trees) (length bytes)
+stored_on bytes slot s chosen on =
     let tables : List Block = tables_blocks s.kept.tables s.trees in
     let history : List Block = history_blocks s.kept s.history in
-    let same : tables ≡ tables_blocks s.kept.tables (map leaf_tree has.leaves) = ap (λ (l : List TableTree). tables_blocks s.kept.tables l) has.trees_are in
-    let addressed = subst (λ (l : List Block). AllByRecursion (λ (b : Block). IsAddressed b) l) same (all_front (λ (b : Block). IsAddressed b) tables history on.whole.addressed.1) in
-    let holds = subst (λ (l : List Block). Holds bytes l) same (holds_front bytes tables history on.holds.1) in
-    let away = subst (λ (l : List Block). AllByRecursion (λ (c : Block). AreApart (record_block s).place c.place) l) same (all_front (λ (c : Block). AreApart (record_block s).place c.place) tables history on.whole.apart.0) in
-    let apart = subst (λ (l : List Block). Apart l) same (apart_front tables history on.whole.apart.1) in
-    subst (λ (x : Slot). AreStored (blocks_found x s.kept.tables) (length bytes)) (slot_is bytes slot s chosen on)
-    (stored_of (blocks_found s.slot s.kept.tables) (record_block s ∷ tables_blocks s.kept.tables (map leaf_tree has.leaves)) bytes (refl, tables_match s.kept.tables has.leaves (leaves_count bytes s.kept.tables has.leaves has.are))
-    (on.whole.addressed.0, addressed) (on.holds.0, holds) (record_bytes s.kept, tables_long s.kept.tables has.leaves) (away, apart))
+    subst (λ (x : Slot). AreStored (blocks_found x s.kept.tables s.trees) (length bytes)) (slot_is bytes slot s chosen on)
+    (stored_of (blocks_found s.slot s.kept.tables s.trees) (record_block s ∷ tables) bytes (refl, blocks_match tables)
+    (on.whole.addressed.0, all_front (λ (b : Block). IsAddressed b) tables history on.whole.addressed.1) (on.holds.0, holds_front bytes tables history on.holds.1) (record_bytes s.kept, tables_long s.kept.tables s.trees)
+    (all_front (λ (c : Block). AreApart (record_block s).place c.place) tables history on.whole.apart.0, apart_front tables history on.whole.apart.1))
 
 -- ---- a damaged device reads as nothing
 
@@ -126,20 +111,24 @@ no_record_no_content : (bytes : List ℕ) (slot : Slot) → IsChosen bytes slot 
 no_record_no_content bytes slot chosen none content (inl blank) = no_blank bytes slot chosen blank.0
 no_record_no_content bytes slot chosen none content (inr (s, on, same)) = none s.kept on.whole.is_record (sequence_is bytes slot s chosen on) (block_spelled bytes slot s chosen on)
 
-leaf_no_content : (bytes : List ℕ) (at want found : ℕ) → LeafSpoils bytes at want found → (content : Content) → Reads bytes content → ⊥
-leaf_no_content bytes at want found spoils content (inl blank) = no_blank bytes spoils.slot spoils.there.chosen blank.0
-leaf_no_content bytes at want found spoils content (inr (s, on, same)) =
+tree_no_content : (bytes : List ℕ) (at want found : ℕ) → TablesSpoil bytes at want found → (content : Content) → Reads bytes content → ⊥
+tree_no_content bytes at want found spoils content (inl blank) = no_blank bytes spoils.slot spoils.there.chosen blank.0
+tree_no_content bytes at want found spoils content (inr (s, on, same)) =
     let kept : s.kept ≡ spoils.names = kept_is bytes spoils.slot s spoils.names spoils.there.chosen spoils.there.is_record spoils.there.is on in
-    let has = leaves_on bytes s on (subst (λ (r : Record). IsFlat r) (sym kept) spoils.flat) in
     let among : IsAmong s.kept.tables spoils.table = subst (λ (r : Record). IsAmong r.tables spoils.table) (sym kept) spoils.among in
-    let leaf = leaf_at bytes s.kept.tables has.leaves spoils.table among.0 has.are among.1 among.2 in
-    spoils.why.0 leaf.0 leaf.1
+    let tree = tree_at bytes s.kept.tables s.trees spoils.table among.0 (trees_on bytes s on) among.1 among.2 in
+    spoilt_no_tree bytes spoils.table.root at want found tree.0 spoils.tree tree.1
 
 meet_no_content : (bytes : List ℕ) (at want found : ℕ) → BlocksMeet bytes at want found → (content : Content) → Reads bytes content → ⊥
 meet_no_content bytes at want found meet content (inl blank) = no_blank bytes meet.slot meet.there.chosen blank.0
 meet_no_content bytes at want found meet content (inr (s, on, same)) =
     let kept : s.kept ≡ meet.names = kept_is bytes meet.slot s meet.names meet.there.chosen meet.there.is_record meet.there.is on in
-    let are = subst (λ (r : Record). AreStored (blocks_found meet.slot r.tables) (length bytes)) kept (stored_on bytes meet.slot s meet.there.chosen on (subst (λ (r : Record). IsFlat r) (sym kept) meet.flat)) in
+    let tables : List TableRoot = meet.names.tables in
+    let there : HaveTrees bytes tables s.trees = subst (λ (r : Record). HaveTrees bytes r.tables s.trees) kept (trees_on bytes s on) in
+    let stored : AreStored (blocks_found meet.slot tables s.trees) (length bytes) = subst (λ (r : Record). AreStored (blocks_found meet.slot r.tables s.trees) (length bytes)) kept (stored_on bytes meet.slot s meet.there.chosen on) in
+    let one : found_of (tables_blocks tables s.trees) ≡ found_of (tables_blocks tables meet.trees) =
+    same_found (tables_blocks tables s.trees) (tables_blocks tables meet.trees) (same_tables bytes tables s.trees meet.trees there meet.have) in
+    let are : AreStored (blocks_found meet.slot tables meet.trees) (length bytes) = subst (λ (l : List Found). AreStored (record_found meet.slot ∷ l) (length bytes)) one stored in
     elim meet.why [ inl none ↦ none (are.fit meet.index meet.within) | inr (j, lt, none) ↦ none (are.agree j meet.index lt meet.within) ]
 
 pub damage_no_content : (bytes : List ℕ) (at want found : ℕ) (content : Content) → IsDamage bytes at want found → Reads bytes content → ⊥
@@ -148,7 +137,7 @@ damage_no_content bytes at want found content (inr (inl spoils)) reads = elim sp
   | inl other ↦ spoilt_no_content bytes spoils.slot found spoils.chosen other content reads
   | inr (same, none) ↦ no_record_no_content bytes spoils.slot spoils.chosen none content reads
 ]
-damage_no_content bytes at want found content (inr (inr (inl spoils))) reads = leaf_no_content bytes at want found spoils content reads
+damage_no_content bytes at want found content (inr (inr (inl spoils))) reads = tree_no_content bytes at want found spoils content reads
 damage_no_content bytes at want found content (inr (inr (inr meet))) reads = meet_no_content bytes at want found meet content reads
 
 -- ---- what else a record says of the device
@@ -157,37 +146,42 @@ pub run_read : (bytes : List ℕ) (slot : Slot) (r : Record) → IsChosen bytes 
 run_read bytes slot r chosen is spelled content (inl blank) = absurd (no_blank bytes slot chosen blank.0)
 run_read bytes slot r chosen is spelled content (inr (s, on, same)) = ap (λ (c : Content). c.run) same ∙ ap (λ (x : Record). x.run) (kept_is bytes slot s r chosen is spelled on)
 
-pub not_flat : (bytes : List ℕ) (slot : Slot) (r : Record) → IsChosen bytes slot → IsRecord r → range bytes slot.offset slot.size ≡ block_of (record_image r) → (IsFlat r → ⊥) → (s : Stored) → IsOn bytes s → IsFlat s.kept → ⊥
-not_flat bytes slot r chosen is spelled none s on flat = none (subst (λ (x : Record). IsFlat x) (kept_is bytes slot s r chosen is spelled on) flat)
+pub not_bare : (bytes : List ℕ) (slot : Slot) (r : Record) → IsChosen bytes slot → IsRecord r → range bytes slot.offset slot.size ≡ block_of (record_image r) → (IsBare r → ⊥) → (s : Stored) → IsOn bytes s → IsBare s.kept → ⊥
+not_bare bytes slot r chosen is spelled none s on bare = none (subst (λ (x : Record). IsBare x) (kept_is bytes slot s r chosen is spelled on) bare)
 
--- ---- from the leaves to the device
+-- ---- from the trees to the device
 
-leaves_addressed : (bytes : List ℕ) (tables : List TableRoot) (leaves : List (List Row)) → AreLeaves bytes tables leaves → AllByRecursion (λ (b : Block). IsAddressed b) (tables_blocks tables (map leaf_tree leaves))
-leaves_addressed bytes [] leaves are = tt
-leaves_addressed bytes (t ∷ tables) [] are = tt
-leaves_addressed bytes (t ∷ tables) (rows ∷ leaves) are = all_join (λ (b : Block). IsAddressed b) (blocks_at t.root.link rows) (tables_blocks tables (map leaf_tree leaves)) are.0.addressed (leaves_addressed bytes tables leaves are.1)
+record TreesAll (bytes : List ℕ) (tables : List TableRoot) (trees : List TableTree) : Type 0 where
+  trees_are : AreTrees tables trees
+  addressed : AllByRecursion (λ (b : Block). IsAddressed b) (tables_blocks tables trees)
+  held : Holds bytes (tables_blocks tables trees)
 
-leaves_held : (bytes : List ℕ) (tables : List TableRoot) (leaves : List (List Row)) → AreLeaves bytes tables leaves → Holds bytes (tables_blocks tables (map leaf_tree leaves))
-leaves_held bytes [] leaves are = tt
-leaves_held bytes (t ∷ tables) [] are = tt
-leaves_held bytes (t ∷ tables) (rows ∷ leaves) are = all_join (λ (b : Block). IsAt bytes b) (blocks_at t.root.link rows) (tables_blocks tables (map leaf_tree leaves)) are.0.holds (leaves_held bytes tables leaves are.1)
-
-leaves_trees : (bytes : List ℕ) (tables : List TableRoot) (leaves : List (List Row)) → AllByRecursion (λ (t : TableRoot). t.root.level ≡ 0) tables → AreLeaves bytes tables leaves → AreTrees tables (map leaf_tree leaves)
-leaves_trees bytes [] [] levels are = tt
-leaves_trees bytes [] (rows ∷ leaves) levels are = absurd are
-leaves_trees bytes (t ∷ tables) [] levels are = absurd are
-leaves_trees bytes (t ∷ tables) (rows ∷ leaves) levels are =
-    (subst (λ (n : ℕ). IsTree table_kind n (root_entry t.root.link) (leaf_tree rows)) (sym levels.0) (leaf_is_tree t.root.link rows are.0.bears), leaves_trees bytes tables leaves levels.1 are.1)
+trees_all : (bytes : List ℕ) (tables : List TableRoot) (trees : List TableTree) → HaveTrees bytes tables trees → TreesAll bytes tables trees
+trees_all bytes [] [] have = record { trees_are = tt; addressed = tt; held = tt }
+trees_all bytes [] (tree ∷ trees) have = absurd have
+trees_all bytes (t ∷ tables) [] have = absurd have
+trees_all bytes (t ∷ tables) (tree ∷ trees) have =
+    let own : List Block = tree_blocks table_kind (root_entry t.root.link) tree in
+    let others : List Block = tables_blocks tables trees in
+    let rest = trees_all bytes tables trees have.1 in
+    record {
+      trees_are = (have.0.is, rest.trees_are);
+      addressed = all_join (λ (b : Block). IsAddressed b) own others have.0.addressed rest.addressed;
+      held = all_join (λ (b : Block). IsAt bytes b) own others have.0.holds rest.held;
+    }
 
 abbrev no_records : HistoryTree
 no_records = record { layers = []; leaves = [] ∷ [] }
 
-module _ (bytes : List ℕ) (slot : Slot) (r : Record) (leaves : List (List Row)) (names : Names bytes slot r) (flat : IsFlat r) (are : AreLeaves bytes r.tables leaves) (stored : AreStored (blocks_found slot r.tables) (length bytes)) where
+module _ (bytes : List ℕ) (slot : Slot) (r : Record) (trees : List TableTree) (names : Names bytes slot r) (bare : IsBare r) (have : HaveTrees bytes r.tables trees) (stored : AreStored (blocks_found slot r.tables trees) (length bytes)) where
   abbrev made : Stored
-  made = flat_stored slot r leaves
+  made = bare_stored slot r trees
 
   abbrev tables : List Block
-  tables = tables_blocks r.tables (map leaf_tree leaves)
+  tables = tables_blocks r.tables trees
+
+  every : TreesAll bytes r.tables trees
+  every = trees_all bytes r.tables trees have
 
   size : slot.size ≡ block_size (length (record_image r))
   size = sym (range_length bytes slot.offset slot.size names.there.within) ∙ ap length names.is ∙ length_block (record_image r)
@@ -199,22 +193,22 @@ module _ (bytes : List ℕ) (slot : Slot) (r : Record) (leaves : List (List Row)
   record_addressed = record { low = names.there.place.behind; unit = names.there.place.unit; size = size; most = names.there.place.most; sum = sym names.there.sum ∙ ap sum_of record_there.is }
 
   no_history : history_blocks r no_records ≡ []
-  no_history = ap (λ (h : Root). tree_blocks history_kind (history_root_entry h.link) no_records) flat.history
+  no_history = ap (λ (h : Root). tree_blocks history_kind (history_root_entry h.link) no_records) bare
 
   blocks_are : stored_blocks made ≡ record_block made ∷ tables
   blocks_are = ap (λ (l : List Block). record_block made ∷ (tables ++ l)) no_history ∙ ap (λ (l : List Block). record_block made ∷ l) (append-nil tables)
 
-  matches : Matches (blocks_found slot r.tables) (record_block made ∷ tables)
-  matches = (refl, tables_match r.tables leaves (leaves_count bytes r.tables leaves are))
+  matches : Matches (blocks_found slot r.tables trees) (record_block made ∷ tables)
+  matches = (refl, blocks_match tables)
 
   whole : IsWhole made
   whole = record {
     sequence = names.sequence;
     is_record = names.is_record;
-    trees = leaves_trees bytes r.tables leaves flat.levels are;
-    history = subst (λ (h : Root). IsTree history_kind h.level (history_root_entry h.link) no_records) (sym flat.history) history_empty;
-    addressed = subst (λ (l : List Block). AllByRecursion (λ (b : Block). IsAddressed b) l) (sym blocks_are) (record_addressed, leaves_addressed bytes r.tables leaves are);
-    apart = subst (λ (l : List Block). Apart l) (sym blocks_are) (apart_of (blocks_found slot r.tables) (record_block made ∷ tables) (length bytes) matches (found_last slot r.tables) stored);
+    trees = every.trees_are;
+    history = subst (λ (h : Root). IsTree history_kind h.level (history_root_entry h.link) no_records) (sym bare) history_empty;
+    addressed = subst (λ (l : List Block). AllByRecursion (λ (b : Block). IsAddressed b) l) (sym blocks_are) (record_addressed, every.addressed);
+    apart = subst (λ (l : List Block). Apart l) (sym blocks_are) (apart_of (blocks_found slot r.tables trees) (record_block made ∷ tables) (length bytes) matches (found_last slot r.tables trees) stored);
   }
 
   made_on : IsOn bytes made
@@ -222,12 +216,12 @@ module _ (bytes : List ℕ) (slot : Slot) (r : Record) (leaves : List (List Row)
     whole = whole;
     long = names.chosen.long;
     chosen = names.chosen.chooses;
-    holds = subst (λ (l : List Block). Holds bytes l) (sym blocks_are) (record_there, leaves_held bytes r.tables leaves are);
+    holds = subst (λ (l : List Block). Holds bytes l) (sym blocks_are) (record_there, every.held);
   }
 
-  pub serves : (place : Place) → place.slot ≡ Some slot → place.blocks.is_synced ≡ false → HasBooks (blocks_found slot r.tables) place.blocks → Serves bytes place (Some made)
+  pub serves : (place : Place) → place.slot ≡ Some slot → place.blocks.is_synced ≡ false → HasBooks (blocks_found slot r.tables trees) place.blocks → Serves bytes place (Some made)
   serves place slot_there fresh has =
-      let told = told_of (blocks_found slot r.tables) (record_block made ∷ tables) place.blocks (length bytes) matches names.chosen.long has stored in
+      let told = told_of (blocks_found slot r.tables trees) (record_block made ∷ tables) place.blocks (length bytes) matches names.chosen.long has stored in
       record {
         still = made_on;
         slot = slot_there;

@@ -3,10 +3,9 @@ use Rattle.std.specs.Prelude.{◌≡◌, ℕ, zero, suc, ◌+◌, ◌<◌, ◌�
 use Rattle.std.specs.List.{AllByRecursion, flat_map, fold}
 use Rattle.std.proofs.Common.{inl, inr, sym, ◌∙◌, ap, subst, arith}
 use Rattle.std.proofs.lemmas.Bool.{cases_Bool, false≢true}
-use Rattle.std.proofs.lemmas.List.{length-append}
+use Rattle.std.proofs.lemmas.List.{map-append}
 use Rattle.extent_list.proofs.SpaceLemmas.{free_before_end}
 use Rattle.device_layout.specs.declared.addr.Addr.{Addr}
-use Rattle.device_layout.specs.declared.link.Link.{Link}
 use Rattle.device_layout.specs.declared.slot.Slot.{Slot}
 use Rattle.block_mgr.specs.declared.cell.Cell.{Cell}
 use Rattle.block_mgr.specs.declared.found.Found.{Found}
@@ -16,17 +15,21 @@ use Rattle.block_mgr.specs.Places.{IsPlace}
 use Rattle.block_mgr.specs.Open.{AreStored, Agree, Fits, found_at}
 use Rattle.row_page.specs.Rows.{Row}
 use Rattle.stored.specs.Blocks.{Block, IsAddressed, Holds, Apart, AreApart}
-use Rattle.stored.specs.Records.{TableRoot}
+use Rattle.stored.specs.Tree.{Layer, join, bottom, page_blocks, inner_blocks, leaf_blocks, tree_blocks}
+use Rattle.stored.specs.TableTree.{Entry, TableTree, table_kind, root_entry}
+use Rattle.stored.specs.Records.{Root, TableRoot}
 use Rattle.stored.specs.Stored.{tables_blocks}
 use Rattle.checkpoint_core.specs.Stands.{AreInUse}
 use Rattle.checkpoint_core.specs.Room.{InBlocks, end_of}
-use Rattle.device_leaf.specs.Leaves.{blocks_at}
 use Rattle.device_leaf.specs.Openings.{HasBooks}
 use Rattle.device_leaf.proofs.Leaves.{place_is, leaf_bytes}
+use Rattle.tree_open.specs.declared.place.TreePlace.{TreePlace}
+use Rattle.tree_open.specs.Trees.{places}
+use Rattle.tree_open.proofs.OnePage.{image_bytes}
 use Rattle.device_leaf.proofs.Shapes.{all_join}
 use Rattle.device_leaf.proofs.Books.{ends, Inside, Told, found_used, not_free, free_or_found}
-use Rattle.recover_open.specs.Flat.{leaf_tree}
-use Rattle.recover_open.specs.Damage.{leaf_found_of, blocks_found}
+use Rattle.recover_open.specs.Bare.{ArePlaces}
+use Rattle.recover_open.specs.Damage.{found_there, blocks_found}
 
 -- each was found where a block stands, one by one
 abbrev pub Matches : List Found → List Block → Type 0
@@ -35,62 +38,79 @@ Matches [] (b ∷ blocks) = ⊥
 Matches (f ∷ found) [] = ⊥
 Matches (f ∷ found) (b ∷ blocks) = (f.addr ≡ b.place) × Matches found blocks
 
-matches_join : (found more : List Found) (blocks rest : List Block) → Matches found blocks → Matches more rest → Matches (found ++ more) (blocks ++ rest)
-matches_join [] more [] rest m n = n
-matches_join [] more (b ∷ blocks) rest m n = absurd m
-matches_join (f ∷ found) more [] rest m n = absurd m
-matches_join (f ∷ found) more (b ∷ blocks) rest m n = (m.0, matches_join found more blocks rest m.1 n)
+-- the blocks of trees are found where they stand
+abbrev pub found_of : List Block → List Found
+found_of blocks = map {A = Block} (λ b. found_there b.place) blocks
 
-leaf_matches : (t : TableRoot) (rows : List Row) → Matches (leaf_found_of t) (blocks_at t.root.link rows)
-leaf_matches t rows = elim (cases_Bool (t.root.link.addr.offset == 0)) [ inl is ↦ rw is tt | inr isnt ↦ rw isnt (refl, tt) ]
+pub blocks_match : (blocks : List Block) → Matches (found_of blocks) blocks
+blocks_match [] = tt
+blocks_match (b ∷ blocks) = (refl, blocks_match blocks)
 
-pub tables_match : (tables : List TableRoot) (leaves : List (List Row)) → length leaves ≡ length tables → Matches (flat_map leaf_found_of tables) (tables_blocks tables (map leaf_tree leaves))
-tables_match [] leaves same = tt
-tables_match (t ∷ tables) [] same = absurd (omega (arith, same))
-tables_match (t ∷ tables) (rows ∷ leaves) same =
-    matches_join (leaf_found_of t) (flat_map leaf_found_of tables) (blocks_at t.root.link rows) (tables_blocks tables (map leaf_tree leaves)) (leaf_matches t rows) (tables_match tables leaves (omega (arith, same)))
+-- ---- the same by their places
+
+found_places : (blocks : List Block) → found_of blocks ≡ map found_there (places blocks)
+found_places [] = refl
+found_places (b ∷ blocks) = ap (λ (l : List Found). found_there b.place ∷ l) (found_places blocks)
+
+pub same_found : (xs ys : List Block) → places xs ≡ places ys → found_of xs ≡ found_of ys
+same_found xs ys same = found_places xs ∙ ap (λ (l : List Addr). map found_there l) same ∙ sym (found_places ys)
+
+pub placed_found : (ps : List TreePlace) (tables : List TableRoot) (trees : List TableTree) → ArePlaces ps tables trees → flat_map (λ (p : TreePlace). map found_there p.addrs.items) ps ≡ found_of (tables_blocks tables trees)
+placed_found [] [] [] are = refl
+placed_found [] [] (tree ∷ trees) are = absurd are
+placed_found [] (t ∷ tables) trees are = absurd are
+placed_found (p ∷ ps) [] trees are = absurd are
+placed_found (p ∷ ps) (t ∷ tables) [] are = absurd are
+placed_found (p ∷ ps) (t ∷ tables) (tree ∷ trees) are =
+    let own : List Block = tree_blocks table_kind (root_entry t.root.link) tree in
+    let here : map found_there p.addrs.items ≡ found_of own =
+    ap (λ (l : List Addr). map found_there l) (are.1.addrs ∙ ap (λ (r : Root). places (tree_blocks table_kind (root_entry r.link) tree)) are.0) ∙ sym (found_places own) in
+    ap (λ (l : List Found). l ++ flat_map (λ (q : TreePlace). map found_there q.addrs.items) ps) here
+    ∙ ap (λ (l : List Found). found_of own ++ l) (placed_found ps tables trees are.2)
+    ∙ sym (map-append {A = Block} (λ b. found_there b.place) own (tables_blocks tables trees))
 
 -- ---- images of at least a header
 
 abbrev pub IsLong : Block → Type 0
 IsLong b = 16 ≤ length b.image
 
-leaf_long : (link : Link) (rows : List Row) → AllByRecursion (λ (b : Block). IsLong b) (blocks_at link rows)
-leaf_long link rows = elim (cases_Bool (link.addr.offset == 0)) [ inl is ↦ rw is tt | inr isnt ↦ rw isnt (leaf_bytes rows, tt) ]
+abbrev AllLong : List Block → Type 0
+AllLong blocks = AllByRecursion (λ (b : Block). IsLong b) blocks
 
-pub tables_long : (tables : List TableRoot) (leaves : List (List Row)) → AllByRecursion (λ (b : Block). IsLong b) (tables_blocks tables (map leaf_tree leaves))
-tables_long [] leaves = tt
+pages_long : (level : ℕ) (own : List Entry) (pages : Layer Entry) → AllLong (page_blocks table_kind level own pages)
+pages_long level [] pages = tt
+pages_long level (e ∷ own) [] = tt
+pages_long level (e ∷ own) (p ∷ pages) = (image_bytes level p, pages_long level own pages)
+
+layers_long : (own : List Entry) (layers : List (Layer Entry)) → AllLong (inner_blocks table_kind own layers)
+layers_long own [] = tt
+layers_long own (pages ∷ layers) =
+    all_join (λ (b : Block). IsLong b) (page_blocks table_kind (suc (length layers)) own pages) (inner_blocks table_kind (join pages) layers) (pages_long (suc (length layers)) own pages) (layers_long (join pages) layers)
+
+leaves_long : (es : List Entry) (leaves : List (List Row)) → AllLong (leaf_blocks table_kind es leaves)
+leaves_long [] leaves = tt
+leaves_long (e ∷ es) [] = tt
+leaves_long (e ∷ es) (rows ∷ leaves) = elim (cases_Bool (e.link.addr.offset == 0)) [ inl is ↦ rw is (leaves_long es leaves) | inr isnt ↦ rw isnt (leaf_bytes rows, leaves_long es leaves) ]
+
+pub tables_long : (tables : List TableRoot) (trees : List TableTree) → AllLong (tables_blocks tables trees)
+tables_long [] trees = tt
 tables_long (t ∷ tables) [] = tt
-tables_long (t ∷ tables) (rows ∷ leaves) = all_join (λ (b : Block). IsLong b) (blocks_at t.root.link rows) (tables_blocks tables (map leaf_tree leaves)) (leaf_long t.root.link rows) (tables_long tables leaves)
+tables_long (t ∷ tables) (tree ∷ trees) =
+    let own : List Entry = root_entry t.root.link ∷ [] in
+    all_join (λ (b : Block). IsLong b) (tree_blocks table_kind (root_entry t.root.link) tree) (tables_blocks tables trees)
+    (all_join (λ (b : Block). IsLong b) (inner_blocks table_kind own tree.layers) (leaf_blocks table_kind (bottom own tree.layers) tree.leaves) (layers_long own tree.layers) (leaves_long (bottom own tree.layers) tree.leaves)) (tables_long tables trees)
 
--- ---- who has them, and how many they are
+-- ---- who has them
 
 abbrev pub AllLast : List Found → Type 0
 AllLast found = AllByRecursion (λ (f : Found). lasts f.holder ≡ true) found
 
-last_join : (xs ys : List Found) → AllLast xs → AllLast ys → AllLast (xs ++ ys)
-last_join [] ys all more = more
-last_join (x ∷ xs) ys all more = (all.0, last_join xs ys all.1 more)
+blocks_last : (blocks : List Block) → AllLast (found_of blocks)
+blocks_last [] = tt
+blocks_last (b ∷ blocks) = (refl, blocks_last blocks)
 
-leaf_last : (t : TableRoot) → AllLast (leaf_found_of t)
-leaf_last t = elim (cases_Bool (t.root.link.addr.offset == 0)) [ inl is ↦ rw is tt | inr isnt ↦ rw isnt (refl, tt) ]
-
-leaves_last : (tables : List TableRoot) → AllLast (flat_map leaf_found_of tables)
-leaves_last [] = tt
-leaves_last (t ∷ tables) = last_join (leaf_found_of t) (flat_map leaf_found_of tables) (leaf_last t) (leaves_last tables)
-
-pub found_last : (slot : Slot) (tables : List TableRoot) → AllLast (blocks_found slot tables)
-found_last slot tables = (refl, leaves_last tables)
-
-leaf_few : (t : TableRoot) → length (leaf_found_of t) ≤ 1
-leaf_few t = elim (cases_Bool (t.root.link.addr.offset == 0)) [ inl is ↦ rw is (omega arith) | inr isnt ↦ rw isnt (omega arith) ]
-
-leaves_few : (tables : List TableRoot) → length (flat_map leaf_found_of tables) ≤ length tables
-leaves_few [] = omega arith
-leaves_few (t ∷ tables) = omega (arith, length-append (leaf_found_of t) (flat_map leaf_found_of tables), leaf_few t, leaves_few tables)
-
-pub found_few : (slot : Slot) (tables : List TableRoot) → length (blocks_found slot tables) ≤ length tables + 1
-found_few slot tables = omega (arith, leaves_few tables)
+pub found_last : (slot : Slot) (tables : List TableRoot) (trees : List TableTree) → AllLast (blocks_found slot tables trees)
+found_last slot tables trees = (refl, blocks_last (tables_blocks tables trees))
 
 -- ---- blocks that stand apart can all be in use
 

@@ -1,12 +1,8 @@
 -- The steps of a recovery.
-use Rattle.std.specs.Prelude.{◌≡◌, ◌≢◌, ◌⊎◌, ℕ, ◌+◌, ◌<◌, ◌≤◌, ◌&&◌, Bool, true, false, List, [], ◌∷◌, ◌++◌, length, map, take, Option, Some, None, refl}
-use Rattle.std.specs.List.{AllByRecursion, flat_map, list_all}
+use Rattle.std.specs.Prelude.{◌≡◌, ◌≢◌, ◌⊎◌, ℕ, ◌+◌, ◌<◌, ◌≤◌, List, [], ◌∷◌, ◌++◌, length, map, take, false, Option, Some, None, refl}
 use Rattle.std.proofs.Common.{inl, inr, sym, ◌∙◌, ap, subst, arith, get_or}
-use Rattle.std.proofs.lemmas.Bool.{eqb-true, eq-eqb, false≢true}
-use Rattle.std.proofs.lemmas.List.{append-nil, length-map}
-use Rattle.std.proofs.lemmas.List.Concat.{flat_map-append}
-use Rattle.disk_model.specs.declared.disk.Disk.{Ghosts}
-use Rattle.disk_model.specs.Crash.{Looked}
+use Rattle.std.proofs.lemmas.Bool.{false≢true}
+use Rattle.std.proofs.lemmas.List.{length-map, map_push, take_all}
 use Rattle.extent_list.specs.Space.{Space, IsFree, end_of as space_end}
 use Rattle.device_layout.specs.declared.addr.Addr.{Addr}
 use Rattle.device_layout.specs.declared.slot.Slot.{Slot}
@@ -18,44 +14,26 @@ use Rattle.block_mgr.specs.Places.{Spoils}
 use Rattle.block_mgr.specs.Open.{AreStored, found_at}
 use Rattle.row_page.specs.Rows.{Row}
 use Rattle.le_codec.specs.Images.{block_of}
-use Rattle.stored.specs.Records.{TableRoot, Record, record_image, IsRecord}
+use Rattle.stored.specs.Records.{Root, TableRoot, Record, record_image, IsRecord}
+use Rattle.stored.specs.TableTree.{Entry, TableTree}
 use Rattle.wt_code.specs.declared.refusals.Refusal.{Refusal}
 use Rattle.wt_code.specs.declared.refusals.Refusal.TheVariants.{DiskFault, Corrupt}
 use Rattle.checkpoint_record.proofs.Lists.{take_step}
-use Rattle.device_leaf.specs.NoHistory.{no_root}
-use Rattle.device_leaf.specs.Damage.{FoundNoLeaf, IsChosen}
-use Rattle.device_leaf.specs.Leaves.{LeafIs}
-use Rattle.device_leaf.specs.Openings.{LeafRefused, Serves, last_number}
+use Rattle.device_leaf.specs.Damage.{IsChosen, record_found}
+use Rattle.device_leaf.specs.Openings.{Serves, last_number}
 use Rattle.device_leaf.proofs.Opens.{IsRecordBlock, no_blank}
 use Rattle.recover_open.specs.declared.opening.Kept.{Kept}
 use Rattle.recover_open.specs.declared.opening.Recovered.{Recovered}
-use Rattle.recover_open.specs.Flat.{IsFlat, is_leaf, flat_stored, kept_of, AreLeaves}
-use Rattle.recover_open.specs.Damage.{Names, HasNoRecord, IsAmong, CannotStand, IsDamage, RecordSpoils, leaf_found_of, blocks_found}
-use Rattle.recover_open.specs.Recoveries.{Counts, KeepsOr, IsRecovered, InForm, RecoveryRefused, IsSound, IsRecordOf, RefusesRecord, RecordRefused, LeavesRefused, RefusesBlocks, IsAssembled, IsNothing}
-use Rattle.recover_open.proofs.Devices.{same_record, run_read, not_flat, serves}
-
-pub looked_none : {D : Type 0} (g : Ghosts D) (d : D) → Looked g d d
-looked_none g d = record { same = refl; content = refl; images = λ c left. left; capacity = refl; count = omega arith; later = omega arith; since = λ t c le left. left }
-
--- ---- flat records
-
-both : (a b : Bool) → (a && b) ≡ true → (a ≡ true) × (b ≡ true)
-both true b is = (refl, is)
-both false b is = cc
-
-levels_of : (tables : List TableRoot) → list_all is_leaf tables ≡ true → AllByRecursion (λ (t : TableRoot). t.root.level ≡ 0) tables
-levels_of [] all = tt
-levels_of (t ∷ tables) all = let parts = both (is_leaf t) (list_all is_leaf tables) all in (eqb-true t.root.level 0 parts.0, levels_of tables parts.1)
-
-all_leaves : (tables : List TableRoot) → AllByRecursion (λ (t : TableRoot). t.root.level ≡ 0) tables → list_all is_leaf tables ≡ true
-all_leaves [] levels = refl
-all_leaves (t ∷ tables) levels = rw (eq-eqb t.root.level 0 levels.0) (all_leaves tables levels.1)
-
-pub flat_from : (r : Record) (tables : List TableRoot) (b : Bool) → tables ≡ r.tables → r.history ≡ no_root → b ≡ list_all is_leaf tables → (b ≡ true → IsFlat r) × (IsFlat r → b ≡ true)
-flat_from r tables b same history is = (
-  λ all. record { levels = levels_of r.tables (subst (λ (l : List TableRoot). list_all is_leaf l ≡ true) same (sym is ∙ all)); history = history },
-  λ flat. is ∙ subst (λ (l : List TableRoot). list_all is_leaf l ≡ true) (sym same) (all_leaves r.tables flat.levels),
-)
+use Rattle.tree_open.specs.declared.place.TreePlace.{TreePlace}
+use Rattle.tree_open.specs.Trees.{InnerIs, HasTree, IsPlaceOf}
+use Rattle.tree_open.specs.Damage.{Refused, InnerSpoils}
+use Rattle.tree_open.proofs.Steps.{refused_more}
+use Rattle.recover_open.specs.Bare.{IsBare, HaveTrees, ArePlaces, bare_stored, kept_of, tree_rows}
+use Rattle.recover_open.specs.Leaves.{TreeIs}
+use Rattle.recover_open.specs.Damage.{Names, HasNoRecord, IsAmong, CannotStand, IsDamage, RecordSpoils, LeavesSpoil, TreeSpoils, blocks_found, places_found}
+use Rattle.recover_open.specs.Recoveries.{Counts, KeepsOr, IsRecovered, InForm, RecoveryRefused, IsSound, IsRecordOf, RefusesRecord, RecordRefused, TreesAre, TreesRefused, RefusesBlocks, IsAssembled, IsNothing, placed_roots, table_roots}
+use Rattle.recover_open.proofs.Places.{placed_found}
+use Rattle.recover_open.proofs.Devices.{same_record, run_read, not_bare, serves}
 
 -- ---- the record
 
@@ -87,7 +65,7 @@ record_refused fault known bytes block slot r (inr (inl (is, none))) there =
 record_refused fault known bytes block slot r (inr (inr (inl (is, (q, good, spelled, last))))) there =
     inr (inr (inl (is, λ k content reads. run_read bytes slot q (there k).chosen good (sym (there k).is ∙ spelled) content reads ∙ most_run q good last)))
 record_refused fault known bytes block slot r (inr (inr (inr (is, (q, good, spelled, none))))) there =
-    inr (inr (inr (inl (is, (λ k s on flat. not_flat bytes slot q (there k).chosen good (sym (there k).is ∙ spelled) none s on flat), λ k blank. no_blank bytes slot (there k).chosen blank))))
+    inr (inr (inr (inl (is, (λ k s on bare. not_bare bytes slot q (there k).chosen good (sym (there k).is ∙ spelled) none s on bare), λ k blank. no_blank bytes slot (there k).chosen blank))))
 
 pub record_spoilt : (bytes : List ℕ) (slot : Slot) (a : Addr) (found : ℕ) → a ≡ addr_in slot → IsChosen bytes slot → Spoils bytes a found → RecordSpoils bytes a.offset a.sum found
 record_spoilt bytes slot a found is chosen spoils = record {
@@ -98,86 +76,159 @@ record_spoilt bytes slot a found is chosen spoils = record {
   why = inl (subst (λ (x : Addr). Spoils bytes x found) is spoils);
 }
 
--- ---- the leaves
+-- ---- the trees
 
-leaves_with : (bytes : List ℕ) (tables : List TableRoot) (leaves : List (List Row)) (t : TableRoot) (rows : List Row) → AreLeaves bytes tables leaves → LeafIs bytes t.root.link rows → AreLeaves bytes (tables ++ t ∷ []) (leaves ++ rows ∷ [])
-leaves_with bytes [] [] t rows are leaf = (leaf, tt)
-leaves_with bytes [] (other ∷ leaves) t rows are leaf = absurd are
-leaves_with bytes (u ∷ tables) [] t rows are leaf = absurd are
-leaves_with bytes (u ∷ tables) (other ∷ leaves) t rows are leaf = (are.0, leaves_with bytes tables leaves t rows are.1 leaf)
+have_push : (bytes : List ℕ) (tables : List TableRoot) (trees : List TableTree) (t : TableRoot) (tree : TableTree) → HaveTrees bytes tables trees → HasTree bytes t.root tree → HaveTrees bytes (tables ++ t ∷ []) (trees ++ tree ∷ [])
+have_push bytes [] [] t tree have is = (is, tt)
+have_push bytes [] (other ∷ trees) t tree have is = absurd have
+have_push bytes (u ∷ tables) [] t tree have is = absurd have
+have_push bytes (u ∷ tables) (other ∷ trees) t tree have is = (have.0, have_push bytes tables trees t tree have.1 is)
 
-pub leaves_more : (bytes : List ℕ) (tables : List TableRoot) (i : ℕ) (t : TableRoot) (leaves : List (List Row)) (rows : List Row) → i < length tables → t ≡ get_or tables i t → AreLeaves bytes (take i tables) leaves → LeafIs bytes t.root.link rows
-    → AreLeaves bytes (take (i + 1) tables) (leaves ++ rows ∷ [])
-leaves_more bytes tables i t leaves rows lt is are leaf = subst (λ (l : List TableRoot). AreLeaves bytes l (leaves ++ rows ∷ [])) (sym (take_step tables i t lt is)) (leaves_with bytes (take i tables) leaves t rows are leaf)
+places_push : (ps : List TreePlace) (tables : List TableRoot) (trees : List TableTree) (p : TreePlace) (t : TableRoot) (tree : TableTree) → ArePlaces ps tables trees → p.root ≡ t.root → IsPlaceOf p tree → ArePlaces (ps ++ p ∷ []) (tables ++ t ∷ []) (trees ++ tree ∷ [])
+places_push [] [] [] p t tree are root is = (root, is, tt)
+places_push [] [] (other ∷ trees) p t tree are root is = absurd are
+places_push [] (u ∷ tables) trees p t tree are root is = absurd are
+places_push (q ∷ ps) [] trees p t tree are root is = absurd are
+places_push (q ∷ ps) (u ∷ tables) [] p t tree are root is = absurd are
+places_push (q ∷ ps) (u ∷ tables) (other ∷ trees) p t tree are root is = (are.0, are.1, places_push ps tables trees p t tree are.2 root is)
 
-pub leaves_refused : (fault later known still : Type 0) (bytes now : List ℕ) (tables : List TableRoot) (r : Refusal) → LeavesRefused later still now tables r → (later → fault) → (known → still) → now ≡ bytes
-    → (known → (t : TableRoot) → IsAmong tables t → (found : ℕ) → FoundNoLeaf bytes t.root.link found → IsDamage bytes t.root.link.addr.offset t.root.link.addr.sum found) → RecoveryRefused fault known bytes r
-leaves_refused fault later known still bytes now tables r (inl none) more k same bad = inr (inl none)
-leaves_refused fault later known still bytes now tables r (inr (t, among, inl failed)) more k same bad = inl (failed.0, more failed.1)
-leaves_refused fault later known still bytes now tables r (inr (t, among, inr (inl none))) more k same bad = inr (inl none)
-leaves_refused fault later known still bytes now tables r (inr (t, among, inr (inr (found, is, spoils)))) more k same bad =
-    inr (inr (inr (inr (t.root.link.addr.offset, t.root.link.addr.sum, found, is, λ h. bad h t among found (subst (λ (l : List ℕ). FoundNoLeaf l t.root.link found) same (spoils (k h)))))))
+pub trees_none : (bytes : List ℕ) (tables : List TableRoot) (ps : List TreePlace) (leaves : List (List Row)) → ps ≡ [] → leaves ≡ [] → TreesAre bytes (take 0 tables) ps leaves
+trees_none bytes tables ps leaves none also = record { trees = []; have = tt; stand = subst (λ (l : List TreePlace). ArePlaces l [] []) (sym none) tt; rows_are = also }
 
--- what is refused of a leaf that is loaded later
-pub leaf_later : (fault later known still : Type 0) (bytes now : List ℕ) (tables : List TableRoot) (t : TableRoot) (r : Refusal) → IsAmong tables t → LeafRefused later still now t.root.link r → (later → fault) → (known → still) → now ≡ bytes → LeavesRefused fault known bytes tables r
-leaf_later fault later known still bytes now tables t r among (inl failed) more k same = inr (t, among, inl (failed.0, more failed.1))
-leaf_later fault later known still bytes now tables t r among (inr (inl none)) more k same = inl none
-leaf_later fault later known still bytes now tables t r among (inr (inr (found, is, spoils))) more k same = inr (t, among, inr (inr (found, is, λ h. subst (λ (l : List ℕ). FoundNoLeaf l t.root.link found) same (spoils (k h)))))
+pub trees_more : (bytes : List ℕ) (tables : List TableRoot) (i : ℕ) (t : TableRoot) (root : Root) (ps all : List TreePlace) (leaves every : List (List Row)) (p : TreePlace) (rows : List Row) → i < length tables → t ≡ get_or tables i t → root ≡ t.root → TreesAre bytes (take i tables) ps leaves
+    → TreeIs bytes root p rows → all ≡ ps ++ p ∷ [] → every ≡ leaves ++ rows ∷ [] → TreesAre bytes (take (i + 1) tables) all every
+trees_more bytes tables i t root ps all leaves every p rows lt is same are tree added also =
+    let step : take (i + 1) tables ≡ take i tables ++ t ∷ [] = take_step tables i t lt is in
+    record {
+      trees = are.trees ++ tree.tree ∷ [];
+      have = subst (λ (l : List TableRoot). HaveTrees bytes l (are.trees ++ tree.tree ∷ [])) (sym step) (have_push bytes (take i tables) are.trees t tree.tree are.have (subst (λ (x : Root). HasTree bytes x tree.tree) same tree.has));
+      stand = subst (λ (l : List TreePlace). ArePlaces l (take (i + 1) tables) (are.trees ++ tree.tree ∷ [])) (sym added)
+          (subst (λ (l : List TableRoot). ArePlaces (ps ++ p ∷ []) l (are.trees ++ tree.tree ∷ [])) (sym step) (places_push ps (take i tables) are.trees p t tree.tree are.stand (tree.is_root ∙ same) tree.place));
+      rows_are = also ∙ ap (λ (l : List (List Row)). l ++ rows ∷ []) are.rows_are ∙ ap (λ (r : List Row). map tree_rows are.trees ++ r ∷ []) tree.rows_are ∙ sym (map_push tree_rows are.trees tree.tree);
+    }
+
+pub trees_whole : (bytes : List ℕ) (tables : List TableRoot) (i : ℕ) (ps : List TreePlace) (leaves : List (List Row)) → length tables ≤ i → TreesAre bytes (take i tables) ps leaves → TreesAre bytes tables ps leaves
+trees_whole bytes tables i ps leaves le are = subst (λ (l : List TableRoot). TreesAre bytes l ps leaves) (take_all i tables le) are
+
+-- the roots of the places
+pub roots_more : (tables : List TableRoot) (i : ℕ) (t : TableRoot) (root : Root) (ps all : List TreePlace) (p : TreePlace) → i < length tables → t ≡ get_or tables i t → root ≡ t.root → placed_roots ps ≡ table_roots (take i tables) → p.root ≡ root → all ≡ ps ++ p ∷ []
+    → placed_roots all ≡ table_roots (take (i + 1) tables)
+roots_more tables i t root ps all p lt is same were placed added =
+    ap placed_roots added
+    ∙ map_push {X = TreePlace} (λ q. q.root) ps p
+    ∙ ap (λ (l : List Root). l ++ p.root ∷ []) were
+    ∙ ap (λ (r : Root). table_roots (take i tables) ++ r ∷ []) (placed ∙ same)
+    ∙ sym (map_push {X = TableRoot} (λ u. u.root) (take i tables) t)
+    ∙ ap table_roots (sym (take_step tables i t lt is))
+
+-- what is refused of a tree that is read later
+pub tree_later : (fault later known still : Type 0) (bytes now : List ℕ) (tables : List TableRoot) (t : TableRoot) (root : Root) (r : Refusal) → IsAmong tables t → root ≡ t.root → Refused later still (TreeSpoils now root) r → (later → fault) → (known → still) → now ≡ bytes → TreesRefused fault known bytes tables r
+tree_later fault later known still bytes now tables t root r among is refused more k same =
+    inr (
+      t,
+      among,
+      refused_more later fault still known (TreeSpoils now root) (TreeSpoils bytes t.root) r more k
+          (λ at want found h spoils. subst (λ (x : Root). TreeSpoils bytes x at want found) is (subst (λ (l : List ℕ). TreeSpoils l root at want found) same spoils)) refused,
+    )
+
+pub trees_refused : (fault later known still : Type 0) (bytes now : List ℕ) (tables : List TableRoot) (r : Refusal) → TreesRefused later still now tables r → (later → fault) → (known → still) → now ≡ bytes
+    → (known → (t : TableRoot) → IsAmong tables t → (at want found : ℕ) → TreeSpoils bytes t.root at want found → IsDamage bytes at want found) → RecoveryRefused fault known bytes r
+trees_refused fault later known still bytes now tables r (inl none) more k same bad = inr (inl none)
+trees_refused fault later known still bytes now tables r (inr (t, among, inl failed)) more k same bad = inl (failed.0, more failed.1)
+trees_refused fault later known still bytes now tables r (inr (t, among, inr (inl none))) more k same bad = inr (inl none)
+trees_refused fault later known still bytes now tables r (inr (t, among, inr (inr (at, want, found, is, spoils)))) more k same bad =
+    inr (inr (inr (inr (at, want, found, is, λ h. bad h t among at want found (subst (λ (l : List ℕ). TreeSpoils l t.root at want found) same (spoils (k h)))))))
+
+-- ---- one tree
+
+pub inner_refused : (fault known : Type 0) (bytes : List ℕ) (root : Root) (r : Refusal) → Refused fault known (InnerSpoils bytes root) r → Refused fault known (TreeSpoils bytes root) r
+inner_refused fault known bytes root r refused = refused_more fault fault known known (InnerSpoils bytes root) (TreeSpoils bytes root) r (λ h. h) (λ h. h) (λ at want found h spoils. inl spoils) refused
+
+pub leaves_refused : (fault later known still : Type 0) (bytes now : List ℕ) (root : Root) (es read : List Entry) (addrs : List Addr) (r : Refusal) → Refused later still (LeavesSpoil now read) r → (later → fault) → (known → still) → now ≡ bytes → read ≡ es → (known → InnerIs bytes root es addrs)
+    → Refused fault known (TreeSpoils bytes root) r
+leaves_refused fault later known still bytes now root es read addrs r refused more k same is inner =
+    refused_more later fault still known (LeavesSpoil now read) (TreeSpoils bytes root) r more k
+    (λ at want found h spoils. inr (record {
+      es = es;
+      addrs = addrs;
+      inner = inner h;
+      leaves = subst (λ (l : List Entry). LeavesSpoil bytes l at want found) is (subst (λ (l : List ℕ). LeavesSpoil l read at want found) same spoils);
+    })) refused
 
 -- ---- the books
 
-pub found_more : (tables : List TableRoot) (i : ℕ) (t : TableRoot) → i < length tables → t ≡ get_or tables i t → flat_map leaf_found_of (take (i + 1) tables) ≡ flat_map leaf_found_of (take i tables) ++ leaf_found_of t
-found_more tables i t lt is = ap (λ (l : List TableRoot). flat_map leaf_found_of l) (take_step tables i t lt is) ∙ flat_map-append leaf_found_of (take i tables) (t ∷ []) ∙ ap (λ (l : List Found). flat_map leaf_found_of (take i tables) ++ l) (append-nil (leaf_found_of t))
+-- the blocks of trees at these places are theirs
+pub found_is : (bytes : List ℕ) (slot : Slot) (tables : List TableRoot) (ps : List TreePlace) (leaves : List (List Row)) → (are : TreesAre bytes tables ps leaves) → places_found slot ps ≡ blocks_found slot tables are.trees
+found_is bytes slot tables ps leaves are = ap (λ (l : List Found). record_found slot ∷ l) (placed_found ps tables are.trees are.stand)
 
-pub blocks_refused : (fault known : Type 0) (bytes : List ℕ) (slot : Slot) (names : Record) (len : ℕ) (r : Refusal) → RefusesBlocks (blocks_found slot names.tables) len r → (known → len ≡ length bytes) → (known → Names bytes slot names) → IsFlat names → RecoveryRefused fault known bytes r
-blocks_refused fault known bytes slot names len r (inl none) long there flat = inr (inl none)
-blocks_refused fault known bytes slot names len r (inr (i, within, is, why)) long there flat =
-    let f = found_at (blocks_found slot names.tables) i in
+pub blocks_refused : (fault known : Type 0) (bytes : List ℕ) (slot : Slot) (names : Record) (ps : List TreePlace) (leaves : List (List Row)) (len : ℕ) (r : Refusal) → RefusesBlocks (places_found slot ps) len r → (known → len ≡ length bytes) → (known → Names bytes slot names) → IsBare names
+    → (known → TreesAre bytes names.tables ps leaves) → RecoveryRefused fault known bytes r
+blocks_refused fault known bytes slot names ps leaves len r (inl none) long there bare are = inr (inl none)
+blocks_refused fault known bytes slot names ps leaves len r (inr (i, within, is, why)) long there bare are =
+    let f = found_at (places_found slot ps) i in
     inr (inr (inr (inr (
       f.addr.offset,
       f.addr.sum,
       f.addr.sum,
       is,
-      λ k. inr (inr (inr (record {
-        slot = slot;
-        names = names;
-        there = there k;
-        flat = flat;
-        index = i;
-        within = within;
-        place = refl;
-        sum = refl;
-        same = refl;
-        why = subst (λ n. CannotStand (blocks_found slot names.tables) n i) (long k) why;
-      }))),
+      λ k.
+          let same : places_found slot ps ≡ blocks_found slot names.tables (are k).trees = found_is bytes slot names.tables ps leaves (are k) in
+          inr (inr (inr (record {
+            slot = slot;
+            names = names;
+            there = there k;
+            bare = bare;
+            trees = (are k).trees;
+            have = (are k).have;
+            index = i;
+            within = subst (λ (l : List Found). i < length l) same within;
+            place = ap (λ (l : List Found). (found_at l i).addr.offset) same;
+            sum = ap (λ (l : List Found). (found_at l i).addr.sum) same;
+            same = refl;
+            why = subst (λ (l : List Found). CannotStand l (length bytes) i) same (subst (λ n. CannotStand (places_found slot ps) n i) (long k) why);
+          }))),
     ))))
 
 -- ---- what was recovered
 
-pub recovered_is : (bytes : List ℕ) (slot : Slot) (r : Record) (leaves : List (List Row)) (books : Books) (o : Recovered) → Names bytes slot r → IsSound slot r → AreLeaves bytes r.tables leaves → AreStored (blocks_found slot r.tables) (length bytes)
-    → books.is_synced ≡ false → Counts (blocks_found slot r.tables) books → IsAssembled slot r leaves books o → IsRecovered bytes o
-recovered_is bytes slot r leaves books o names sound are stored fresh counts made = subst (λ (k : Option Kept). KeepsOr bytes o.place k) (sym made.is) (record {
+-- the rows that are kept, tree by tree
+kept_rows : (r : Record) (trees : List TableTree) → map (kept_of r) (map tree_rows trees) ≡ map {A = TableTree} (λ t. kept_of r (tree_rows t)) trees
+kept_rows r [] = refl
+kept_rows r (t ∷ trees) = ap (λ (l : List (List Row)). kept_of r (tree_rows t) ∷ l) (kept_rows r trees)
+
+pub recovered_is : (bytes : List ℕ) (slot : Slot) (r : Record) (ps : List TreePlace) (leaves : List (List Row)) (books : Books) (o : Recovered) → Names bytes slot r → IsSound slot r → TreesAre bytes r.tables ps leaves → AreStored (places_found slot ps) (length bytes)
+    → books.is_synced ≡ false → Counts (places_found slot ps) books → IsAssembled slot r ps leaves books o → IsRecovered bytes o
+recovered_is bytes slot r ps leaves books o names sound are stored fresh counts made = subst (λ (k : Option Kept). KeepsOr bytes o.place k) (sym made.is) (record {
   slot = slot;
-  leaves = leaves;
-  serves = subst (λ (q : Record). Serves bytes o.place (Some (flat_stored slot q leaves))) (sym made.names) there;
-  books = subst (λ (q : Record). Counts (blocks_found slot q.tables) o.place.blocks) (sym made.names) counted;
-  kept = made.rows_are ∙ ap (λ (q : Record). map (kept_of q) leaves) (sym made.names);
-  flat = subst (λ (q : Record). IsFlat q) (sym made.names) sound.flat;
+  trees = trees;
+  serves = subst (λ (q : Record). Serves bytes o.place (Some (bare_stored slot q trees))) (sym made.names) there;
+  books = subst (λ (q : Record). Counts (blocks_found slot q.tables trees) o.place.blocks) (sym made.names) counted;
+  kept = made.rows_are ∙ ap (λ (l : List (List Row)). map (kept_of r) l) are.rows_are ∙ kept_rows r trees ∙ ap (λ (q : Record). map {A = TableTree} (λ t. kept_of q (tree_rows t)) trees) (sym made.names);
+  places = subst (λ (l : List TreePlace). ArePlaces l made.kept.record.tables trees) (sym made.places) (subst (λ (q : Record). ArePlaces ps q.tables trees) (sym made.names) are.stand);
+  bare = subst (λ (q : Record). IsBare q) (sym made.names) sound.bare;
   run = subst (λ (q : Record). q.run < last_number) (sym made.names) sound.run;
   sequence = ap (λ (q : Record). q.sequence) made.names ∙ sound.sequence;
 })
   where
-    counted : Counts (blocks_found slot r.tables) o.place.blocks
-    counted = subst (λ (b : Books). Counts (blocks_found slot r.tables) b) (sym made.place.1) counts
+    trees : List TableTree
+    trees = are.trees
 
-    there : Serves bytes o.place (Some (flat_stored slot r leaves))
-    there = serves bytes slot r leaves names sound.flat are stored o.place made.place.0 (ap (λ (b : Books). b.is_synced) made.place.1 ∙ fresh) counted.has
+    same : places_found slot ps ≡ blocks_found slot r.tables trees
+    same = found_is bytes slot r.tables ps leaves are
 
-pub kept_in_form : (slot : Slot) (r : Record) (leaves : List (List Row)) (books : Books) (o : Recovered) → IsSound slot r → length leaves ≡ length r.tables → IsAssembled slot r leaves books o → InForm o.kept
-kept_in_form slot r leaves books o sound count made = subst (λ (k : Option Kept). InForm k) (sym made.is) (record {
+    counted : Counts (blocks_found slot r.tables trees) o.place.blocks
+    counted = subst (λ (b : Books). Counts (blocks_found slot r.tables trees) b) (sym made.place.1) (subst (λ (l : List Found). Counts l books) same counts)
+
+    there : Serves bytes o.place (Some (bare_stored slot r trees))
+    there =
+        serves bytes slot r trees names sound.bare are.have (subst (λ (l : List Found). AreStored l (length bytes)) same stored) o.place made.place.0 (ap (λ (b : Books). b.is_synced) made.place.1 ∙ fresh) counted.has
+
+pub kept_in_form : (slot : Slot) (r : Record) (ps : List TreePlace) (leaves : List (List Row)) (books : Books) (o : Recovered) → IsSound slot r → length leaves ≡ length r.tables → placed_roots ps ≡ table_roots r.tables → IsAssembled slot r ps leaves books o → InForm o.kept
+kept_in_form slot r ps leaves books o sound count roots made = subst (λ (k : Option Kept). InForm k) (sym made.is) (record {
   is_record = subst (λ (q : Record). IsRecord q) (sym made.names) sound.is_record;
-  flat = subst (λ (q : Record). IsFlat q) (sym made.names) sound.flat;
+  bare = subst (λ (q : Record). IsBare q) (sym made.names) sound.bare;
   run = subst (λ (q : Record). q.run < last_number) (sym made.names) sound.run;
+  roots = ap placed_roots made.places ∙ roots ∙ ap (λ (q : Record). table_roots q.tables) (sym made.names);
   count = ap length made.rows_are ∙ length-map leaves (kept_of r) ∙ count ∙ ap (λ (q : Record). length q.tables) (sym made.names);
   leaves = leaves;
   kept = made.rows_are ∙ ap (λ (q : Record). map (kept_of q) leaves) (sym made.names);

@@ -1,25 +1,47 @@
 -- Where a device is damaged, as far as a recovery looks.
-use Rattle.std.specs.Prelude.{◌≡◌, ◌⊎◌, ℕ, ◌<◌, List, [], ◌∷◌, length, slice_index_or, if◌then◌else◌}
+use Rattle.std.specs.Prelude.{◌≡◌, ◌⊎◌, ℕ, ◌<◌, List, ◌∷◌, ◌++◌, length, map, slice_index_or, Option, Some}
 use Rattle.std.specs.List.{flat_map}
 use Rattle.disk_model.specs.Ranges.{range}
+use Rattle.device_layout.specs.declared.addr.Addr.{Addr}
 use Rattle.device_layout.specs.declared.slot.Slot.{Slot}
 use Rattle.device_layout.specs.Slots.{addr_in}
 use Rattle.le_codec.specs.Images.{block_of}
 use Rattle.block_mgr.specs.declared.found.Found.{Found}
+use Rattle.block_mgr.specs.declared.found.Holder.TheVariants.{Tree}
 use Rattle.block_mgr.specs.Places.{IsThere, Spoils}
 use Rattle.block_mgr.specs.Open.{Fits, Agree, found_at}
-use Rattle.stored.specs.Links.{is_nowhere}
-use Rattle.stored.specs.Records.{TableRoot, Record, record_image, IsRecord}
-use Rattle.device_leaf.specs.Damage.{FoundNoLeaf, IsChosen, SlotSpoils, record_found, leaf_found}
-use Rattle.recover_open.specs.Flat.{IsFlat}
+use Rattle.row_page.specs.Rows.{Row}
+use Rattle.stored.specs.Blocks.{Block}
+use Rattle.stored.specs.Tree.{tree_blocks}
+use Rattle.stored.specs.TableTree.{Entry, TableTree, table_kind, first_key, root_entry}
+use Rattle.stored.specs.Records.{Root, TableRoot, Record, record_image, IsRecord}
+use Rattle.stored.specs.Stored.{tables_blocks}
+use Rattle.device_leaf.specs.Damage.{IsChosen, SlotSpoils, record_found}
+use Rattle.tree_open.specs.declared.place.TreePlace.{TreePlace}
+use Rattle.tree_open.specs.Trees.{InnerIs}
+use Rattle.tree_open.specs.Damage.{InnerSpoils}
+use Rattle.recover_open.specs.Bare.{IsBare, HaveTrees}
+use Rattle.recover_open.specs.Leaves.{AreLeaves, NoneUnder}
 
--- the block of a table's leaf, where it is stored
-abbrev pub leaf_found_of : TableRoot → List Found
-leaf_found_of t = if is_nowhere t.root.link.addr then [] else leaf_found t.root.link ∷ []
+-- ---- the blocks in use
 
--- the block of the record, and those of the leaves that are stored, by table
-abbrev pub blocks_found : Slot → List TableRoot → List Found
-blocks_found slot tables = record_found slot ∷ flat_map leaf_found_of tables
+-- a block of a tree, by its address
+abbrev pub found_there : Addr → Found
+found_there a = record { addr = a; holder = Tree }
+
+-- the blocks of a table's tree
+abbrev pub tree_found : Root → TableTree → List Found
+tree_found root t = map {A = Block} (λ b. found_there b.place) (tree_blocks table_kind (root_entry root.link) t)
+
+-- the block of the record, and those of the trees, by table
+abbrev pub blocks_found : Slot → List TableRoot → List TableTree → List Found
+blocks_found slot tables trees = record_found slot ∷ map {A = Block} (λ b. found_there b.place) (tables_blocks tables trees)
+
+-- the same of trees that stand at these places
+abbrev pub places_found : Slot → List TreePlace → List Found
+places_found slot places = record_found slot ∷ flat_map (λ (p : TreePlace). map found_there p.addrs.items) places
+
+-- ---- the record
 
 -- the block that the slot names is there, and it is that of this record
 pub record Names (bytes : List ℕ) (slot : Slot) (r : Record) : Type 0 where
@@ -49,31 +71,61 @@ pub record RecordSpoils (bytes : List ℕ) (at want found : ℕ) : Type 0 where
   pub sum : want ≡ slot.sum
   pub why : Spoils bytes (addr_in slot) found ⊎ ((found ≡ slot.sum) × HasNoRecord slot (range bytes slot.offset slot.size))
 
--- damage of a leaf's block: its sum is another one, or none can stand there, or it is no leaf or not that of the link
-pub record LeafSpoils (bytes : List ℕ) (at want found : ℕ) : Type 0 where
+-- ---- the trees
+
+-- no such leaf is where the entry leads: its block has another sum than the entry says, or the same
+pub record EntrySpoils (bytes : List ℕ) (e : Entry) (next : Option (List ℕ)) (at want found : ℕ) : Type 0 where
+  pub none : NoneUnder bytes e next
+  pub place : at ≡ e.link.addr.offset
+  pub sum : want ≡ e.link.addr.sum
+  pub why : Spoils bytes e.link.addr found ⊎ (found ≡ e.link.addr.sum)
+
+-- the leaves of the entries in front are there, and that of the one behind them is the first at fault
+pub record LeavesSpoil (bytes : List ℕ) (es : List Entry) (at want found : ℕ) : Type 0 where
+  pub front : List Entry
+  pub entry : Entry
+  pub others : List Entry
+  pub is : es ≡ front ++ entry ∷ others
+  pub leaves : List (List Row)
+  pub before : AreLeaves bytes front (Some entry.key) leaves
+  pub leaf : EntrySpoils bytes entry (first_key others) at want found
+
+-- the inner pages of the tree are there, and a leaf is at fault
+pub record LeafSpoils (bytes : List ℕ) (root : Root) (at want found : ℕ) : Type 0 where
+  pub es : List Entry
+  pub addrs : List Addr
+  pub inner : InnerIs bytes root es addrs
+  pub leaves : LeavesSpoil bytes es at want found
+
+-- damage of a tree: of an inner page, or of a leaf
+abbrev pub TreeSpoils : List ℕ → Root → (at want found : ℕ) → Type 0
+TreeSpoils bytes root at want found = InnerSpoils bytes root at want found ⊎ LeafSpoils bytes root at want found
+
+-- damage of a table's tree
+pub record TablesSpoil (bytes : List ℕ) (at want found : ℕ) : Type 0 where
   pub slot : Slot
   pub names : Record
   pub there : Names bytes slot names
-  pub flat : IsFlat names
+  pub bare : IsBare names
   pub table : TableRoot
   pub among : IsAmong names.tables table
-  pub place : at ≡ table.root.link.addr.offset
-  pub sum : want ≡ table.root.link.addr.sum
-  pub why : FoundNoLeaf bytes table.root.link found
+  pub tree : TreeSpoils bytes table.root at want found
 
 -- blocks that cannot all be in use, told of the first that cannot stand beside those before it, with its sum twice
 pub record BlocksMeet (bytes : List ℕ) (at want found : ℕ) : Type 0 where
   pub slot : Slot
   pub names : Record
   pub there : Names bytes slot names
-  pub flat : IsFlat names
+  pub bare : IsBare names
+  pub trees : List TableTree
+  pub have : HaveTrees bytes names.tables trees
   pub index : ℕ
-  pub within : index < length (blocks_found slot names.tables)
-  pub place : at ≡ (found_at (blocks_found slot names.tables) index).addr.offset
-  pub sum : want ≡ (found_at (blocks_found slot names.tables) index).addr.sum
+  pub within : index < length (blocks_found slot names.tables trees)
+  pub place : at ≡ (found_at (blocks_found slot names.tables trees) index).addr.offset
+  pub sum : want ≡ (found_at (blocks_found slot names.tables trees) index).addr.sum
   pub same : found ≡ want
-  pub why : CannotStand (blocks_found slot names.tables) (length bytes) index
+  pub why : CannotStand (blocks_found slot names.tables trees) (length bytes) index
 
 -- The device is damaged at an offset: one sum is wanted there, and the other found. The two are the same where the sum is not at fault.
 abbrev pub IsDamage : List ℕ → (at want found : ℕ) → Type 0
-IsDamage bytes at want found = SlotSpoils bytes at want found ⊎ (RecordSpoils bytes at want found ⊎ (LeafSpoils bytes at want found ⊎ BlocksMeet bytes at want found))
+IsDamage bytes at want found = SlotSpoils bytes at want found ⊎ (RecordSpoils bytes at want found ⊎ (TablesSpoil bytes at want found ⊎ BlocksMeet bytes at want found))

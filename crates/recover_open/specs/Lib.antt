@@ -1,3 +1,4 @@
-pub mod Flat
+pub mod Bare
+pub mod Leaves
 pub mod Damage
 pub mod Recoveries

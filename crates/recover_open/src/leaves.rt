@@ -1,86 +1,162 @@
-// The leaves of the tables.
-ghost use Rattle.std.specs.Prelude.{◌≡◌, ◌++◌, [], ◌∷◌, length, map, IfOk, IfErr, OnOk, IsTrue};
+// The leaves of one tree.
+ghost use Rattle.std.specs.Prelude.{◌≡◌, ◌↔◌, ◌++◌, [], ◌∷◌, Some, None, IfOk, IfErr, IfSome, OnOk, IsTrue};
 ghost use Rattle.failure.specs.Counts.{Rose};
 ghost use Rattle.disk_model.specs.Crash.{Looked};
-ghost use Rattle.recover_open.specs.Flat.{AreLeaves, kept_of, marks_of};
-ghost use Rattle.recover_open.specs.Recoveries.{LeavesRefused};
+ghost use Rattle.row_page.specs.Rows.{Ascends};
+ghost use Rattle.leaf_rows.specs.Rows.{AreFit};
+ghost use Rattle.stored.specs.TableTree.{Climbs, first_key, root_entry};
+ghost use Rattle.tree_open.specs.Damage.{Refused};
+ghost use Rattle.recover_open.specs.Leaves.{IsUnder, AreUnder, IsFrom, IsUpTo, RowsAre};
+ghost use Rattle.recover_open.specs.Damage.{EntrySpoils, LeavesSpoil};
 
-use checkpoint_record::{Record, TableRoot};
+use crate::record::spoilt;
+use byte_order::order;
 use device_layout::Link;
 use device_leaf::load;
 use disk_model::Disk;
-use leaf_rows::{Marks, Rows};
+use failure::NoMemory;
+use inner_page::Entry;
+use item::Item;
+use leaf_rows::Rows;
+use row_page::CellChange;
+use stamp::Version;
 use std::alloc::Global;
 use wt_code::Refusal;
 
-// The rows of each table's leaf. `O(bytes)`, each leaf read once.
-pub(crate) fn load_all<D: Disk>(
+// A row that is moved.
+type OneRow = (Item, Version<CellChange<Item>>);
+
+// The rows of the leaves that these entries lead to. `O(bytes)`, each leaf read once; the rows of
+// an only leaf are not moved.
+pub(crate) fn load_leaves<D: Disk>(
     alloc: Global,
     disk: &mut D,
-    tables: &[TableRoot],
-) -> Result<Vec<Rows>, Refusal>
-    ensures ok { IsTrue (D.honest disk.old) → IfOk result (λ v. AreLeaves (D.seen disk.old) tables.now v.items) }
-    ensures count { IfOk result (λ v. length v.items ≡ length tables.now) }
-    ensures err { IfErr result (LeavesRefused (Rose (D.faults disk.old) (D.faults disk.new)) (IsTrue (D.honest disk.old)) (D.seen disk.old) tables.now) }
+    entries: &[Entry],
+) -> Result<Rows, Refusal>
+    requires { Climbs entries.now }
+    ensures ok { IsTrue (D.honest disk.old) → IfOk result (RowsAre (D.seen disk.old) entries.now) }
+    ensures err { IfErr result (Refused (Rose (D.faults disk.old) (D.faults disk.new)) (IsTrue (D.honest disk.old)) (LeavesSpoil (D.seen disk.old) entries.now)) }
     ensures looked { Looked D.Disk disk.old disk.new }
     ensures home { D.home disk.new ≡ D.home disk.old }
 {
-    let mut leaves = Vec::new(alloc);
-    for table in tables {
-        let rows = match load(alloc, disk, link_of(table)) {
-            Ok(rows) => rows,
+    match only_link(entries) {
+        Some(link) => load(alloc, disk, link),
+        None => load_each(alloc, disk, entries),
+    }
+}
+
+// What leads to an only leaf, which may have any keys.
+fn only_link(entries: &[Entry]) -> Option<Link>
+    ensures { IfSome result (λ link. entries.now ≡ root_entry link ∷ []) }
+{
+    match entries {
+        [only] => {
+            if only.key.as_bytes().is_empty() {
+                Some(only.link)
+            } else {
+                None
+            }
+        }
+        _ => None,
+    }
+}
+
+fn load_each<D: Disk>(alloc: Global, disk: &mut D, entries: &[Entry]) -> Result<Rows, Refusal>
+    requires { Climbs entries.now }
+    ensures ok { IsTrue (D.honest disk.old) → IfOk result (RowsAre (D.seen disk.old) entries.now) }
+    ensures err { IfErr result (Refused (Rose (D.faults disk.old) (D.faults disk.new)) (IsTrue (D.honest disk.old)) (LeavesSpoil (D.seen disk.old) entries.now)) }
+    ensures looked { Looked D.Disk disk.old disk.new }
+    ensures home { D.home disk.new ≡ D.home disk.old }
+{
+    let mut rows = Rows::new(alloc);
+    for i in 0..entries.len() {
+        let leaf = match load_leaf(alloc, disk, &entries[i], &entries[i + 1..]) {
+            Ok(leaf) => leaf,
             Err(refusal) => return Err(refusal),
         };
-        match push(&mut leaves, rows) {
+        match append(&mut rows, leaf) {
             Ok(()) => {}
-            Err(refusal) => return Err(refusal),
+            Err(NoMemory) => return Err(Refusal::NoMemory),
         }
     }
-    Ok(leaves)
+    Ok(rows)
 }
 
-fn link_of(table: &TableRoot) -> Link
-    ensures { result ≡ table.now.root.link }
+// The rows of the leaf that an entry leads to, behind which these others stand. Whatever the disk,
+// they are in order, and between the keys of the entry and of the next one.
+fn load_leaf<D: Disk>(
+    alloc: Global,
+    disk: &mut D,
+    entry: &Entry,
+    others: &[Entry],
+) -> Result<Vec<OneRow>, Refusal>
+    ensures ok { IsTrue (D.honest disk.old) → IfOk result (λ v. IsUnder (D.seen disk.old) entry.now (first_key others.now) v.items) }
+    ensures keys { IfOk result (λ v. AreUnder entry.now (first_key others.now) v.items) }
+    ensures fit { IfOk result (λ v. AreFit v.items) }
+    ensures err { IfErr result (Refused (Rose (D.faults disk.old) (D.faults disk.new)) (IsTrue (D.honest disk.old)) (EntrySpoils (D.seen disk.old) entry.now (first_key others.now))) }
+    ensures looked { Looked D.Disk disk.old disk.new }
+    ensures home { D.home disk.new ≡ D.home disk.old }
 {
-    let root = &table.root;
-    root.link
-}
-
-fn push(leaves: &mut Vec<Rows>, rows: Rows) -> Result<(), Refusal>
-    ensures ok { OnOk result (leaves.new.items ≡ leaves.old.items ++ rows ∷ []) }
-    ensures err { IfErr result (λ r. r ≡ Refusal.NoMemory) }
-{
-    match leaves.push(rows) {
-        Ok(()) => Ok(()),
-        Err(_) => Err(Refusal::NoMemory),
+    let rows = match load(alloc, disk, entry.link) {
+        Ok(rows) => rows.into_rows(),
+        Err(refusal) => return Err(refusal),
+    };
+    if are_under(entry, others, &rows) {
+        Ok(rows)
+    } else {
+        Err(spoilt(entry.link.addr))
     }
 }
 
-// Takes out of each leaf what an opening does not keep.
-pub(crate) fn keep_all(found: &Record, leaves: &mut [Rows])
-    ensures { leaves.new ≡ map (kept_of found.now) leaves.old }
+// Whether the keys, which ascend, are between the entry's and that of the first of the others.
+fn are_under(entry: &Entry, others: &[Entry], rows: &[OneRow]) -> bool
+    requires { Ascends None rows.now }
+    ensures { IsTrue result ↔ AreUnder entry.now (first_key others.now) rows.now }
 {
-    for rows in leaves.iter_mut() {
-        keep(found, rows);
+    begin_from(entry.key.as_bytes(), rows) && stay_below(others, rows)
+}
+
+// Whether no key, of those that ascend, is below this one.
+fn begin_from(least: &[u8], rows: &[OneRow]) -> bool
+    requires { Ascends None rows.now }
+    ensures { IsTrue result ↔ IsFrom least.now rows.now }
+{
+    match rows.first() {
+        Some(first) => !order(first.0.as_bytes(), least).is_lt(),
+        None => true,
     }
 }
 
-fn keep(found: &Record, rows: &mut Rows)
-    ensures { rows.new ≡ kept_of found.now rows.old }
+// Whether the keys, which ascend, are below that of the first of the others.
+fn stay_below(others: &[Entry], rows: &[OneRow]) -> bool
+    requires { Ascends None rows.now }
+    ensures { IsTrue result ↔ IsUpTo (first_key others.now) rows.now }
 {
-    let snapshot = &found.snapshot;
-    rows.keep_seen(marks_of(found), &snapshot.ids);
+    match others.first() {
+        Some(next) => end_below(next.key.as_bytes(), rows),
+        None => true,
+    }
 }
 
-fn marks_of(found: &Record) -> Marks
-    ensures { result ≡ marks_of found.now }
+// Whether the keys, which ascend, are below this one.
+fn end_below(next: &[u8], rows: &[OneRow]) -> bool
+    requires { Ascends None rows.now }
+    ensures { IsTrue result ↔ IsUpTo (Some next.now) rows.now }
 {
-    let snapshot = &found.snapshot;
-    Marks {
-        run: found.run,
-        oldest: found.oldest,
-        stable: found.stable,
-        min: snapshot.min,
-        max: snapshot.max,
+    match rows.last() {
+        Some(end) => order(end.0.as_bytes(), next).is_lt(),
+        None => true,
     }
+}
+
+// Moves rows behind others: all keys ascend.
+fn append(rows: &mut Rows, more: Vec<OneRow>) -> Result<(), NoMemory>
+    requires fit { AreFit more.items }
+    requires ascend { Ascends None (rows.old ++ more.items) }
+    ensures { OnOk result (rows.new ≡ rows.old ++ more.items) }
+{
+    for row in more {
+        rows.push(row.0, row.1)?;
+    }
+    Ok(())
 }

@@ -6,14 +6,15 @@ ghost use Rattle.device_leaf.specs.Damage.{IsChosen};
 ghost use Rattle.recover_open.specs.Recoveries.{IsRecovered, InForm, RefusesRecovery, IsNothing, IsAssembled};
 
 use crate::books::books;
-use crate::leaves::{keep_all, load_all};
 use crate::record::{record_at, tables_of};
+use crate::trees::{AllTrees, keep_all, read_all};
 use block_mgr::Blocks;
 use checkpoint_record::Record;
 use device_leaf::Place;
 use disk_model::Disk;
 use leaf_rows::Rows;
 use std::alloc::Global;
+use tree_open::TreePlace;
 use turtle::{Slot, choose};
 use wt_code::Refusal;
 
@@ -22,7 +23,9 @@ use wt_code::Refusal;
 pub struct Kept {
     /// Its record.
     pub record: Record,
-    /// By table, in the record's order: the rows of its leaf that an opening keeps.
+    /// By table, in the record's order: where its tree stands.
+    pub trees: Vec<TreePlace>,
+    /// By table, in the record's order: of its rows those that an opening keeps.
     pub leaves: Vec<Rows>,
 }
 
@@ -36,14 +39,15 @@ pub struct Recovered {
 }
 
 /// Finds the last completed checkpoint, and changes nothing. `O(bytes)` of the record and the
-/// leaves, each block read once, and `O(n log n)` in the tables.
+/// trees, each block read once.
 ///
 /// `75 limit checkpoints` comes only where no run may follow the one that made the checkpoint, and
-/// `75 limit image` only where it has a tree of more levels than one, or a history. `Corrupt` tells
-/// damage that the device has (`IsDamage`): the offset of a slot, with no sums, or of the block of
-/// the record or of a leaf, with the sum that it should have and the sum that it has, or the same
-/// sum twice where that is not at fault. Of two blocks that overlap it is the later one, in the
-/// order of the record and then the leaves by table.
+/// `75 limit image` only where it has a history. `Corrupt` tells damage that the device has
+/// (`IsDamage`): the offset of a slot, with no sums, or of the block of the record, of an inner page
+/// or of a leaf, with the sum that it should have and the sum that it has, or the same sum twice
+/// where that is not at fault. A leaf is also at fault whose keys are not between its entry's and
+/// the next one's. Of two blocks that overlap it is the later one, in the order of the record and
+/// then the trees by table, the inner pages of each from the root down before its leaves.
 pub fn recover<D: Disk>(alloc: Global, disk: &mut D) -> Result<Recovered, Refusal>
     ensures ok { IsTrue (D.honest disk.old) → IfOk result (IsRecovered (D.seen disk.old)) }
     ensures form { IfOk result (λ o. InForm o.kept) }
@@ -81,19 +85,19 @@ fn recover_at<D: Disk>(alloc: Global, disk: &mut D, slot: Slot) -> Result<Recove
         Err(refusal) => return Err(refusal),
     };
     let tables = tables_of(&found);
-    let leaves = match load_all(alloc, disk, tables) {
-        Ok(leaves) => leaves,
+    let trees = match read_all(alloc, disk, tables) {
+        Ok(trees) => trees,
         Err(refusal) => return Err(refusal),
     };
     let len = match length(disk) {
         Ok(len) => len,
         Err(refusal) => return Err(refusal),
     };
-    let blocks = match books(alloc, slot, tables, len) {
+    let blocks = match books(alloc, slot, &trees.places, len) {
         Ok(blocks) => blocks,
         Err(refusal) => return Err(refusal),
     };
-    Ok(assembled(slot, found, leaves, blocks))
+    Ok(assembled(slot, found, trees, blocks))
 }
 
 fn length<D: Disk>(disk: &mut D) -> Result<u64, Refusal>
@@ -108,9 +112,10 @@ fn length<D: Disk>(disk: &mut D) -> Result<u64, Refusal>
     }
 }
 
-fn assembled(slot: Slot, found: Record, leaves: Vec<Rows>, blocks: Blocks) -> Recovered
-    ensures { IsAssembled slot found leaves.items blocks result }
+fn assembled(slot: Slot, found: Record, trees: AllTrees, blocks: Blocks) -> Recovered
+    ensures { IsAssembled slot found trees.places.items trees.leaves.items blocks result }
 {
+    let AllTrees { places, leaves } = trees;
     let mut leaves = leaves;
     keep_all(&found, &mut leaves);
     Recovered {
@@ -120,6 +125,7 @@ fn assembled(slot: Slot, found: Record, leaves: Vec<Rows>, blocks: Blocks) -> Re
         },
         kept: Some(Kept {
             record: found,
+            trees: places,
             leaves,
         }),
     }

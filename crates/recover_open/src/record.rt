@@ -1,11 +1,10 @@
 // The record that a slot names.
-ghost use Rattle.std.specs.Prelude.{◌≡◌, ◌≢◌, ◌==◌, ◌↔◌, IfOk, IfErr, IfSome, IfNone, IsTrue};
-ghost use Rattle.std.specs.List.{list_all};
+ghost use Rattle.std.specs.Prelude.{◌≡◌, ◌↔◌, IfOk, IfErr, IfSome, IfNone, IsTrue};
 ghost use Rattle.stored.specs.Records.{IsRecord};
 ghost use Rattle.disk_model.specs.Crash.{Looked};
 ghost use Rattle.device_leaf.specs.Damage.{IsChosen};
 ghost use Rattle.device_leaf.specs.NoHistory.{no_root};
-ghost use Rattle.recover_open.specs.Flat.{IsFlat, is_leaf};
+ghost use Rattle.recover_open.specs.Bare.{IsBare};
 ghost use Rattle.recover_open.specs.Damage.{Names};
 ghost use Rattle.recover_open.specs.Recoveries.{RefusesRecovery, IsSound, IsRecordOf, RecordRefused, RefusesRecord};
 
@@ -19,7 +18,7 @@ use std::alloc::Global;
 use turtle::Slot;
 use wt_code::{Limit, Refusal};
 
-// The record that a slot names, of a flat checkpoint that another run may follow.
+// The record that a slot names, of a bare checkpoint that another run may follow.
 pub(crate) fn record_at<D: Disk>(alloc: Global, disk: &mut D, slot: Slot) -> Result<Record, Refusal>
     ensures ok { IsTrue (D.honest disk.old) → IsChosen (D.seen disk.old) slot → IfOk result (Names (D.seen disk.old) slot) }
     ensures sound { IfOk result (IsSound slot) }
@@ -66,20 +65,17 @@ fn why_not(slot: Slot, found: &Record) -> Option<Refusal>
         Some(no_record(slot))
     } else if found.run >= NUMBER_MAX {
         Some(Refusal::Limit(Limit::Checkpoints))
-    } else if !is_flat(found) {
+    } else if !is_bare(found) {
         Some(Refusal::Limit(Limit::Image))
     } else {
         None
     }
 }
 
-fn is_flat(found: &Record) -> bool
-    ensures { IsTrue result ↔ IsFlat found.now }
+fn is_bare(found: &Record) -> bool
+    ensures { IsTrue result ↔ IsBare found.now }
 {
-    if !is_no_root(history_of(found)) {
-        return false;
-    }
-    are_leaves(tables_of(found))
+    is_no_root(history_of(found))
 }
 
 fn history_of(found: &Record) -> Root
@@ -100,24 +96,6 @@ fn is_no_root(root: Root) -> bool
     ensures no { root ≡ no_root → IsTrue result }
 {
     root.level == 0 && is_nowhere(root.link)
-}
-
-fn are_leaves(tables: &[TableRoot]) -> bool
-    ensures { result ≡ list_all is_leaf tables.now }
-{
-    for table in tables {
-        if !is_leaf(table) {
-            return false;
-        }
-    }
-    true
-}
-
-fn is_leaf(table: &TableRoot) -> bool
-    ensures { result ≡ is_leaf table.now }
-{
-    let root = &table.root;
-    root.level == 0
 }
 
 // The block of the slot is that of no record of its sequence.

@@ -2,6 +2,7 @@
 use crate::{Kept, Recovered, recover};
 use block_sum::sum;
 use disk_model::MemDisk;
+use item::Item;
 use leaf_rows::Rows;
 use std::alloc::Global;
 use std::process::Abort;
@@ -13,9 +14,9 @@ const SLOT: [u8; 36] = [
     0, 0, 0, 0, 0, 0, 0x10, 0, 0, 0, 0, 0, 0,
 ];
 
-const RECORD: [u8; 217] = [
-    // 0: kind 5, format 1, two tables, used 217, level 0
-    0x05, 0x01, 0x02, 0x00, 0xd9, 0x00, 0x00, 0x00, 0x00, 0x00, 0x00, 0x00, 0x00, 0x00, 0x00, 0x00,
+const RECORD: [u8; 266] = [
+    // 0: kind 5, format 1, three tables, used 266, level 0
+    0x05, 0x01, 0x03, 0x00, 0x0a, 0x01, 0x00, 0x00, 0x00, 0x00, 0x00, 0x00, 0x00, 0x00, 0x00, 0x00,
     // 16: sequence 3, run 2
     0x03, 0x00, 0x00, 0x00, 0x00, 0x00, 0x00, 0x00, 0x02, 0x00, 0x00, 0x00, 0x00, 0x00, 0x00, 0x00,
     // 32: oldest and stable are unset
@@ -24,8 +25,8 @@ const RECORD: [u8; 217] = [
     0x04, 0x00, 0x00, 0x00, 0x00, 0x00, 0x00, 0x00, 0x09, 0x00, 0x00, 0x00, 0x00, 0x00, 0x00, 0x00,
     // 64: one id: 5
     0x01, 0x00, 0x05, 0x00, 0x00, 0x00, 0x00, 0x00, 0x00, 0x00,
-    // 74: the next table's number is 3; the history has level 0
-    0x03, 0x00, 0x00, 0x00, 0x00,
+    // 74: the next table's number is 4; the history has level 0
+    0x04, 0x00, 0x00, 0x00, 0x00,
     // 79: and stands nowhere
     0x00, 0x00, 0x00, 0x00, 0x00, 0x00, 0x00, 0x00, 0x00, 0x00, 0x00, 0x00, 0x00, 0x00, 0x00, 0x00,
     0x00, 0x00, 0x00, 0x00, 0x00, 0x00, 0x00, 0x00, 0x00, 0x00, 0x00, 0x00, 0x00, 0x00, 0x00, 0x00,
@@ -42,6 +43,20 @@ const RECORD: [u8; 217] = [
     0x00, 0x40, 0x00, 0x00, 0x00, 0x00, 0x00, 0x00, 0x00, 0x10, 0x00, 0x00, 0x00, 0x00, 0x00, 0x00,
     0x02, 0x00, 0x00, 0x00, 0x00, 0x00, 0x00, 0x00, 0x05, 0x00, 0x00, 0x00, 0x00, 0x00, 0x00, 0x00,
     0x00, 0x00, 0x00, 0x00, 0x00, 0x00, 0x00, 0x00, 0x62,
+    // 217: table 3, level 1, a name of 1 byte
+    0x03, 0x00, 0x00, 0x00, 0x53, 0x53, 0x01, 0x01,
+    // 225: offset 20,480, size 4,096, the sum of the inner page, run 2, id 3, durable 0
+    0x00, 0x50, 0x00, 0x00, 0x00, 0x00, 0x00, 0x00, 0x00, 0x10, 0x00, 0x00, 0x00, 0x00, 0x00, 0x00,
+    0x02, 0x00, 0x00, 0x00, 0x00, 0x00, 0x00, 0x00, 0x03, 0x00, 0x00, 0x00, 0x00, 0x00, 0x00, 0x00,
+    0x00, 0x00, 0x00, 0x00, 0x00, 0x00, 0x00, 0x00, 0x63,
+];
+
+// Level 1 with two entries: the empty key leads to 24,576, run 2, id 1, and d to 28,672, run 2, id 3.
+const INNER: [u8; 101] = [
+    2, 1, 2, 0, 101, 0, 0, 0, 1, 0, 0, 0, 0, 0, 0, 0, 0, 0, 0, 0x60, 0, 0, 0, 0, 0, 0, 0, 0x10, 0,
+    0, 0, 0, 0, 0, 2, 0, 0, 0, 0, 0, 0, 0, 1, 0, 0, 0, 0, 0, 0, 0, 0, 0, 0, 0, 0, 0, 0, 0, 1, 0, 0,
+    0x70, 0, 0, 0, 0, 0, 0, 0, 0x10, 0, 0, 0, 0, 0, 0, 2, 0, 0, 0, 0, 0, 0, 0, 3, 0, 0, 0, 0, 0, 0,
+    0, 0, 0, 0, 0, 0, 0, 0, 0, b'd',
 ];
 
 // One row: key a, value 1, run 2, id 1.
@@ -59,18 +74,22 @@ const SECOND: [u8; 59] = [
 #[derive(Clone, Copy, Debug, PartialEq, Eq)]
 enum Told {
     Nothing,
-    // whether each key is there
-    Rows(bool, bool),
+    // whether the key of each leaf is there, and with what the keys of the tree begin
+    Rows(bool, bool, [u8; 2]),
     // where, and whether the sum that is there is the one that should be
     Corrupt(u64, bool),
     Refused(Refusal),
 }
 
 // What is changed before the sums are made, and behind that, and what is told.
-const CASES: [(&[(usize, u8)], &[(usize, u8)], Told); 16] = [
-    (&[], &[], Told::Rows(true, false)),
+const CASES: [(&[(usize, u8)], &[(usize, u8)], Told); 20] = [
+    (&[], &[], Told::Rows(true, false, [b'c', b'e'])),
     // an id that had ended
-    (&[(16_415, 6), (8_392, 6)], &[], Told::Rows(true, true)),
+    (
+        &[(16_415, 6), (8_392, 6)],
+        &[],
+        Told::Rows(true, true, [b'c', b'e']),
+    ),
     // both gates are shut
     (&[(0, 0)], &[], Told::Nothing),
     // the slot is out of form
@@ -81,12 +100,8 @@ const CASES: [(&[(usize, u8)], &[(usize, u8)], Told); 16] = [
     (&[(8_360, 0)], &[], Told::Corrupt(8_192, true)),
     // a record of sequence 4
     (&[(8_208, 4)], &[], Told::Corrupt(8_192, true)),
-    // table 2 has a tree of level 1
-    (
-        &[(8_366, 1)],
-        &[],
-        Told::Refused(Refusal::Limit(Limit::Image)),
-    ),
+    // table 2 has a tree of level 1, whose root is a leaf
+    (&[(8_366, 1)], &[], Told::Corrupt(16_384, true)),
     // the history has level 1
     (
         &[(8_270, 1)],
@@ -139,7 +154,17 @@ const CASES: [(&[(usize, u8)], &[(usize, u8)], Told); 16] = [
         Told::Refused(Refusal::Limit(Limit::Checkpoints)),
     ),
     // the device ends where the second leaf should begin
-    (&[(8_369, 0x50)], &[], Told::Corrupt(20_480, true)),
+    (&[(8_369, 0x80)], &[], Told::Corrupt(32_768, true)),
+    // the inner page has another sum, and the leaf on its right too
+    (
+        &[],
+        &[(20_490, 1), (28_672, 2)],
+        Told::Corrupt(20_480, false),
+    ),
+    (&[], &[(28_672, 2)], Told::Corrupt(28_672, false)),
+    // the leaf on the left goes on to the right one's keys, and that one begins below them
+    (&[(24_631, b'd')], &[], Told::Corrupt(24_576, true)),
+    (&[(28_727, b'c')], &[], Told::Corrupt(28_672, true)),
 ];
 
 fn put(rt: &impl Abort, content: &mut [u8], at: usize, bytes: &[u8]) {
@@ -169,15 +194,26 @@ fn device(
     behind: &[(usize, u8)],
 ) -> MemDisk {
     let mut content = Vec::new(alloc);
-    content.resize(20_480, 0).expect(rt, "there is memory");
+    content.resize(32_768, 0).expect(rt, "there is memory");
     put(rt, &mut content, 0, &SLOT);
     put(rt, &mut content, 8_192, &RECORD);
     put(rt, &mut content, 12_288, &FIRST);
     put(rt, &mut content, 16_384, &SECOND);
+    put(rt, &mut content, 20_480, &INNER);
+    put(rt, &mut content, 24_576, &FIRST);
+    put(rt, &mut content, 28_672, &FIRST);
+    change(
+        rt,
+        &mut content,
+        &[(24_631, b'c'), (28_703, 3), (28_727, b'e')],
+    );
     change(rt, &mut content, before);
     put_sum(rt, &mut content, 12_288, 8_331);
     let second = second_leaf(&content);
     put_sum(rt, &mut content, second, 8_380);
+    put_sum(rt, &mut content, 24_576, 20_510);
+    put_sum(rt, &mut content, 28_672, 20_552);
+    put_sum(rt, &mut content, 20_480, 8_429);
     put_sum(rt, &mut content, 8_192, 32);
     change(rt, &mut content, behind);
     let made = MemDisk::new(alloc, content, 1 << 20, Vec::new(alloc));
@@ -204,11 +240,11 @@ fn answer_of(alloc: Global, disk: &mut MemDisk) -> Told {
         Err(refusal) => Told::Refused(refusal),
         Ok(Recovered { place: _, kept }) => match kept {
             None => Told::Nothing,
-            Some(Kept { record: _, leaves }) => {
+            Some(Kept { leaves, .. }) => {
                 let mut leaves = leaves.into_iter();
-                match (leaves.next(), leaves.next()) {
-                    (Some(first), Some(second)) => {
-                        Told::Rows(has(first, b"a\0"), has(second, b"b\0"))
+                match (leaves.next(), leaves.next(), leaves.next()) {
+                    (Some(first), Some(second), Some(third)) => {
+                        Told::Rows(has(first, b"a\0"), has(second, b"b\0"), begins(third))
                     }
                     _ => Told::Nothing,
                 }
@@ -220,6 +256,18 @@ fn answer_of(alloc: Global, disk: &mut MemDisk) -> Told {
 // Whether a leaf has a row of the key.
 fn has(rows: Rows, key: &[u8]) -> bool {
     rows.into_rows().iter().any(|row| row.0.as_bytes() == key)
+}
+
+// With what two keys begin.
+fn begins(rows: Rows) -> [u8; 2] {
+    match rows.into_rows().as_slice() {
+        [first, second] => [byte_of(&first.0), byte_of(&second.0)],
+        _ => [0, 0],
+    }
+}
+
+fn byte_of(key: &Item) -> u8 {
+    key.as_bytes().first().copied().unwrap_or(0)
 }
 
 #[test]

@@ -4,7 +4,6 @@ use Rattle.std.proofs.Common.{inl, inr, refl, sym, ap, subst, ◌∙◌, length-
 use Rattle.std.proofs.lemmas.Bool.{false≢true}
 use Rattle.std.proofs.lemmas.List.{reverse-append, reverse-reverse}
 use Rattle.disk_model.specs.declared.disk.Disk.{Ghosts}
-use Rattle.device_layout.specs.declared.link.Link.{Link}
 use Rattle.item.specs.declared.formats.Formats.{Formats}
 use Rattle.wt_code.specs.declared.answers.Answer.{Answer}
 use Rattle.wt_code.specs.declared.refusals.Refusal.{Refusal}
@@ -35,6 +34,7 @@ use Rattle.engine.specs.declared.step.Step.TheVariants as step
 use Rattle.engine.specs.Runs.{StepsOut}
 use Rattle.engine.specs.Sound.{AreBuilt}
 use Rattle.engine.specs.Whole.{with_session_more}
+use Rattle.tree_open.specs.declared.place.TreePlace.{TreePlace}
 use Rattle.ckpt_step.specs.Calm.{IsCalm, IsUnstampedCall, AnswersCalm, OpensCalm, StepsCalm}
 use Rattle.ckpt_step.specs.Floors.{Follows, GoesOn}
 use Rattle.ckpt_step.specs.Grounds.{AreRoots, StandsOn}
@@ -81,13 +81,13 @@ has_place [] place x there = absurd cc
 has_place (a ∷ xs) zero x there = omega arith
 has_place (a ∷ xs) (suc place) x there = let less : place < length xs = has_place xs place x there in omega (arith, less)
 
-roots_more : (known more : List Table) (links : List Link) (old : Option Stored) → AreRoots known links old → AreRoots (known ++ more) links old
-roots_more known more links None roots = roots
-roots_more known more links (Some s) roots = record {
-  flat = roots.flat;
+roots_more : (known more : List Table) (places : List TreePlace) (old : Option Stored) → AreRoots known places old → AreRoots (known ++ more) places old
+roots_more known more places None roots = roots
+roots_more known more places (Some s) roots = record {
+  bare = roots.bare;
   few = omega (arith, roots.few, length-append known more);
   count = roots.count;
-  roots = λ place t link there leads. roots.roots place t link (get_more known more place t (omega (arith, has_place links place link leads, roots.few)) there) leads;
+  trees = λ i t place there stands. roots.trees i t place (get_more known more i t (omega (arith, has_place places i place stands, roots.few)) there) stands;
 }
 
 -- the ground of an engine is that of one which has more tables
@@ -101,26 +101,26 @@ on_more seen images s e old grows on = record {
   idle = on.idle;
   long = on.long;
   within = on.within;
-  roots = subst (λ (l : List Table). AreRoots l s.ground.leaves.items old) (sym grows.tables) (roots_more s.engine.hub.tables.tables grows.more s.ground.leaves.items old on.roots);
+  roots = subst (λ (l : List Table). AreRoots l s.ground.trees.items old) (sym grows.tables) (roots_more s.engine.hub.tables.tables grows.more s.ground.trees.items old on.roots);
 }
 
--- so are its clean leaves
-follows_more : (s : Store) (e : Engine) (old : Option Stored) (m next : Machine) → length s.ground.leaves.items ≤ length s.engine.hub.tables.tables → Grows s.engine e → GoesOn m next
-    → Follows old s.engine.hub.tables.tables s.ground.leaves.items s.ground.floor m → Follows old e.hub.tables.tables s.ground.leaves.items s.ground.floor next
+-- so are its clean trees
+follows_more : (s : Store) (e : Engine) (old : Option Stored) (m next : Machine) → length s.ground.trees.items ≤ length s.engine.hub.tables.tables → Grows s.engine e → GoesOn m next
+    → Follows old s.engine.hub.tables.tables s.ground.trees.items s.ground.floor m → Follows old e.hub.tables.tables s.ground.trees.items s.ground.floor next
 follows_more s e old m next few grows goes follows =
     let known = s.engine.hub.tables.tables in
-    let links = s.ground.leaves.items in
-    follows_goes old e.hub.tables.tables links s.ground.floor m next goes
+    let places = s.ground.trees.items in
+    follows_goes old e.hub.tables.tables places s.ground.floor m next goes
     (record {
       respects = follows.respects;
-      leaves = λ place t link at leads below.
-          let there : slice_get (known ++ grows.more) place ≡ Some t = subst (λ (l : List Table). slice_get l place ≡ Some t) grows.tables at in
-          follows.leaves place t link (get_more known grows.more place t (omega (arith, has_place links place link leads, few)) there) leads below;
+      trees = λ i t place at stands below.
+          let there : slice_get (known ++ grows.more) i ≡ Some t = subst (λ (l : List Table). slice_get l i ≡ Some t) grows.tables at in
+          follows.trees i t place (get_more known grows.more i t (omega (arith, has_place places i place stands, few)) there) stands below;
     })
 
-few_roots : (known : List Table) (links : List Link) (old : Option Stored) → AreRoots known links old → length links ≤ length known
-few_roots known links None none = omega (arith, ap length none)
-few_roots known links (Some s) roots = roots.few
+few_roots : (known : List Table) (places : List TreePlace) (old : Option Stored) → AreRoots known places old → length places ≤ length known
+few_roots known places None none = omega (arith, ap (λ (l : List TreePlace). length l) none)
+few_roots known places (Some s) roots = roots.few
 
 -- ---- the store, whatever the disk
 
@@ -136,7 +136,8 @@ fit_goes g disk s e w stands led fit =
     record {
       ready = record {
         run = subst (λ (n : ℕ). n ≤ s.ground.number + 1) (sym grows.run) fit.ready.run;
-        leaves = omega (arith, fit.ready.leaves, ap length grows.tables, length-append s.engine.hub.tables.tables grows.more);
+        trees = omega (arith, fit.ready.trees, ap length grows.tables, length-append s.engine.hub.tables.tables grows.more);
+        low = fit.ready.low;
       };
       steady = λ honest up.
           let x = fit.steady honest (stands.fault ∙ sym keeps.fault ∙ sym first.1.fault ∙ up) in
@@ -147,7 +148,7 @@ fit_goes g disk s e w stands led fit =
             idle = on.2.checkpoint ∙ x.idle;
             old = x.old;
             on = on_more (g.seen disk) (g.may_leave disk) s e x.old grows x.on;
-            follows = follows_more s e x.old x.world.machine on.0.machine fit.ready.leaves grows on.2.goes x.follows;
+            follows = follows_more s e x.old x.world.machine on.0.machine fit.ready.trees grows on.2.goes x.follows;
           };
     }
 
@@ -162,7 +163,7 @@ held_goes g first disk s e w later before made stands' keeps held =
           record {
             old = x.old;
             on = on_more (g.seen disk) (g.may_leave disk) s e x.old grows x.on;
-            follows = follows_more s e x.old w.machine later.machine (few_roots s.engine.hub.tables.tables s.ground.leaves.items x.old x.on.roots) grows keeps.goes x.follows;
+            follows = follows_more s e x.old w.machine later.machine (few_roots s.engine.hub.tables.tables s.ground.trees.items x.old x.on.roots) grows keeps.goes x.follows;
             opens = subst (λ (c : Completed). OpensAs (content_was x.old) c) (sym keeps.completed) x.opens;
             one = x.one;
           };

@@ -16,8 +16,6 @@ mod control;
 mod lines;
 mod one_line;
 mod script;
-#[cfg(test)]
-mod tests;
 mod told;
 
 pub use lines::{Lines, NoLine};

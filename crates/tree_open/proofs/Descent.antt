@@ -1,14 +1,17 @@
 -- From layer to layer.
-use Rattle.std.proofs.Common.{◌≡◌, ℕ, suc, ◌+◌, ◌-◌, ◌<◌, List, [], ◌∷◌, ◌++◌, length, None, refl, sym, ◌∙◌, ap, subst, arith}
+use Rattle.std.proofs.Common.{◌≡◌, ℕ, suc, ◌+◌, ◌-◌, ◌<◌, List, [], ◌∷◌, ◌++◌, length, take, get_or, Option, None, refl, sym, ◌∙◌, ap, subst, arith}
+use Rattle.std.specs.Prelude.{map}
 use Rattle.std.specs.List.{AllByRecursion}
-use Rattle.std.proofs.lemmas.List.{length-append}
+use Rattle.std.proofs.lemmas.List.{length-append, append-nil, append_assoc, map-append}
+use Rattle.device_layout.specs.declared.addr.Addr.{Addr}
+use Rattle.checkpoint_record.proofs.Lists.{take_step}
 use Rattle.device_leaf.proofs.Shapes.{all_front, all_join}
 use Rattle.stored.specs.Blocks.{Block, IsAddressed, IsAt, Holds}
 use Rattle.stored.specs.Tree.{Layer, join, bottom, inner_blocks, leaf_blocks, page_blocks, AllLead}
 use Rattle.stored.specs.TableTree.{Entry, Climbs, TableTree, table_kind}
 use Rattle.stored.specs.Records.{Root}
 use Rattle.tree_open.specs.Pages.{ArePages, LayerIs}
-use Rattle.tree_open.specs.Trees.{AreLayers, HasTree, InnerIs, root_own}
+use Rattle.tree_open.specs.Trees.{AreLayers, HasTree, InnerIs, leaf_addr, leaf_addrs, places, root_own}
 use Rattle.tree_open.specs.Damage.{LayerSpoils, InnerSpoils}
 use Rattle.tree_open.proofs.OneLayer.{AllAddressed, to_lead, from_lead, join_climbs, climbs_above, one_layer, no_pages}
 
@@ -41,17 +44,59 @@ from_words bytes level own (pages ∷ layers) deep lead addressed holds climbs =
     let are : ArePages bytes (suc (length layers)) own None pages = from_lead bytes (suc (length layers)) own pages lead.0 (all_front (λ (b : Block). IsAddressed b) here below addressed) (all_front (λ (b : Block). IsAt bytes b) here below holds) rest.0 in
     (climbs_above (suc (length layers)) own pages lead.0 rest.0, (subst (λ k. ArePages bytes k own None pages) deep are, rest.1))
 
+-- ---- where the pages stand
+
+abbrev pub page_addrs : List Entry → List Addr
+page_addrs own = map {A = Entry} (λ e. e.link.addr) own
+
+leaf_push : (own : List Entry) (e : Entry) → leaf_addrs (own ++ e ∷ []) ≡ leaf_addrs own ++ leaf_addr e.link.addr
+leaf_push [] e = append-nil (leaf_addr e.link.addr)
+leaf_push (x ∷ own) e = ap (λ (l : List Addr). leaf_addr x.link.addr ++ l) (leaf_push own e) ∙ sym (append_assoc (leaf_addr x.link.addr) (leaf_addrs own) (leaf_addr e.link.addr))
+
+-- one leaf more
+pub leaf_more : (own : List Entry) (i : ℕ) (e : Entry) (a : Addr) (before addrs more : List Addr) → i < length own → e ≡ get_or own i e → a ≡ e.link.addr → addrs ≡ before ++ leaf_addrs (take i own) → more ≡ addrs ++ leaf_addr a → more ≡ before ++ leaf_addrs (take (i + 1) own)
+leaf_more own i e a before addrs more lt is same were added =
+    added
+    ∙ ap (λ (l : List Addr). l ++ leaf_addr a) were
+    ∙ append_assoc before (leaf_addrs (take i own)) (leaf_addr a)
+    ∙ ap (λ (b : Addr). before ++ (leaf_addrs (take i own) ++ leaf_addr b)) same
+    ∙ ap (λ (l : List Addr). before ++ l) (sym (leaf_push (take i own) e))
+    ∙ ap (λ (l : List Entry). before ++ leaf_addrs l) (sym (take_step own i e lt is))
+
+-- where the pages of these layers stand: where the entries of each lead
+abbrev own_addrs : List Entry → List (Layer Entry) → List Addr
+own_addrs own [] = []
+own_addrs own (pages ∷ layers) = page_addrs own ++ own_addrs (join pages) layers
+
+own_push : (own : List Entry) (layers : List (Layer Entry)) (pages : Layer Entry) → own_addrs own (layers ++ pages ∷ []) ≡ own_addrs own layers ++ page_addrs (bottom own layers)
+own_push own [] pages = append-nil (page_addrs own)
+own_push own (p ∷ layers) pages =
+    ap (λ (l : List Addr). page_addrs own ++ l) (own_push (join p) layers pages) ∙ sym (append_assoc (page_addrs own) (own_addrs (join p) layers) (page_addrs (bottom (join p) layers)))
+
+page_places : (bytes : List ℕ) (level n : ℕ) (own : List Entry) (next : Option (List ℕ)) (pages : Layer Entry) → ArePages bytes level own next pages → places (page_blocks table_kind n own pages) ≡ page_addrs own
+page_places bytes level n [] next pages are = refl
+page_places bytes level n (e ∷ own) next [] are = absurd are
+page_places bytes level n (e ∷ own) next (p ∷ pages) are = ap (λ (l : List Addr). e.link.addr ∷ l) (page_places bytes level n own next pages are.1)
+
+inner_places : (bytes : List ℕ) (level : ℕ) (own : List Entry) (layers : List (Layer Entry)) → AreLayers bytes level own layers → places (inner_blocks table_kind own layers) ≡ own_addrs own layers
+inner_places bytes level own [] are = refl
+inner_places bytes level own (pages ∷ layers) are =
+    map-append {A = Block} (λ b. b.place) (page_blocks table_kind (suc (length layers)) own pages) (inner_blocks table_kind (join pages) layers)
+    ∙ ap (λ (l : List Addr). l ++ places (inner_blocks table_kind (join pages) layers)) (page_places bytes level (suc (length layers)) own None pages are.0)
+    ∙ ap (λ (l : List Addr). page_addrs own ++ l) (inner_places bytes (level - 1) (join pages) layers are.1)
+
 -- ---- the layers that are read
 
--- the layer of the tree at this level has these entries
-pub record Reached (bytes : List ℕ) (root : Root) (level : ℕ) (own : List Entry) : Type 0 where
+-- the layer of the tree at this level has these entries, and the pages above it stand there
+pub record Reached (bytes : List ℕ) (root : Root) (level : ℕ) (own : List Entry) (addrs : List Addr) : Type 0 where
   pub layers : List (Layer Entry)
   pub depth : length layers + level ≡ root.level
   pub above : AreLayers bytes root.level (root_own root) layers
   pub entries : own ≡ bottom (root_own root) layers
+  pub stand : addrs ≡ own_addrs (root_own root) layers
 
-pub at_root : (bytes : List ℕ) (root : Root) (own : List Entry) → own ≡ root_own root → Reached bytes root root.level own
-at_root bytes root own is = record { layers = []; depth = omega arith; above = tt; entries = is }
+pub at_root : (bytes : List ℕ) (root : Root) (own : List Entry) (addrs : List Addr) → own ≡ root_own root → addrs ≡ [] → Reached bytes root root.level own addrs
+at_root bytes root own addrs is none = record { layers = []; depth = omega arith; above = tt; entries = is; stand = none }
 
 layers_push : (bytes : List ℕ) (level : ℕ) (own : List Entry) (layers : List (Layer Entry)) (pages : Layer Entry) → AreLayers bytes level own layers → ArePages bytes (level - length layers) (bottom own layers) None pages → AreLayers bytes level own (layers ++ pages ∷ [])
 layers_push bytes level own [] pages are more = (subst (λ k. ArePages bytes k own None pages) (omega arith) more, tt)
@@ -63,8 +108,8 @@ bottom_push : (own : List Entry) (layers : List (Layer Entry)) (pages : Layer En
 bottom_push own [] pages = refl
 bottom_push own (p ∷ layers) pages = bottom_push (join p) layers pages
 
-pub reached_more : (bytes : List ℕ) (root : Root) (level : ℕ) (own es : List Entry) → 0 < level → Reached bytes root level own → LayerIs bytes level own es → Reached bytes root (level - 1) es
-reached_more bytes root level own es some reached layer =
+pub reached_more : (bytes : List ℕ) (root : Root) (level : ℕ) (own es : List Entry) (addrs more : List Addr) → 0 < level → Reached bytes root level own addrs → LayerIs bytes level own es → more ≡ addrs ++ page_addrs own → Reached bytes root (level - 1) es more
+reached_more bytes root level own es addrs more some reached layer added =
     let same : level ≡ root.level - length reached.layers = omega (arith, reached.depth) in
     let pages : ArePages bytes (root.level - length reached.layers) (bottom (root_own root) reached.layers) None layer.pages =
     subst (λ (l : List Entry). ArePages bytes (root.level - length reached.layers) l None layer.pages) reached.entries (subst (λ k. ArePages bytes k own None layer.pages) same layer.are) in
@@ -73,10 +118,12 @@ reached_more bytes root level own es some reached layer =
       depth = omega (arith, length-append reached.layers (layer.pages ∷ []), reached.depth, some);
       above = layers_push bytes root.level (root_own root) reached.layers layer.pages reached.above pages;
       entries = layer.entries ∙ sym (bottom_push (root_own root) reached.layers layer.pages);
+      stand = added ∙ ap (λ (l : List Addr). l ++ page_addrs own) reached.stand ∙ ap (λ (l : List Entry). own_addrs (root_own root) reached.layers ++ page_addrs l) reached.entries
+          ∙ sym (own_push (root_own root) reached.layers layer.pages);
     }
 
-pub inner_reached : (bytes : List ℕ) (root : Root) (level : ℕ) (es : List Entry) → level ≡ 0 → Reached bytes root level es → InnerIs bytes root es
-inner_reached bytes root level es low reached =
+pub inner_reached : (bytes : List ℕ) (root : Root) (level : ℕ) (es : List Entry) (addrs : List Addr) → level ≡ 0 → Reached bytes root level es addrs → InnerIs bytes root es addrs
+inner_reached bytes root level es addrs low reached =
     let deep : length reached.layers ≡ root.level = omega (arith, low, reached.depth) in
     let words = to_words bytes root.level (root_own root) reached.layers deep reached.above in
     record {
@@ -87,6 +134,7 @@ inner_reached bytes root level es low reached =
       holds = words.2;
       entries = reached.entries;
       climbs = subst (λ (l : List Entry). Climbs l) (sym reached.entries) (bottom_climbs bytes root.level (root_own root) reached.layers tt reached.above);
+      stand = reached.stand ∙ sym (inner_places bytes root.level (root_own root) reached.layers reached.above);
     }
 
 -- ---- no tree where a layer is not there
@@ -105,18 +153,18 @@ no_layer : (bytes : List ℕ) (level : ℕ) (own : List Entry) (at want found : 
 no_layer bytes level own at want found spoils pages are =
     no_pages bytes level spoils.front spoils.entry spoils.others pages spoils.page.none (subst (λ (l : List Entry). ArePages bytes level l None pages) spoils.is are)
 
-inner_layers : (bytes : List ℕ) (root : Root) (es : List Entry) → (is : InnerIs bytes root es) → AreLayers bytes root.level (root_own root) is.layers
-inner_layers bytes root es is = (from_words bytes root.level (root_own root) is.layers is.levels is.lead is.addressed is.holds (subst (λ (l : List Entry). Climbs l) is.entries is.climbs)).1
+inner_layers : (bytes : List ℕ) (root : Root) (es : List Entry) (addrs : List Addr) → (is : InnerIs bytes root es addrs) → AreLayers bytes root.level (root_own root) is.layers
+inner_layers bytes root es addrs is = (from_words bytes root.level (root_own root) is.layers is.levels is.lead is.addressed is.holds (subst (λ (l : List Entry). Climbs l) is.entries is.climbs)).1
 
-pub inner_spoilt : (bytes : List ℕ) (root : Root) (level : ℕ) (own : List Entry) (at want found : ℕ) → 0 < level → Reached bytes root level own → LayerSpoils bytes level own at want found → InnerSpoils bytes root at want found
-inner_spoilt bytes root level own at want found some reached spoils =
+pub inner_spoilt : (bytes : List ℕ) (root : Root) (level : ℕ) (own : List Entry) (addrs : List Addr) (at want found : ℕ) → 0 < level → Reached bytes root level own addrs → LayerSpoils bytes level own at want found → InnerSpoils bytes root at want found
+inner_spoilt bytes root level own addrs at want found some reached spoils =
     let same : level ≡ root.level - length reached.layers = omega (arith, reached.depth) in
     let few : length reached.layers < root.level = omega (arith, reached.depth, some) in
     let layer : LayerSpoils bytes (root.level - length reached.layers) (bottom (root_own root) reached.layers) at want found =
     subst (λ (l : List Entry). LayerSpoils bytes (root.level - length reached.layers) l at want found) reached.entries (subst (λ k. LayerSpoils bytes k own at want found) same spoils) in
     record {
-      none = λ es is.
-          no_layers bytes root.level (root_own root) reached.layers is.layers reached.above few (no_layer bytes (root.level - length reached.layers) (bottom (root_own root) reached.layers) at want found layer) is.levels (inner_layers bytes root es is);
+      none = λ es others is.
+          no_layers bytes root.level (root_own root) reached.layers is.layers reached.above few (no_layer bytes (root.level - length reached.layers) (bottom (root_own root) reached.layers) at want found layer) is.levels (inner_layers bytes root es others is);
       layers = reached.layers;
       few = few;
       above = reached.above;
@@ -125,7 +173,7 @@ inner_spoilt bytes root level own at want found some reached spoils =
 
 -- ---- what there is to be read
 
-pub tree_read : (bytes : List ℕ) (root : Root) (t : TableTree) → HasTree bytes root t → InnerIs bytes root (bottom (root_own root) t.layers)
+pub tree_read : (bytes : List ℕ) (root : Root) (t : TableTree) → HasTree bytes root t → InnerIs bytes root (bottom (root_own root) t.layers) (places (inner_blocks table_kind (root_own root) t.layers))
 tree_read bytes root t has =
     let upper : List Block = inner_blocks table_kind (root_own root) t.layers in
     let leaves : List Block = leaf_blocks table_kind (bottom (root_own root) t.layers) t.leaves in
@@ -137,6 +185,7 @@ tree_read bytes root t has =
       holds = all_front (λ (b : Block). IsAt bytes b) upper leaves has.holds;
       entries = refl;
       climbs = has.is.parts.0;
+      stand = refl;
     }
 
 one_descent : (bytes : List ℕ) (level : ℕ) (own : List Entry) (ps qs : List (Layer Entry)) → length ps ≡ level → length qs ≡ level → AreLayers bytes level own ps → AreLayers bytes level own qs → ps ≡ qs
@@ -148,8 +197,10 @@ one_descent bytes level own (p ∷ ps) (q ∷ qs) deep long are other =
     ap (λ (l : Layer Entry). l ∷ ps) same
     ∙ ap (λ (l : List (Layer Entry)). q ∷ l) (one_descent bytes (level - 1) (join p) ps qs (omega (arith, deep)) (omega (arith, long)) are.1 (subst (λ (l : Layer Entry). AreLayers bytes (level - 1) (join l) qs) (sym same) other.1))
 
-pub one_inner : (bytes : List ℕ) (root : Root) (es other : List Entry) → InnerIs bytes root es → InnerIs bytes root other → es ≡ other
-one_inner bytes root es other is there =
-    is.entries
-    ∙ ap (λ (l : List (Layer Entry)). bottom (root_own root) l) (one_descent bytes root.level (root_own root) is.layers there.layers is.levels there.levels (inner_layers bytes root es is) (inner_layers bytes root other there))
-    ∙ sym there.entries
+pub one_inner : (bytes : List ℕ) (root : Root) (es other : List Entry) (addrs others : List Addr) → InnerIs bytes root es addrs → InnerIs bytes root other others → (es ≡ other) × (addrs ≡ others)
+one_inner bytes root es other addrs others is there =
+    let same : is.layers ≡ there.layers =
+    one_descent bytes root.level (root_own root) is.layers there.layers is.levels there.levels (inner_layers bytes root es addrs is) (inner_layers bytes root other others there) in (
+      is.entries ∙ ap (λ (l : List (Layer Entry)). bottom (root_own root) l) same ∙ sym there.entries,
+      is.stand ∙ ap (λ (l : List (Layer Entry)). places (inner_blocks table_kind (root_own root) l)) same ∙ sym there.stand,
+    )

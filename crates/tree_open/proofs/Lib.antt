@@ -1,5 +1,5 @@
-mod Maxima
-mod OnePage
-mod OneLayer
-mod Descent
-mod Steps
+pub mod Maxima
+pub mod OnePage
+pub mod OneLayer
+pub mod Descent
+pub mod Steps

@@ -1,14 +1,14 @@
 -- The pages of one layer.
 use Rattle.std.proofs.Common.{◌≡◌, ℕ, ◌+◌, ◌-◌, ◌<◌, ◌≤◌, length, take, drop, get_or, IsTrue, List, [], ◌∷◌, ◌++◌, Option, Some, None, refl, sym, ◌∙◌, ap, subst, arith}
 use Rattle.std.specs.List.{AllByRecursion}
-use Rattle.std.proofs.lemmas.List.{length-drop, take-append-drop, take_all, drop_all, at_drop_more}
+use Rattle.std.proofs.lemmas.List.{length-append, length-drop, take-append-drop, take_all, drop_all, at_drop_more}
 use Rattle.checkpoint_record.proofs.Lists.{take_step}
 use Rattle.stored.specs.Blocks.{Block, IsAddressed, Holds}
 use Rattle.stored.specs.Tree.{Layer, join, Lead, page_blocks}
 use Rattle.stored.specs.TableTree.{Entry, Climbs, first_key, table_kind}
 use Rattle.row_page.specs.Rows.{is_below}
 use Rattle.row_page.proofs.Ascending.{below_trans}
-use Rattle.tree_open.specs.Pages.{PageIs, NoPage, Stays, ArePages, LayerIs, key_next}
+use Rattle.tree_open.specs.Pages.{PageIs, NoPage, Stays, IsFormed, ArePages, LayerIs, key_next}
 use Rattle.tree_open.specs.Damage.{PageSpoils, LayerSpoils}
 use Rattle.tree_open.proofs.OnePage.{one_page, stays_none}
 
@@ -17,7 +17,7 @@ AllAddressed blocks = AllByRecursion (λ (b : Block). IsAddressed b) blocks
 
 -- ---- one page more
 
-key_push : (front : List Entry) (e : Entry) (next : Option (List ℕ)) → key_next front (Some e.key) ≡ key_next (front ++ e ∷ []) next
+pub key_push : (front : List Entry) (e : Entry) (next : Option (List ℕ)) → key_next front (Some e.key) ≡ key_next (front ++ e ∷ []) next
 key_push [] e next = refl
 key_push (x ∷ front) e next = refl
 
@@ -44,7 +44,7 @@ join_push (q ∷ pages) p = ap (λ (l : List Entry). q ++ l) (join_push pages p)
 
 -- ---- no layer where a page is not there
 
-key_none : (others : List Entry) → key_next others None ≡ first_key others
+pub key_none : (others : List Entry) → key_next others None ≡ first_key others
 key_none [] = refl
 key_none (x ∷ others) = refl
 
@@ -156,6 +156,40 @@ behind own i = take_all (length own - (i + 1)) (drop (i + 1) own) (omega (arith,
 
 drop_here : (own : List Entry) (i : ℕ) (e : Entry) → i < length own → e ≡ get_or own i e → drop i own ≡ e ∷ drop (i + 1) own
 drop_here own i e lt is = at_drop_more (λ (l : List Entry). l) own i e lt ∙ ap (λ (x : Entry). x ∷ drop (i + 1) own) (sym is)
+
+-- keys below one that is below another are below that
+stays_through : (e : Entry) (next : Option (List ℕ)) (below p : List Entry) → Stays (Some e.key) below → IsFormed e next p → Stays next below
+stays_through e None below p stays formed = stays_none below
+stays_through e (Some n) below p stays formed = all_through below stays
+  where
+    all_through : (l : List Entry) → Stays (Some e.key) l → Stays (Some n) l
+    all_through [] all = tt
+    all_through (x ∷ l) all = (below_trans x.key e.key n all.0 (begins_below p e.key n formed.begins formed.stays), all_through l all.1)
+
+stays_join : (next : Option (List ℕ)) (below p : List Entry) → Stays next below → Stays next p → Stays next (below ++ p)
+stays_join next [] p stays more = more
+stays_join next (x ∷ below) p stays more = (stays.0, stays_join next below p stays.1 more)
+
+some_entry : (p : List Entry) (key : List ℕ) → first_key p ≡ Some key → 1 ≤ length p
+some_entry [] key is = cc
+some_entry (x ∷ p) key is = omega arith
+
+-- the keys of the pages in front of the i-th climb, up to its own
+pub record AreFormed (own below : List Entry) (i : ℕ) : Type 0 where
+  pub climbs : Climbs below
+  pub stays : Stays (first_key (drop i own)) below
+  pub some : 1 ≤ i → 1 ≤ length below
+
+pub formed_more : (own : List Entry) (i : ℕ) (e : Entry) (below p all : List Entry) → i < length own → e ≡ get_or own i e → AreFormed own below i → IsFormed e (first_key (drop (i + 1) own)) p → all ≡ below ++ p → AreFormed own all (i + 1)
+formed_more own i e below p all lt is was formed joined =
+    let here : first_key (drop i own) ≡ Some e.key = ap first_key (drop_here own i e lt is) in
+    let stays : Stays (Some e.key) below = subst (λ (k : Option (List ℕ)). Stays k below) here was.stays in
+    let next : Option (List ℕ) = first_key (drop (i + 1) own) in
+    record {
+      climbs = subst (λ (l : List Entry). Climbs l) (sym joined) (climbs_both below p was.climbs formed.climbs (subst (λ (k : Option (List ℕ)). Stays k below) (sym formed.begins) stays));
+      stays = subst (λ (l : List Entry). Stays next l) (sym joined) (stays_join next below p (stays_through e next below p stays formed) formed.stays);
+      some = λ le. omega (arith, some_entry p e.key formed.begins, ap length joined, length-append below p);
+    }
 
 -- the pages of the entries in front of the i-th, which these are, and of the i-th
 pub layer_more : (bytes : List ℕ) (level : ℕ) (own : List Entry) (i : ℕ) (e : Entry) (pages : Layer Entry) (p : List Entry) → i < length own → e ≡ get_or own i e → ArePages bytes level (take i own) (first_key (drop i own)) pages → PageIs bytes level e (first_key (drop (i + 1) own)) p → ArePages bytes level (take (i + 1) own) (first_key (drop (i + 1) own)) (pages ++ p ∷ [])

@@ -24,7 +24,7 @@ use Rattle.tree_open.specs.Damage.{Refused, PageSpoils, RefusesPage}
 image_length : (level : ℕ) (p : List Entry) → length (inner_image level p) ≡ 16 + length (flat_map entry_text p)
 image_length level p = length-framed 2 first_format (length p) level (flat_map entry_text p)
 
-image_bytes : (level : ℕ) (p : List Entry) → 16 ≤ length (inner_image level p)
+pub image_bytes : (level : ℕ) (p : List Entry) → 16 ≤ length (inner_image level p)
 image_bytes level p = omega (arith, image_length level p)
 
 unit_size : (n : ℕ) → 16 ≤ n → n ≤ 4096 → block_size n ≡ 4096

@@ -4,7 +4,7 @@ use Rattle.std.specs.List.{AllByRecursion}
 use Rattle.stored.specs.Blocks.{Block, IsAddressed, IsAt}
 use Rattle.stored.specs.Links.{SaysOf}
 use Rattle.stored.specs.Tree.{Layer, join}
-use Rattle.stored.specs.TableTree.{Entry, Leads, first_key, ends_below, inner_image}
+use Rattle.stored.specs.TableTree.{Entry, Climbs, Leads, first_key, ends_below, inner_image}
 use Rattle.inner_page.specs.Pages.{IsTablePage}
 
 -- the keys are below the next page's, where there is one
@@ -38,6 +38,12 @@ pub record Suits (e : Entry) (next : Option (List ℕ)) (p : List Entry) : Type 
 pub record IsPageOf (block : List ℕ) (level : ℕ) (e : Entry) (next : Option (List ℕ)) (p : List Entry) : Type 0 where
   pub page : IsTablePage block level p
   pub suits : Suits e next p
+
+-- what is known of such entries whatever the device has: they begin with the entry's key, climb, and are below the next page's
+pub record IsFormed (e : Entry) (next : Option (List ℕ)) (p : List Entry) : Type 0 where
+  pub begins : first_key p ≡ Some e.key
+  pub climbs : Climbs p
+  pub stays : Stays next p
 
 -- ---- a layer
 

@@ -1,7 +1,8 @@
 // The pages of one layer.
-ghost use Rattle.std.specs.Prelude.{◌≡◌, ◌++◌, IfOk, IfErr, OnOk, IsTrue};
+ghost use Rattle.std.specs.Prelude.{◌≡◌, ◌≤◌, ◌++◌, length, IfOk, IfErr, OnOk, IsTrue};
 ghost use Rattle.failure.specs.Counts.{Rose};
 ghost use Rattle.disk_model.specs.Crash.{Looked};
+ghost use Rattle.stored.specs.TableTree.{Climbs};
 ghost use Rattle.tree_open.specs.Pages.{LayerIs};
 ghost use Rattle.tree_open.specs.Damage.{Refused, LayerSpoils};
 
@@ -11,8 +12,8 @@ use inner_page::Entry;
 use std::alloc::Global;
 use wt_code::Refusal;
 
-// The entries of the inner pages of this level that these entries lead to. The buffer has any bytes
-// afterwards. `O(bytes)`, each page read once.
+// The entries of the inner pages of this level that these entries lead to; whatever the disk, their
+// keys are in order. The buffer has any bytes afterwards. `O(bytes)`, each page read once.
 pub(crate) fn read_layer<D: Disk>(
     alloc: Global,
     disk: &mut D,
@@ -21,6 +22,8 @@ pub(crate) fn read_layer<D: Disk>(
     buffer: &mut Vec<u8>,
 ) -> Result<Vec<Entry>, Refusal>
     ensures ok { IsTrue (D.honest disk.old) → IfOk result (λ v. LayerIs (D.seen disk.old) level entries.now v.items) }
+    ensures climbs { IfOk result (λ v. Climbs v.items) }
+    ensures some { 1 ≤ length entries.now → IfOk result (λ v. 1 ≤ length v.items) }
     ensures err { IfErr result (Refused (Rose (D.faults disk.old) (D.faults disk.new)) (IsTrue (D.honest disk.old)) (LayerSpoils (D.seen disk.old) level entries.now)) }
     ensures looked { Looked D.Disk disk.old disk.new }
     ensures home { D.home disk.new ≡ D.home disk.old }

@@ -3,7 +3,7 @@ ghost use Rattle.std.specs.Prelude.{◌≡◌, ◌↔◌, Some, IfOk, IfErr, IsT
 ghost use Rattle.failure.specs.Counts.{Rose};
 ghost use Rattle.disk_model.specs.Crash.{Looked};
 ghost use Rattle.stored.specs.TableTree.{Climbs, first_key};
-ghost use Rattle.tree_open.specs.Pages.{PageIs, Suits, IsPageOf, Stays};
+ghost use Rattle.tree_open.specs.Pages.{PageIs, Suits, IsPageOf, IsFormed, Stays};
 ghost use Rattle.tree_open.specs.Damage.{Refused, PageSpoils, RefusesPage};
 
 use crate::greatest::{greatest_durable, greatest_name};
@@ -16,7 +16,8 @@ use std::alloc::Global;
 use wt_code::Refusal;
 
 // The entries of the inner page of this level that an entry leads to, behind which these others
-// stand in its layer. The buffer has any bytes afterwards. `O(bytes)`.
+// stand in its layer; whatever the disk, their keys are in order. The buffer has any bytes
+// afterwards. `O(bytes)`.
 pub(crate) fn read_page<D: Disk>(
     alloc: Global,
     disk: &mut D,
@@ -26,6 +27,7 @@ pub(crate) fn read_page<D: Disk>(
     buffer: &mut Vec<u8>,
 ) -> Result<Vec<Entry>, Refusal>
     ensures ok { IsTrue (D.honest disk.old) → IfOk result (λ v. PageIs (D.seen disk.old) level entry.now (first_key others.now) v.items) }
+    ensures form { IfOk result (λ v. IsFormed entry.now (first_key others.now) v.items) }
     ensures err { IfErr result (Refused (Rose (D.faults disk.old) (D.faults disk.new)) (IsTrue (D.honest disk.old)) (PageSpoils (D.seen disk.old) level entry.now (first_key others.now))) }
     ensures looked { Looked D.Disk disk.old disk.new }
     ensures home { D.home disk.new ≡ D.home disk.old }
@@ -49,6 +51,7 @@ fn page_of(
     block: &[u8],
 ) -> Result<Vec<Entry>, Refusal>
     ensures ok { IfOk result (λ v. IsPageOf block.now level entry.now (first_key others.now) v.items) }
+    ensures form { IfOk result (λ v. IsFormed entry.now (first_key others.now) v.items) }
     ensures err { IfErr result (RefusesPage block.now level entry.now (first_key others.now)) }
 {
     let page = match decode(alloc, block) {

@@ -22,8 +22,8 @@ const PAGES: [(usize, u8, [Row; 2]); 3] = [
 
 #[derive(Clone, Copy, Debug, PartialEq, Eq)]
 enum Told {
-    // how many leaves
-    Leaves(usize),
+    // how many leaves, and how many inner pages
+    Leaves(usize, usize),
     // where, and whether the sum that is there is the one that should be
     Corrupt(u64, bool),
     Refused(Refusal),
@@ -31,9 +31,9 @@ enum Told {
 
 // The level of the root, what is changed before the sums are made, and behind that, and what is told.
 const CASES: [(u8, &[(usize, u8)], &[(usize, u8)], Told); 15] = [
-    (2, &[], &[], Told::Leaves(4)),
+    (2, &[], &[], Told::Leaves(4, 3)),
     // nothing is read
-    (0, &[(8_192, 0)], &[(8_193, 9)], Told::Leaves(1)),
+    (0, &[(8_192, 0)], &[(8_193, 9)], Told::Leaves(1, 0)),
     // the root has another level
     (1, &[], &[], Told::Corrupt(8_192, true)),
     (3, &[], &[], Told::Corrupt(8_192, true)),
@@ -145,7 +145,7 @@ fn answer(
     let made = MemDisk::new(alloc, content, 1 << 20, failing);
     let mut disk = made.expect(rt, "there is memory");
     match read_tree(alloc, &mut disk, root) {
-        Ok(entries) => Told::Leaves(entries.len()),
+        Ok(upper) => Told::Leaves(upper.entries.len(), upper.addrs.len()),
         Err(
             Refusal::Corrupt {
                 offset,
@@ -168,7 +168,7 @@ fn each_tree_is_told_as_what_it_is(rt: HostRuntime) {
         let want = if call < 6 {
             Told::Refused(Refusal::DiskFault)
         } else {
-            Told::Leaves(4)
+            Told::Leaves(4, 3)
         };
         assert_eq!(rt; told, want, "{call}");
     }

@@ -1,5 +1,5 @@
 -- What the calls of a command answer and leave.
-use Rattle.std.specs.Prelude.{◌≡◌, ◌⊎◌, ◌==◌, ℕ, Bool, true, false, not, nat_lt, nat_le, List, [], ◌∷◌, ◌++◌, length, Option, Some, None, if◌then◌else◌}
+use Rattle.std.specs.Prelude.{◌≡◌, ◌==◌, ℕ, Bool, true, false, not, nat_lt, nat_le, List, [], ◌∷◌, ◌++◌, length, Option, Some, None, if◌then◌else◌}
 use Rattle.std.proofs.Common.{inl, inr, refl, sym, subst, ◌∙◌, arith}
 use Rattle.failure.specs.declared.Fault.{Fault}
 use Rattle.item.specs.declared.change.Change.{Change}
@@ -13,13 +13,13 @@ use Rattle.wt_code.specs.declared.refusals.Invalid.{Invalid}
 use Rattle.wt_code.specs.declared.refusals.Invalid.TheVariants as why
 use Rattle.wt_code.specs.declared.refusals.Limit.TheVariants as counted
 use Rattle.limits.specs.declared.TheConstants.{NUMBER_MAX, TABLES_MAX}
-use Rattle.kv_model.specs.History.{Entry, Commit as CommitEntry, Prepare as PrepareEntry, Resolve, Undo, Write, Table, tables, named}
+use Rattle.kv_model.specs.History.{Entry, Commit as CommitEntry, Resolve, Undo, Write, Table, tables, named}
 use Rattle.kv_model.specs.Machine.{Machine, Transaction, Phase, Running, Failed, Prepared, Resolving, Leaving, Event, BeginAt, DrawId, AcceptWrite, RefuseWrite, CommitAt, StartLeaving, EndTransaction, CreateTable, Nothing, transaction_of, of_some, after, appended, decided, left, name_of, stamped}
 use Rattle.kv_model.specs.Refusals.{first_of, stamp_of, or_stamp, durable_below, begin_rules, commit_rules, resolve_rules}
 use Rattle.kv_model.specs.Decisions as kv
 use Rattle.kv_model.specs.Decisions.{Outcome, Demand, Anything, Vacant, Occupied, Request, BeginCall, CommitCall, EndCall, FindKey, FindToWrite, CreateCall, GetAnswer, WriteAnswer, judged, decision, while_up, checked, ruled, refused, in_state, running_session, is_on_page, commit_decision, create_decision, same_formats, id_drawn, is_name, key_checks, write_checks, unmet}
 use Rattle.kv_model.specs.Told.{Tells}
-use Rattle.kv_model.specs.Calls.{Session, Call, Begin, GetKey, PutKey, RemoveKey, SeekKey, NextRow, Commit, Create, Around, Judged, Settled, AtPlace, IsShort, IsHeldUp, HeldUp, SessionAnswers, SystemAnswers, settled, ended}
+use Rattle.kv_model.specs.Calls.{Session, Call, Begin, GetKey, PutKey, RemoveKey, SeekKey, NextRow, Commit, Create, Around, Judged, Settled, AtPlace, IsHeldUp, HeldUp, SessionAnswers, SystemAnswers, settled, ended}
 use Rattle.engine_world.specs.Whole.{nothing_around}
 use Rattle.ckpt_step.specs.Plain.{IsUnstamped}
 use Rattle.wt_tool.specs.Points.{Did, around}

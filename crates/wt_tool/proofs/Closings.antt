@@ -19,7 +19,7 @@ use Rattle.wt_code.specs.declared.refusals.Busy.TheVariants as who
 use Rattle.wt_code.specs.declared.refusals.Refusal.{Refusal}
 use Rattle.wt_code.specs.declared.refusals.Refusal.TheVariants as told
 use Rattle.wt_code.specs.declared.refusals.Refusal.TheVariants.{NoMemory, NoSpace, DiskFault, Corrupt, Limit as Refusal_Limit}
-use Rattle.wt_code.specs.declared.refusals.Limit.TheVariants.{Checkpoints, Image}
+use Rattle.wt_code.specs.declared.refusals.Limit.TheVariants.{Checkpoints}
 use Rattle.kv_model.specs.Machine.{Machine, Completed, Checkpoint, Transaction, Phase, Running, Failed, Prepared, Resolving, Leaving, Event, CheckpointStart, CheckpointFinish, GoDown, of_some, after, transaction_of}
 use Rattle.kv_model.specs.Outside.{Storing, Stored as StoredWhole, NoPlace, ReadFailed, WriteFailed, Unfinished}
 use Rattle.kv_model.specs.Decisions.{Outcome, Done as IsDone, Refused as NotDone, StartCall, checked, decision, first_session, is_resolving, is_there, unless_found}
@@ -47,13 +47,11 @@ use Rattle.ckpt_step.specs.Checkpoints.{IsCheckpointOf}
 use Rattle.ckpt_step.specs.Grounds.{number_of}
 use Rattle.ckpt_step.specs.Laws.{CheckpointsOpen}
 use Rattle.ckpt_step.specs.Plain.{GoesPlain, RollsBackPlain}
-use Rattle.ckpt_step.specs.Sizes.{IsOver}
 use Rattle.ckpt_step.specs.Takes.{Takes, WhyNot, IsOfCheckpoint}
 use Rattle.engine_store.specs.declared.store.Store.{Store}
 use Rattle.engine_store.specs.Closes.{rolled, Closes as StoreCloses}
-use Rattle.wt_tool.specs.Points.{Point, DidClose, point_of, stops, closed}
+use Rattle.wt_tool.specs.Points.{Point, DidClose, point_of, stops, closed, Closes}
 use Rattle.engine_store.specs.Devices.{Installed, IsLater, IsNumberOf, MayTakeAt, device_of, last_number, may_open_to}
-use Rattle.wt_tool.specs.Narrow.{ClosesOne}
 use Rattle.engine_store.specs.Images.{EachReads, OpensToAny, OpensToOne}
 use Rattle.wt_tool.specs.Parts.{IsQuiet, IsPlainOn, LeavesAt, NoDamage}
 
@@ -230,7 +228,7 @@ module _ {D : Type 0} (g : Ghosts D) (before after : D) (counts : g.moment befor
   was = content_was old
 
   abbrev LeavesSo : Result (Unit {0}) Refusal → Type 0
-  LeavesSo result = LeavesAt g ClosesOne m before after result
+  LeavesSo result = LeavesAt g Closes m before after result
 
   abbrev p : Point
   p = point_of g m before
@@ -252,7 +250,7 @@ module _ {D : Type 0} (g : Ghosts D) (before after : D) (counts : g.moment befor
   old_opens c kept = (was, old_reads c kept, subst (λ (k : Completed). OpensAs was k) (sym first) (start_opens was each.1))
 
   -- nothing was installed
-  untouched : (r : Refusal) (next : Machine) → next.completed ≡ m.completed → ClosesOne p (stops r (q next)) → KeptAll → LeavesSo (Err r)
+  untouched : (r : Refusal) (next : Machine) → next.completed ≡ m.completed → Closes p (stops r (q next)) → KeptAll → LeavesSo (Err r)
   untouched r next same run kept = record {
     made = [];
     next = next;
@@ -313,25 +311,20 @@ module _ {D : Type 0} (g : Ghosts D) (before after : D) (counts : g.moment befor
       let same = most_number (g.seen before) old seen last.1 in
       subst (λ (x : Refusal). LeavesSo (Err x)) (sym last.0)
       (untouched (Refusal_Limit Checkpoints) (rolled_back m) goes.completed
-      (inr (inr (inr (subst (λ (k : ℕ). IsNumberOf (g.seen before) k) same (numbered (g.seen before) old seen)), inr (Refusal_Limit Checkpoints, q (rolled_back m), last_taken kept.later same, inl refl))))
+      (inr (Refusal_Limit Checkpoints, q (rolled_back m), last_taken kept.later same, inl refl))
       kept)
   refused_by r kept (inr (inl none)) =
       subst (λ (x : Refusal). LeavesSo (Err x)) (sym none)
-      (untouched NoMemory (rolled_back m) goes.completed (inr (inl (q (rolled_back m), short kept.later, refl))) kept)
-  refused_by r kept (inr (inr (may, inl (told_image, over)))) =
-      subst (λ (x : Refusal). LeavesSo (Err x)) (sym told_image)
-      (untouched (Refusal_Limit Image) (rolled_back m) goes.completed
-      (inl (q (rolled_back m), is_later kept.later, refl, over, not_last (g.seen before) old seen (less_of may), refl))
-      kept)
-  refused_by r kept (inr (inr (may, inr (fit, inl (told_space, full))))) =
+      (untouched NoMemory (rolled_back m) goes.completed (inr (NoMemory, q (rolled_back m), short kept.later, inl refl)) kept)
+  refused_by r kept (inr (inr (may, inl (told_space, full)))) =
       subst (λ (x : Refusal). LeavesSo (Err x)) (sym told_space)
       (untouched NoSpace (rolled_back m) goes.completed
-      (inr (inr (inl fit, inr (NoSpace, q (rolled_back m), answered kept.later NoPlace (NotDone NoSpace) [] (Refused NoSpace) full (below_last (number_of old) NoPlace (less_of may)) refl, inl refl))))
+      (inr (NoSpace, q (rolled_back m), answered kept.later NoPlace (NotDone NoSpace) [] (Refused NoSpace) full (below_last (number_of old) NoPlace (less_of may)) refl, inl refl))
       kept)
-  refused_by r kept (inr (inr (may, inr (fit, inr (told_disk, rose))))) =
+  refused_by r kept (inr (inr (may, inr (told_disk, rose)))) =
       subst (λ (x : Refusal). LeavesSo (Err x)) (sym told_disk)
       (untouched DiskFault (rolled_back m) goes.completed
-      (inr (inr (inl fit, inr (DiskFault, q (rolled_back m), answered kept.later ReadFailed (NotDone DiskFault) [] (Refused DiskFault) rose (below_last (number_of old) ReadFailed (less_of may)) refl, inl refl))))
+      (inr (DiskFault, q (rolled_back m), answered kept.later ReadFailed (NotDone DiskFault) [] (Refused DiskFault) rose (below_last (number_of old) ReadFailed (less_of may)) refl, inl refl))
       kept)
 
   -- ---- where a checkpoint was installed, or was being installed
@@ -351,37 +344,31 @@ module _ {D : Type 0} (g : Ghosts D) (before after : D) (counts : g.moment befor
     one refused c (inr on) = inr (closed m, inl refl, opens_new c on)
 
     pub done : LeavesOnly g before after (IsEither (g.may_leave before) old new) → Each (g.may_leave after) (λ c. IsOn c new) → IsOn (g.seen after) new → MayTakeAt (device_of g before) (device_of g after) (rolled_back m) StoredWhole
-        → (IsOver (rolled_back m) → ⊥) → number_of old < last_number → LeavesSo (Ok tt)
-    done left images on took fit less = record {
+        → number_of old < last_number → LeavesSo (Ok tt)
+    done left images on took less = record {
       made = own None ∷ [];
       next = after_all (rolled_back m) (CheckpointStart ∷ CheckpointFinish ∷ []);
-      run = inr (inr (
-        inl fit,
-        inl (
-          q (after_all (rolled_back m) (CheckpointStart ∷ CheckpointFinish ∷ [])),
-          answered left.later StoredWhole IsDone (CheckpointStart ∷ CheckpointFinish ∷ []) Done took (below_last (number_of old) StoredWhole less) refl,
-          refl,
-        ),
-      ));
+      run = inl (
+        q (after_all (rolled_back m) (CheckpointStart ∷ CheckpointFinish ∷ [])),
+        answered left.later StoredWhole IsDone (CheckpointStart ∷ CheckpointFinish ∷ []) Done took (below_last (number_of old) StoredWhole less) refl,
+        refl,
+      );
       opens = inl (content_of new, ((λ c image. inr (new, images c image, refl)), (new_opens (g.seen after) on).layered), new_opens (g.seen after) on);
       ever = widened g before after _ _ left (one None);
       stays = ((λ told c since. inl (opens_new c (images c (now c since)))), tt);
     }
 
     -- a fault at the gate
-    at_gate : (fault : Fault) → Rose (g.faults before) (g.faults after) → (IsOver (rolled_back m) → ⊥) → number_of old < last_number → LeavesOnly g before after (IsEither (g.may_leave before) old new) → LeavesSo (Err DiskFault)
-    at_gate fault rose fit less left = record {
+    at_gate : (fault : Fault) → Rose (g.faults before) (g.faults after) → number_of old < last_number → LeavesOnly g before after (IsEither (g.may_leave before) old new) → LeavesSo (Err DiskFault)
+    at_gate fault rose less left = record {
       made = own (Some DiskFault) ∷ [];
       next = after_all (rolled_back m) (GoDown fault ∷ []);
-      run = inr (inr (
-        inl fit,
-        inr (
-          DiskFault,
-          q (after_all (rolled_back m) (GoDown fault ∷ [])),
-          answered left.later (WriteFailed fault) (NotDone DiskFault) (GoDown fault ∷ []) (Refused DiskFault) rose (below_last (number_of old) (WriteFailed fault) less) refl,
-          inr (refl, (fault, refl), refl),
-        ),
-      ));
+      run = inr (
+        DiskFault,
+        q (after_all (rolled_back m) (GoDown fault ∷ [])),
+        answered left.later (WriteFailed fault) (NotDone DiskFault) (GoDown fault ∷ []) (Refused DiskFault) rose (below_last (number_of old) (WriteFailed fault) less) refl,
+        inr (refl, (fault, refl), refl),
+      );
       opens = inr (closed m, inl (refl, refl, tt), λ c image. opens c (left.each c (counts left.later c image)));
       ever = widened g before after _ _ left (one (Some DiskFault));
       stays = ((λ done c since. absurd (not_none done)), tt);
@@ -395,18 +382,15 @@ module _ {D : Type 0} (g : Ghosts D) (before after : D) (counts : g.moment befor
         opens c (inr on) = (closed m, inr (inl refl), opens_new c on)
 
   -- a fault before the gate
-  fallen_old : (fault : Fault) → Rose (g.faults before) (g.faults after) → (IsOver (rolled_back m) → ⊥) → number_of old < last_number → KeptAll → LeavesSo (Err DiskFault)
-  fallen_old fault rose fit less kept =
+  fallen_old : (fault : Fault) → Rose (g.faults before) (g.faults after) → number_of old < last_number → KeptAll → LeavesSo (Err DiskFault)
+  fallen_old fault rose less kept =
       untouched DiskFault (after_all (rolled_back m) (GoDown fault ∷ [])) goes.completed
-      (inr (inr (
-        inl fit,
-        inr (
-          DiskFault,
-          q (after_all (rolled_back m) (GoDown fault ∷ [])),
-          answered kept.later (WriteFailed fault) (NotDone DiskFault) (GoDown fault ∷ []) (Refused DiskFault) rose (below_last (number_of old) (WriteFailed fault) less) refl,
-          inl refl,
-        ),
-      )))
+      (inr (
+        DiskFault,
+        q (after_all (rolled_back m) (GoDown fault ∷ [])),
+        answered kept.later (WriteFailed fault) (NotDone DiskFault) (GoDown fault ∷ []) (Refused DiskFault) rose (below_last (number_of old) (WriteFailed fault) less) refl,
+        inl refl,
+      ))
       kept
 
 -- what a close takes, of a machine that rolled its transactions back
@@ -422,12 +406,12 @@ module _ {D : Type 0} (g : Ghosts D) (before after : D) (counts : g.moment befor
     less : MayStart (rolled_back w.machine) (number_of old) (Ok tt) → number_of old < last_number
     less may = less_of g before after counts now old each seen count w.machine is_idle on.completed goes_plain stands.valid law may
 
-    by_takes : (result : Result (Unit {0}) Refusal) → Takes g old (rolled w) s.ground s'.ground middle s'.engine before after result → LeavesAt g ClosesOne w.machine before after result
-    by_takes (Ok end) t = done g before after counts now old each seen count w.machine is_idle on.completed goes_plain stands.valid law t.new t.is t.leaves t.each t.on.stands.seen_has t.had_room t.fit (less t.may)
+    by_takes : (result : Result (Unit {0}) Refusal) → Takes g old (rolled w) s.ground s'.ground middle s'.engine before after result → LeavesAt g Closes w.machine before after result
+    by_takes (Ok end) t = done g before after counts now old each seen count w.machine is_idle on.completed goes_plain stands.valid law t.new t.is t.leaves t.each t.on.stands.seen_has t.had_room (less t.may)
     by_takes (Err r) (inl not) = refused_by g before after counts now old each seen count w.machine is_idle on.completed goes_plain stands.valid law r not.leaves not.why
-    by_takes (Err r) (inr f) = subst (λ (x : Refusal). LeavesAt g ClosesOne w.machine before after (Err x)) (sym f.is) (elim f.leaves [
-      | inl kept ↦ fallen_old g before after counts now old each seen count w.machine is_idle on.completed goes_plain stands.valid law f.fault f.rose f.fit (less f.may) kept
-      | inr (new, checkpoint, left) ↦ at_gate g before after counts now old each seen count w.machine is_idle on.completed goes_plain stands.valid law new checkpoint f.fault f.rose f.fit (less f.may) left
+    by_takes (Err r) (inr f) = subst (λ (x : Refusal). LeavesAt g Closes w.machine before after (Err x)) (sym f.is) (elim f.leaves [
+      | inl kept ↦ fallen_old g before after counts now old each seen count w.machine is_idle on.completed goes_plain stands.valid law f.fault f.rose (less f.may) kept
+      | inr (new, checkpoint, left) ↦ at_gate g before after counts now old each seen count w.machine is_idle on.completed goes_plain stands.valid law new checkpoint f.fault f.rose (less f.may) left
     ])
 
   not_kept : (r : Refusal) → close_told w.machine.fault (busy_in w) ≡ Err r → ⊥
@@ -435,7 +419,7 @@ module _ {D : Type 0} (g : Ghosts D) (before after : D) (counts : g.moment befor
       let e : close_told None None ≡ Err r = sym (ap (λ (f : Option Fault). close_told f (busy_in w)) on.up ∙ ap (close_told None) (quiet_busy s.engine w on.stands on.quiet on.up on.plain.idle)) ∙ why in
       cc
 
-  pub ran_close : (result : Result (Unit {0}) Refusal) → StoreCloses g old w s s' before after result → LeavesAt g ClosesOne w.machine before after result
+  pub ran_close : (result : Result (Unit {0}) Refusal) → StoreCloses g old w s s' before after result → LeavesAt g Closes w.machine before after result
   ran_close (Ok end) last = by_takes last.middle last.stands (Ok end) last.takes
   ran_close (Err r) (inl kept) = absurd (not_kept r kept.why)
   ran_close (Err r) (inr last) = by_takes last.middle last.stands (Err r) last.takes

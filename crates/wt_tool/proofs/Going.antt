@@ -1,6 +1,6 @@
 -- How far a run of `read` has come, by what its calls did.
 use Rattle.std.specs.Prelude.{Result, Ok, Err}
-use Rattle.std.proofs.Common.{◌≡◌, ◌≢◌, ◌⊎◌, ◌≤◌, ◌++◌, ◌∙◌, ℕ, List, [], ◌∷◌, append_assoc, Option, None, inl, inr, refl, sym, ap, subst}
+use Rattle.std.proofs.Common.{◌≡◌, ◌⊎◌, ◌≤◌, ◌++◌, ◌∙◌, ℕ, List, [], ◌∷◌, append_assoc, Option, None, inl, inr, refl, sym, ap, subst}
 use Rattle.std.proofs.lemmas.List.{append-nil}
 use Rattle.failure.specs.Counts.{Rose}
 use Rattle.item.specs.declared.Formats.{Formats}
@@ -9,7 +9,7 @@ use Rattle.wt_code.specs.declared.answers.Answer.{Answer}
 use Rattle.wt_code.specs.declared.answers.Answer.TheVariants as answers
 use Rattle.wt_code.specs.declared.refusals.Refusal.{Refusal}
 use Rattle.wt_code.specs.declared.refusals.Refusal.TheVariants.{NoMemory, NotFound}
-use Rattle.wt_io.specs.Streams.{Took, TookFront}
+use Rattle.wt_io.specs.Streams.{Took}
 use Rattle.kv_model.specs.Content.{Content, start}
 use Rattle.kv_model.specs.Machine.{Machine}
 use Rattle.kv_model.specs.Calls.{Begin, GetKey}

@@ -1,5 +1,5 @@
 -- To what calls lead an engine, and the runs that they make.
-use Rattle.std.specs.Prelude.{◌≡◌, ◌≢◌, ◌⊎◌, ◌≤◌, ℕ, zero, suc, List, [], ◌∷◌, ◌++◌, length, map, reverse, Option, Some, None, Result, Ok, Err, IfErr, slice_index_or}
+use Rattle.std.specs.Prelude.{◌≡◌, ◌≢◌, ◌⊎◌, ◌≤◌, ℕ, zero, suc, List, [], ◌∷◌, ◌++◌, length, map, reverse, Option, None, Result, Ok, Err, IfErr, slice_index_or}
 use Rattle.std.proofs.Common.{inl, inr, refl, sym, ap, subst, ◌∙◌, append_assoc, arith}
 use Rattle.std.specs.Option.{option_map_or}
 use Rattle.std.proofs.lemmas.List.{append-nil, reverse-append, reverse-reverse}
@@ -10,13 +10,12 @@ use Rattle.wt_code.specs.declared.answers.Answer.TheVariants as answers
 use Rattle.wt_code.specs.declared.refusals.Refusal.{Refusal}
 use Rattle.wt_code.specs.declared.refusals.Refusal.TheVariants.{Corrupt, DiskFault, NoMemory, Limit as Refusal_Limit}
 use Rattle.wt_code.specs.declared.refusals.Limit.TheVariants.{Sessions}
-use Rattle.kv_model.specs.Content.{Content, start}
-use Rattle.kv_model.specs.History.{Table, tables, named}
+use Rattle.kv_model.specs.Content.{Content}
+use Rattle.kv_model.specs.History.{Table, named}
 use Rattle.kv_model.specs.Machine.{Machine, OpenSession, after}
 use Rattle.kv_model.specs.Decisions as kv
 use Rattle.kv_model.specs.Decisions.{OpenCall, Demand, decision}
-use Rattle.kv_model.specs.Calls.{Session, System, Call, Begin, GetKey, PutKey, Commit, Create, OpensSession, SessionAnswers, SystemAnswers}
-use Rattle.wt_calls.specs.declared.call.Call.{Call as AnyCall}
+use Rattle.kv_model.specs.Calls.{Session, System, Call, GetKey, Create, OpensSession, SessionAnswers, SystemAnswers}
 use Rattle.wt_calls.specs.declared.call.Call.TheVariants as call
 use Rattle.wt_calls.specs.declared.session_call.SessionCall.{SessionCall}
 use Rattle.wt_calls.specs.declared.system_call.SystemCall.TheVariants as system
@@ -27,17 +26,14 @@ use Rattle.engine_world.specs.Whole.{nothing_around}
 use Rattle.engine_world.specs.Worlds.{World, Doing, Resting, doing_of}
 use Rattle.engine.specs.Whole.{CallsIn, MakesAt, MayAnswer, with_session_more}
 use Rattle.ckpt_step.specs.Plain.{IsPlain, GoesPlain, IsUnstamped, OpensPlain, StaysPlain}
-use Rattle.wt_tool.specs.Points.{Point, Ran, Did, WithSession, Calls, stops}
+use Rattle.wt_tool.specs.Points.{Point, Ran, Did, WithSession, Calls, stops, Closes}
 use Rattle.engine_store.specs.Devices.{Device}
-use Rattle.wt_tool.specs.Openings.{formats_at}
-use Rattle.wt_tool.specs.Writes.{PutsPairs, the_put}
 use Rattle.wt_tool.specs.Creates.{MakesTable}
-use Rattle.wt_tool.specs.Narrow.{ClosesOne}
 use Rattle.wt_tool.specs.Words.{plain_formats}
-use Rattle.wt_tool.specs.Parts.{HasStarted, IsQuiet, IsPlainOn, Makes, NoDamage, Starts, at}
+use Rattle.wt_tool.specs.Parts.{HasStarted, IsQuiet, IsPlainOn, Makes, NoDamage, at}
 use Rattle.wt_tool.specs.Top.{status_of}
-use Rattle.wt_tool.specs.Led.{IsMild, Grows, Leads, LedBy, IsWord, MadeBy, OpenedBy, DoneBy, BegunBy, GotBy, IsSteady, PutsBegun}
-use Rattle.wt_tool.proofs.Called.{Keeps, KeepsAll, IsDone, IsValue, keeps_all, word_leaves, get_leaves, create_leaves, word_unstamped, did, same_device, keeps_same, short_put, short_get}
+use Rattle.wt_tool.specs.Led.{IsMild, Grows, Leads, LedBy, IsWord, MadeBy, OpenedBy, DoneBy, GotBy, IsSteady}
+use Rattle.wt_tool.proofs.Called.{Keeps, KeepsAll, IsDone, IsValue, keeps_all, word_leaves, get_leaves, create_leaves, word_unstamped, did, same_device, keeps_same}
 
 -- ---- refusals
 
@@ -291,14 +287,14 @@ module _ (stays : StaysPlain) (e e' : Engine) (name table : List ℕ) (formats :
 
 -- ---- on a plain engine
 
-pub makes_of : (content : Content) (Run : Point → Ran → Type 0) (e e' : Engine) (w : World) (result : Result (Unit {0}) Refusal) → IsPlainOn content e w → LedBy Run ClosesOne e e' w result → Makes content Run w e' result
+pub makes_of : (content : Content) (Run : Point → Ran → Type 0) (e e' : Engine) (w : World) (result : Result (Unit {0}) Refusal) → IsPlainOn content e w → LedBy Run Closes e e' w result → Makes content Run w e' result
 makes_of content Run e e' w result on led = by_result result led
   where
     still : (later : World) → Leads e e' w later → IsPlainOn content e' later
     still later leads = let p = leads.plain on.plain in
         record { stands = leads.stands; quiet = leads.quiet; plain = p.plain; completed = leads.completed ∙ on.completed; up = p.fault ∙ on.up }
 
-    by_result : (result : Result (Unit {0}) Refusal) → LedBy Run ClosesOne e e' w result → Makes content Run w e' result
+    by_result : (result : Result (Unit {0}) Refusal) → LedBy Run Closes e e' w result → Makes content Run w e' result
     by_result (Ok done) (later, leads, goes) = (later, still later leads, goes)
     by_result (Err r) (later, leads, mild, goes) = (later, still later leads, mild_sound r mild, mild_calm r mild, goes)
 
@@ -316,11 +312,11 @@ pub record AllMade (Run : Point → Ran → Type 0) (e e' : Engine) (result : Re
   pub mild : IfErr result IsMild
   pub grows : Grows e e'
 
-pub all_made : (Run : Point → Ran → Type 0) (e e' : Engine) (result : Result (Unit {0}) Refusal) → HasStarted e → ((w : World) → Stands e w → IsQuiet w → LedBy Run ClosesOne e e' w result) → AllMade Run e e' result
+pub all_made : (Run : Point → Ran → Type 0) (e e' : Engine) (result : Result (Unit {0}) Refusal) → HasStarted e → ((w : World) → Stands e w → IsQuiet w → LedBy Run Closes e e' w result) → AllMade Run e e' result
 all_made Run e e' result (content, started) led =
-    let first : LedBy Run ClosesOne e e' (first_world content e) result = led (first_world content e) started (first_quiet content e) in
-    record { makes = λ c w on. makes_of c Run e e' w result on (led w on.stands on.quiet); mild = by_result result first; grows = led_grows Run ClosesOne e e' (first_world content e) result first }
+    let first : LedBy Run Closes e e' (first_world content e) result = led (first_world content e) started (first_quiet content e) in
+    record { makes = λ c w on. makes_of c Run e e' w result on (led w on.stands on.quiet); mild = by_result result first; grows = led_grows Run Closes e e' (first_world content e) result first }
   where
-    by_result : (r : Result (Unit {0}) Refusal) → LedBy Run ClosesOne e e' (first_world content e) r → IfErr r IsMild
+    by_result : (r : Result (Unit {0}) Refusal) → LedBy Run Closes e e' (first_world content e) r → IfErr r IsMild
     by_result (Ok done) first = tt
-    by_result (Err r) first = led_mild Run ClosesOne e e' (first_world content e) r first
+    by_result (Err r) first = led_mild Run Closes e e' (first_world content e) r first

@@ -1,10 +1,9 @@
 -- What a command leaves of its device, by what its calls and its close did.
-use Rattle.std.specs.Prelude.{◌≡◌, ◌≢◌, ◌≤◌, ◌<◌, ◌+◌, ℕ, zero, suc, List, [], ◌∷◌, ◌++◌, length, Option, Some, None, Result, Ok, Err, IsTrue, slice_get}
-use Rattle.std.proofs.Common.{inl, inr, refl, sym, ap, subst, ◌∙◌, length-append, arith}
+use Rattle.std.specs.Prelude.{◌≡◌, ◌≤◌, ◌<◌, ◌+◌, ℕ, zero, suc, List, [], ◌∷◌, ◌++◌, length, Option, Some, None, Result, Ok, Err, slice_get}
+use Rattle.std.proofs.Common.{inl, refl, sym, ap, subst, ◌∙◌, length-append, arith}
 use Rattle.disk_model.specs.Crash.{LeavesOnly}
 use Rattle.disk_model.specs.declared.disk.Disk.{Ghosts}
 use Rattle.disk_model.proofs.Crash.{started, widened}
-use Rattle.device_layout.specs.declared.link.Link.{Link}
 use Rattle.wt_code.specs.declared.refusals.Refusal.{Refusal}
 use Rattle.stamp.specs.declared.Name.{Name}
 use Rattle.row_page.specs.Greatest.{no_name}
@@ -13,38 +12,38 @@ use Rattle.kv_model.specs.History.{Table}
 use Rattle.kv_model.specs.Machine.{Machine, Completed}
 use Rattle.stored.specs.Stored.{Stored, Reads}
 use Rattle.stored.proofs.Device.{one_content}
-use Rattle.checkpoint_core.specs.Stands.{HasStill}
 use Rattle.device_leaf.specs.Closings.{content_was}
 use Rattle.engine_world.specs.Stands.{Engine}
 use Rattle.engine_world.specs.Systems.{first_world}
 use Rattle.engine_world.specs.Worlds.{World}
 use Rattle.ckpt_step.specs.declared.ground.Ground.{Ground}
 use Rattle.ckpt_step.specs.Floors.{Follows}
-use Rattle.ckpt_step.specs.Grounds.{AreRoots, HasRoots, IsOnGround, StandsOn}
+use Rattle.tree_open.specs.declared.place.TreePlace.{TreePlace}
+use Rattle.ckpt_step.specs.Grounds.{AreRoots, IsOnGround, StandsOn}
+use Rattle.ckpt_step.specs.Trees.{AreLow}
 use Rattle.ckpt_step.proofs.Floors.{follows_none}
-use Rattle.ckpt_step.specs.Plain.{IsPlain, IsFlatStill, StartsPlain}
+use Rattle.ckpt_step.specs.Plain.{IsBareStill, StartsPlain}
 use Rattle.engine_store.specs.declared.store.Store.{Store}
 use Rattle.engine_store.specs.Opened.{IsReady}
-use Rattle.wt_tool.specs.Points.{Point, Ran, point_of}
+use Rattle.wt_tool.specs.Points.{Point, Ran, point_of, Closes}
 use Rattle.engine_store.specs.Devices.{Device, device_of}
-use Rattle.wt_tool.specs.Narrow.{ClosesOne}
 use Rattle.engine_store.specs.Images.{EachReads, OpensToLast, OpensToOne}
-use Rattle.wt_tool.specs.Parts.{IsOpenedOn, IsPlainOn, LeavesAt, LeavesFrom, Makes, at, silent_run}
+use Rattle.wt_tool.specs.Parts.{IsOpenedOn, IsPlainOn, LeavesAt, Makes, at, silent_run}
 use Rattle.wt_tool.specs.Led.{Grows}
 use Rattle.wt_tool.proofs.Closings.{start_opens, still_reads}
 use Rattle.wt_tool.proofs.Leading.{first_quiet}
 
 -- ---- an engine that was opened on the device
 
-flat_roots : (known : List Table) (links : List Link) (old : Option Stored) → AreRoots known links old → IsFlatStill old
-flat_roots known links None roots = tt
-flat_roots known links (Some s) roots = roots.flat
+bare_roots : (known : List Table) (places : List TreePlace) (old : Option Stored) → AreRoots known places old → IsBareStill old
+bare_roots known places None roots = tt
+bare_roots known places (Some s) roots = roots.bare
 
 pub opened_plain : {D : Type 0} (g : Ghosts D) (disk : D) (s : Store) (law : StartsPlain) (on : IsOpenedOn g disk s) → IsPlainOn (content_was on.old) s.engine (first_world (content_was on.old) s.engine)
 opened_plain g disk s law on = record {
   stands = on.starts;
   quiet = first_quiet (content_was on.old) s.engine;
-  plain = law (g.seen disk) on.old on.on.stands.seen_has (flat_roots s.engine.hub.tables.tables s.ground.leaves.items on.old on.on.roots);
+  plain = law (g.seen disk) on.old on.on.stands.seen_has (bare_roots s.engine.hub.tables.tables s.ground.trees.items on.old on.on.roots);
   completed = refl;
   up = refl;
 }
@@ -54,11 +53,11 @@ pub opened_reads : {D : Type 0} (g : Ghosts D) (disk : D) (s : Store) (on : IsOp
 opened_reads g disk s on content reads = one_content (g.seen disk) (content_was on.old) content (still_reads on.old (g.seen disk) on.on.stands.seen_has) reads
 
 -- no leaf is clean before the first checkpoint, whatever the machine
-pub follows_opened : {D : Type 0} (g : Ghosts D) (disk : D) (s : Store) (on : IsOpenedOn g disk s) (m : Machine) → Follows on.old s.engine.hub.tables.tables s.ground.leaves.items s.ground.floor m
-follows_opened g disk s on m = subst (λ (n : Name). Follows on.old s.engine.hub.tables.tables s.ground.leaves.items n m) (sym on.floor) (follows_none on.old s.engine.hub.tables.tables s.ground.leaves.items m)
+pub follows_opened : {D : Type 0} (g : Ghosts D) (disk : D) (s : Store) (on : IsOpenedOn g disk s) (m : Machine) → Follows on.old s.engine.hub.tables.tables s.ground.trees.items s.ground.floor m
+follows_opened g disk s on m = subst (λ (n : Name). Follows on.old s.engine.hub.tables.tables s.ground.trees.items n m) (sym on.floor) (follows_none on.old s.engine.hub.tables.tables s.ground.trees.items m)
 
-follows_at : (t : Store) (old : Option Stored) (floor : Name) (m : Machine) → t.ground.floor ≡ floor → floor ≡ no_name → Follows old t.engine.hub.tables.tables t.ground.leaves.items t.ground.floor m
-follows_at t old floor m same none = subst (λ (n : Name). Follows old t.engine.hub.tables.tables t.ground.leaves.items n m) (sym (same ∙ none)) (follows_none old t.engine.hub.tables.tables t.ground.leaves.items m)
+follows_at : (t : Store) (old : Option Stored) (floor : Name) (m : Machine) → t.ground.floor ≡ floor → floor ≡ no_name → Follows old t.engine.hub.tables.tables t.ground.trees.items t.ground.floor m
+follows_at t old floor m same none = subst (λ (n : Name). Follows old t.engine.hub.tables.tables t.ground.trees.items n m) (sym (same ∙ none)) (follows_none old t.engine.hub.tables.tables t.ground.trees.items m)
 
 -- ---- tables that are more
 
@@ -72,13 +71,13 @@ has_place [] place x there = absurd cc
 has_place (a ∷ xs) zero x there = omega arith
 has_place (a ∷ xs) (suc place) x there = let less : place < length xs = has_place xs place x there in omega (arith, less)
 
-roots_more : (known more : List Table) (links : List Link) (old : Option Stored) → AreRoots known links old → AreRoots (known ++ more) links old
-roots_more known more links None roots = roots
-roots_more known more links (Some s) roots = record {
-  flat = roots.flat;
+roots_more : (known more : List Table) (places : List TreePlace) (old : Option Stored) → AreRoots known places old → AreRoots (known ++ more) places old
+roots_more known more places None roots = roots
+roots_more known more places (Some s) roots = record {
+  bare = roots.bare;
   few = omega (arith, roots.few, length-append known more);
   count = roots.count;
-  roots = λ place t link there leads. roots.roots place t link (get_more known more place t (omega (arith, has_place links place link leads, roots.few)) there) leads;
+  trees = λ i t place there stands. roots.trees i t place (get_more known more i t (omega (arith, has_place places i place stands, roots.few)) there) stands;
 }
 
 -- the ground of an engine is that of one which has more tables
@@ -93,14 +92,15 @@ on_more seen images s t old grows same on =
       idle = on.idle;
       long = on.long;
       within = on.within;
-      roots = subst (λ (l : List Table). AreRoots l s.ground.leaves.items old) (sym grows.tables) (roots_more s.engine.hub.tables.tables grows.more s.ground.leaves.items old on.roots);
+      roots = subst (λ (l : List Table). AreRoots l s.ground.trees.items old) (sym grows.tables) (roots_more s.engine.hub.tables.tables grows.more s.ground.trees.items old on.roots);
     } in
     subst (λ k. StandsOn seen images t.engine.hub.tables.tables k old) (sym same) more
 
 pub ready_more : (s t : Store) → Grows s.engine t.engine → t.ground ≡ s.ground → IsReady s → IsReady t
 ready_more s t grows same ready = record {
   run = subst (λ k. t.engine.hub.txns.run ≤ k.number + 1) (sym same) (subst (λ (n : ℕ). n ≤ s.ground.number + 1) (sym grows.run) ready.run);
-  leaves = subst (λ k. length k.leaves.items ≤ length t.engine.hub.tables.tables) (sym same) (omega (arith, ready.leaves, ap length grows.tables, length-append s.engine.hub.tables.tables grows.more));
+  trees = subst (λ k. length k.trees.items ≤ length t.engine.hub.tables.tables) (sym same) (omega (arith, ready.trees, ap length grows.tables, length-append s.engine.hub.tables.tables grows.more));
+  low = subst (λ k. AreLow k.trees.items) (sym same) ready.low;
 }
 
 -- ---- what is left
@@ -119,7 +119,7 @@ module _ {D : Type 0} (g : Ghosts D) (content : Content) (Run : Point → Ran �
   }
 
   -- a close behind calls
-  pub closed_behind : (old new : D) (result : Result (Unit {0}) Refusal) (later : Machine) → later.completed ≡ (start content).completed → ((d : Device) (ran : Ran) → ClosesOne (at d later) ran → Run (at d (start content)) ran) → LeavesAt g ClosesOne later old new result → LeavesAt g Run (start content) old new result
+  pub closed_behind : (old new : D) (result : Result (Unit {0}) Refusal) (later : Machine) → later.completed ≡ (start content).completed → ((d : Device) (ran : Ran) → Closes (at d later) ran → Run (at d (start content)) ran) → LeavesAt g Closes later old new result → LeavesAt g Run (start content) old new result
   closed_behind old new result later same goes l = record {
     made = l.made;
     next = l.next;
@@ -158,7 +158,7 @@ module _ {D : Type 0} (g : Ghosts D) (old : D) (s : Store) (on : IsOpenedOn g ol
   -- and the close
   pub closed_after : (t : Store) (new : D) (result : Result (Unit {0}) Refusal) → Grows s.engine t.engine → t.ground ≡ s.ground → MadeAll t.engine (Ok tt)
       → ((o : Option Stored) → StandsOn (g.seen old) (g.may_leave old) t.engine.hub.tables.tables t.ground o → EachReads (g.may_leave old) (content_was o) → (w : World) → IsPlainOn (content_was o) t.engine w
-      → Follows o t.engine.hub.tables.tables t.ground.leaves.items t.ground.floor w.machine → LeavesAt g ClosesOne w.machine old new result)
+      → Follows o t.engine.hub.tables.tables t.ground.trees.items t.ground.floor w.machine → LeavesAt g Closes w.machine old new result)
       → LeavesAt g Run (start content) old new result
   closed_after t new result grows ground makes closes =
       let m = made t.engine (Ok tt) makes in

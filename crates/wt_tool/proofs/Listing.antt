@@ -1,7 +1,6 @@
 -- The runs of `list`.
-use Rattle.std.proofs.Common.{◌≡◌, ◌∙◌, ◌++◌, ℕ, zero, suc, true, false, Bool, List, [], ◌∷◌, append_assoc, map, take, reverse, Option, Some, None, IsTrue, inl, inr, refl, sym, ap, subst}
+use Rattle.std.proofs.Common.{◌≡◌, ◌∙◌, ◌++◌, ℕ, zero, suc, true, false, List, [], ◌∷◌, append_assoc, map, take, reverse, Option, Some, None, inl, inr, refl, sym, ap, subst}
 use Rattle.std.specs.Prelude.{slice_get, bytes_eq, codes}
-use Rattle.std.specs.List.{flat_map}
 use Rattle.std.proofs.lemmas.Bool.{cases_Bool}
 use Rattle.std.proofs.lemmas.List.{append-nil}
 use Rattle.std.proofs.lemmas.Option.{same_Some}
@@ -15,7 +14,7 @@ use Rattle.ckpt_step.proofs.ByPlace.{turned_there, there_turned}
 use Rattle.engine_store.specs.Devices.{Device}
 use Rattle.wt_code.specs.declared.refusals.Refusal.TheVariants.{NoMemory}
 use Rattle.wt_io.specs.Streams.{Took, TookFront}
-use Rattle.script_run.specs.declared.script.End.TheVariants.{Through, Stopped, OutputFailed}
+use Rattle.script_run.specs.declared.script.End.TheVariants.{Through, OutputFailed}
 use Rattle.wt_tool.specs.Points.{ends, stops, prints}
 use Rattle.wt_tool.specs.Lists.{AreNames, RunsList, Sorted, names_text}
 use Rattle.wt_tool.specs.Parts.{NoDamage, Reading, at}

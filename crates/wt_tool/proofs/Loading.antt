@@ -1,11 +1,8 @@
 -- The runs of `load`, by what its calls did.
-use Rattle.std.specs.Prelude.{◌≡◌, ◌⊎◌, ◌<◌, ◌+◌, ◌^◌, ◌++◌, ℕ, Bool, true, false, not, List, [], ◌∷◌, length, Option, Some, None, Result, Ok, Err, IfErr, MatchOption, filter}
+use Rattle.std.specs.Prelude.{◌≡◌, ◌⊎◌, ◌<◌, ◌^◌, ◌++◌, ℕ, Bool, true, false, List, [], ◌∷◌, length, Option, Some, None, Result, Ok, Err, IfErr, MatchOption}
 use Rattle.std.proofs.Common.{inl, inr, refl, sym, ap, subst, ◌∙◌, arith}
 use Rattle.std.proofs.lemmas.List.{append-nil}
 use Rattle.std.specs.List.{AllByRecursion}
-use Rattle.std.specs.Option.{option_to_list}
-use Rattle.failure.specs.Counts.{Rose}
-use Rattle.disk_model.specs.Crash.{LeavesOnly}
 use Rattle.disk_model.specs.declared.disk.Disk.{Ghosts}
 use Rattle.disk_model.proofs.Crash.{started, widened}
 use Rattle.item.specs.declared.Formats.{Formats}
@@ -13,35 +10,30 @@ use Rattle.wt_code.specs.declared.refusals.Refusal.{Refusal}
 use Rattle.wt_code.specs.declared.refusals.Refusal.TheVariants.{DiskFault, NoMemory, Invalid as Refusal_Invalid}
 use Rattle.wt_code.specs.declared.refusals.Invalid.TheVariants.{Text}
 use Rattle.wt_io.specs.Streams.{Gave}
-use Rattle.kv_model.specs.Content.{Content, start, OpensAs}
+use Rattle.kv_model.specs.Content.{Content, start}
 use Rattle.kv_model.specs.Decisions.{Demand}
 use Rattle.kv_model.specs.Machine.{Machine}
 use Rattle.kv_model.specs.Calls.{Session, Call, Begin, PutKey, Commit}
 use Rattle.stored.specs.Stored.{Reads}
 use Rattle.dump_text.specs.Cuts.{lines_in}
-use Rattle.dump_text.specs.Grammar.{Dump, IsDump, Row}
+use Rattle.dump_text.specs.Grammar.{Row}
 use Rattle.dump_text.specs.Texts.{IsDumped, IsRefused}
 use Rattle.dump_text.specs.declared.reader.Table.{Table}
 use Rattle.dump_text.specs.declared.whole.Dumped.{Dumped}
 use Rattle.engine_world.specs.Stands.{Engine, Stands}
 use Rattle.engine_world.specs.Worlds.{World}
-use Rattle.engine_store.specs.Images.{EachReads, OpensToLast}
-use Rattle.engine_store.specs.Devices.{Device}
+use Rattle.engine_store.specs.Images.{EachReads}
 use Rattle.script_run.specs.declared.script.End.{End}
 use Rattle.script_run.specs.declared.script.End.TheVariants.{Through, Stopped, InputFailed, OutputFailed}
-use Rattle.script_run.specs.declared.script.TheConstants.{INPUT_MAX}
-use Rattle.script_run.specs.Scripts.{counts}
-use Rattle.wt_tool.specs.Points.{Point, Ran, Calls, WithSession, ends, point_of, stops}
+use Rattle.wt_tool.specs.Points.{Point, Ran, Calls, point_of, stops, Closes}
 use Rattle.wt_tool.specs.Creates.{MakesTable}
-use Rattle.wt_tool.specs.Inputs.{IsTaken, IsUntaken}
-use Rattle.wt_tool.specs.Loads.{IsWhole, LoadsRows, LoadsText, PutsRows, RunsLoad, loaded_name, takes}
-use Rattle.wt_tool.specs.Narrow.{ClosesOne}
+use Rattle.wt_tool.specs.Inputs.{IsUntaken}
+use Rattle.wt_tool.specs.Loads.{IsWhole, LoadsRows, LoadsText, PutsRows, RunsLoad, loaded_name}
 use Rattle.wt_tool.specs.Writes.{demand_of}
 use Rattle.wt_tool.specs.Parts.{EndsLoad, IsQuiet, LeavesAt, LoadEnds, Loading, NoDamage, TellsEnd, at, end_of, silent_run}
 use Rattle.wt_tool.specs.Scripts.{told_at}
 use Rattle.wt_tool.specs.Led.{DoneBy, Leads, LedBy, MadeBy, OpenedBy}
 use Rattle.wt_tool.specs.Top.{Errors, Telling}
-use Rattle.wt_tool.specs.declared.input.Taken.{Taken}
 use Rattle.wt_tool.proofs.Closings.{start_opens}
 use Rattle.wt_tool.proofs.Leading.{called_led, led_behind, made_led, opened_led, stands_still}
 use Rattle.wt_tool.proofs.ScriptRuns.{tells_means}
@@ -127,11 +119,11 @@ module _ (name : List ℕ) (demand : Demand) (First : Point → Ran → Type 0) 
   rows_next n result all rows row is so_far next =
       led_then First (PutsRows name demand (row ∷ rows)) (PutsRows name demand rows) o e n w result (subst SoFar is so_far) next
 
-  pub rows_end : (all : List Row) → all ≡ [] → SoFar all → LedBy First ClosesOne o e w (Ok tt)
+  pub rows_end : (all : List Row) → all ≡ [] → SoFar all → LedBy First Closes o e w (Ok tt)
   rows_end all is so_far = subst SoFar is so_far
 
   -- memory for a row is wanted
-  pub rows_short : (all : List Row) → 0 < length all → SoFar all → LedBy First ClosesOne o e w (Err NoMemory)
+  pub rows_short : (all : List Row) → 0 < length all → SoFar all → LedBy First Closes o e w (Err NoMemory)
   rows_short [] some so_far = absurd (omega (arith, some))
   rows_short (row ∷ rows) some so_far =
       led_then First (PutsRows name demand (row ∷ rows)) (PutsRows name demand rows) o e e w (Err NoMemory) so_far (λ v there rests. row_short name demand row rows e v there rests)

@@ -1,5 +1,5 @@
 -- The runs of `write`, by what its calls did.
-use Rattle.std.specs.Prelude.{◌≡◌, ◌≤◌, ◌<◌, ◌+◌, ◌==◌, ℕ, suc, Bool, true, false, List, [], ◌∷◌, length, drop, Option, Some, None, Result, Ok, Err}
+use Rattle.std.specs.Prelude.{◌≡◌, ◌≤◌, ◌<◌, ◌+◌, ◌==◌, ℕ, suc, Bool, true, false, List, [], ◌∷◌, length, drop, None, Result, Ok, Err}
 use Rattle.std.proofs.Common.{inl, inr, refl, sym, ap, subst, ◌∙◌, Bor, get_or, length-drop, arith}
 use Rattle.std.proofs.Math.Seq.{drop-cons}
 use Rattle.std.proofs.lemmas.Bool.{eqb-true}
@@ -10,18 +10,15 @@ use Rattle.wt_code.specs.declared.answers.Answer.TheVariants.{Done, Refused}
 use Rattle.wt_code.specs.declared.refusals.Refusal.{Refusal}
 use Rattle.wt_code.specs.declared.refusals.Refusal.TheVariants.{NoMemory}
 use Rattle.kv_model.specs.Decisions.{Demand}
-use Rattle.kv_model.specs.Machine.{Machine}
 use Rattle.kv_model.specs.Calls.{Session, Call, Begin, Commit}
 use Rattle.item_forms.specs.Forms.{stored_as}
 use Rattle.engine_world.specs.Stands.{Engine, Stands}
 use Rattle.engine_world.specs.Worlds.{World}
-use Rattle.wt_tool.specs.Points.{Point, Ran, Did, Calls, WithSession, ends}
-use Rattle.engine_store.specs.Devices.{Device}
+use Rattle.wt_tool.specs.Points.{Point, Ran, Did, Calls, WithSession, ends, Closes}
 use Rattle.wt_tool.specs.Openings.{formats_at}
 use Rattle.wt_tool.specs.Writes.{PutsPairs, WritesPairs, the_put}
-use Rattle.wt_tool.specs.Narrow.{ClosesOne}
 use Rattle.wt_tool.specs.Parts.{IsQuiet, at}
-use Rattle.wt_tool.specs.Led.{IsMild, Leads, LedBy, DoneBy, PutsBegun}
+use Rattle.wt_tool.specs.Led.{Leads, LedBy, DoneBy, PutsBegun}
 use Rattle.wt_tool.proofs.Called.{short_put}
 use Rattle.wt_tool.proofs.Leading.{called_led, led_behind, stands_still}
 
@@ -102,5 +99,5 @@ module _ (name : List ℕ) (demand : Demand) (l : Words) (i : ℕ) (First : Poin
       (λ v there rests. next v there rests (pair_texts (drop (i + 1) l)))
 
   -- all were put
-  pub led_end : length l ≤ i → SoFar → LedBy First ClosesOne o e u (Ok tt)
+  pub led_end : length l ≤ i → SoFar → LedBy First Closes o e u (Ok tt)
   led_end past so_far = subst (λ (pairs : List (List ℕ × List ℕ)). LedBy First (PutsPairs name demand pairs) o e u (Ok tt)) (no_pair l i past) so_far

@@ -13,12 +13,12 @@ use Rattle.stored.specs.Stored.{Stored, Reads, IsOn, IsBlank}
 use Rattle.wt_code.specs.declared.refusals.Refusal.{Refusal}
 use Rattle.wt_code.specs.declared.refusals.Refusal.TheVariants.{NoMemory, DiskFault, Corrupt}
 use Rattle.wt_io.specs.Streams.{Gave, Took}
-use Rattle.device_layout.specs.declared.link.Link.{Link}
 use Rattle.turtle.proofs.Choice.{chooses_one}
 use Rattle.kv_model.specs.History.{Table}
 use Rattle.checkpoint_core.specs.Stands.{HasStill}
 use Rattle.device_leaf.specs.Closings.{content_was}
-use Rattle.recover_open.specs.Flat.{IsFlat}
+use Rattle.tree_open.specs.declared.place.TreePlace.{TreePlace}
+use Rattle.recover_open.specs.Bare.{IsBare}
 use Rattle.recover_open.proofs.Devices.{damage_no_content}
 use Rattle.recover_open.proofs.Steps.{refused_further}
 use Rattle.ckpt_step.specs.Grounds.{AreRoots}
@@ -48,8 +48,8 @@ run_below : (old : Option Stored) → HasNumbers old → (content_was old).run <
 run_below None numbers = omega (arith)
 run_below (Some s) numbers = numbers.0
 
-flat_still : (known : List Table) (links : List Link) (s : Stored) → AreRoots known links (Some s) → IsFlat s.kept
-flat_still known links s roots = roots.flat
+bare_still : (known : List Table) (places : List TreePlace) (s : Stored) → AreRoots known places (Some s) → IsBare s.kept
+bare_still known places s roots = roots.bare
 
 -- of a store that was opened on a disk which was looked at
 module _ {D : Type 0} (g : Ghosts D) (old mid : D) (s : Store) (looked : Looked g old mid) (opened : IsOpenedOn g mid s) where
@@ -68,7 +68,7 @@ module _ {D : Type 0} (g : Ghosts D) (old mid : D) (s : Store) (looked : Looked 
 
     pub may_open : MayOpen (point_of g (start content) old)
     may_open = record {
-      narrow = λ wide. wide.2 (flat_still s.engine.hub.tables.tables s.ground.leaves.items wide.0 (subst (λ (o : Option Stored). AreRoots s.engine.hub.tables.tables s.ground.leaves.items o) (one_there wide.0 wide.1) opened.on.roots));
+      narrow = λ wide. wide.2 (bare_still s.engine.hub.tables.tables s.ground.trees.items wide.0 (subst (λ (o : Option Stored). AreRoots s.engine.hub.tables.tables s.ground.trees.items o) (one_there wide.0 wide.1) opened.on.roots));
       numbers = λ used. absurd (omega (arith, used.2, (subst (λ (o : Option Stored). HasNumbers o) (one_there used.0 used.1) opened.numbers).1));
       run = λ same. omega (arith, same, subst (λ (c : Content). c.run < last_number) (sym was) (run_below opened.old opened.numbers));
     }
@@ -90,7 +90,7 @@ open_further fault later h k bytes r (inl why) more known = inl (refused_further
 open_further fault later h k bytes r (inr (is, why)) more known = inr (is, λ x. why (known x))
 
 -- a device that reads as something is blank or has a checkpoint
-wide_of : (bytes : List ℕ) (content : Content) → Reads bytes content → ((s : Stored) → IsOn bytes s → IsFlat s.kept → ⊥) → (IsBlank bytes → ⊥) → IsWide bytes
+wide_of : (bytes : List ℕ) (content : Content) → Reads bytes content → ((s : Stored) → IsOn bytes s → IsBare s.kept → ⊥) → (IsBlank bytes → ⊥) → IsWide bytes
 wide_of bytes content (inl (blank, is)) none shut = absurd (shut blank)
 wide_of bytes content (inr (s, on, is)) none shut = (s, on, none s on)
 

@@ -1,5 +1,5 @@
 -- The runs of `verify`.
-use Rattle.std.proofs.Common.{◌≡◌, ◌∙◌, ℕ, List, [], ◌∷◌, reverse, Option, Some, None, Result, Ok, Err, inl, inr, refl, sym, subst}
+use Rattle.std.proofs.Common.{◌≡◌, ◌∙◌, ℕ, List, [], ◌∷◌, reverse, Option, Some, None, Ok, Err, inl, refl, sym, subst}
 use Rattle.std.proofs.lemmas.List.{append-nil}
 use Rattle.kv_model.specs.Holds.{Member}
 use Rattle.kv_model.specs.History.{Table, tables, named}

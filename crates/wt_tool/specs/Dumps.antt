@@ -1,5 +1,5 @@
 -- The run of `dump`: the text of a table's rows is printed.
-use Rattle.std.specs.Prelude.{◌≡◌, ◌⊎◌, ◌↔◌, ◌++◌, ℕ, Bool, true, false, List, [], ◌∷◌, length, Option, Some, None}
+use Rattle.std.specs.Prelude.{◌≡◌, ◌⊎◌, ◌↔◌, ◌++◌, ℕ, Bool, true, false, List, [], ◌∷◌, length, Some, None}
 use Rattle.failure.specs.Counts.{Rose}
 use Rattle.wt_code.specs.declared.refusals.Refusal.TheVariants.{NoMemory, DiskFault, NoTable}
 use Rattle.kv_model.specs.Holds.{Member}

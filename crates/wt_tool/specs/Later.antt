@@ -13,7 +13,7 @@ use Rattle.engine_store.specs.Answers.{Installs}
 use Rattle.engine_store.specs.Devices.{Installed, IsLater}
 use Rattle.script_run.specs.declared.script.End.TheVariants.{Through, Stopped}
 use Rattle.script_run.specs.Scripts.{Replies, Script, StopsBy, ends as no_more}
-use Rattle.wt_tool.specs.Points.{Point, Ran, ends, prints, Closes}
+use Rattle.wt_tool.specs.Points.{Point, Ran, prints, Closes}
 use Rattle.wt_tool.specs.Scripts.{ran_by}
 
 -- what the words ask for

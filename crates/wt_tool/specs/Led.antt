@@ -1,5 +1,5 @@
 -- To what the calls of a command lead an engine, whatever the disk.
-use Rattle.std.specs.Prelude.{◌≡◌, ◌⊎◌, ℕ, List, ◌∷◌, ◌++◌, None, Result, Ok, Err}
+use Rattle.std.specs.Prelude.{◌≡◌, ◌⊎◌, ℕ, List, ◌++◌, None, Result, Ok, Err}
 use Rattle.item.specs.declared.formats.Formats.{Formats}
 use Rattle.wt_code.specs.declared.answers.Answer.TheVariants.{Done, Value, Refused}
 use Rattle.wt_code.specs.declared.refusals.Refusal.{Refusal}

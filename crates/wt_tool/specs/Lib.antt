@@ -1,7 +1,6 @@
 pub mod Verifies
 pub mod Words
 pub mod Points
-pub mod Narrow
 pub mod Openings
 pub mod Creates
 pub mod Writes

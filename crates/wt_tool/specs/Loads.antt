@@ -10,15 +10,14 @@ use Rattle.dump_text.specs.Grammar.{Dump, IsDump, Row}
 use Rattle.dump_text.specs.Texts.{IsRefusedAt}
 use Rattle.script_run.specs.declared.script.End.TheVariants.{InputFailed}
 use Rattle.script_run.specs.declared.script.TheConstants.{INPUT_MAX}
-use Rattle.wt_tool.specs.Points.{Point, Ran, ends, stops, Calls, WithSession}
-use Rattle.wt_tool.specs.Narrow.{ClosesOne}
+use Rattle.wt_tool.specs.Points.{Point, Ran, ends, stops, Calls, WithSession, Closes}
 use Rattle.wt_tool.specs.Words.{after_scheme}
 use Rattle.wt_tool.specs.Creates.{MakesTable}
 use Rattle.wt_tool.specs.Writes.{demand_of}
 
 -- One transaction for each row, and then Close. The first refusal ends the run, which then has taken no checkpoint; so does want of memory for a row.
 abbrev pub PutsRows : List ℕ → Demand → List Row → Point → Ran → Type 0
-PutsRows name demand [] p ran = ClosesOne p ran
+PutsRows name demand [] p ran = Closes p ran
 PutsRows name demand (row ∷ rows) p ran =
     (ran ≡ stops NoMemory p)
     ⊎ Calls (Session 0) (Begin None) (λ begun. Calls (Session 0) (PutKey name row.0 row.1 demand) (λ put. Calls (Session 0) (Commit None None) (λ done. PutsRows name demand rows done) put) begun) p ran

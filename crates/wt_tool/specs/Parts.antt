@@ -25,9 +25,8 @@ use Rattle.ckpt_step.specs.Plain.{IsPlain}
 use Rattle.engine_store.specs.declared.store.Store.{Store}
 use Rattle.engine_store.specs.Opened.{HasNumbers}
 use Rattle.wt_line.specs.Line.{Asked}
-use Rattle.wt_tool.specs.Points.{Point, Ran, point_of, stops}
+use Rattle.wt_tool.specs.Points.{Point, Ran, point_of, stops, Closes}
 use Rattle.engine_store.specs.Devices.{Device, Installed, device_of}
-use Rattle.wt_tool.specs.Narrow.{ClosesOne}
 use Rattle.wt_tool.specs.Loads.{RunsLoad}
 use Rattle.wt_tool.specs.Scripts.{RunsScript, told_at}
 use Rattle.wt_tool.specs.Top.{Errors, Streams, errors_of, streams_of, Printed, Tells, lines, last_line, status_at, status_by, Went}
@@ -125,7 +124,7 @@ at d m = record { machine = m; device = d }
 
 -- Calls lead from one world to a later one, with the run from the first on: what is run from the later one on is put behind them, or a refusal ends it there. No refusal tells of damage or of the disk.
 abbrev pub Makes : Content → (Point → Ran → Type 0) → World → Engine → Result (Unit {0}) Refusal → Type 0
-Makes content Run w e (Ok done) = (later : World) × IsPlainOn content e later × ((d : Device) (ran : Ran) → ClosesOne (at d later.machine) ran → Run (at d w.machine) ran)
+Makes content Run w e (Ok done) = (later : World) × IsPlainOn content e later × ((d : Device) (ran : Ran) → Closes (at d later.machine) ran → Run (at d w.machine) ran)
 Makes content Run w e (Err r) = (later : World) × IsPlainOn content e later × NoDamage r × (r ≢ DiskFault) × ((d : Device) → Run (at d w.machine) (stops r (at d later.machine)))
 
 -- what `read` gives and tells, on an engine that has just started: what is allowed where a write of the output fails, or does not

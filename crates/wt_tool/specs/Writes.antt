@@ -5,8 +5,7 @@ use Rattle.kv_model.specs.Decisions.{Demand, Anything, Vacant}
 use Rattle.kv_model.specs.Calls.{Session, Call, Begin, PutKey, Commit}
 use Rattle.item_forms.specs.Forms.{stored_as}
 use Rattle.script_run.specs.declared.script.End.TheVariants.{Through}
-use Rattle.wt_tool.specs.Points.{Point, Ran, ends, Calls, WithSession}
-use Rattle.wt_tool.specs.Narrow.{ClosesOne}
+use Rattle.wt_tool.specs.Points.{Point, Ran, ends, Calls, WithSession, Closes}
 use Rattle.wt_tool.specs.Openings.{Named, formats_at}
 
 -- the put of a pair of words
@@ -20,7 +19,7 @@ demand_of true = Anything
 
 -- one transaction for each pair; the first refusal ends the run, which then has taken no checkpoint
 abbrev pub PutsPairs : List ℕ → Demand → List (List ℕ × List ℕ) → Point → Ran → Type 0
-PutsPairs name demand [] p ran = ClosesOne p ran
+PutsPairs name demand [] p ran = Closes p ran
 PutsPairs name demand (pair ∷ pairs) p ran =
     Calls (Session 0) (Begin None)
     (λ begun. Calls (Session 0) (the_put begun.machine name demand pair) (λ put. Calls (Session 0) (Commit None None) (λ done. PutsPairs name demand pairs done) put) begun)

@@ -8,7 +8,7 @@ ghost use Rattle.ckpt_step.specs.Grounds.{IsSteady, StandsOn};
 ghost use Rattle.device_leaf.specs.Closings.{content_was};
 ghost use Rattle.stored.specs.Stored.{Stored};
 ghost use Rattle.engine_store.specs.Opened.{IsReady};
-ghost use Rattle.wt_tool.specs.Narrow.{ClosesOne};
+ghost use Rattle.wt_tool.specs.Points.{Closes};
 ghost use Rattle.wt_tool.specs.Parts.{IsPlainOn, LeavesAt, NoDamage};
 ghost use Rattle.engine_store.specs.Images.{EachReads};
 
@@ -26,7 +26,7 @@ pub(crate) fn close<D: Disk>(alloc: Global, disk: &mut D, store: Store) -> Resul
     requires on { IsTrue (D.honest disk.old) → IsSteady D.Disk store.engine store.ground disk.old }
     ensures run { IsTrue (D.honest disk.old) → (old : Option Stored) → StandsOn (D.seen disk.old) (D.may_leave disk.old) store.engine.hub.tables.tables store.ground old
         → EachReads (D.may_leave disk.old) (content_was old) → (w : World) → IsPlainOn (content_was old) store.engine w
-        → Follows old store.engine.hub.tables.tables store.ground.leaves.items store.ground.floor w.machine → LeavesAt D.Disk ClosesOne w.machine disk.old disk.new result }
+        → Follows old store.engine.hub.tables.tables store.ground.trees.items store.ground.floor w.machine → LeavesAt D.Disk Closes w.machine disk.old disk.new result }
     ensures sound { IfErr result NoDamage }
     ensures fault { IfErr result (λ r. r ≡ Refusal.DiskFault → Rose (D.faults disk.old) (D.faults disk.new)) }
     ensures disk { SameDisk D.Disk disk.old disk.new }

@@ -7,7 +7,7 @@ ghost use Rattle.kv_model.specs.Content.{Content};
 ghost use Rattle.engine_world.specs.Stands.{Stands};
 ghost use Rattle.engine_world.specs.Worlds.{World};
 ghost use Rattle.engine_store.specs.Opened.{IsReady};
-ghost use Rattle.wt_tool.specs.Narrow.{ClosesOne};
+ghost use Rattle.wt_tool.specs.Points.{Closes};
 ghost use Rattle.wt_tool.specs.Creates.{MakesTable, RunsCreate};
 ghost use Rattle.wt_tool.specs.Parts.{HasStarted, IsOpenedOn, IsPlainOn, IsQuiet, LeavesFrom, Makes, NoDamage};
 ghost use Rattle.wt_tool.specs.Led.{Grows, IsMild, Leads, MadeBy};
@@ -61,7 +61,7 @@ fn make_table(
     formats: Formats,
 ) -> Result<(), Refusal>
     requires started { HasStarted engine.old }
-    ensures makes { (content : Content) (w : World) → IsPlainOn content engine.old w → Makes content (MakesTable name.now formats ClosesOne) w engine.new result }
+    ensures makes { (content : Content) (w : World) → IsPlainOn content engine.old w → Makes content (MakesTable name.now formats Closes) w engine.new result }
     ensures mild { IfErr result IsMild }
     ensures grows { Grows engine.old engine.new }
 {

@@ -3,9 +3,8 @@
 //! Promises, on the call that the program makes, that a run is one that the machine's definitions
 //! allow, that the disk it hands back opens to the last completed checkpoint, and that a status
 //! tells its cause. Leaves the real file and the real streams to the program. Each command runs on an
-//! engine that starts on the device's checkpoint. Today each table has one leaf: a device with a
-//! larger tree or with a history is refused as `75 limit image`, and so is a close whose rows pass a
-//! leaf. A script writes to the device only by its lines that take a checkpoint.
+//! engine that starts on the device's checkpoint. A device with a history is refused as `75 limit
+//! image`. A script writes to the device only by its lines that take a checkpoint.
 #![tactic(auto)]
 
 mod closing;
@@ -21,8 +20,6 @@ mod script;
 mod sessions;
 mod status;
 mod telling;
-#[cfg(test)]
-mod tests;
 mod top;
 mod verify;
 mod write;

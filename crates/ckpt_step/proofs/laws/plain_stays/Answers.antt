@@ -4,7 +4,7 @@ use Rattle.ckpt_step.proofs.PlainStarts.{starts}
 use Rattle.ckpt_step.proofs.laws.plain_stays.Goals as goal
 
 pub returns-clause-starts : goal.returns-clause-starts
-returns-clause-starts c = starts
+returns-clause-starts c = starts c.what_is_read_is_regular.ensures
 
 pub returns-clause-opens : goal.returns-clause-opens
 returns-clause-opens c = opens

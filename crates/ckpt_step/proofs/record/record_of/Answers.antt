@@ -1,26 +1,22 @@
-use Rattle.std.proofs.Common.{◌≡◌, ◌∙◌, ℕ, List, length, reverse, ap, refl, rules, sym, subst, arith}
+use Rattle.std.proofs.Common.{◌∙◌, ℕ, List, length, reverse, ap, refl, rules, sym, subst, arith}
 use Rattle.std.specs.List.{AllByRecursion}
 use Rattle.std.proofs.lemmas.List.{reverse-reverse}
-use Rattle.device_layout.specs.declared.link.Link.{Link}
 use Rattle.kv_model.specs.Content.{Snapshot}
 use Rattle.kv_model.specs.History.{Table}
 use Rattle.snapshot.specs.Matters.{AreUnended, SeesCommitted}
 use Rattle.snapshot.specs.Sight.{Sight}
 use Rattle.txn_table.proofs.Capturing.{are-unended, checkpoints-see}
 use Rattle.txn_table.proofs.Standing.{calls-stand}
-use Rattle.stored.specs.Links.{nowhere}
+use Rattle.device_leaf.specs.NoHistory.{no_root}
 use Rattle.stored.specs.Records.{Root, RootFits, TableRoot}
 use Rattle.stored.specs.Stored.{tables_of}
 use Rattle.catalog.specs.Known.{by_name}
 use Rattle.engine.specs.declared.checkpoint.EngineMarks.{EngineMarks}
 use Rattle.engine.proofs.Checkpoints.{sees-now}
 use Rattle.ckpt_step.specs.Records.{IsTyped, of_number, roots_by_name}
-use Rattle.ckpt_step.proofs.RecordsFit.{TablesFit, nowhere_fits, rooted_flat, rooted_tables, tables_fit}
+use Rattle.ckpt_step.specs.Trees.{placed_by, roots_of}
+use Rattle.ckpt_step.proofs.RecordsFit.{TablesFit, nowhere_fits, rooted_tables, tables_fit}
 use Rattle.ckpt_step.proofs.record.record_of.Goals as goal
-
--- the root that is this leaf
-abbrev leaf_at : Link → Root
-leaf_at link = record { level = 0; link = link }
 
 abbrev sight_with : ℕ → Snapshot → Sight
 sight_with run s = record { run = run; min = s.min; max = s.max; list = s.ids }
@@ -34,8 +30,8 @@ returns-clause-admitted c =
     let known = c.tables-tables.ensures.known in
     let roots = c.in_ok-roots_of.ensures.roots in
     let run = ap (λ (marks : EngineMarks). marks.run) c.marks-marks.ensures.hub in
-    let tables = tables_fit k (λ (t : Table). of_number nowhere k.tables c.args.links.now t.number) known (subst (λ (l : List TableRoot). AllByRecursion IsTyped l) roots c.in_ok-roots_of.ensures.typed) in
-    let own = subst (λ (l : List TableRoot). TablesFit c.next_number.result l) (sym roots) (subst (λ (n : ℕ). TablesFit n (roots_by_name k.tables c.args.links.now)) (sym c.next_number.ensures) tables) in
+    let tables = tables_fit k (λ (t : Table). of_number no_root k.tables (roots_of (placed_by c.args.was.now c.args.told.now)) t.number) known (subst (λ (l : List TableRoot). AllByRecursion IsTyped l) roots c.in_ok-roots_of.ensures.typed) in
+    let own = subst (λ (l : List TableRoot). TablesFit c.next_number.result l) (sym roots) (subst (λ (n : ℕ). TablesFit n (roots_by_name k.tables (roots_of (placed_by c.args.was.now c.args.told.now)))) (sym c.next_number.ensures) tables) in
     record {
       sequence = omega (arith, c.requires.number);
       run = (c.marks-marks.ensures.fit.run, omega (arith, c.requires.run, run));
@@ -44,7 +40,7 @@ returns-clause-admitted c =
       stamps = c.marks-marks.ensures.fit.stamps;
       snapshot = c.in_ok-kept_of.ensures.fits;
       next = omega (arith, known.next, c.next_number.ensures);
-      history = subst (λ (l : Link). RootFits (leaf_at l)) (sym c.nowhere.ensures) nowhere_fits;
+      history = subst (λ (r : Root). RootFits r) (sym c.no_root.ensures) nowhere_fits;
       count = own.count;
       tables = own.each;
       climb = own.climb;
@@ -61,7 +57,7 @@ returns-clause-names c = λ w st none.
     let kept = c.in_ok-kept_of.ensures.is in
     let sight = c.requires.sight in
     let roots = c.in_ok-roots_of.ensures.roots in
-    let links = λ (t : Table). of_number nowhere k.tables c.args.links.now t.number in
+    let trees = λ (t : Table). of_number no_root k.tables (roots_of (placed_by c.args.was.now c.args.told.now)) t.number in
     let ids = ap (λ (s : Snapshot). s.ids) kept ∙ ap (λ (s : Sight). s.list) sight in
     let seen = ap (sight_with c.marks-marks.result.run) kept
     ∙ (ap (λ (n : ℕ). sight_in n c.args.snapshot.now.sight) (ap (λ (x : EngineMarks). x.run) hub)
@@ -74,9 +70,6 @@ returns-clause-names c = λ w st none.
       max = ap (λ (s : Snapshot). s.max) kept ∙ (ap (λ (s : Sight). s.max) sight ∙ st.txns.next);
       unended = subst (λ (l : List ℕ). AreUnended m l) (sym ids) (are-unended txns m st.txns);
       sees = subst (λ (s : Sight). SeesCommitted m (length m.history) s) (sym seen) (sees-now calls-stand checkpoints-see txns m st.valid st.txns none);
-      flat = record {
-        levels = subst (λ (l : List TableRoot). AllByRecursion (λ (t : TableRoot). t.root.level ≡ 0) l) (sym roots) (rooted_flat links (by_name k.tables));
-        history = ap leaf_at c.nowhere.ensures;
-      };
-      tables_are = ap tables_of roots ∙ (rooted_tables links (by_name k.tables) ∙ ap by_name (sym (reverse-reverse k.tables) ∙ ap (λ (l : List Table). reverse l) (c.tables-tables.ensures.made w st)));
+      bare = c.no_root.ensures;
+      tables_are = ap tables_of roots ∙ (rooted_tables trees (by_name k.tables) ∙ ap by_name (sym (reverse-reverse k.tables) ∙ ap (λ (l : List Table). reverse l) (c.tables-tables.ensures.made w st)));
     }

@@ -1,6 +1,4 @@
-use Rattle.std.proofs.Common.{refl, ℕ, List, subst, sym, Ok}
-use Rattle.device_layout.specs.declared.link.Link.{Link}
-use Rattle.ckpt_step.specs.Floors.{Follows}
+use Rattle.std.proofs.Common.{ℕ, subst, Ok}
 use Rattle.engine.specs.Checkpoints.{MayStart}
 use Rattle.ckpt_step.proofs.Concluding.{concluded, engine_after, on_ok_of, steady_after}
 use Rattle.ckpt_step.proofs.taking.checkpoint.Goals as goal
@@ -16,7 +14,7 @@ returns-clause-takes g c h w stands idle old on follows =
     let none = c.in-Ok.ensures.resolves w stands in
     let sees = c.in-Ok-checkpoint_snapshot.ensures.sees w stands none in
     let may : MayStart w.machine _ (Ok tt) = subst (λ (n : ℕ). MayStart w.machine n (Ok tt)) on.number (c.in-Ok.ensures.decided w stands idle) in
-    concluded g.D.Disk old w c.args.ground.now c.write-outcome.new.ground c.args.engine.now c.conclude.new.engine c.args.disk.now c.write-outcome.new.disk may (c.if-not-fit_leaves.ensures.fit w stands none sees old (subst (λ (l : List Link). Follows old c.args.engine.now.hub.tables.tables l c.args.ground.now.floor w.machine) (sym c.deref.ensures.value) follows) refl) c.write-outcome.result c.conclude.result (c.write-outcome.ensures.wrote h w stands none sees old on follows) c.write-outcome.ensures.fault c.conclude.ensures.concludes
+    concluded g.D.Disk old w c.args.ground.now c.write-outcome.new.ground c.args.engine.now c.conclude.new.engine c.args.disk.now c.write-outcome.new.disk may c.write-outcome.result c.conclude.result (c.write-outcome.ensures.wrote h w stands none sees old on follows) c.write-outcome.ensures.fault c.conclude.ensures.concludes
     (on_ok_of c.conclude.result (c.conclude.ensures.stands w stands idle none))
 
 pub returns-clause-steady : goal.returns-clause-steady

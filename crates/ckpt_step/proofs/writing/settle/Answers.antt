@@ -1,13 +1,14 @@
-use Rattle.std.proofs.Common.{◌≡◌, ◌∙◌, sym, ap, subst, List}
-use Rattle.block_mgr.specs.Cells.{cell_at}
-use Rattle.device_layout.specs.declared.link.Link.{Link}
-use Rattle.ckpt_step.specs.Halves.{AreOldLeaves, AreOwn, IsFresh, done_at, settled_at}
+use Rattle.std.proofs.Common.{List, Option, sym, subst}
+use Rattle.device_layout.specs.declared.addr.Addr.{Addr}
+use Rattle.kv_model.specs.Holds.{Member}
+use Rattle.tree_open.specs.declared.place.TreePlace.{TreePlace}
+use Rattle.ckpt_step.specs.Halves.{AreOldBlocks}
+use Rattle.ckpt_step.specs.Trees.{addrs_of, kept_by}
 use Rattle.ckpt_step.proofs.writing.settle.Goals as goal
 
 pub returns-clause-cells : goal.returns-clause-cells
-returns-clause-cells c old a was own fresh cells u =
-    let past = c.deref.ensures.value in
-    let now = c.deref-2.ensures.value in
-    subst (λ (l : List Link). cell_at c.let_go.new.blocks.cells u ≡ settled_at l a u) now
-    (c.let_go.ensures.cells old a (subst (λ (l : List Link). AreOldLeaves old l) (sym past) was) (subst (λ (l : List Link). AreOwn old l c.deref-2.result.now) (sym past) (subst (λ (l : List Link). AreOwn old c.args.ground.now.leaves.items l) (sym now) own))
-    (subst (λ (l : List Link). IsFresh old l a) (sym now) fresh) (λ v. cells v ∙ ap (λ (l : List Link). done_at old l a v) (sym now)) u)
+returns-clause-cells c old captured a was kept own fresh cells u =
+    let past = sym c.deref.ensures.value in
+    let told = sym c.deref-2.ensures.value in
+    c.let_go.ensures.cells old captured a (subst (λ (l : List TreePlace). AreOldBlocks old (addrs_of l)) past was)
+    (subst (λ (l : List TreePlace). (x : Addr) → Member x (addrs_of (kept_by l c.deref-2.result.now)) → Member x captured) past (subst (λ (l : List (Option TreePlace)). (x : Addr) → Member x (addrs_of (kept_by c.args.ground.now.trees.items l)) → Member x captured) told kept)) own fresh cells u

@@ -1,22 +1,27 @@
-use Rattle.std.proofs.Common.{refl, ◌≡◌, ◌∙◌, ◌+◌, sym, ap, subst, List, ℕ, Some, arith}
+use Rattle.std.proofs.Common.{refl, ◌≡◌, ◌∙◌, ◌+◌, sym, ap, subst, List, ℕ, length, Some, arith}
 use Rattle.extent_list.specs.Space.{Space}
-use Rattle.device_layout.specs.declared.link.Link.{Link}
+use Rattle.device_layout.specs.declared.addr.Addr.{Addr}
 use Rattle.device_layout.specs.Slots.{slot_at}
 use Rattle.kv_model.specs.History.{Table, tables}
+use Rattle.kv_model.specs.Holds.{Member}
 use Rattle.stamp.specs.declared.Name.{Name}
 use Rattle.snapshot.specs.Matters.{AreUnended}
 use Rattle.snapshot.specs.Sight.{Sight}
 use Rattle.txn_table.proofs.Capturing.{are-unended}
+use Rattle.tree_open.specs.declared.place.TreePlace.{TreePlace}
 use Rattle.ckpt_step.specs.Floors.{Follows, Respects}
-use Rattle.ckpt_step.specs.Grounds.{AreRoots, StandsOn}
-use Rattle.ckpt_step.specs.Halves.{AreOldLeaves, AreOwn, half_cell}
+use Rattle.ckpt_step.specs.Grounds.{StandsOn}
+use Rattle.ckpt_step.specs.Halves.{AreOldBlocks, AreOwn, half_cell}
 use Rattle.ckpt_step.specs.Runs.{made_of}
 use Rattle.ckpt_step.specs.Sizes.{HasPlaces, LacksPlace}
+use Rattle.ckpt_step.specs.Trees.{AreKept, AreLow, addrs_of, kept_by, placed_by}
 use Rattle.ckpt_step.proofs.Following.{respects_now}
 use Rattle.ckpt_step.proofs.Past.{free_space}
-use Rattle.ckpt_step.proofs.SameLeaves.{keeps_leaves}
+use Rattle.ckpt_step.proofs.SameTrees.{keeps_leaves}
 use Rattle.ckpt_step.proofs.Standing.{new_ground}
-use Rattle.ckpt_step.proofs.Starting.{half_start, known_is, old_ground, past_leaves}
+use Rattle.ckpt_step.proofs.Starting.{half_start, known_is, old_ground, past_blocks}
+use Rattle.ckpt_step.proofs.Left.{kept_in}
+use Rattle.ckpt_step.proofs.Told.{placed_length}
 use Rattle.ckpt_step.proofs.writing.write.Goals as goal
 
 pub write_blocks-requires-clause-ready : goal.write_blocks-requires-clause-ready
@@ -25,6 +30,24 @@ write_blocks-requires-clause-ready g c h =
     let was = c.requires.ready h in
     let on = was.4.1 in
     (was.0, was.1, was.2, was.3, (was.4.0, half_start (D.seen c.args.disk.now) (D.may_leave c.args.disk.now) c.args.engine.now.hub.tables.tables c.args.engine.now.hub.tables.next was.1.catalog.numbers c.args.ground.now was.4.0 on c.begin.new.blocks c.begin.ensures.cells c.begin.ensures.space c.begin.ensures.synced c.begin.ensures.held, on.roots, was.4.2))
+
+pub settle-requires-clause-kept : goal.settle-requires-clause-kept
+settle-requires-clause-kept g c = subst (λ (l : List TreePlace). AreKept l c.write_blocks.new.taken.trees.items) (sym c.in-Ok.ensures.trees) c.in-Ok.ensures.told.kept
+
+pub settle-requires-clause-few : goal.settle-requires-clause-few
+settle-requires-clause-few g c = omega (arith, ap (λ (l : List TreePlace). length l) c.in-Ok.ensures.trees, c.requires.trees, c.in-Ok.ensures.count)
+
+pub returns-in-Ok-clause-trees : goal.returns-in-Ok-clause-trees
+returns-in-Ok-clause-trees g c =
+    let stand = c.args.ground.now in
+    let told = c.write_blocks.new.taken.trees.items in
+    let settled : c.settle.new.ground.trees.items ≡ placed_by stand.trees.items told = c.settle.ensures.trees ∙ ap (λ (l : List TreePlace). placed_by l told) c.in-Ok.ensures.trees in
+    omega (arith, ap (λ (l : List TreePlace). length l) settled, placed_length stand.trees.items told c.in-Ok.ensures.told.kept, c.in-Ok.ensures.count)
+
+pub returns-in-Ok-clause-low : goal.returns-in-Ok-clause-low
+returns-in-Ok-clause-low g c =
+    let told = c.write_blocks.new.taken.trees.items in
+    subst AreLow (sym (c.settle.ensures.trees ∙ ap (λ (l : List TreePlace). placed_by l told) c.in-Ok.ensures.trees)) c.in-Ok.ensures.told.low
 
 pub returns-in-Ok-clause-wrote : goal.returns-in-Ok-clause-wrote
 returns-in-Ok-clause-wrote g c h w stands none sees old on follows =
@@ -35,24 +58,29 @@ returns-in-Ok-clause-wrote g c h w stands none sees old on follows =
     let images = D.may_leave c.args.disk.now in
     let stand = c.args.ground.now in
     let mid = c.write_blocks.new.ground in
-    let links = c.write_blocks.new.links.items in
+    let told = c.write_blocks.new.taken.trees.items in
+    let places = placed_by stand.trees.items told in
+    let captured = c.write_blocks.new.taken.captured.items in
     let a = c.in-Ok.addr in
     let ascend = stands.catalog.numbers in
     let half = half_start seen images known next ascend stand old on c.begin.new.blocks c.begin.ensures.cells c.begin.ensures.space c.begin.ensures.synced c.begin.ensures.held in
     let put = c.in-Ok.ensures.puts h w stands none sees old half on.roots on.number follows in
-    let leaves_same : mid.leaves.items ≡ stand.leaves.items = ap (λ v. v.items) c.in-Ok.ensures.leaves in
-    let past = subst (λ (l : List Link). AreOldLeaves old l) (sym leaves_same) (past_leaves seen images known next ascend stand old on) in
-    let own = subst (λ (l : List Link). AreOwn old l links) (sym leaves_same) put.done.own in
+    let trees_same : mid.trees.items ≡ stand.trees.items = c.in-Ok.ensures.trees in
+    let settled : c.settle.new.ground.trees.items ≡ places = c.settle.ensures.trees ∙ ap (λ (l : List TreePlace). placed_by l told) trees_same in
+    let count = placed_length stand.trees.items told c.in-Ok.ensures.told.kept ∙ c.in-Ok.ensures.count in
+    let past = subst (λ (l : List TreePlace). AreOldBlocks old (addrs_of l)) (sym trees_same) (past_blocks seen images known next ascend stand old on) in
+    let kept : (x : Addr) → Member x (addrs_of (kept_by mid.trees.items told)) → Member x captured = λ x there. (put.done.listed x).1 (kept_in stand.trees.items told x (subst (λ (l : List TreePlace). Member x (addrs_of (kept_by l told))) trees_same there)) in
     let number : mid.number + 1 ≡ put.r.sequence = omega (arith, c.in-Ok.ensures.number, on.number, put.is.names.sequence) in
     let rev = known_is known (tables w.machine.history) stands.made in
-    let new = made_of put.r known put.leaves a in
+    let new = made_of put.r known put.trees a in
     let sight = c.requires.sight in
     let floor : Respects w.machine c.floor_of.result =
     subst (λ (n : Name). Respects w.machine n) (sym c.floor_of.ensures.is)
     (respects_now w.machine c.args.snapshot.now.sight (ap (λ (s : Sight). s.run) sight ∙ stands.txns.run) (ap (λ (s : Sight). s.max) sight ∙ stands.txns.next) c.floor_of.ensures.sight
     (subst (λ (s : Sight). AreUnended w.machine s.list) (sym sight) (are-unended c.args.engine.now.hub.txns w.machine stands.txns))) in
-    let stands_now : StandsOn (D.seen c.write_blocks.new.disk) (D.may_leave c.write_blocks.new.disk) known c.settle.new.ground (Some new) = new_ground (D.seen c.write_blocks.new.disk) mid.place.blocks old stand.leaves.items known next ascend links put.leaves c.in-Ok.ensures.count put.r a put.done c.settle.new.ground.place.blocks.cells (c.settle.ensures.cells old a past own put.done.fresh put.done.cells) put.is.names.flat
-    (D.may_leave c.write_blocks.new.disk) c.settle.new.ground put.each refl (c.settle.ensures.units put.done.units) (c.settle.ensures.held ∙ put.done.idle) c.settle.ensures.end (c.settle.ensures.number ∙ number) (c.settle.ensures.slot ∙ ap (λ (n : ℕ). Some (slot_at n a)) number) c.settle.ensures.leaves in
+    let stands_now : StandsOn (D.seen c.write_blocks.new.disk) (D.may_leave c.write_blocks.new.disk) known c.settle.new.ground (Some new) = new_ground (D.seen c.write_blocks.new.disk) mid.place.blocks old known next ascend places put.trees captured count put.r a put.done put.is.names.bare c.settle.new.ground.place.blocks.cells
+    (c.settle.ensures.cells old captured a past kept put.done.own put.done.fresh put.done.cells)
+    (D.may_leave c.write_blocks.new.disk) c.settle.new.ground put.each refl (c.settle.ensures.units put.done.units) (c.settle.ensures.held ∙ put.done.idle) c.settle.ensures.end (c.settle.ensures.number ∙ number) (c.settle.ensures.slot ∙ ap (λ (n : ℕ). Some (slot_at n a)) number) settled in
     record {
       new = new;
       is = put.is;
@@ -60,15 +88,15 @@ returns-in-Ok-clause-wrote g c h w stands none sees old on follows =
       each = put.each;
       on = stands_now;
       follows =
-          subst (λ (l : List Link). Follows (Some new) known l c.settle.new.ground.floor w.machine) (sym c.settle.ensures.leaves)
-          (subst (λ (n : Name). Follows (Some new) known links n w.machine) (sym c.settle.ensures.floor) (put.follows c.floor_of.result floor));
-      kept = keeps_leaves seen old w.machine known links 1 next new ascend rev c.in-Ok.ensures.count put.same (subst (λ (l : List Link). AreRoots known l (Some new)) c.settle.ensures.leaves stands_now.roots);
+          subst (λ (l : List TreePlace). Follows (Some new) known l c.settle.new.ground.floor w.machine) (sym settled)
+          (subst (λ (n : Name). Follows (Some new) known places n w.machine) (sym c.settle.ensures.floor) (put.follows c.floor_of.result floor));
+      kept = keeps_leaves seen put.done.bytes old known next ascend places put.trees count put.done.there put.r a put.done.tables put.same;
       had_room = record {
         old = old;
         has = on.stands.seen_has;
         space = stand.place.blocks.space;
-        space_is = free_space seen images stand.place.blocks known stand.leaves.items old on.stands on.roots on.cells on.units on.within;
-        some = subst (λ (l : List Table). HasPlaces seen (D.capacity c.args.disk.now) old w.machine stand.place.blocks.space l) (sym rev) (subst (λ (s : Space). HasPlaces seen (D.capacity c.args.disk.now) old w.machine s known) c.begin.ensures.space put.places);
+        space_is = free_space seen images stand.place.blocks old on.stands on.cells on.units on.within;
+        some = subst (λ (l : List Table). HasPlaces seen (D.capacity c.args.disk.now) old w.machine stand.place.blocks.space l) (sym rev) (subst (λ (s : Space). HasPlaces seen (D.capacity c.args.disk.now) old w.machine s known) c.begin.ensures.space put.placed);
       };
     }
 
@@ -81,31 +109,27 @@ returns-in-Err-clause-wrote g c h w stands none sees old on follows =
     let images = D.may_leave c.args.disk.now in
     let stand = c.args.ground.now in
     let mid = c.write_blocks.new.ground in
-    let links = c.write_blocks.new.links.items in
+    let captured = c.write_blocks.new.taken.captured.items in
     let ascend = stands.catalog.numbers in
     let half = half_start seen images known next ascend stand old on c.begin.new.blocks c.begin.ensures.cells c.begin.ensures.space c.begin.ensures.synced c.begin.ensures.held in
     let put = c.in-Err.ensures.puts h w stands none sees old half on.roots on.number follows in
-    let leaves_same : mid.leaves.items ≡ stand.leaves.items = ap (λ v. v.items) c.in-Err.ensures.leaves in
-    let was_same : c.deref.result.now ≡ stand.leaves.items = c.deref.ensures.value ∙ leaves_same in
-    let links_same : c.deref-in-Err.result.now ≡ links = c.deref-in-Err.ensures.value in
-    let past = subst (λ (l : List Link). AreOldLeaves old l) (sym was_same) (past_leaves seen images known next ascend stand old on) in
+    let trees_same : mid.trees.items ≡ stand.trees.items = c.in-Err.ensures.trees in
+    let listed : c.deref.result.now ≡ captured = c.deref.ensures.value in
     let rev = known_is known (tables w.machine.history) stands.made in
     record {
       left = put.left;
       kept = put.kept;
       on = λ safe.
           let runs = put.runs safe in
-          let own = subst (λ (l : List Link). AreOwn old l c.deref-in-Err.result.now) (sym was_same) (subst (λ (l : List Link). AreOwn old stand.leaves.items l) (sym links_same) runs.own) in
-          old_ground seen images known next ascend stand old on (D.seen c.write_blocks.new.disk) (D.may_leave c.write_blocks.new.disk) links mid.place.blocks _ runs
-          (c.give_up.ensures.cells old past own (λ u. runs.cells u ∙ ap (λ (l : List Link). half_cell old l u) (sym links_same))) (c.give_up.ensures.units runs.units) c.give_up.ensures.end c.give_up.ensures.synced c.give_up.ensures.held c.in-Err.ensures.slot c.in-Err.ensures.number leaves_same;
+          old_ground seen images known next ascend stand old on (D.seen c.write_blocks.new.disk) (D.may_leave c.write_blocks.new.disk) captured mid.place.blocks _ runs
+          (c.give_up.ensures.cells old (subst (λ (l : List Addr). AreOwn old l) (sym listed) runs.own) (λ u. runs.cells u ∙ ap (λ (l : List Addr). half_cell old l u) (sym listed))) (c.give_up.ensures.units runs.units) c.give_up.ensures.end c.give_up.ensures.synced c.give_up.ensures.held c.in-Err.ensures.slot c.in-Err.ensures.number trees_same;
       full = λ is. record {
         old = old;
         has = on.stands.seen_has;
         space = stand.place.blocks.space;
-        space_is = free_space seen images stand.place.blocks known stand.leaves.items old on.stands on.roots on.cells on.units on.within;
+        space_is = free_space seen images stand.place.blocks old on.stands on.cells on.units on.within;
         none = subst (λ (l : List Table). LacksPlace seen (D.capacity c.args.disk.now) old w.machine stand.place.blocks.space l) (sym rev) (subst (λ (s : Space). LacksPlace seen (D.capacity c.args.disk.now) old w.machine s known) c.begin.ensures.space (put.lacks is));
       };
       follows =
-          subst (λ (l : List Link). Follows old known l mid.floor w.machine) (sym leaves_same) (subst (λ (n : Name). Follows old known stand.leaves.items n w.machine) (sym c.in-Err.ensures.floor) follows);
-      over = put.over;
+          subst (λ (l : List TreePlace). Follows old known l mid.floor w.machine) (sym trees_same) (subst (λ (n : Name). Follows old known stand.trees.items n w.machine) (sym c.in-Err.ensures.floor) follows);
     }

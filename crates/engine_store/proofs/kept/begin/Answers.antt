@@ -1,4 +1,4 @@
-use Rattle.std.proofs.Common.{◌≡◌, ◌∙◌, ap, length, refl, subst, sym, ℕ, List, arith}
+use Rattle.std.proofs.Common.{◌≡◌, ◌∙◌, ap, length, map, refl, subst, sym, ℕ, List, arith}
 use Rattle.kv_model.specs.History.{Table}
 use Rattle.row_page.specs.Greatest.{no_name}
 use Rattle.row_page.specs.Rows.{Row}
@@ -6,15 +6,15 @@ use Rattle.leaf_rows.specs.declared.marks.Marks.{Marks}
 use Rattle.stored.specs.Records.{TableRoot}
 use Rattle.stored.specs.Stored.{tables_of}
 use Rattle.catalog.specs.Opens.{AreRecorded}
-use Rattle.recover_open.specs.Flat.{marks_of}
+use Rattle.recover_open.specs.Bare.{marks_of, tree_rows}
 use Rattle.engine_world.specs.Stands.{Stands}
 use Rattle.engine_world.specs.Systems.{first_world}
 use Rattle.engine_start.specs.declared.table_leaf.TableLeaf.{TableLeaf}
 use Rattle.engine_start.specs.Contents.{kept_leaves, leaves_content, leaves_content_with, seen_leaves, tables_in}
 use Rattle.engine_store.specs.declared.store.Store.{Store}
-use Rattle.engine_store.specs.ByPlace.{links_in}
+use Rattle.engine_store.specs.ByPlace.{places_in}
 use Rattle.engine_store.specs.Tables.{with_leaves}
-use Rattle.engine_store.proofs.Founds.{found_kept, ready_kept, seen_kept}
+use Rattle.engine_store.proofs.Founds.{count_places, found_kept, ready_kept, seen_kept}
 use Rattle.engine_store.proofs.WithLeaves.{length_with, seen_with, tables_with}
 use Rattle.engine_store.proofs.kept.begin.Goals as goal
 
@@ -24,6 +24,9 @@ tables_are made parts tables leaves is same = is ∙ ap (λ (l : List TableRoot)
 
 named_so : (made : List TableLeaf) (tables : List TableRoot) (leaves : List (List Row)) → made ≡ with_leaves tables leaves → length leaves ≡ length tables → tables_in made ≡ tables_of tables
 named_so made tables leaves is count = ap tables_in is ∙ tables_with tables leaves count
+
+pub trees_by_place-requires : goal.trees_by_place-requires
+trees_by_place-requires c = count_places c.args.kept c.requires.form ∙ ap (λ (l : List TableRoot). length l) (sym c.tables_of.ensures)
 
 pub start-requires-clause-recorded : goal.start-requires-clause-recorded
 start-requires-clause-recorded c =
@@ -49,17 +52,17 @@ pub returns-clause-found : goal.returns-clause-found
 returns-clause-found c = λ bytes keeps.
     let r = c.args.kept.record in
     let ids = r.snapshot.ids in
-    let all = with_leaves r.tables keeps.leaves in
+    let all = with_leaves r.tables (map tree_rows keeps.trees) in
     let e = c.in_ok-engine.engine in
     let tables = c.in_ok-tables.tables.items in
     let seen : seen_leaves (marks_of r) ids all ≡ tables = seen_kept bytes c.args.place c.args.kept keeps ∙ sym (tables_are c.in_ok-tables.tables.items c.into_tables.result.items c.args.kept.record.tables c.args.kept.leaves.items c.in_ok-tables.ensures c.into_tables.ensures) in
-    let s : Store = record { engine = e; ground = record { place = c.args.place; number = c.number_of-number.result; leaves = c.in_ok-links.links; floor = no_name } } in
-    found_kept bytes c.args.kept s keeps c.requires.form c.requires.numbers c.number_of-number.ensures (c.in_ok-links.ensures ∙ ap links_in c.tables_of.ensures) refl
+    let s : Store = record { engine = e; ground = record { place = c.args.place; number = c.number_of-number.result; trees = c.in_ok-trees.trees; floor = no_name } } in
+    found_kept bytes c.args.kept s keeps c.requires.form c.requires.numbers c.number_of-number.ensures (c.in_ok-trees.ensures ∙ ap (λ (l : List TableRoot). places_in l c.args.kept.trees.items) c.tables_of.ensures) refl
     (subst (λ (m : Marks). Stands e (first_world (leaves_content_with m ids all) e)) c.marks_of-marks.ensures
     (c.in_ok-engine.ensures.seen ids all (subst (λ (m : Marks). seen_leaves m ids all ≡ tables) (sym c.marks_of-marks.ensures) seen)))
 
 pub returns-clause-ready : goal.returns-clause-ready
 returns-clause-ready c =
-    let s : Store = record { engine = c.in_ok-engine.engine; ground = record { place = c.args.place; number = c.number_of-number.result; leaves = c.in_ok-links.links; floor = no_name } } in
-    ready_kept s c.args.kept.record (leaves_content c.marks_of-marks.result c.in_ok-tables.tables.items) c.requires.form.is_record c.in_ok-engine.ensures.stands
-    (ap (λ (m : Marks). m.run) c.marks_of-marks.ensures) (named_so c.in_ok-tables.tables.items c.args.kept.record.tables c.args.kept.leaves.items (tables_are c.in_ok-tables.tables.items c.into_tables.result.items c.args.kept.record.tables c.args.kept.leaves.items c.in_ok-tables.ensures c.into_tables.ensures) c.requires.form.count) c.number_of-number.ensures (c.in_ok-links.ensures ∙ ap links_in c.tables_of.ensures)
+    let s : Store = record { engine = c.in_ok-engine.engine; ground = record { place = c.args.place; number = c.number_of-number.result; trees = c.in_ok-trees.trees; floor = no_name } } in
+    ready_kept s c.args.kept (leaves_content c.marks_of-marks.result c.in_ok-tables.tables.items) c.requires.form c.in_ok-engine.ensures.stands
+    (ap (λ (m : Marks). m.run) c.marks_of-marks.ensures) (named_so c.in_ok-tables.tables.items c.args.kept.record.tables c.args.kept.leaves.items (tables_are c.in_ok-tables.tables.items c.into_tables.result.items c.args.kept.record.tables c.args.kept.leaves.items c.in_ok-tables.ensures c.into_tables.ensures) c.requires.form.count) c.number_of-number.ensures (c.in_ok-trees.ensures ∙ ap (λ (l : List TableRoot). places_in l c.args.kept.trees.items) c.tables_of.ensures)

@@ -11,12 +11,12 @@ open-requires-clause-base c = (nothing, nothing_is_regular, nothing_is_base c.ne
 
 pub returns-clause-found : goal.returns-clause-found
 returns-clause-found c = λ bytes keeps.
-    let s : Store = record { engine = c.in_ok-engine.engine; ground = record { place = c.args.place; number = 0; leaves = c.new-3.result; floor = no_name } } in
+    let s : Store = record { engine = c.in_ok-engine.engine; ground = record { place = c.args.place; number = 0; trees = c.new-3.result; floor = no_name } } in
     found_none bytes s keeps refl c.new-3.ensures.items refl (c.in_ok-engine.ensures.stands nothing nothing_is_regular (nothing_is_base c.new.result c.new-2.result.items c.new.ensures c.new-2.ensures.items))
 
 pub returns-clause-ready : goal.returns-clause-ready
 returns-clause-ready c =
-    let s : Store = record { engine = c.in_ok-engine.engine; ground = record { place = c.args.place; number = 0; leaves = c.new-3.result; floor = no_name } } in
+    let s : Store = record { engine = c.in_ok-engine.engine; ground = record { place = c.args.place; number = 0; trees = c.new-3.result; floor = no_name } } in
     ready_none s (c.in_ok-engine.ensures.stands nothing nothing_is_regular (nothing_is_base c.new.result c.new-2.result.items c.new.ensures c.new-2.ensures.items)) c.new-3.ensures.items
 
 pub returns-clause-started : goal.returns-clause-started

@@ -1,14 +1,10 @@
-use Rattle.std.proofs.Common.{◌∙◌, ap, subst, length, List, arith}
+use Rattle.std.proofs.Common.{◌∙◌, subst, List}
 use Rattle.block_mgr.specs.declared.found.Found.{Found}
 use Rattle.block_mgr.specs.Open.{AreStored}
 use Rattle.device_leaf.specs.Openings.{HasBooks}
 use Rattle.device_leaf.proofs.Opens.{ok_map, err_map}
 use Rattle.recover_open.specs.Recoveries.{RefusesBlocks}
-use Rattle.recover_open.proofs.Places.{found_few}
 use Rattle.recover_open.proofs.books.books.Goals as goal
-
-pub books_of-requires : goal.books_of-requires
-books_of-requires c = omega (arith, ap length (c.deref.ensures.value ∙ c.in-Ok.ensures), found_few c.args.slot c.args.tables.now, c.requires)
 
 pub returns-in-Ok-clause-books : goal.returns-in-Ok-clause-books
 returns-in-Ok-clause-books c = ok_map c.books_of.result c.books_of.ensures.books (λ s has. subst (λ (l : List Found). HasBooks l s) (c.deref.ensures.value ∙ c.in-Ok.ensures) has)

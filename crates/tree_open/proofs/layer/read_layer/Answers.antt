@@ -3,9 +3,9 @@ use Rattle.failure.specs.Counts.{Rose}
 use Rattle.disk_model.proofs.Crash.{looked_then}
 use Rattle.device_leaf.proofs.Opens.{rose_sooner}
 use Rattle.stored.specs.TableTree.{Entry, first_key}
-use Rattle.tree_open.specs.Pages.{PageIs}
+use Rattle.tree_open.specs.Pages.{PageIs, IsFormed}
 use Rattle.tree_open.specs.Damage.{PageSpoils, LayerSpoils}
-use Rattle.tree_open.proofs.OneLayer.{behind, join_push, layer_more, layer_spoilt, layer_whole}
+use Rattle.tree_open.proofs.OneLayer.{behind, join_push, formed_more, layer_more, layer_spoilt, layer_whole}
 use Rattle.tree_open.proofs.Steps.{refused_more}
 use Rattle.tree_open.proofs.layer.read_layer.Goals as goal
 
@@ -33,6 +33,8 @@ loop-i-preserved g c =
     record {
       looked = looked_then D _ _ _ now.looked c.read_page.ensures.looked;
       home = c.read_page.ensures.home ∙ now.home;
+      formed = formed_more c.args.entries.now c.loop-i.i e c.loop-i.below.items c.in-Ok.page.items c.append.new.below.items c.loop-i-test.true c.index-entries-i.is now.formed
+          (subst (λ (l : List Entry). IsFormed e (first_key l) c.in-Ok.page.items) (behind c.args.entries.now c.loop-i.i) c.in-Ok.ensures.form) c.in-Ok-append.ensures.ok;
       are = λ h.
           let was = now.are h in
           let page : PageIs (D.seen c.args.disk.now) c.args.level e next c.in-Ok.page.items =

@@ -1,11 +1,11 @@
-use Rattle.std.proofs.Common.{IsTrue, ℕ, List, subst, ◌∙◌, arith}
+use Rattle.std.proofs.Common.{IsTrue, ℕ, ◌≤◌, List, ◌++◌, length, ap, subst, sym, ◌∙◌, arith}
 use Rattle.failure.specs.Counts.{Rose}
 use Rattle.disk_model.proofs.Crash.{looked_then}
 use Rattle.device_leaf.proofs.Opens.{rose_sooner}
 use Rattle.stored.specs.TableTree.{Entry}
 use Rattle.tree_open.specs.Pages.{LayerIs}
 use Rattle.tree_open.specs.Damage.{LayerSpoils, InnerSpoils}
-use Rattle.tree_open.proofs.Descent.{reached_more, inner_reached, inner_spoilt}
+use Rattle.tree_open.proofs.Descent.{page_addrs, reached_more, inner_reached, inner_spoilt}
 use Rattle.tree_open.proofs.Steps.{refused_more}
 use Rattle.tree_open.proofs.tree.read_tree.Goals as goal
 
@@ -14,10 +14,10 @@ returns-in-Err-read_layer-clause-err g c =
     let D = g.D.Disk in
     let now = c.loop-level.invariant in
     refused_more (Rose (D.faults c.loop-level.disk) (D.faults c.read_layer.new.disk)) (Rose (D.faults c.args.disk.now) (D.faults c.read_layer.new.disk)) (IsTrue (D.honest c.loop-level.disk)) (IsTrue (D.honest c.args.disk.now))
-    (LayerSpoils (D.seen c.loop-level.disk) c.loop-level.level c.deref.result.now) (InnerSpoils (D.seen c.args.disk.now) c.args.root) c.in-Err-read_layer.refusal
+    (LayerSpoils (D.seen c.loop-level.disk) c.loop-level.level c.deref-in-loop-level.result.now) (InnerSpoils (D.seen c.args.disk.now) c.args.root) c.in-Err-read_layer.refusal
     (rose_sooner _ _ _ now.looked.count) (λ h. now.looked.same ∙ h)
-    (λ at want found h spoils. inner_spoilt (D.seen c.args.disk.now) c.args.root c.loop-level.level c.loop-level.entries.items at want found (omega arith) (now.reached h)
-    (subst (λ (l : List Entry). LayerSpoils (D.seen c.args.disk.now) c.loop-level.level l at want found) c.deref.ensures.value (subst (λ (l : List ℕ). LayerSpoils l c.loop-level.level c.deref.result.now at want found) now.looked.content spoils)))
+    (λ at want found h spoils. inner_spoilt (D.seen c.args.disk.now) c.args.root c.loop-level.level c.loop-level.entries.items c.loop-level.addrs.items at want found (omega arith) (now.reached h)
+    (subst (λ (l : List Entry). LayerSpoils (D.seen c.args.disk.now) c.loop-level.level l at want found) c.deref-in-loop-level.ensures.value (subst (λ (l : List ℕ). LayerSpoils l c.loop-level.level c.deref-in-loop-level.result.now at want found) now.looked.content spoils)))
     c.in-Err-read_layer.ensures.err
 
 pub loop-level-preserved : goal.loop-level-preserved
@@ -28,10 +28,13 @@ loop-level-preserved g c =
     record {
       looked = looked_then D _ _ _ now.looked c.read_layer.ensures.looked;
       home = c.read_layer.ensures.home ∙ now.home;
+      climbs = c.in-Ok-read_layer.ensures.climbs;
+      some = c.in-Ok-read_layer.ensures.some (subst (λ (l : List Entry). 1 ≤ length l) (sym c.deref-in-loop-level.ensures.value) now.some);
       reached = λ h.
-          let layer : LayerIs (D.seen c.args.disk.now) c.loop-level.level c.loop-level.entries.items es = subst (λ (l : List Entry). LayerIs (D.seen c.args.disk.now) c.loop-level.level l es) c.deref.ensures.value (subst (λ (l : List ℕ). LayerIs l c.loop-level.level c.deref.result.now es) now.looked.content (c.in-Ok-read_layer.ensures.ok (now.looked.same ∙ h))) in
-          reached_more (D.seen c.args.disk.now) c.args.root c.loop-level.level c.loop-level.entries.items es (omega arith) (now.reached h) layer;
+          let layer : LayerIs (D.seen c.args.disk.now) c.loop-level.level c.loop-level.entries.items es = subst (λ (l : List Entry). LayerIs (D.seen c.args.disk.now) c.loop-level.level l es) c.deref-in-loop-level.ensures.value (subst (λ (l : List ℕ). LayerIs l c.loop-level.level c.deref-in-loop-level.result.now es) now.looked.content (c.in-Ok-read_layer.ensures.ok (now.looked.same ∙ h))) in
+          reached_more (D.seen c.args.disk.now) c.args.root c.loop-level.level c.loop-level.entries.items es c.loop-level.addrs.items c.append_pages.new.addrs.items (omega arith) (now.reached h) layer
+          (c.in_ok-append_pages.ensures ∙ ap (λ (l : List Entry). c.loop-level.addrs.items ++ page_addrs l) c.deref.ensures.value);
     }
 
 pub returns-clause-ok : goal.returns-clause-ok
-returns-clause-ok g c h = inner_reached (g.D.Disk.seen c.args.disk.now) c.args.root c.loop-level.level c.loop-level.entries.items (omega arith) (c.loop-level.invariant.reached h)
+returns-clause-ok g c h = inner_reached (g.D.Disk.seen c.args.disk.now) c.args.root c.loop-level.level c.loop-level.entries.items c.loop-level.addrs.items (omega arith) (c.loop-level.invariant.reached h)

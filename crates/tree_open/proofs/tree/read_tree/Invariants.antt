@@ -1,5 +1,6 @@
-use Rattle.std.proofs.Common.{◌≡◌, IsTrue}
+use Rattle.std.proofs.Common.{◌≡◌, ◌≤◌, length, IsTrue}
 use Rattle.disk_model.specs.Crash.{Looked}
+use Rattle.stored.specs.TableTree.{Climbs}
 use Rattle.tree_open.proofs.Descent.{Reached}
 use Rattle.tree_open.proofs.tree.read_tree.Given as goal
 
@@ -7,7 +8,9 @@ abbrev pub invariant-loop-level : goal.invariant-loop-level
 invariant-loop-level g l = record {
   looked : Looked g.D.Disk l.fn.disk l.disk;
   home : g.D.Disk.home l.disk ≡ g.D.Disk.home l.fn.disk;
-  reached : IsTrue (g.D.Disk.honest l.fn.disk) → Reached (g.D.Disk.seen l.fn.disk) l.fn.root l.level l.entries.items;
+  climbs : Climbs l.entries.items;
+  some : 1 ≤ length l.entries.items;
+  reached : IsTrue (g.D.Disk.honest l.fn.disk) → Reached (g.D.Disk.seen l.fn.disk) l.fn.root l.level l.entries.items l.addrs.items;
 }
 
 abbrev pub decreases-loop-level : goal.decreases-loop-level

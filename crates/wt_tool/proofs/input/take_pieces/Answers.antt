@@ -1,5 +1,5 @@
-use Rattle.std.proofs.Common.{◌≡◌, ◌∙◌, ◌≤◌, ◌<◌, ◌+◌, ◌-◌, ◌++◌, [], ℕ, List, length, length-append, refl, sym, ap, subst, arith, inl, inr}
-use Rattle.wt_io.specs.Streams.{AtEnd, Gave}
+use Rattle.std.proofs.Common.{◌≤◌, ◌<◌, ◌+◌, ◌-◌, ◌++◌, ℕ, List, length, length-append, refl, sym, ap, subst, arith}
+use Rattle.wt_io.specs.Streams.{Gave}
 use Rattle.script_run.specs.declared.script.TheConstants.{INPUT_MAX}
 use Rattle.script_run.proofs.Cutting.{gave_more, gave_none}
 use Rattle.wt_tool.proofs.Pieces.{untaken_further}

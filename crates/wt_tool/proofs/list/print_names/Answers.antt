@@ -1,4 +1,4 @@
-use Rattle.std.proofs.Common.{◌∙◌, sym, ap, subst}
+use Rattle.std.proofs.Common.{◌∙◌, sym}
 use Rattle.failure.specs.Counts.{Rose}
 use Rattle.catalog.specs.Known.{by_name}
 use Rattle.wt_code.specs.declared.refusals.Refusal.TheVariants.{NoMemory}

@@ -1,6 +1,6 @@
 use Rattle.std.specs.Option.{option_map}
 use Rattle.std.specs.Prelude.{not}
-use Rattle.std.proofs.Common.{List, ℕ, Bor, Option}
+use Rattle.std.proofs.Common.{List, ℕ, Bor}
 use Rattle.kv_model.specs.Content.{start}
 use Rattle.wt_tool.specs.Parts.{load_allowed}
 use Rattle.wt_tool.specs.Top.{errors_of}

@@ -1,5 +1,5 @@
 use Rattle.std.specs.Option.{option_map}
-use Rattle.std.proofs.Common.{◌≡◌, ◌∙◌, Some, None, Ok, Err, List, ℕ, Bool, Bor, Option, refl, sym, subst}
+use Rattle.std.proofs.Common.{Err, List, ℕ, Bool, Bor, Option, refl}
 use Rattle.kv_model.specs.Content.{start}
 use Rattle.dump_text.specs.declared.whole.Dumped.{Dumped}
 use Rattle.wt_tool.specs.Points.{Point, Ran, point_of}

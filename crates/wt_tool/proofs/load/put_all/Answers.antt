@@ -1,4 +1,4 @@
-use Rattle.std.proofs.Common.{◌<◌, ℕ, List, length, arith}
+use Rattle.std.proofs.Common.{ℕ, List, arith}
 use Rattle.std.specs.Prelude.{Bool, Ok, Err}
 use Rattle.item.specs.declared.Formats.{Formats}
 use Rattle.wt_code.specs.declared.refusals.Refusal.TheVariants.{NoMemory}

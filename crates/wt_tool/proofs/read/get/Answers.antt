@@ -1,4 +1,3 @@
-use Rattle.std.proofs.Common.{subst, sym}
 use Rattle.wt_tool.proofs.Going.{get_is, got_value, got_refused}
 use Rattle.wt_calls.specs.declared.session_call.SessionCall.TheVariants as session
 use Rattle.wt_tool.proofs.read.get.Goals as goal

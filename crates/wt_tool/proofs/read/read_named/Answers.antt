@@ -1,4 +1,4 @@
-use Rattle.std.proofs.Common.{◌≡◌, ◌⊎◌, ◌≤◌, ◌<◌, ◌+◌, ◌++◌, ◌∙◌, ℕ, List, [], ◌∷◌, Option, Some, None, Err, true, false, map, drop, refl, sym, ap, subst, inl, inr, length, length-drop, get_or, suc, arith, Bor}
+use Rattle.std.proofs.Common.{◌≡◌, ◌⊎◌, ◌≤◌, ◌<◌, ◌+◌, ◌++◌, ◌∙◌, ℕ, List, [], ◌∷◌, Option, true, false, map, drop, refl, sym, ap, subst, inl, inr, length, length-drop, get_or, suc, arith, Bor}
 use Rattle.std.proofs.Math.Seq.{drop-cons}
 use Rattle.std.proofs.lemmas.List.{append-nil, nil_from_length}
 use Rattle.failure.specs.Counts.{Rose}

@@ -1,10 +1,10 @@
-use Rattle.std.proofs.Common.{◌<◌, ℕ, List, length, arith, subst, sym, ◌∙◌}
+use Rattle.std.proofs.Common.{ℕ, List, arith}
 use Rattle.std.specs.Prelude.{Ok, Err}
 use Rattle.kv_model.specs.Decisions.{Demand}
 use Rattle.wt_line.specs.Line.{pair_texts}
 use Rattle.wt_tool.specs.Points.{Point, Ran, WithSession}
 use Rattle.wt_tool.specs.Writes.{PutsPairs, demand_of}
-use Rattle.wt_tool.proofs.Leading.{AllMade, all_made, opened_led}
+use Rattle.wt_tool.proofs.Leading.{all_made, opened_led}
 use Rattle.wt_tool.proofs.Putting.{Words, led_next, led_end}
 use Rattle.wt_tool.proofs.write.put_all.Goals as goal
 

@@ -16,5 +16,6 @@ returns-clause-doings g c = λ w stands free. goes_on c.downs_go.ensures c.args.
 pub returns-clause-ready : goal.returns-clause-ready
 returns-clause-ready g c = record {
   run = omega (arith, ap (λ (t : Txns). t.run) c.checkpoint.ensures.hub.1, c.requires.ready.run, c.checkpoint.ensures.run);
-  leaves = omega (arith, ap (λ (k : Known). length k.tables) c.checkpoint.ensures.hub.0, c.checkpoint.ensures.leaves);
+  trees = omega (arith, ap (λ (k : Known). length k.tables) c.checkpoint.ensures.hub.0, c.checkpoint.ensures.trees);
+  low = c.checkpoint.ensures.low;
 }

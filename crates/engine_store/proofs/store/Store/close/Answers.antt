@@ -14,10 +14,10 @@ checkpoint-requires-clause-run g c =
     let same = as_before c.args.self.now.engine c.roll_back_all.new.self c.may_close.result c.in-Ok.field-0 c.may_close.ensures c.in-Ok.is c.roll_back_all.ensures.rolled_back c.has_world.ensures in
     omega (arith, same.run, c.requires.ready.run)
 
-pub checkpoint-requires-clause-leaves : goal.checkpoint-requires-clause-leaves
-checkpoint-requires-clause-leaves g c =
+pub checkpoint-requires-clause-trees : goal.checkpoint-requires-clause-trees
+checkpoint-requires-clause-trees g c =
     let same = as_before c.args.self.now.engine c.roll_back_all.new.self c.may_close.result c.in-Ok.field-0 c.may_close.ensures c.in-Ok.is c.roll_back_all.ensures.rolled_back c.has_world.ensures in
-    omega (arith, ap (λ (l : List Table). length l) same.tables_are, c.requires.ready.leaves)
+    omega (arith, ap (λ (l : List Table). length l) same.tables_are, c.requires.ready.trees)
 
 pub checkpoint-requires-clause-steady : goal.checkpoint-requires-clause-steady
 checkpoint-requires-clause-steady g c = λ h up.
@@ -72,7 +72,8 @@ returns-clause-ready g c =
     let same = as_before c.args.self.now.engine c.roll_back_all.new.self c.may_close.result c.in-Ok.field-0 c.may_close.ensures c.in-Ok.is c.roll_back_all.ensures.rolled_back c.has_world.ensures in
     record {
       run = omega (arith, ap (λ (t : Txns). t.run) c.checkpoint.ensures.hub.1, same.run, c.requires.ready.run, c.checkpoint.ensures.run);
-      leaves = omega (arith, ap (λ (k : Known). length k.tables) c.checkpoint.ensures.hub.0, c.checkpoint.ensures.leaves);
+      trees = omega (arith, ap (λ (k : Known). length k.tables) c.checkpoint.ensures.hub.0, c.checkpoint.ensures.trees);
+      low = c.checkpoint.ensures.low;
     }
 
 pub returns-in-Err-clause-shuts : goal.returns-in-Err-clause-shuts

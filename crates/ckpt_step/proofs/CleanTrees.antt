@@ -1,0 +1,151 @@
+-- A table to which nothing newer was committed has the tree of the checkpoint before, and when one does.
+use Rattle.std.proofs.Common.{◌≡◌, ◌∙◌, ◌≤◌, ℕ, true, false, List, [], ◌∷◌, ◌++◌, length, Option, Some, None, refl, sym, subst, inl, inr, arith}
+use Rattle.std.specs.Prelude.{◌==◌, bytes_eq, nat_lt}
+use Rattle.std.specs.List.{AllByRecursion}
+use Rattle.std.specs.Option.{option_to_list}
+use Rattle.std.proofs.Math.Bool.{or-true}
+use Rattle.std.proofs.lemmas.Bool.{both_ways, cases_Bool, cases_lt, eq-eqb, lt-ltb}
+use Rattle.std.proofs.lemmas.Option.{same_Some}
+use Rattle.item.specs.declared.Change.{Change}
+use Rattle.stamp.specs.declared.Name.{Name}
+use Rattle.stamp.specs.declared.Version.{Version}
+use Rattle.kv_model.specs.AgreementLaws.{head_of}
+use Rattle.kv_model.specs.History.{Table, line}
+use Rattle.kv_model.specs.Machine.{Machine}
+use Rattle.kv_model.specs.Valid.{Valid}
+use Rattle.row_page.specs.Changes.{version_in}
+use Rattle.stamp.specs.Order.{later}
+use Rattle.row_page.specs.Rows.{Row, RowFits, key_most}
+use Rattle.leaf_rows.specs.Rows.{AreFit}
+use Rattle.rows_shown.specs.Shows.{shown_at}
+use Rattle.snapshot.specs.Matters.{NoneResolves, SeesCommitted}
+use Rattle.snapshot.specs.Past.{is_below}
+use Rattle.snapshot.specs.Sight.{Sight, is_seen}
+use Rattle.stored.specs.Stored.{Stored}
+use Rattle.update_chain.specs.declared.update.Update.{Update}
+use Rattle.leaf_frame.specs.Leaf.{HeldLeaf}
+use Rattle.leaf_chains.specs.Slots.{chain_at}
+use Rattle.leaf_capture.specs.Capture.{ChainFits, ChainsFit}
+use Rattle.frame_capture.specs.Capture.{captured_over}
+use Rattle.frame_capture.specs.Laws.{CapturesAreNewest}
+use Rattle.engine.specs.Checkpoints.{HeldStands}
+use Rattle.stored.specs.TableTree.{TableTree}
+use Rattle.tree_open.specs.declared.place.TreePlace.{TreePlace}
+use Rattle.recover_open.specs.Bare.{tree_rows}
+use Rattle.ckpt_step.specs.Checkpoints.{IsRowsOf}
+use Rattle.ckpt_step.specs.Floors.{IsStill, IsTreeBefore, is_before, newest_before}
+use Rattle.ckpt_step.specs.Trees.{HasTreeAt}
+use Rattle.reconcile.specs.Held.{versions}
+use Rattle.leaf_frame.specs.Updates.{NoneAbove}
+use Rattle.ckpt_step.proofs.Floors.{Lower, lower_of}
+
+-- ---- names
+
+is_lower : (x y : Name) → Lower x y → is_below x y ≡ true
+is_lower x y (inl less) = let is : nat_lt x.run y.run ≡ true = lt-ltb x.run y.run less in rw is refl
+is_lower x y (inr (same, less)) =
+    let run : (x.run == y.run) ≡ true = eq-eqb x.run y.run same in
+    let id : nat_lt x.id y.id ≡ true = lt-ltb x.id y.id less in
+    rw (run, id) (or-true (nat_lt x.run y.run))
+
+-- what is not above a name that is below a floor is below it too
+under : (greatest x floor : Name) → is_below greatest x ≡ false → is_below greatest floor ≡ true → is_below x floor ≡ true
+under greatest x floor none below = elim (cases_Bool (is_below x floor)) [ inl is ↦ is | inr isnt ↦ absurd (past (lower_of greatest floor below) isnt) ]
+  where
+    above : Lower greatest x → ⊥
+    above less = both_ways (is_below greatest x) none (is_lower greatest x less)
+
+    over : is_below x floor ≡ false → Lower x floor → ⊥
+    over isnt less = both_ways (is_below x floor) isnt (is_lower x floor less)
+
+    past : Lower greatest floor → is_below x floor ≡ false → ⊥
+    past (inl less) isnt = elim (cases_lt x.run floor.run) [
+      | inl lower ↦ over isnt (inl lower)
+      | inr high ↦ above (inl (omega (arith, less, high)))
+    ]
+    past (inr (same, less)) isnt = elim (cases_lt x.run floor.run) [
+      | inl lower ↦ over isnt (inl lower)
+      | inr high ↦ elim (cases_lt floor.run x.run) [
+        | inl more ↦ above (inl (omega (arith, same, more)))
+        | inr most ↦ elim (cases_lt x.id floor.id) [
+          | inl lower ↦ over isnt (inr (omega (arith, high, most), lower))
+          | inr past_id ↦ above (inr (omega (arith, same, high, most), omega (arith, less, past_id)))
+        ]
+      ]
+    ]
+
+-- of two names the later is below the floor: both are
+pub both_under : (x y floor : Name) → is_below (later x y) floor ≡ true → (is_below x floor ≡ true) × (is_below y floor ≡ true)
+both_under x y floor below = elim (cases_Bool (is_below x y)) [
+  | inl less ↦ let own = rw less at below in (is_lower x floor (joined (lower_of x y less) (lower_of y floor own)), own)
+  | inr more ↦ let own = rw more at below in (own, under x y floor more own)
+]
+  where
+    joined : Lower x y → Lower y floor → Lower x floor
+    joined (inl a) (inl b) = inl (omega (arith, a, b))
+    joined (inl a) (inr b) = inl (omega (arith, a, b.0))
+    joined (inr a) (inl b) = inl (omega (arith, a.0, b))
+    joined (inr a) (inr b) = inr (omega (arith, a.0, b.0), omega (arith, a.1, b.1))
+
+-- a name with an id that is below the floor is before it
+before_of : (floor x : Name) → 1 ≤ x.id → is_below x floor ≡ true → is_before floor x ≡ true
+before_of floor x some below = let has_id : nat_lt 0 x.id ≡ true = lt-ltb 0 x.id some in rw has_id below
+
+-- ---- the newest version of a key
+
+newest_head : (floor : Name) (l : List (Version Change)) → ((v : Version Change) → head_of l ≡ Some v → is_before floor v.window.name ≡ true) → newest_before floor l ≡ head_of l
+newest_head floor [] each = refl
+newest_head floor (v ∷ older) each = let first : is_before floor v.window.name ≡ true = each v refl in rw first refl
+
+-- a row that is shown has an id
+shown_id : (key : List ℕ) (rows : List Row) (v : Version Change) → AllByRecursion (λ (r : Row). RowFits [] key_most r) rows → shown_at key rows ≡ Some v → 1 ≤ v.window.name.id
+shown_id key [] v fit is = absurd cc
+shown_id key (r ∷ rows) v fit is = elim (cases_Bool (bytes_eq r.0 key)) [
+  | inl same ↦ subst (λ (x : Version Change). 1 ≤ x.window.name.id) (same_Some (version_in r.1) v (rw same at is)) fit.0.window.name.id.0
+  | inr other ↦ shown_id key rows v fit.1 (rw other at is)
+]
+
+captured_before : (s : Sight) (greatest floor : Name) (key : List ℕ) (chain : List Update) (row : Option (Version Change)) (v : Version Change) → is_below greatest floor ≡ true
+    → AllByRecursion (λ (x : Version Change). is_below greatest x.window.name ≡ false) (versions chain ++ option_to_list row) → ChainFits key chain → ((x : Version Change) → row ≡ Some x → 1 ≤ x.window.name.id) → captured_over s chain row ≡ Some v
+    → is_before floor v.window.name ≡ true
+captured_before s greatest floor key [] None v below none fit has_id is = absurd cc
+captured_before s greatest floor key [] (Some x) v below none fit has_id is = elim (cases_Bool (is_seen s x.window.name)) [
+  | inl seen ↦ subst (λ (y : Version Change). is_before floor y.window.name ≡ true) (same_Some x v (rw seen at is)) (before_of floor x.window.name (has_id x refl) (under greatest x.window.name floor none.0 below))
+  | inr unseen ↦ absurd (let nothing : None ≡ Some v = rw unseen at is in cc)
+]
+captured_before s greatest floor key (u ∷ older) row v below none fit has_id is = elim (cases_Bool (is_seen s u.version.window.name)) [
+  | inl seen ↦ subst (λ (x : Version Change). is_before floor x.window.name ≡ true) (same_Some u.version v (rw seen at is)) (before_of floor u.version.window.name fit.0.window.name.id.0 (under greatest u.version.window.name floor none.0 below))
+  | inr unseen ↦ captured_before s greatest floor key older row v below none.1 fit.1 has_id (rw unseen at is)
+]
+
+shown_before : (floor : Name) (key : List ℕ) (rows : List Row) (v : Version Change) → AllByRecursion (λ (r : Row). RowFits [] key_most r) rows → AllByRecursion (λ (r : Row). is_below r.1.window.name floor ≡ true) rows → shown_at key rows ≡ Some v → is_before floor v.window.name ≡ true
+shown_before floor key [] v fit below is = absurd cc
+shown_before floor key (r ∷ rows) v fit below is = elim (cases_Bool (bytes_eq r.0 key)) [
+  | inl same ↦ subst (λ (x : Version Change). is_before floor x.window.name ≡ true) (same_Some (version_in r.1) v (rw same at is)) (before_of floor r.1.window.name (fit.0.window.name.id.0) below.0)
+  | inr other ↦ shown_before floor key rows v fit.1 below.1 (rw other at is)
+]
+
+-- ---- trees
+
+-- where the names of the table in memory are below the floor, the tree of before is still that of the table
+pub still : CapturesAreNewest → (m : Machine) (s : Sight) (t : Table) (held : HeldLeaf) (old : Option Stored) (greatest floor : Name) (place : TreePlace) → Valid m → NoneResolves m → SeesCommitted m (length m.history) s → HeldStands m t held
+    → ChainsFit held.chains → AreFit held.page → NoneAbove greatest held → is_below greatest floor ≡ true → IsTreeBefore old floor m t place → IsStill old m t place
+still law m s t held old greatest floor place valid none sees stand fit rows_fit above below before = record {
+  tree = before.tree;
+  has = before.has;
+  is = record { fit = before.fit; newest = λ key. sym (newest_head floor (line m.history t.number key) (λ v is. first key v is)) ∙ before.newest key };
+}
+  where
+    first : (key : List ℕ) (v : Version Change) → head_of (line m.history t.number key) ≡ Some v → is_before floor v.window.name ≡ true
+    first key v is =
+        captured_before s greatest floor key (chain_at key held.chains) (shown_at key held.page) v below (above key) (fit key) (λ x. shown_id key held.page x rows_fit.fit)
+        (law m t.number key (chain_at key held.chains) (shown_at key held.page) s valid (λ session u wrote resolves. absurd (none session u wrote.0 resolves)) sees (stand key) ∙ is)
+
+-- a tree that was captured, whose root is below the floor, has the newest before it
+pub tree_before : (m : Machine) (t : Table) (new : Option Stored) (floor : Name) (place : TreePlace) (tree : TableTree) → IsRowsOf m t (tree_rows tree) → HasTreeAt new t place tree → AllByRecursion (λ (r : Row). is_below r.1.window.name floor ≡ true) (tree_rows tree) → IsTreeBefore new floor m t place
+tree_before m t new floor place tree is has below = record {
+  tree = tree;
+  has = has;
+  fit = is.fit;
+  newest = λ key. newest_head floor (line m.history t.number key) (λ v first. shown_before floor key (tree_rows tree) v is.fit.fit below (sym (is.newest key) ∙ first)) ∙ is.newest key;
+}

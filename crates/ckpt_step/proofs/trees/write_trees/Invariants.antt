@@ -1,0 +1,26 @@
+use Rattle.std.proofs.Common.{◌≡◌, IsTrue, [], Option, length, true}
+use Rattle.disk_model.specs.Crash.{SameDisk}
+use Rattle.extent_list.specs.Space.{end_of}
+use Rattle.std.specs.Prelude.{◌≤◌}
+use Rattle.snapshot.specs.Matters.{NoneResolves, SeesCommitted}
+use Rattle.stored.specs.Stored.{Stored}
+use Rattle.engine_world.specs.Stands.{Stands}
+use Rattle.engine_world.specs.Worlds.{World}
+use Rattle.ckpt_step.specs.Floors.{Follows}
+use Rattle.ckpt_step.specs.Goings.{Going}
+use Rattle.ckpt_step.specs.Grounds.{AreRoots}
+use Rattle.ckpt_step.specs.Halves.{Half}
+use Rattle.ckpt_step.specs.Trees.{AreTold, placed_by}
+use Rattle.ckpt_step.proofs.trees.write_trees.Given as goal
+
+abbrev pub invariant-loop-place : goal.invariant-loop-place
+invariant-loop-place g l = record {
+  held : l.blocks.is_held ≡ true;
+  told : AreTold l.was l.taken.trees.items;
+  disk : SameDisk g.D.Disk l.fn.disk l.disk;
+  ready : IsTrue (g.D.Disk.honest l.disk) → end_of l.blocks.space ≤ length (g.D.Disk.seen l.disk);
+  count : length l.taken.trees.items ≡ l.place;
+  going : IsTrue (g.D.Disk.honest l.fn.disk) → (w : World) → Stands l.engine w → NoneResolves w.machine → SeesCommitted w.machine (length w.machine.history) l.snapshot.sight → (old : Option Stored)
+      → Half (g.D.Disk.seen l.fn.disk) (g.D.Disk.may_leave l.fn.disk) l.fn.blocks old [] [] [] → AreRoots l.engine.hub.tables.tables l.was old → Follows old l.engine.hub.tables.tables l.was l.floor w.machine
+      → Going g.D.Disk old l.was w.machine l.engine.hub.tables.tables l.fn.blocks l.blocks (placed_by l.was l.taken.trees.items) l.taken.captured.items l.place l.fn.disk l.disk;
+}

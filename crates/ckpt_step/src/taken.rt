@@ -1,0 +1,29 @@
+// What a running checkpoint has.
+ghost use Rattle.std.specs.Prelude.{◌≡◌, []};
+
+use device_layout::Addr;
+use std::alloc::Global;
+use tree_open::TreePlace;
+
+// What a running checkpoint has.
+#[derive(Drop)]
+pub(crate) struct Taken {
+    // By place of the engine's catalog: the trees of the first tables. None is one that stands where it
+    // did at the checkpoint before.
+    pub trees: Vec<Option<TreePlace>>,
+    // Where the blocks stand that are captured, in turn: also those of a tree that is not whole.
+    pub captured: Vec<Addr>,
+}
+
+impl Taken {
+    // Nothing. Takes no memory.
+    pub(crate) fn new(alloc: Global) -> Taken
+        ensures trees { result.trees.items ≡ [] }
+        ensures captured { result.captured.items ≡ [] }
+    {
+        Taken {
+            trees: Vec::new(alloc),
+            captured: Vec::new(alloc),
+        }
+    }
+}

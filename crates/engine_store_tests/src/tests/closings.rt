@@ -1,0 +1,170 @@
+// What an opening finds of what a close left, on a disk in memory.
+use super::{are_low, item};
+use disk_model::MemDisk;
+use engine::Local;
+use engine_store::{Store, open_on};
+use item::{Format, Formats, Item};
+use plain_disk::PlainDisk;
+use std::alloc::Global;
+use std::process::Abort;
+use wt_calls::{Call, Demand, SessionCall, SystemCall};
+use wt_code::{Answer, Refusal};
+
+const BYTES: Formats = Formats {
+    key: Format::U,
+    value: Format::U,
+};
+
+const COMMIT: SessionCall = SessionCall::Commit {
+    commit: None,
+    durable: None,
+};
+
+// A new device. The calls of these numbers fail, the first being 0.
+pub(super) fn new_device(rt: &impl Abort, alloc: Global, failing: &[u64]) -> PlainDisk {
+    let mut content = Vec::new(alloc);
+    content.resize(8_192, 0).expect(rt, "there is memory");
+    let failing = Vec::from_slice(alloc, failing).expect(rt, "there is memory");
+    let made = MemDisk::new(alloc, content, 1 << 20, failing);
+    PlainDisk {
+        medium: made.expect(rt, "there is memory"),
+    }
+}
+
+pub(super) fn create(rt: &impl Abort, alloc: Global, engine: &mut Local, name: &[u8]) {
+    let call = SystemCall::Create {
+        table: item(rt, alloc, name),
+        formats: BYTES,
+    };
+    // That there is an actor of the system.
+    let _actors = engine.actors();
+    assert!(rt; engine.call(alloc, Call::System(0, call)) == Answer::Done);
+}
+
+pub(super) fn ask(
+    rt: &impl Abort,
+    alloc: Global,
+    engine: &mut Local,
+    session: u32,
+    call: SessionCall,
+) -> Answer<Item> {
+    assert!(rt; session < engine.sessions());
+    engine.call(alloc, Call::Session(session, call))
+}
+
+pub(super) fn begin(rt: &impl Abort, alloc: Global, engine: &mut Local, session: u32) {
+    let begun = ask(rt, alloc, engine, session, SessionCall::Begin(None));
+    assert!(rt; begun == Answer::Done);
+}
+
+pub(super) fn commit(rt: &impl Abort, alloc: Global, engine: &mut Local, session: u32) {
+    assert!(rt; ask(rt, alloc, engine, session, COMMIT) == Answer::Done);
+}
+
+pub(super) fn put(
+    rt: &impl Abort,
+    alloc: Global,
+    engine: &mut Local,
+    session: u32,
+    (table, key, value): (&[u8], &[u8], &[u8]),
+) {
+    let put = SessionCall::Put {
+        table: item(rt, alloc, table),
+        key: item(rt, alloc, key),
+        value: item(rt, alloc, value),
+        demand: Demand::Anything,
+    };
+    assert!(rt; ask(rt, alloc, engine, session, put) == Answer::Done);
+}
+
+// Whether a read in the transaction of session 0 gives the value, where there is one.
+fn gives(
+    rt: &impl Abort,
+    alloc: Global,
+    engine: &mut Local,
+    (table, key): (&[u8], &[u8]),
+    wanted: Option<&[u8]>,
+) -> bool {
+    let get = SessionCall::Get {
+        table: item(rt, alloc, table),
+        key: item(rt, alloc, key),
+    };
+    match ask(rt, alloc, engine, 0, get) {
+        Answer::Value(value) => wanted == Some(value.as_bytes()),
+        Answer::Refused(Refusal::NotFound) => wanted.is_none(),
+        _ => false,
+    }
+}
+
+// Opens the device, with two sessions.
+fn open(rt: &impl Abort, alloc: Global, disk: &mut PlainDisk) -> Store {
+    let mut store = open_on(alloc, disk).expect(rt, "it opens");
+    assert!(rt; store.engine.open_session(alloc) == Ok(0));
+    assert!(rt; store.engine.open_session(alloc) == Ok(1));
+    store
+}
+
+fn close(rt: &impl Abort, alloc: Global, store: &mut Store, disk: &mut PlainDisk) {
+    let marks = store.engine.marks();
+    assert!(rt; marks.run.saturating_sub(1) <= store.ground.number);
+    assert!(rt; store.ground.trees.len() <= store.engine.tables().len());
+    assert!(rt; are_low(&store.ground.trees));
+    assert!(rt; store.close(alloc, disk) == Ok(()));
+}
+
+// Two sessions with a transaction each that is not finished, one of them prepared.
+fn leave_open(rt: &impl Abort, alloc: Global, engine: &mut Local) {
+    begin(rt, alloc, engine, 0);
+    put(rt, alloc, engine, 0, (b"b", b"m", b"4"));
+    put(rt, alloc, engine, 0, (b"a", b"m", b"4"));
+    begin(rt, alloc, engine, 1);
+    put(rt, alloc, engine, 1, (b"b", b"n", b"5"));
+    put(rt, alloc, engine, 1, (b"a", b"n", b"5"));
+    let prepared = ask(rt, alloc, engine, 1, SessionCall::Prepare(5));
+    assert!(rt; prepared == Answer::Done);
+}
+
+// Opens the device again: the row of table `b` is there, and that of table `a` has the value. What
+// was not committed is absent.
+fn open_again(rt: &impl Abort, alloc: Global, disk: &mut PlainDisk, value: &[u8]) -> Store {
+    let mut store = open(rt, alloc, disk);
+    let reads: [(&[u8], &[u8], Option<&[u8]>); 6] = [
+        (b"b", b"k", Some(b"1")),
+        (b"b", b"m", None),
+        (b"b", b"n", None),
+        (b"a", b"k", Some(value)),
+        (b"a", b"m", None),
+        (b"a", b"n", None),
+    ];
+    begin(rt, alloc, &mut store.engine, 0);
+    for (table, key, wanted) in reads {
+        assert!(rt; gives(rt, alloc, &mut store.engine, (table, key), wanted));
+    }
+    commit(rt, alloc, &mut store.engine, 0);
+    store
+}
+
+#[test]
+fn what_was_committed_is_there_again(rt: HostRuntime) {
+    let alloc = rt.alloc();
+    let mut disk = new_device(&rt, alloc, &[]);
+    let mut store = open(&rt, alloc, &mut disk);
+    // The order by name is not that by number.
+    create(&rt, alloc, &mut store.engine, b"b");
+    create(&rt, alloc, &mut store.engine, b"a");
+    begin(&rt, alloc, &mut store.engine, 0);
+    put(&rt, alloc, &mut store.engine, 0, (b"b", b"k", b"1"));
+    put(&rt, alloc, &mut store.engine, 0, (b"a", b"k", b"2"));
+    commit(&rt, alloc, &mut store.engine, 0);
+    leave_open(&rt, alloc, &mut store.engine);
+    close(&rt, alloc, &mut store, &mut disk);
+    let mut store = open_again(&rt, alloc, &mut disk, b"2");
+    begin(&rt, alloc, &mut store.engine, 0);
+    put(&rt, alloc, &mut store.engine, 0, (b"a", b"k", b"3"));
+    commit(&rt, alloc, &mut store.engine, 0);
+    leave_open(&rt, alloc, &mut store.engine);
+    close(&rt, alloc, &mut store, &mut disk);
+    open_again(&rt, alloc, &mut disk, b"3");
+    // Two leaves and a record, and of the second close the leaf that changed and a record.
+    assert_eq!(rt; disk.medium.bytes().len(), 28_672);
+}

@@ -1,6 +1,0 @@
-use Rattle.std.proofs.Common.{◌≡◌, ◌++◌, map, take, drop}
-use Rattle.recover_open.specs.Flat.{kept_of}
-use Rattle.recover_open.proofs.leaves.keep_all.Given as goal
-
-abbrev pub invariant-loop-rows : goal.invariant-loop-rows
-invariant-loop-rows l = l.leaves ≡ map (kept_of l.found) (take l.rows-index l.initial.leaves) ++ drop l.rows-index l.initial.leaves

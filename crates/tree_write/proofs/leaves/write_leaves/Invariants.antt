@@ -1,0 +1,28 @@
+use Rattle.std.proofs.Common.{◌≡◌, ◌≤◌, ◌++◌, List, Option, length, take, true, IsTrue}
+use Rattle.std.specs.List.{AllByRecursion}
+use Rattle.std.specs.Prelude.{vec_capacity}
+use Rattle.disk_model.specs.Crash.{SameDisk}
+use Rattle.extent_list.specs.Space.{end_of}
+use Rattle.block_mgr.specs.Blocks.{Books}
+use Rattle.device_layout.specs.declared.addr.Addr.{Addr}
+use Rattle.row_page.specs.Rows.{Row}
+use Rattle.stored.specs.Links.{LinkFits}
+use Rattle.stored.specs.Stored.{Stored}
+use Rattle.stored.specs.TableTree.{Entry}
+use Rattle.tree_write.specs.Steps.{AreSpelled, keys_of, leaf_keys}
+use Rattle.tree_write.specs.Writes.{MayWriteOver}
+use Rattle.tree_write.proofs.Going.{Going}
+use Rattle.tree_write.proofs.leaves.write_leaves.Given as goal
+
+abbrev pub invariant-loop-i : goal.invariant-loop-i
+invariant-loop-i g l = record {
+  disk : SameDisk g.D.Disk l.fn.disk l.disk;
+  held : l.blocks.is_held ≡ true;
+  ready : IsTrue (g.D.Disk.honest l.fn.disk) → end_of l.blocks.space ≤ length (g.D.Disk.seen l.disk);
+  count : length l.entries.items ≡ l.i;
+  room : length l.images ≤ vec_capacity l.entries;
+  keys : keys_of l.entries.items ≡ take l.i (leaf_keys l.images);
+  fits : AllByRecursion (λ (e : Entry). LinkFits e.link) l.entries.items;
+  going : (leaves : List (List Row)) → AreSpelled l.images leaves → IsTrue (g.D.Disk.honest l.fn.disk) → (old : Option Stored) (first : Books) → MayWriteOver (g.D.Disk.seen l.fn.disk) (g.D.Disk.may_leave l.fn.disk) first l.fn.blocks old l.was
+      → (addrs : List Addr) × (l.captured.items ≡ l.fn.captured.items ++ addrs) × Going g.D.Disk old first l.fn.blocks l.fn.disk l.was l.images leaves l.i l.entries.items addrs l.blocks l.disk;
+}

@@ -1,0 +1,85 @@
+// Entries of a level, and what they lead to.
+ghost use Rattle.std.specs.Prelude.{◌≡◌, ◌++◌, map, slice_index_or, IfOk};
+ghost use Rattle.stored.specs.Links.{LinkFits, nowhere as nowhere_link};
+ghost use Rattle.stored.specs.TableTree.{Entry as StoredEntry};
+ghost use Rattle.tree_write.specs.Steps.{top_link};
+
+use device_layout::{Addr, Link};
+use failure::NoMemory;
+use inner_page::Entry;
+use stamp::Name;
+use std::alloc::Global;
+
+// What leads to a leaf without rows, which is not stored.
+pub(crate) fn nowhere() -> Link
+    ensures { result ≡ nowhere_link }
+{
+    Link {
+        addr: Addr {
+            offset: 0,
+            size: 0,
+            sum: 0,
+        },
+        greatest: Name { run: 0, id: 0 },
+        durable: 0,
+    }
+}
+
+// What leads to the page at an address.
+pub(crate) fn link_to(addr: Addr, greatest: Name, durable: u64) -> Link
+    ensures link { result ≡ record { addr = addr; greatest = greatest; durable = durable } }
+    ensures fits { LinkFits result }
+{
+    Link {
+        addr,
+        greatest,
+        durable,
+    }
+}
+
+// The link of a place, which leads nowhere where there is none.
+pub(crate) fn link_at(links: &[Link], place: usize) -> Link
+    ensures { result ≡ slice_index_or links.now place nowhere_link }
+{
+    match links.get(place) {
+        Some(link) => *link,
+        None => nowhere(),
+    }
+}
+
+// The link of the first entry, which leads nowhere where there is none.
+pub(crate) fn top_link(entries: &[Entry]) -> Link
+    ensures { result ≡ top_link entries.now }
+{
+    match entries.first() {
+        Some(entry) => entry.link,
+        None => nowhere(),
+    }
+}
+
+// The links of entries.
+pub(crate) fn links_of(alloc: Global, entries: &[Entry]) -> Result<Vec<Link>, NoMemory>
+    ensures { IfOk result (λ v. v.items ≡ map {A = StoredEntry} (λ e. e.link) entries.now) }
+{
+    let mut links = Vec::with_capacity(alloc, entries.len())?;
+    for entry in entries {
+        links.push_reserved(entry.link);
+    }
+    Ok(links)
+}
+
+// The addresses that entries lead to, and then these.
+pub(crate) fn put_addrs(
+    alloc: Global,
+    entries: &[Entry],
+    addrs: &[Addr],
+) -> Result<Vec<Addr>, NoMemory>
+    ensures { IfOk result (λ v. v.items ≡ map {A = StoredEntry} (λ e. e.link.addr) entries.now ++ addrs.now) }
+{
+    let mut all = Vec::with_capacity(alloc, entries.len())?;
+    for entry in entries {
+        all.push_reserved(entry.link.addr);
+    }
+    all.extend_from_slice(addrs)?;
+    Ok(all)
+}
