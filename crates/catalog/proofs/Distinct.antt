@@ -21,7 +21,7 @@ head_differs name t later none = elim (cases_Bool (bytes_eq t.name name)) [
 pub later_none : (name : List ℕ) (t : Table) (later : List Table) → named name (t ∷ later) ≡ None → named name later ≡ None
 later_none name t later none = let differs : bytes_eq t.name name ≡ false = head_differs name t later none in rw differs at none
 
-none_at : (name : List ℕ) (tables : List Table) (place : ℕ) → named name tables ≡ None → place < length tables → bytes_eq (table_at tables place).name name ≡ false
+pub none_at : (name : List ℕ) (tables : List Table) (place : ℕ) → named name tables ≡ None → place < length tables → bytes_eq (table_at tables place).name name ≡ false
 none_at name [] place none lt = absurd (omega (arith, lt))
 none_at name (t ∷ later) zero none lt = head_differs name t later none
 none_at name (t ∷ later) (suc place) none lt = none_at name later place (later_none name t later none) (omega (arith, lt))

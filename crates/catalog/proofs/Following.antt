@@ -22,7 +22,7 @@ distinct_back : (front back : List Table) → AreDistinct (front ++ back) → Ar
 distinct_back [] back distinct = distinct
 distinct_back (t ∷ front) back distinct = distinct_back front back distinct.1
 
-all_front : (P : Table → Type 0) (front : List Table) (t : Table) → AllByRecursion P (front ++ t ∷ []) → AllByRecursion P front × P t
+pub all_front : (P : Table → Type 0) (front : List Table) (t : Table) → AllByRecursion P (front ++ t ∷ []) → AllByRecursion P front × P t
 all_front P [] t all = (tt, all.0)
 all_front P (u ∷ front) t all = let rest = all_front P front t all.1 in ((all.0, rest.0), rest.1)
 

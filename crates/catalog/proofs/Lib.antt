@@ -8,3 +8,4 @@ pub mod InOrder
 pub mod ByNumber
 pub mod Following
 pub mod Recorded
+pub mod Taking

@@ -1,7 +1,8 @@
 //! The tables of an engine.
 
 ghost use Rattle.std.specs.Prelude.{◌≡◌, ◌<◌, ◌≤◌, ◌-◌, ◌^◌, ◌++◌, max, [], length, reverse, true, IfOk, IfErr, IfSome, IfNone, None, OnOk, OnErr, option_map, slice_get};
-ghost use Rattle.catalog.specs.Known.{AreTables, by_name, place_of, with_new};
+ghost use Rattle.catalog.specs.Known.{Known, AreTables, by_name, place_of, with_new};
+ghost use Rattle.kv_model.specs.History.{Table as ModelTable};
 ghost use Rattle.kv_model.specs.Content.{descending, table_lt};
 ghost use Rattle.kv_model.specs.Decisions.{is_name, same_formats};
 ghost use Rattle.catalog.specs.Opens.{AreRecorded};
@@ -13,7 +14,7 @@ ghost use Rattle.catalog.specs.Creates.{IsCreated, IsRefused, asked};
 use crate::created::Created;
 use crate::names::is_name;
 use crate::opening::descending;
-use crate::places::{Search, first_not_below, look_up, put};
+use crate::places::{Search, first_not_below, keep_below, look_up, put};
 use crate::table::Table;
 use failure::NoMemory;
 use item::{Formats, Item};
@@ -148,6 +149,16 @@ impl Catalog {
                 Ok(Created::Same(place))
             }
             Search::Absent(i) => self.make(alloc, i, name, formats),
+        }
+    }
+
+    /// Takes back the table that was made last; nothing where there is none. `O(n)` in the tables.
+    pub fn take_back(&mut self)
+        ensures { (known : Known) (t : ModelTable) → self.old ≡ with_new known t → self.new ≡ record { tables = known.tables; next = t.number } }
+    {
+        if let Some(table) = self.tables.pop() {
+            keep_below(&mut self.places, self.tables.len());
+            self.next = table.number;
         }
     }
 

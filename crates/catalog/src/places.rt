@@ -1,5 +1,5 @@
 // Places of tables in the order of their names.
-ghost use Rattle.std.specs.Prelude.{◌≡◌, ◌<◌, ◌≤◌, ◌^◌, ◌++◌, ◌∷◌, [], length, map, bytes_eq, take, drop, vec_len, vec_capacity};
+ghost use Rattle.std.specs.Prelude.{◌≡◌, ◌<◌, ◌≤◌, ◌^◌, ◌++◌, ◌∷◌, [], length, map, filter, ltb, bytes_eq, take, drop, vec_len, vec_capacity};
 ghost use Rattle.std.specs.List.{AllByRecursion};
 ghost use Rattle.catalog.specs.Known.{AreDistinct, is_below};
 ghost use Rattle.catalog.specs.Order.{Ascend, Finds, IsOrder, SplitsAt, table_at};
@@ -75,4 +75,11 @@ pub(crate) fn put(tables: &mut Vec<Table>, places: &mut Vec<u32>, i: usize, tabl
     let place = tables.len() as u32;
     let _inserted = places.insert(i, place);
     tables.push_reserved(table);
+}
+
+/// Keeps the places below this one, in their order. `O(n)`.
+pub(crate) fn keep_below(places: &mut Vec<u32>, end: usize)
+    ensures { places.new.items ≡ filter (λ place. ltb place end) places.old.items }
+{
+    places.retain(|place| (*place as usize) < end);
 }

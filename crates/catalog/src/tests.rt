@@ -127,4 +127,8 @@ fn recorded_tables_get_places_by_number(rt: HostRuntime) {
     assert!(rt; catalog.create(alloc, b"aa", BYTES) == Ok(Created::New(3)));
     assert!(rt; catalog.table(3).expect(&rt, "a table").number == 9);
     assert!(rt; catalog.table_at(1).expect(&rt, "a table").name.as_bytes() == b"aa".as_slice());
+    catalog.take_back();
+    assert!(rt; catalog.len() == 3 && catalog.find(b"aa").is_none());
+    assert!(rt; catalog.create(alloc, b"d", TEXTS) == Ok(Created::New(3)));
+    assert!(rt; catalog.table(3).expect(&rt, "a table").number == 9);
 }
