@@ -13,8 +13,6 @@ mod app;
 mod command;
 mod law;
 mod line;
-#[cfg(test)]
-mod tests;
 
 pub use command::Command;
 pub use law::{plain_words_are_items, words_behind_two_hyphens_are_items};

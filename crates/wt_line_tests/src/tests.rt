@@ -1,8 +1,8 @@
 // What words that people type come to.
-use crate::{LineFault, home_of, parse};
 use std::alloc::Global;
 use std::process::Abort;
 use std::test::Fail;
+use wt_line::{LineFault, home_of, parse};
 
 fn owned(alloc: Global, words: &[&str]) -> Result<Vec<String>, Fail> {
     let mut all = Vec::new(alloc);
