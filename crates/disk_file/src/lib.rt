@@ -10,8 +10,6 @@
 mod disk;
 mod place;
 mod system_file;
-#[cfg(test)]
-mod tests;
 
 pub use disk::FileDisk;
 pub use system_file::SystemFile;

@@ -1,5 +1,5 @@
 // What the system's files do with the calls of a disk, one test for each cause.
-use crate::{FileDisk, SystemFile};
+use disk_file::{FileDisk, SystemFile};
 use disk_model::{Disk, Home, Unattached};
 use std::alloc::Allocator;
 use std::cell::Cell;
