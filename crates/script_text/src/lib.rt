@@ -19,8 +19,6 @@ mod replies;
 mod session_calls;
 mod stored;
 mod system_calls;
-#[cfg(test)]
-mod tests;
 mod words;
 
 pub use laws::{a_line_asks_for_one_thing, words_stand_between_single_spaces};

@@ -1,6 +1,6 @@
 // What lines that people write ask for, and what is printed of replies.
-use crate::{Line, Reply, as_stored, line_of_answer, parse_line};
 use item::{Format, Formats, Item, escape};
+use script_text::{Line, Reply, as_stored, line_of_answer, parse_line};
 use std::alloc::Global;
 use std::process::Abort;
 use std::test::Fail;
