@@ -15,8 +15,6 @@ mod laws;
 mod look;
 mod near;
 mod page;
-#[cfg(test)]
-mod tests;
 mod updates;
 mod way;
 

@@ -4,8 +4,8 @@ ghost use Rattle.std.specs.Prelude.{◌≤◌, IfOk, length};
 ghost use Rattle.snapshot.specs.Sight.{Ascends, IsSight, sight_of};
 ghost use Rattle.leaf_rows.specs.Rows.{AreFit};
 
-use crate::{FrameRead, HeldRow, LeafFrame, NoMemory, judge_row};
 use item::{Change, Item};
+use leaf_frame::{FrameRead, HeldRow, LeafFrame, NoMemory, judge_row};
 use reconcile::Live;
 use row_page::Leaf;
 use snapshot::Snapshot;
