@@ -17,8 +17,6 @@ ghost use Rattle.txn_table.specs.TableLaws.{CallsGoOn, FloorsAreSeen, LowestAreT
 
 mod phase;
 mod session;
-#[cfg(test)]
-mod tests;
 mod txns;
 mod written_leaf;
 

@@ -1,9 +1,9 @@
 // What a table keeps over the calls of a few sessions.
-use crate::{NoMemory, Phase, Txns, WrittenLeaf};
 use item::Item;
 use snapshot::{Snapshot, is_seen};
 use stamp::Name;
 use std::alloc::Global;
+use txn_table::{NoMemory, Phase, Txns, WrittenLeaf};
 use wt_code::{Limit, Refusal};
 
 // Calls that are made only where their session is in the phase for them; whether they were made.
