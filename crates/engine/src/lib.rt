@@ -17,8 +17,6 @@ mod parts;
 mod runs;
 mod step;
 mod system;
-#[cfg(test)]
-mod tests;
 
 pub use checkpoint::EngineMarks;
 pub use local::Local;

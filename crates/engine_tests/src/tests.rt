@@ -1,7 +1,7 @@
 // What a close and a checkpoint in one go do to an engine with two transactions under way; and calls
 // whose items are lent.
-use crate::{EngineMarks, Local};
 use catalog::Catalog;
+use engine::{EngineMarks, Local};
 use failure::{Fault, NoMemory};
 use item::{Format, Formats, Item};
 use std::alloc::Global;
