@@ -2,6 +2,7 @@ mod DumpRuns
 mod EscapeRuns
 mod FinishedDumps
 mod Joined
+mod PlainLanes
 mod Taking
 mod TextLines
 mod WrittenDumps

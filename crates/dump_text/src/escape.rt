@@ -1,9 +1,11 @@
 // Items written as escape texts.
-ghost use Rattle.std.specs.Prelude.{◌≡◌, ◌++◌, ◌<◌, ◌≤◌, length, take, OnErr, OnOk};
+ghost use Rattle.std.specs.Prelude.{◌≡◌, ◌≢◌, ◌++◌, ◌∷◌, [], ◌<◌, ◌≤◌, length, take, false, IsTrue, OnErr, OnOk};
+ghost use Rattle.std.specs.List.{AllByRecursion};
 ghost use Rattle.item.specs.Escapes.{digit, escape_byte, escaped};
 ghost use Rattle.dump_text.specs.Written.{HasMore};
 
 use std::alloc::AllocError;
+use std::simd::prelude::*;
 
 fn digit_of(number: u8) -> u8
     requires { number < 16 }
@@ -16,17 +18,78 @@ fn digit_of(number: u8) -> u8
     }
 }
 
-// How many bytes at the front are their own escapes.
+// How many bytes at the front are their own escapes: 32 at a time, and one at a time from the first
+// chunk on that has another.
 fn plain_front(bytes: &[u8]) -> usize
     ensures within { result ≤ length bytes.now }
     ensures plain { escaped (take result bytes.now) ≡ take result bytes.now }
 {
-    for (i, b) in bytes.iter().enumerate() {
-        if *b < 32 || *b > 126 || *b == b'\\' {
+    let (chunks, _) = bytes.as_chunks::<32>();
+    let mut front = 0;
+    for chunk in chunks {
+        if !is_plain(chunk) {
+            return plain_from(bytes, front);
+        }
+        front += 32;
+    }
+    plain_from(bytes, front)
+}
+
+// The same, where so many are known to be.
+fn plain_from(bytes: &[u8], known: usize) -> usize
+    requires within { known ≤ length bytes.now }
+    requires plain { escaped (take known bytes.now) ≡ take known bytes.now }
+    ensures within { result ≤ length bytes.now }
+    ensures plain { escaped (take result bytes.now) ≡ take result bytes.now }
+{
+    for i in known..bytes.len() {
+        if is_escaped(bytes[i]) {
             return i;
         }
     }
     bytes.len()
+}
+
+// Whether a byte is not its own escape.
+fn is_escaped(b: u8) -> bool
+    ensures { result ≡ false → escape_byte b ≡ b ∷ [] }
+{
+    b < 32 || b > 126 || b == b'\\'
+}
+
+// Whether each byte of a chunk is its own escape.
+fn is_plain(chunk: &[u8; 32]) -> bool
+    ensures { IsTrue result → escaped chunk.now ≡ chunk.now }
+{
+    let bytes = u8x32::from_array(*chunk);
+    if !none_below(bytes, 32) {
+        return false;
+    }
+    if !none_above(bytes, 126) {
+        return false;
+    }
+    none_is(bytes, b'\\')
+}
+
+#[inline(always)]
+fn none_below(bytes: u8x32, least: u8) -> bool
+    ensures { IsTrue result → AllByRecursion (λ b. least ≤ b) bytes }
+{
+    bytes.simd_lt(u8x32::splat(least)).to_bitmask() == 0
+}
+
+#[inline(always)]
+fn none_above(bytes: u8x32, most: u8) -> bool
+    ensures { IsTrue result → AllByRecursion (λ b. b ≤ most) bytes }
+{
+    bytes.simd_gt(u8x32::splat(most)).to_bitmask() == 0
+}
+
+#[inline(always)]
+fn none_is(bytes: u8x32, byte: u8) -> bool
+    ensures { IsTrue result → AllByRecursion (λ b. b ≢ byte) bytes }
+{
+    bytes.simd_eq(u8x32::splat(byte)).to_bitmask() == 0
 }
 
 fn push_escape(out: &mut Vec<u8>, b: u8) -> Result<(), AllocError>

@@ -1,7 +1,15 @@
-use Rattle.std.proofs.Common.{arith}
-use Rattle.item.proofs.ReadBack.{plain-more}
+use Rattle.std.proofs.Common.{◌≡◌, ◌<◌, ◌/◌, ℕ, List, [], get_or, length, arith, subst}
+use Rattle.item.specs.Escapes.{escaped}
+use Rattle.dump_text.proofs.PlainLanes.{chunk_more}
 use Rattle.dump_text.proofs.escape.plain_front.Goals as goal
 
-pub loop-i-preserved : goal.loop-i-preserved
-loop-i-preserved c =
-    plain-more c.args.bytes.now c.loop-i.i c.loop-i-test.true (omega (arith, c.if-b-lt32.false)) (omega (arith, c.if-b-gt126.false)) c.if-b-eq92.false c.loop-i.invariant
+pub loop-chunk-preserved : goal.loop-chunk-preserved
+loop-chunk-preserved c =
+    let bytes = c.args.bytes.now in
+    let i = c.loop-chunk.chunk-index in
+    let less : i < length bytes / 32 = omega (arith, c.loop-chunk-test.true, c.as_chunks.ensures.front_len) in
+    let plain = c.is_plain.ensures c.if-not-is_plain.false in
+    record {
+      place = omega (arith, c.loop-chunk.invariant.place);
+      plain = chunk_more bytes c.loop-chunk.front i c.loop-chunk.invariant.place less c.loop-chunk.invariant.plain (subst (λ (chunks : List (List ℕ)). escaped (get_or chunks i []) ≡ get_or chunks i []) c.as_chunks.ensures.front plain);
+    }

@@ -1,6 +1,9 @@
-use Rattle.std.proofs.Common.{◌≡◌, take}
+use Rattle.std.proofs.Common.{◌≡◌, ◌*◌, take}
 use Rattle.item.specs.Escapes.{escaped}
 use Rattle.dump_text.proofs.escape.plain_front.Given as goal
 
-abbrev pub invariant-loop-i : goal.invariant-loop-i
-invariant-loop-i l = escaped (take l.i l.bytes) ≡ take l.i l.bytes
+abbrev pub invariant-loop-chunk : goal.invariant-loop-chunk
+invariant-loop-chunk l = record {
+  place : l.front ≡ 32 * l.chunk-index;
+  plain : escaped (take l.front l.bytes) ≡ take l.front l.bytes;
+}

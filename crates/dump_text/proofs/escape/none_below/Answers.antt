@@ -1,0 +1,5 @@
+use Rattle.dump_text.proofs.PlainLanes.{none_below_of}
+use Rattle.dump_text.proofs.escape.none_below.Goals as goal
+
+pub returns : goal.returns
+returns c = none_below_of c.args.bytes c.args.least c.fits-bytes.0
