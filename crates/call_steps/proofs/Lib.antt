@@ -4,4 +4,5 @@ mod Names
 mod Newest
 mod RowWalk
 mod SlotWrites
+mod Targets
 mod WriteFinds

@@ -162,12 +162,12 @@ StepsAs (row.Conflict id) (stepped.Conflict other) = other ≡ id
 StepsAs row.End stepped.End = Unit {0}
 StepsAs _ _ = ⊥
 
--- the key of the row is kept for the cursor
+-- the key of the row is kept for the cursor; without a row the next leaf is to be looked at
 abbrev pub SteppedBy : View → Way → Option (List ℕ) → KeyCall → Target → HeldLeaf → State → State → Type 0
 SteppedBy view way from call target leaf s s' =
     ((key v : List ℕ) × IsNearestRow view way from leaf key (Gives v) × (s' ≡ answered call target (answer.Row key v) (record s { key = key })))
     ⊎ (((key : List ℕ) × (id : ℕ) × IsNearestRow view way from leaf key (Conflicts id) × (s' ≡ answered call target (refused (refusal.PrepareConflict id)) s))
-    ⊎ ((NoRow view way from leaf × (s' ≡ answered call target (refused refusal.NotFound) s))
+    ⊎ ((NoRow view way from leaf × (s' ≡ at_stage (stage.Pass call target) s))
     ⊎ (s' ≡ answered call target no_memory s)))
 
 -- ---- any of them

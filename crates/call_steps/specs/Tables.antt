@@ -1,16 +1,61 @@
--- Where the leaf of a table is.
-use Rattle.std.specs.Prelude.{ℕ, List, Option, option_map, option_and_then, slice_get}
+-- Where the leaf of a call is.
+use Rattle.std.specs.Prelude.{ℕ, List, [], Option, Some, None, option_map, option_and_then, slice_get}
 use Rattle.kv_model.specs.History.{Table}
+use Rattle.kv_model.specs.Machine.{of_some}
+use Rattle.kv_model.specs.Rows.{Way, Up, Down}
+use Rattle.tree_dir.specs.declared.leaf.Framed.{Framed}
+use Rattle.tree_dir.specs.declared.leaf.Leaf.{Leaf}
+use Rattle.tree_dir.specs.Leaves.{leaf_ahead, leaf_behind, leaf_last, leaf_under}
 use Rattle.catalog.specs.Known.{Known, place_of}
+use Rattle.wt_calls.specs.Calls.{way_in}
+use Rattle.call_steps.specs.declared.stage.KeyCall.{KeyCall}
+use Rattle.call_steps.specs.declared.stage.KeyCall.TheVariants.{Step}
 use Rattle.call_steps.specs.declared.stage.Target.{Target}
+use Rattle.call_steps.specs.Looks.{start_in}
+use Rattle.call_steps.specs.State.{State}
 
 -- the state word of a frame that has the first leaf that it ever had
 abbrev pub first_word : ℕ
 first_word = 1
 
--- the table at a place has its leaf in the frame of that number
-abbrev pub target_at : ℕ → Table → Target
-target_at place t = record { table = t.number; frame = place; word = first_word }
+-- a leaf that is in a frame
+abbrev pub target_in : Leaf → Option Target
+target_in l = option_map (λ (f : Framed). record { table = l.table; leaf = l.id; frame = f.frame; word = first_word }) l.frame
 
-abbrev pub target_of : Known → List ℕ → Option Target
-target_of known name = option_and_then (λ place. option_map (target_at place) (slice_get known.tables place)) (place_of name known.tables)
+-- the key at which a row is sought on this way: from the start on, or from the end of the table
+abbrev pub row_sought : Way → Option (List ℕ) → Option (List ℕ)
+row_sought Up start = Some (of_some [] (λ key. key) start)
+row_sought Down start = start
+
+-- the key at which a call begins in a table; none: at the end
+abbrev pub sought : KeyCall → State → ℕ → Option (List ℕ)
+sought (Step cursor way) s table = row_sought (way_in way) (start_in s.cursors cursor table)
+sought _ s table = Some s.key
+
+abbrev pub leaf_sought : List Leaf → ℕ → Option (List ℕ) → Option Leaf
+leaf_sought leaves table None = leaf_last table leaves
+leaf_sought leaves table (Some key) = leaf_under table key leaves
+
+-- the leaf at which a call begins in a table
+abbrev pub leaf_for : List Leaf → KeyCall → State → Table → Option Leaf
+leaf_for leaves call s t = leaf_sought leaves t.number (sought call s t.number)
+
+-- the number of the table of a name
+abbrev pub number_of : Known → List ℕ → Option ℕ
+number_of known name = option_and_then (λ place. option_map (λ (t : Table). t.number) (slice_get known.tables place)) (place_of name known.tables)
+
+abbrev pub target_of : Known → List Leaf → KeyCall → State → Option Target
+target_of known leaves call s =
+    option_and_then target_in (option_and_then (leaf_for leaves call s) (option_and_then (λ place. slice_get known.tables place) (place_of s.name known.tables)))
+
+-- ---- further on
+
+-- the next leaf on this way
+abbrev pub leaf_on : Way → ℕ → List Leaf → Option Leaf
+leaf_on Up id leaves = leaf_behind id leaves
+leaf_on Down id leaves = leaf_ahead id leaves
+
+-- the leaf to which a call goes on; one for a key goes to none
+abbrev pub next_for : KeyCall → ℕ → List Leaf → Option Leaf
+next_for (Step cursor way) id leaves = leaf_on (way_in way) id leaves
+next_for _ id leaves = None

@@ -45,6 +45,7 @@ next_at (stage.Find call) s = next.Hub
 next_at (stage.Publish call target) s = next.Store s.word (target.frame + 1)
 next_at (stage.Validate call target) s = next.Load target.frame
 next_at (stage.Look call target) s = next.Frame target.frame
+next_at (stage.Pass call target) s = next.Hub
 next_at (stage.History call target) s = next.Hub
 next_at (stage.ClearCursor call target) s = next.Store (missed_word s (cursor_in call)) 0
 next_at (stage.Clear call target) s = next.Store s.word 0

@@ -7,6 +7,8 @@ use leaf_frame::LeafFrame;
 pub struct Frame {
     /// The number of its table.
     pub table: u32,
+    /// What the leaf is named by.
+    pub id: u64,
     /// The rows of its page, under the updates of its keys.
     pub leaf: LeafFrame,
 }

@@ -1,13 +1,19 @@
 // What the sessions share beside the frames.
 
-ghost use Rattle.std.specs.Prelude.{◌≡◌};
-ghost use Rattle.call_steps.specs.Tables.{target_of};
+ghost use Rattle.std.specs.Prelude.{◌≡◌, option_and_then, option_map};
+ghost use Rattle.tree_dir.specs.Leaves.{leaf_named};
+ghost use Rattle.wt_calls.specs.Calls.{way_in};
+ghost use Rattle.call_steps.specs.Tables.{leaf_sought, next_for, number_of, row_sought, sought, target_in, target_of};
 
-use crate::stage::Target;
+use crate::looks::start_of;
+use crate::stage::{KeyCall, Target};
+use crate::state::SessionState;
 use catalog::Catalog;
 use failure::Fault;
+use tree_dir::{Dir, Leaf};
 use ts_rules::Stamps;
 use txn_table::Txns;
+use wt_calls::Way;
 
 /// What the sessions share beside the frames.
 #[derive(Drop)]
@@ -16,8 +22,10 @@ pub struct Hub {
     pub txns: Txns,
     /// The oldest and the stable stamp.
     pub stamps: Stamps,
-    /// The tables; the one at a place has its leaf in the frame of that number.
+    /// The tables.
     pub tables: Catalog,
+    /// The leaves of all tables, and the frames that have them.
+    pub dir: Dir,
     /// The write or sync that failed; none where the engine is up.
     pub fault: Option<Fault>,
 }
@@ -25,15 +33,101 @@ pub struct Hub {
 // The state word of a frame that has the first leaf that it ever had.
 const FIRST_WORD: u64 = 1;
 
-/// Where the leaf of the table of this name is. `O(log n)` in the tables.
-pub fn target_of(tables: &Catalog, name: &[u8]) -> Option<Target>
-    ensures { result ≡ target_of tables.now name.now }
+/// The leaf at which the session's call begins, and where it is; none where there is no table of its
+/// name. `O(log n)` in the tables and in the leaves.
+pub fn target_of(tables: &Catalog, dir: &Dir, call: KeyCall, state: &SessionState) -> Option<Target>
+    ensures { result ≡ target_of tables.now dir.now.leaves call state.now }
 {
-    let frame = tables.find(name)?;
-    let table = tables.table(frame)?;
+    match table_of(tables, state) {
+        None => None,
+        Some(table) => first_target(dir, call, state, table),
+    }
+}
+
+// The number of the table of the session's call.
+fn table_of(tables: &Catalog, state: &SessionState) -> Option<u32>
+    ensures { result ≡ number_of tables.now state.now.name }
+{
+    let place = tables.find(state.name.as_bytes())?;
+    let table = tables.table(place)?;
+    Some(table.number)
+}
+
+// The leaf of this table at which the session's call begins.
+fn first_target(dir: &Dir, call: KeyCall, state: &SessionState, table: u32) -> Option<Target>
+    ensures { result ≡ option_and_then target_in (leaf_sought dir.now.leaves table (sought call state.now table)) }
+{
+    // What holds of every directory holds of this one.
+    dir.stands();
+    match leaf_for(dir, call, state, table) {
+        None => None,
+        Some(leaf) => target_in(dir, leaf),
+    }
+}
+
+/// The next leaf on the way of a call, and where it is; none where there is none further on.
+/// `O(log n)` in the leaves.
+pub(crate) fn next_target(dir: &Dir, call: KeyCall, leaf: u64) -> Option<Target>
+    ensures { result ≡ option_and_then target_in (next_for call leaf dir.now.leaves) }
+{
+    // What holds of every directory holds of this one.
+    dir.stands();
+    match next_leaf(dir, call, leaf) {
+        None => None,
+        Some(next) => target_in(dir, next),
+    }
+}
+
+fn target_in(dir: &Dir, leaf: u64) -> Option<Target>
+    ensures { result ≡ option_and_then target_in (leaf_named leaf dir.now.leaves) }
+{
+    let there = dir.leaf(leaf)?;
+    target_at(there)
+}
+
+fn target_at(leaf: &Leaf) -> Option<Target>
+    ensures { result ≡ target_in leaf.now }
+{
+    let framed = leaf.frame?;
     Some(Target {
-        table: table.number,
-        frame,
+        table: leaf.table,
+        leaf: leaf.id,
+        frame: framed.frame,
         word: FIRST_WORD,
     })
+}
+
+fn leaf_for(dir: &Dir, call: KeyCall, state: &SessionState, table: u32) -> Option<u64>
+    ensures { result ≡ option_map (λ l. l.id) (leaf_sought dir.now.leaves table (sought call state.now table)) }
+{
+    match call {
+        KeyCall::Step(cursor, way) => {
+            let start = start_of(state.cursors.as_slice(), cursor, table);
+            leaf_of_row(dir, table, way, start)
+        }
+        _ => dir.leaf_for(table, state.key.as_bytes()),
+    }
+}
+
+// The leaf in which a row is sought first.
+fn leaf_of_row(dir: &Dir, table: u32, way: Way, start: Option<&[u8]>) -> Option<u64>
+    ensures { result ≡ option_map (λ l. l.id) (leaf_sought dir.now.leaves table (row_sought (way_in way) (option_map (λ k. k.now) start.entry))) }
+{
+    match start {
+        Some(key) => dir.leaf_for(table, key),
+        None => match way {
+            Way::Up => dir.leaf_for(table, b""),
+            Way::Down => dir.last_leaf(table),
+        },
+    }
+}
+
+fn next_leaf(dir: &Dir, call: KeyCall, leaf: u64) -> Option<u64>
+    ensures { result ≡ option_map (λ l. l.id) (next_for call leaf dir.now.leaves) }
+{
+    match call {
+        KeyCall::Step(_, Way::Up) => dir.next_leaf(leaf),
+        KeyCall::Step(_, Way::Down) => dir.prev_leaf(leaf),
+        _ => None,
+    }
 }

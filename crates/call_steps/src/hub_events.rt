@@ -6,9 +6,9 @@ ghost use Rattle.txn_table.specs.Tabled.{phase_of};
 ghost use Rattle.kv_model.specs.Refusals.{first_of};
 ghost use Rattle.call_steps.specs.Lengths.{length_checks};
 ghost use Rattle.call_steps.specs.Tables.{target_of};
-ghost use Rattle.call_steps.specs.HubEvents.{IsSeated, hub_made, hub_made_at, begin_made, begins_in, find_made, finds, finds_at, finds_drawn, item_checks, history_made, release_made, done, done_made, decide_made, decides_in, decides_running, decides_prepared, leaves_with, resolve_made, resolves_in};
+ghost use Rattle.call_steps.specs.HubEvents.{IsSeated, hub_made, hub_made_at, begin_made, begins_in, find_made, finds, finds_at, finds_drawn, item_checks, history_made, pass_made, release_made, done, done_made, decide_made, decides_in, decides_running, decides_prepared, leaves_with, resolve_made, resolves_in};
 
-use crate::hub::{Hub, target_of};
+use crate::hub::{Hub, next_target, target_of};
 use crate::reply::Reply;
 use crate::stage::{CommitStamps, KeyCall, Stage, Target};
 use crate::state::SessionState;
@@ -20,7 +20,8 @@ use txn_table::Phase;
 use wt_code::{Answer, Invalid, Refusal};
 
 /// The session's next event, which is on the hub. Takes no memory. A begin copies at most 63 ids, a
-/// find costs `O(log n)` in the tables; all else is `O(log n)` in the running ids and one move of
+/// find costs `O(log n)` in the tables and in the leaves, a step to the next leaf `O(log n)` in the
+/// leaves; all else is `O(log n)` in the running ids and one move of
 /// those above.
 pub fn hub_event(hub: &mut Hub, session: u32, state: &mut SessionState) -> Reply
     requires { IsSeated hub.old session state.old }
@@ -29,6 +30,7 @@ pub fn hub_event(hub: &mut Hub, session: u32, state: &mut SessionState) -> Reply
     match state.stage() {
         Stage::Begin(read) => begin(hub, session, state, read),
         Stage::Find(call) => find(hub, session, state, call),
+        Stage::Pass(call, target) => pass(hub, state, call, target),
         Stage::History(call, target) => look_in_history(hub, state, call, target),
         Stage::Release(stamp) => release(hub, session, state, stamp),
         Stage::Decide(stamps) => decide(hub, session, state, stamps),
@@ -76,7 +78,7 @@ fn find(hub: &mut Hub, session: u32, state: &mut SessionState, call: KeyCall) ->
     if let Some(reason) = unless_running(state.phase()) {
         return state.refuse(Refusal::Invalid(reason));
     }
-    match target_of(&hub.tables, state.name.as_bytes()) {
+    match target_of(&hub.tables, &hub.dir, call, state) {
         None => find_nothing(hub, session, state, call),
         Some(target) => find_known(hub, session, state, call, target),
     }
@@ -84,7 +86,7 @@ fn find(hub: &mut Hub, session: u32, state: &mut SessionState, call: KeyCall) ->
 
 // There is no table of this name. That is told where nothing is wrong with the call.
 fn find_nothing(hub: &Hub, session: u32, state: &mut SessionState, call: KeyCall) -> Reply
-    requires { target_of hub.now.tables state.old.name ≡ None }
+    requires { target_of hub.now.tables hub.now.dir.leaves call state.old ≡ None }
     ensures { (result, (hub.now, state.new)) ≡ finds hub.now session state.old call }
 {
     match wrong_items(state) {
@@ -103,7 +105,7 @@ fn find_known(
 ) -> Reply
     requires open { session < length hub.old.txns.sessions }
     requires running { phase_of hub.old.txns session ≡ Phase.Running }
-    requires known { target_of hub.old.tables state.old.name ≡ Some target }
+    requires known { target_of hub.old.tables hub.old.dir.leaves call state.old ≡ Some target }
     ensures { (result, (hub.new, state.new)) ≡ finds hub.old session state.old call }
 {
     // What holds of every catalog holds of this one.
@@ -157,6 +159,17 @@ fn go_to_leaf(
         }
     }
     state.go_to(Stage::Publish(call, target));
+    Reply::More
+}
+
+// No row was found in a leaf: the call goes on to the next one on its way.
+fn pass(hub: &Hub, state: &mut SessionState, call: KeyCall, target: Target) -> Reply
+    ensures { (result, (hub.now, state.new)) ≡ pass_made hub.now state.old call target }
+{
+    match next_target(&hub.dir, call, target.leaf) {
+        None => state.answer(call, target, Answer::Refused(Refusal::NotFound)),
+        Some(next) => state.go_to(Stage::Publish(call, next)),
+    }
     Reply::More
 }
 

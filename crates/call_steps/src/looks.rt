@@ -412,7 +412,7 @@ impl SessionState {
                     Answer::Refused(Refusal::PrepareConflict { id }),
                 );
             }
-            Ok(Stepped::End) => self.answer(call, target, Answer::Refused(Refusal::NotFound)),
+            Ok(Stepped::End) => self.go_to(Stage::Pass(call, target)),
             Err(NoMemory) => self.answer(call, target, Answer::Refused(Refusal::NoMemory)),
         }
     }
@@ -545,7 +545,7 @@ fn newest(chain: &Chain) -> Option<&Update>
 }
 
 // Where a cursor starts on a table: behind its row, if it has one there.
-fn start_of(cursors: &[Cursor], cursor: u32, table: u32) -> Option<&[u8]>
+pub(crate) fn start_of(cursors: &[Cursor], cursor: u32, table: u32) -> Option<&[u8]>
     ensures { option_map (λ k. k.now) result ≡ start_in cursors.now cursor table }
 {
     let position = cursors.get(cursor as usize)?.position.as_ref()?;

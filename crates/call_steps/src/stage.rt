@@ -6,11 +6,13 @@ ghost use Rattle.call_steps.specs.Stages.{is_write, cursor_in, marks, orders, st
 use txn_table::Phase;
 use wt_calls::{Demand, Way};
 
-/// Where the leaf is that a call works on.
+/// The leaf that a call works on, and where it is.
 #[derive(Clone, Copy, Debug, PartialEq, Eq)]
 pub struct Target {
     /// The number of the table.
     pub table: u32,
+    /// What the leaf is named by.
+    pub leaf: u64,
     /// The frame that has the leaf.
     pub frame: u32,
     /// What the frame's state word is while it has the leaf.
@@ -78,6 +80,8 @@ pub enum Stage {
     Validate(KeyCall, Target),
     /// Read or write the leaf.
     Look(KeyCall, Target),
+    /// Go to the next leaf on the way: no row was found in this one.
+    Pass(KeyCall, Target),
     /// Look in the history.
     History(KeyCall, Target),
     /// Clear the hazard word of the cursor, which found no row.

@@ -37,6 +37,7 @@ impl SessionState {
             Stage::Rest => Next::Nothing,
             Stage::Begin(_)
             | Stage::Find(_)
+            | Stage::Pass(_, _)
             | Stage::History(_, _)
             | Stage::Release(_)
             | Stage::Decide(_)

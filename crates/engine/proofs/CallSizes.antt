@@ -1,6 +1,6 @@
 -- Sessions and names that fit go on to fit: what an event on the hub or on a word and the start of a call leave.
 use Rattle.std.proofs.Common.{◌≡◌, ◌≤◌, ℕ, zero, suc, refl, sym, Bool, true, false, List, [], ◌∷◌, ◌++◌, length, subst, arith}
-use Rattle.std.specs.Prelude.{Option, Some, None, Result, Ok, Err, if◌then◌else◌, nat_lt, ◌==◌, slice_set}
+use Rattle.std.specs.Prelude.{Option, Some, None, Result, Ok, Err, if◌then◌else◌, nat_lt, ◌==◌, option_and_then, slice_set}
 use Rattle.std.proofs.lemmas.Bool.{ltb-false}
 use Rattle.wt_code.specs.declared.answers.Answer.{Answer}
 use Rattle.wt_code.specs.declared.answers.Answer.TheVariants as answers
@@ -25,11 +25,11 @@ use Rattle.call_steps.specs.declared.stage.KeyCall.{KeyCall}
 use Rattle.call_steps.specs.declared.stage.Stage.{Stage}
 use Rattle.call_steps.specs.declared.stage.Stage.TheVariants as stage
 use Rattle.call_steps.specs.declared.stage.Target.{Target}
-use Rattle.call_steps.specs.HubEvents.{Made, beside, history_answer, with_txns, hub_made, hub_made_at, begins_in, begins_by, find_made, finds, finds_at, finds_drawn, draws, prepares_by, done_in, decides_in, decides_running, decides_prepared, leaves_with, resolves_in, refuses_as, item_checks}
+use Rattle.call_steps.specs.HubEvents.{Made, beside, passes_to, history_answer, with_txns, hub_made, hub_made_at, begins_in, begins_by, find_made, finds, finds_at, finds_drawn, draws, prepares_by, done_in, decides_in, decides_running, decides_prepared, leaves_with, resolves_in, refuses_as, item_checks}
 use Rattle.call_steps.specs.Stages.{after_orders, after_stamps, cursor_in, first_mark, first_order, first_undo, marks, orders, stamps_then, undo_or_resolve, undoes}
 use Rattle.call_steps.specs.Starts.{Starts, StartsAt, StartsIn}
 use Rattle.call_steps.specs.State.{State, answered, at_stage, clears, finished, first_pinned, forgotten, moves, opened, refuses, without_answer}
-use Rattle.call_steps.specs.Tables.{target_of}
+use Rattle.call_steps.specs.Tables.{next_for, target_in, target_of}
 use Rattle.call_steps.specs.Words.{ends, loaded, loaded_at, reset, stored, stored_at, unless_running, unpinned_in}
 use Rattle.engine.specs.Sizes.{CallFitsAt, ItemsFit, NamesFit, SessionsFit}
 
@@ -254,8 +254,8 @@ module _ (h : Hub) (session : ℕ) (names : NamesFit h.txns) where
   finds-fit s c = by-option (of_some (finds h session s c) (λ reason. refuses_as reason h s) (unless_running s.phase)) _ h.fault
       (by-option (finds h session s c) (λ reason. refuses_as reason h s) (unless_running s.phase) (by-checks (first_of (item_checks s)) refl) (refused-fits s))
       (λ fault. (names, tt)) where
-        by-checks : (o : Option Invalid) → first_of (item_checks s) ≡ o → MadeFits (of_some (finds_at h session s c (target_of h.tables s.name)) (λ reason. refuses_as reason h s) o)
-        by-checks None is = target-fits s c (target_of h.tables s.name) (items-fit s is)
+        by-checks : (o : Option Invalid) → first_of (item_checks s) ≡ o → MadeFits (of_some (finds_at h session s c (target_of h.tables h.dir.leaves c s)) (λ reason. refuses_as reason h s) o)
+        by-checks None is = target-fits s c (target_of h.tables h.dir.leaves c s) (items-fit s is)
         by-checks (Some reason) is = (names, tt)
 
   prepares-fit : (s : State) (stamp : ℕ) (r : Result (Unit {0}) Invalid) → MadeFits (prepares_by r h session s stamp)
@@ -293,15 +293,20 @@ module _ (h : Hub) (session : ℕ) (names : NamesFit h.txns) where
   done-fits s phase.Leaving = ended-fits s.answer (without_answer s)
 
   pub hub-fits : (s : State) → CallFitsIn s → MadeFits (hub_made h session s)
-  hub-fits s fit = by s.stage where
-    by : (g : Stage) → MadeFits (hub_made_at g h session s)
-    by (stage.Begin read) = by-option (begins_in s.phase h session s read) _ h.fault (begins-fit s read s.phase) (λ fault. (names, tt))
-    by (stage.Find c) = finds-fit s c
-    by (stage.History c target) = (names, answered-fits c target (history_answer h.fault) s)
-    by (stage.Release stamp) = by-option (of_some (prepares_by (answer_by (prepare_rules h.stamps.stable stamp)) h session s stamp) (λ reason. refuses_as reason h s) (unless_running s.phase)) _ h.fault
+  hub-fits s fit = by s.stage fit where
+    passes : (c : KeyCall) (target : Target) (o : Option Target) → ItemsFit s → CallFitsIn (passes_to o c target s)
+    passes c target None here = answered-fits c target _ s
+    passes c target (Some next) here = here
+
+    by : (g : Stage) → CallFitsAt g s → MadeFits (hub_made_at g h session s)
+    by (stage.Begin read) here = by-option (begins_in s.phase h session s read) _ h.fault (begins-fit s read s.phase) (λ fault. (names, tt))
+    by (stage.Find c) here = finds-fit s c
+    by (stage.Pass c target) here = (names, passes c target (option_and_then target_in (next_for c target.leaf h.dir.leaves)) here)
+    by (stage.History c target) here = (names, answered-fits c target (history_answer h.fault) s)
+    by (stage.Release stamp) here = by-option (of_some (prepares_by (answer_by (prepare_rules h.stamps.stable stamp)) h session s stamp) (λ reason. refuses_as reason h s) (unless_running s.phase)) _ h.fault
         (by-option (prepares_by (answer_by (prepare_rules h.stamps.stable stamp)) h session s stamp) (λ reason. refuses_as reason h s) (unless_running s.phase)
         (prepares-fit s stamp (answer_by (prepare_rules h.stamps.stable stamp))) (refused-fits s)) (λ fault. (names, tt))
-    by (stage.Decide stamps) = by-option (decides_in s.phase h session s stamps) _ h.fault (decides-fit s stamps s.phase) (λ fault. (names, tt))
-    by stage.Resolve = by-option (resolves_in s.phase h session s) _ h.fault (resolves-fit s s.phase) (λ fault. (names, tt))
-    by stage.Done = by-option (done_in s.phase h session s) _ h.fault (done-fits s s.phase) (λ fault. (names, tt))
-    by _ = (names, fit)
+    by (stage.Decide stamps) here = by-option (decides_in s.phase h session s stamps) _ h.fault (decides-fit s stamps s.phase) (λ fault. (names, tt))
+    by stage.Resolve here = by-option (resolves_in s.phase h session s) _ h.fault (resolves-fit s s.phase) (λ fault. (names, tt))
+    by stage.Done here = by-option (done_in s.phase h session s) _ h.fault (done-fits s s.phase) (λ fault. (names, tt))
+    by _ here = (names, fit)

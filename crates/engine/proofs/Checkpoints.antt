@@ -1,6 +1,7 @@
 -- The start of a checkpoint, its snapshot, and the leaves that it reads.
-use Rattle.std.proofs.Common.{◌≡◌, ◌≤◌, ◌<◌, ℕ, refl, ap, sym, ◌∙◌, Bool, true, false, List, [], ◌∷◌, length, inl, inr, subst, arith}
-use Rattle.std.specs.Prelude.{Option, Some, None, Ok, Err, IfSome, MatchOption, nat_le, option_map}
+use Rattle.std.proofs.Common.{◌≡◌, ◌≤◌, ◌<◌, ℕ, refl, ap, sym, ◌∙◌, Bool, true, false, [], ◌∷◌, length, inl, inr, subst, arith}
+use Rattle.std.specs.Prelude.{Option, Some, None, Ok, Err, IfSome, MatchOption, nat_le, option_map, slice_get}
+use Rattle.std.specs.List.{Contains}
 use Rattle.std.specs.Borrow.{Bor}
 use Rattle.std.proofs.lemmas.Bool.{false_from_ne_true, le-leb, leb-true}
 use Rattle.limits.specs.declared.TheConstants.{NUMBER_MAX}
@@ -22,7 +23,11 @@ use Rattle.txn_table.specs.Stands.{TableStands}
 use Rattle.txn_table.specs.TableLaws.{CallsGoOn, LowestAreTheMachines}
 use Rattle.txn_table.specs.SessionData.{is_resolving as resolves}
 use Rattle.txn_table.specs.Tabled.{Table as Txns, first_in, unended}
+use Rattle.rows_shown.specs.Shows.{shown_at}
+use Rattle.update_chain.specs.EventLaws.{StandsFor}
+use Rattle.leaf_chains.specs.Slots.{chain_at}
 use Rattle.leaf_frame.specs.Leaf.{HeldLeaf}
+use Rattle.tree_dir.specs.declared.leaf.Leaf.{Leaf}
 use Rattle.call_steps.specs.declared.frame.Frame.{Frame}
 use Rattle.engine_world.specs.Leaves.{LeafStands, frame_in}
 use Rattle.engine_world.specs.Stands.{Engine, Stands}
@@ -32,6 +37,7 @@ use Rattle.engine_world.proofs.HubMoves.{decided-down, decided-up}
 use Rattle.engine.specs.Checkpoints.{HeldStands, MayStart}
 use Rattle.engine.specs.Sizes.{LeafFits, LeavesFit}
 use Rattle.engine.specs.Sound.{IsSound}
+use Rattle.engine.proofs.OneLeaf.{LeavesLaid, frame-is, lies-in}
 
 -- ---- the start
 
@@ -97,10 +103,32 @@ sees-now calls law t m valid stands none = record {
 
 -- ---- the leaves
 
-pub leaf-given : (e : Engine) (w : World) (place : ℕ) (t : Table) (result : Option (Bor HeldLeaf)) → LeafStands w.machine e.pieces e.states place t
+-- the leaf of a table is in the frame of its place, and stands for all keys of the table
+pub record HasLeaf (e : Engine) (w : World) (place : ℕ) (t : Table) : Type 0 where
+  pub frame : Frame
+  pub there : frame_in e.pieces place ≡ Some frame
+  pub stands : HeldStands w.machine t frame.leaf
+
+pub has-leaf : (e : Engine) (w : World) (place : ℕ) (t : Table) → IsSound e → Stands e w → slice_get e.hub.tables.tables place ≡ Some t → HasLeaf e w place t
+has-leaf e w place t sound st at = record {
+  frame = own.laid.frame;
+  there = ap (frame_in e.pieces) (sym (frame-is e.hub.dir e.hub.tables e.pieces e.states st.dir st.catalog sound.placed laid l.0 l.1 place t at l.2)) ∙ own.laid.there;
+  stands = λ key. subst (λ n. StandsFor w.machine n key (chain_at key own.laid.frame.leaf.chains) (shown_at key own.laid.frame.leaf.page) []) l.2
+      (own.keys key (lies-in e.hub.dir e.hub.tables e.pieces e.states st.dir st.catalog sound.placed laid l.0 l.1 key));
+} where
+  l : (n : Leaf) × Contains e.hub.dir.leaves n × (n.table ≡ t.number)
+  l = st.begun place t at
+
+  laid : LeavesLaid e.hub.dir.leaves e.pieces e.states
+  laid n there = (st.leaves n there).laid
+
+  own : LeafStands w.machine e.hub.dir.leaves e.pieces e.states l.0
+  own = st.leaves l.0 l.1
+
+pub leaf-given : (e : Engine) (w : World) (place : ℕ) (t : Table) (result : Option (Bor HeldLeaf)) → HasLeaf e w place t
     → option_map (λ l. l.now) result ≡ option_map (λ (f : Frame). f.leaf) (frame_in e.pieces place) → MatchOption result ⊥ (λ l. HeldStands w.machine t l.now)
 leaf-given e w place t None leaf is = let e : None ≡ Some leaf.frame.leaf = is ∙ ap (option_map (λ (f : Frame). f.leaf)) leaf.there in absurd (cc)
-leaf-given e w place t (Some c) leaf is = subst (HeldStands w.machine t) (sym same) leaf.keys where
+leaf-given e w place t (Some c) leaf is = subst (HeldStands w.machine t) (sym same) leaf.stands where
   same : c.now ≡ leaf.frame.leaf
   same = let e : Some c.now ≡ Some leaf.frame.leaf = is ∙ ap (option_map (λ (f : Frame). f.leaf)) leaf.there in cc
 
@@ -122,5 +150,7 @@ down-sound law e fault sound = record {
   pieces = sound.pieces;
   states = sound.states;
   numbers = sound.numbers;
+  placed = sound.placed;
+  free = sound.free;
   sizes = record { leaves = sound.sizes.leaves; sessions = sound.sizes.sessions; names = sound.sizes.names };
 }

@@ -10,6 +10,7 @@ use Rattle.wt_code.specs.declared.refusals.Busy.TheVariants as who
 use Rattle.kv_model.specs.Closing.{first_held, is_ending, is_held}
 use Rattle.kv_model.specs.Decisions.{is_there}
 use Rattle.kv_model.specs.Machine.{Machine, Transaction, Phase as ModelPhase, Running, Failed, Prepared, Resolving, Leaving, Checkpoint, of_some, transaction_of}
+use Rattle.tree_dir.specs.declared.leaf.Leaf.{Leaf}
 use Rattle.txn_table.specs.declared.phase.Phase.{Phase}
 use Rattle.txn_table.specs.declared.phase.Phase.TheVariants as phase
 use Rattle.call_steps.specs.declared.stage.CommitStamps.{CommitStamps}
@@ -52,8 +53,8 @@ counted-there e old count session same is below = subst (λ (n : ℕ). session <
 
 -- ---- at work and under way
 
-doing-works : (session : ℕ) (a : State) → is_under_way (doing_in session a) ≡ is_at_work a.stage
-doing-works session a = by-stage a.stage where
+doing-works : (leaves : List Leaf) (session : ℕ) (a : State) → is_under_way (doing_in leaves session a) ≡ is_at_work a.stage
+doing-works leaves session a = by-stage a.stage where
   stamps : (p : Phase) (given : CommitStamps) (left : ℕ) → is_under_way (stamping p given left a) ≡ true
   stamps phase.Idle given left = refl
   stamps phase.Running given left = refl
@@ -70,13 +71,14 @@ doing-works session a = by-stage a.stage where
   undoes phase.Resolving left = refl
   undoes phase.Leaving left = refl
 
-  by-stage : (g : Stage) → is_under_way (doing_at g session a) ≡ is_at_work g
+  by-stage : (g : Stage) → is_under_way (doing_at g leaves session a) ≡ is_at_work g
   by-stage stage.Rest = refl
   by-stage (stage.Begin read) = refl
   by-stage (stage.Find call) = refl
   by-stage (stage.Publish call target) = refl
   by-stage (stage.Validate call target) = refl
   by-stage (stage.Look call target) = refl
+  by-stage (stage.Pass call target) = refl
   by-stage (stage.History call target) = refl
   by-stage (stage.ClearCursor call target) = refl
   by-stage (stage.Clear call target) = refl
@@ -108,7 +110,7 @@ rest-ends e w session a st at isnt = stage-stands e w session a stage.Rest st at
 
 -- so does one that does nothing
 pub resting-ends : (e : Engine) (w : World) (session : ℕ) (a : State) → Stands e w → slice_get e.sessions session ≡ Some a → doing_of w session ≡ Resting → EndsOnlyDown w.machine session
-resting-ends e w session a st at rests = rest-ends e w session a st at (sym (doing-works session a) ∙ ap is_under_way (sym (st.doing session a at) ∙ rests))
+resting-ends e w session a st at rests = rest-ends e w session a st at (sym (doing-works e.hub.dir.leaves session a) ∙ ap is_under_way (sym (st.doing session a at) ∙ rests))
 
 -- ---- who is held
 
@@ -141,7 +143,7 @@ held-is e w session a st up at = elim (cases_Bool (is_at_work a.stage)) [
   ending = of_some false (λ (t : Transaction). is_ending t.phase) (transaction_of w.machine session)
 
   works : slice_index_or (calls_in w) session false ≡ is_at_work a.stage
-  works = call-at w session ∙ (ap is_under_way (st.doing session a at) ∙ doing-works session a)
+  works = call-at w session ∙ (ap is_under_way (st.doing session a at) ∙ doing-works e.hub.dir.leaves session a)
 
 if-same : (b c : Bool) (at : ℕ) (x y : Option ℕ) → b ≡ c → x ≡ y → (if b then Some at else x) ≡ (if c then Some at else y)
 if-same b c at x y e f = λ i. if e i then Some at else f i

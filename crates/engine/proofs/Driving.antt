@@ -79,13 +79,14 @@ rest-step e session a at on w st = (
   later : World
   later = record w { machine = w.machine; sessions = slice_set w.sessions session Resting }
 
-  by-stage : (s : Stage) → next.Nothing ≡ next_at s a → doing_at s session a ≡ Resting
+  by-stage : (s : Stage) → next.Nothing ≡ next_at s a → doing_at s e.hub.dir.leaves session a ≡ Resting
   by-stage stage.Rest to = refl
   by-stage (stage.Begin read) to = absurd (cc)
   by-stage (stage.Find call) to = absurd (cc)
   by-stage (stage.Publish call target) to = absurd (cc)
   by-stage (stage.Validate call target) to = absurd (cc)
   by-stage (stage.Look call target) to = absurd (cc)
+  by-stage (stage.Pass call target) to = absurd (cc)
   by-stage (stage.History call target) to = absurd (cc)
   by-stage (stage.ClearCursor call target) to = absurd (cc)
   by-stage (stage.Clear call target) to = absurd (cc)

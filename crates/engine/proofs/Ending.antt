@@ -29,13 +29,13 @@ pub record IsOnWay (old now : Engine) (session : ℕ) : Type 0 where
   pub more : (w : World) → Stands old w → (n : ℕ) × (middle : World) × StepsMore n w (actor.Session session) middle × Stands now middle
 
 pub keeps-then : (old middle new : Engine) → Keeps old middle → Keeps middle new → Keeps old new
-keeps-then old middle new k l = record { systems = l.systems ∙ k.systems; pieces = l.pieces ∙ k.pieces; states = l.states ∙ k.states; tables = l.tables ∙ k.tables; sizes = λ fit. l.sizes (k.sizes fit) }
+keeps-then old middle new k l = record { systems = l.systems ∙ k.systems; pieces = l.pieces ∙ k.pieces; states = l.states ∙ k.states; tables = l.tables ∙ k.tables; dir = l.dir ∙ k.dir; free = λ frame none. l.free frame (k.free frame none); sizes = λ fit. l.sizes (k.sizes fit) }
 
 pub keeps-from : {new : Engine} (e old : Engine) → e ≡ old → Keeps e new → Keeps old new
 keeps-from {new} e old same k = subst (λ x. Keeps x new) same k
 
 pub keeps-same : (e : Engine) → Keeps e e
-keeps-same e = record { systems = refl; pieces = refl; states = refl; tables = refl; sizes = λ fit. fit }
+keeps-same e = record { systems = refl; pieces = refl; states = refl; tables = refl; dir = refl; free = λ frame none. none; sizes = λ fit. fit }
 
 pub starts-way : (e : Engine) (session : ℕ) → session < length e.sessions → HasWorld e → IsOnWay e e session
 starts-way e session inside world = record { open_one = inside; world = world; kept = keeps-same e; more = λ w st. (0, w, refl, st) }
@@ -56,7 +56,7 @@ leads-open now new w session told st leads inside =
 
 -- it does what the state says, in a world that the engine stands for
 does-at : (e : Engine) (w : World) (session : ℕ) → Stands e w → session < length e.sessions → left_at e session ≡ left_of (doing_of w session)
-does-at e w session st inside = ap (of_some 0 (λ a. left_of (doing_in session a))) at ∙ ap left_of (sym (st.doing session (get_or e.sessions session opened) at)) where
+does-at e w session st inside = ap (of_some 0 (λ a. left_of (doing_in e.hub.dir.leaves session a))) at ∙ ap left_of (sym (st.doing session (get_or e.sessions session opened) at)) where
   at : slice_get e.sessions session ≡ Some (get_or e.sessions session opened)
   at = slice_get-get_or e.sessions session opened inside
 

@@ -67,13 +67,13 @@ read-fits IsRemoved call target s s' made = subst CallFitsIn (sym made) (answere
 read-fits (Conflicts id) call target s s' made = subst CallFitsIn (sym made) (answered-fits call target _ s)
 read-fits IsOlder call target s s' made = subst CallFitsIn (sym made) tt
 
-step-fits : (view : View) (cursor : ℕ) (call : KeyCall) (target : Target) (leaf : HeldLeaf) (s s' : State) (way : Way) → SteppedBy view way (from_of s cursor target.table) call target leaf s s' → CallFitsIn s'
-step-fits view cursor call target leaf s s' way made = elim made [
+step-fits : (view : View) (cursor : ℕ) (call : KeyCall) (target : Target) (leaf : HeldLeaf) (s s' : State) (way : Way) → ItemsFit s → SteppedBy view way (from_of s cursor target.table) call target leaf s s' → CallFitsIn s'
+step-fits view cursor call target leaf s s' way small made = elim made [
   | inl row ↦ subst CallFitsIn (sym row.3) (answered-fits call target _ (record s { key = row.0 }))
   | inr other ↦ elim other [
     | inl conflict ↦ subst CallFitsIn (sym conflict.3) (answered-fits call target _ s)
     | inr rest ↦ elim rest [
-      | inl none ↦ subst CallFitsIn (sym none.1) (answered-fits call target _ s)
+      | inl none ↦ subst CallFitsIn (sym none.1) small
       | inr short ↦ subst CallFitsIn (sym short) (answered-fits call target _ s)
     ]
   ]
@@ -118,7 +118,7 @@ looked-fits key_call.Get view target leaf s leaf' s' made own small fit = (subst
 looked-fits (key_call.Seek cursor) view target leaf s leaf' s' made own small fit =
     (subst LeafFits (sym made.0) fit, read-fits (read_at view s.key leaf) (key_call.Seek cursor) target s s' made.1)
 looked-fits (key_call.Step cursor way) view target leaf s leaf' s' made own small fit =
-    (subst LeafFits (sym made.0) fit, step-fits view cursor (key_call.Step cursor way) target leaf s s' (way_in way) made.1)
+    (subst LeafFits (sym made.0) fit, step-fits view cursor (key_call.Step cursor way) target leaf s s' (way_in way) small made.1)
 looked-fits (key_call.Put wanted) view target leaf s leaf' s' made own small fit =
     write-fits view (own_name view) (key_call.Put wanted) target (Put s.value) leaf (without_value s) leaf' s' (new-fits (own_name view) s.key (Put s.value) (own refl) small.0 small.1) fit wanted (chain_at s.key leaf.chains) (shown_at s.key leaf.page) made
 looked-fits key_call.Remove view target leaf s leaf' s' made own small fit =
@@ -153,7 +153,7 @@ module _ (e : Engine) (w : World) (session : ℕ) (a : State) (st : Stands e w) 
     below-next = let same = st.txns.next in let most = names.next in let less = (st.valid.sessions.each session t there).id in omega arith
 
   -- the stamps with which the updates of a leaf are stamped
-  stamp-fits : (stamps : CommitStamps) (left : ℕ) → StampsFitAt (stage.Stamp stamps left) → StageStands (stage.Stamp stamps left) w.machine e.hub.tables.tables e.pieces session a
+  stamp-fits : (stamps : CommitStamps) (left : ℕ) → StampsFitAt (stage.Stamp stamps left) → StageStands (stage.Stamp stamps left) w.machine e.hub.dir.leaves e.pieces session a
       → EditFits (edit.Stamp (stamp_of stamps.commit) (durable_of a.phase stamps))
   stamp-fits stamps left small facts = by a.phase (known-phase w.machine e.hub e.pieces session a t (st.sessions session a at) there) where
     t : Transaction
@@ -168,11 +168,11 @@ module _ (e : Engine) (w : World) (session : ℕ) (a : State) (st : Stands e w) 
     durable : ℕ
     durable = or_stamp (stamp_of stamps.durable) (stamp_of stamps.commit)
 
-    stands-in : (q : ModelPhase) → Some q ≡ Some t.phase → StampsStand q stamps w.machine e.hub.tables.tables e.pieces t a left
-    stands-in q is = subst (λ (p : ModelPhase). StampsStand p stamps w.machine e.hub.tables.tables e.pieces t a left) (let same : t.phase ≡ q = cc in same) facts.1.2
+    stands-in : (q : ModelPhase) → Some q ≡ Some t.phase → StampsStand q stamps w.machine e.pieces t a left
+    stands-in q is = subst (λ (p : ModelPhase). StampsStand p stamps w.machine e.pieces t a left) (let same : t.phase ≡ q = cc in same) facts.1.2
 
     some-write : (x : Write) × Member x t.writes
-    some-write = let x = has-written e.hub.tables.tables e.pieces t.writes a.written left (noted-of w.machine e.hub e.pieces session a t (st.sessions session a at) there) facts.0.0 facts.0.1 in
+    some-write = let x = has-written e.hub.dir.leaves e.pieces t.writes a.written left (noted-of w.machine e.hub e.pieces session a t (st.sessions session a at) there) facts.0.0 facts.0.1 in
         (x.0, subst (λ (ws : List Write). Member x.0 ws) (sym x.2) (inl refl))
 
     by : (p : Phase) → phase_in p ≡ Some t.phase → EditFits (edit.Stamp commit (durable_of p stamps))
@@ -199,14 +199,14 @@ module _ (e : Engine) (w : World) (session : ℕ) (a : State) (st : Stands e w) 
     edits-fit : (x : Edit) (left : ℕ) → EditFits x → PieceFits (edits view x a left p)
     edits-fit x left fits = changed-fits (edited (own_name view) x) (edit-keeps (own_name view) x fits) a.written (frame_at a.written left) left p was
 
-    look : (call : KeyCall) (target : Target) (o : Option Frame) → p.frame ≡ o → LookMade o call view target p a p' a' → StageStands (stage.Look call target) w.machine e.hub.tables.tables e.pieces session a → ItemsFit a
+    look : (call : KeyCall) (target : Target) (o : Option Frame) → p.frame ≡ o → LookMade o call view target p a p' a' → StageStands (stage.Look call target) w.machine e.hub.dir.leaves e.pieces session a → ItemsFit a
         → PieceFits p' × CallFitsIn a'
     look call target None is looked facts items = (subst PieceFits (sym looked.0) was, subst CallFitsIn (sym looked.1) (answered-fits call target _ a))
     look call target (Some f) is looked facts items = (subst PieceFits (sym looked.1) (λ g same. subst LeafFits (let e : record f { leaf = looked.0 } ≡ g = cc in ap (λ (x : Frame). x.leaf) e) after.0), after.1) where
       after : LeafFits looked.0 × CallFitsIn a'
-      after = looked-fits call view target f.leaf a looked.0 a' looked.2 (λ writes. own-fits view facts.0.0 is-view fit.names facts.0.1 (facts.0.2.1 writes)) items (was f is)
+      after = looked-fits call view target f.leaf a looked.0 a' looked.2 (λ writes. own-fits view facts.0.0.0 is-view fit.names facts.0.0.1 (facts.0.0.2.1 writes)) items (was f is)
 
-    by : (g : Stage) → FrameMadeAt g view p a p' a' → StampsFitAt g → StageStands g w.machine e.hub.tables.tables e.pieces session a → CallFitsAt g a → PieceFits p' × CallFitsIn a'
+    by : (g : Stage) → FrameMadeAt g view p a p' a' → StampsFitAt g → StageStands g w.machine e.hub.dir.leaves e.pieces session a → CallFitsAt g a → PieceFits p' × CallFitsIn a'
     by (stage.Look call target) made small facts items = look call target p.frame refl made facts items
     by (stage.Mark stamp left) made small facts items = (subst PieceFits (sym made.0) (edits-fit (edit.Mark stamp) left tt), subst CallFitsIn (sym made.1) (marks-fit stamp (starts_at a left) (at_stage (marks stamp (starts_at a left)) a)))
     by (stage.Order stamps left) made small facts items =

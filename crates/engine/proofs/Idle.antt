@@ -1,23 +1,26 @@
 -- Each engine stands for a world in which no checkpoint runs.
 use Rattle.std.proofs.Common.{◌≡◌, ℕ, None, refl, length, arith}
 use Rattle.kv_model.specs.Machine.{Machine, CheckpointDrop, after}
+use Rattle.kv_model.specs.Valid.{Valid}
 use Rattle.kv_model.proofs.EveryEvent.{valid-after}
+use Rattle.kv_model.proofs.RowRanges.{value-goes-on}
 use Rattle.txn_table.proofs.Standing.{calls-stand}
 use Rattle.update_chain.specs.EventLaws.{ChainsGoOn}
 use Rattle.engine_world.specs.Stands.{Engine, Stands}
 use Rattle.engine_world.specs.Worlds.{World}
 use Rattle.engine_world.proofs.Beside.{Apart, MachineApart}
 use Rattle.engine_world.proofs.Events.{updates-same}
+use Rattle.engine_world.proofs.HubMoves.{leaves-go-on}
 use Rattle.engine_world.proofs.Others.{others-stay}
-use Rattle.engine_world.proofs.SystemEvents.{leaf-goes-on, leaves-same, past-all}
+use Rattle.engine_world.proofs.SystemEvents.{leaves-same, past-all}
 use Rattle.engine.specs.Events.{HasWorld}
 
 -- the same without the checkpoint that runs
 abbrev idle : World → World
 idle w = record w { machine = after w.machine CheckpointDrop }
 
-dropped_apart : (session : ℕ) (m : Machine) → MachineApart session m (after m CheckpointDrop)
-dropped_apart session m = record {
+dropped_apart : (session : ℕ) (m : Machine) → Valid m → MachineApart session m (after m CheckpointDrop)
+dropped_apart session m valid = record {
   run = refl;
   fault = refl;
   others = λ r other. refl;
@@ -25,6 +28,7 @@ dropped_apart session m = record {
   held = λ r t table key other there alive own. refl;
   grown = λ table key v member. member;
   none = λ r t table key other there drawn none. none;
+  absent = λ r t table key other there reads. value-goes-on m CheckpointDrop r t table key None valid tt there tt reads;
 }
 
 idle_stands : ChainsGoOn → (e : Engine) (w : World) → Stands e w → Stands e (idle w)
@@ -35,7 +39,10 @@ idle_stands chains e w st = record {
   txns = (calls-stand e.hub.txns w.machine st.valid st.txns).others CheckpointDrop tt tt;
   catalog = st.catalog;
   made = st.made;
-  leaves = λ place t there. leaf-goes-on chains w.machine CheckpointDrop e.pieces e.states place t st.valid tt (λ key. tt) (st.leaves place t there);
+  dir = st.dir;
+  begun = st.begun;
+  owned = st.owned;
+  leaves = leaves-go-on chains w.machine CheckpointDrop e.hub.dir.leaves e.pieces e.states st.valid tt (λ table key. tt) st.leaves;
   count = st.count;
   doings = st.doings;
   doing = st.doing;
@@ -44,8 +51,8 @@ idle_stands chains e w st = record {
 } where
   beside : Apart (length e.sessions) w.machine (after w.machine CheckpointDrop) e.hub e.hub e.pieces e.pieces
   beside = record {
-    machine = dropped_apart (length e.sessions) w.machine;
-    leaves = leaves-same e.hub.tables.tables e.pieces;
+    machine = dropped_apart (length e.sessions) w.machine st.valid;
+    leaves = leaves-same e.hub.dir.leaves e.pieces;
     seats = omega arith;
     phases = λ r other. refl;
     updates = updates-same w.machine (length e.sessions) e.pieces;

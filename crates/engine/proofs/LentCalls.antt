@@ -44,7 +44,7 @@ pub lent-rests : {E : Type 0} (e : Engine) (session : ℕ) (a a' : State) (call 
     → OnErr r ((w : World) → Stands e w → (doing_of w session ≡ Resting) × Stands (with_session e session a') w)
 lent-rests e session a a' call (Ok told) at starts = tt
 lent-rests e session a a' call (Err none) at starts = λ w st. (
-  st.doing session a at ∙ ap (λ (s : Stage). doing_at s session a) starts.rests,
+  st.doing session a at ∙ ap (λ (s : Stage). doing_at s e.hub.dir.leaves session a) starts.rests,
   subst (λ (x : Engine). Stands x w) (sym (same-engine e session a a' at starts.kept)) st,
 )
 

@@ -8,6 +8,9 @@ pub mod LeafSizes
 pub mod CallSizes
 pub mod FrameSizes
 pub mod EngineSizes
+pub mod FirstLeaf
+pub mod OneLeaf
+pub mod FreeFrames
 pub mod Systems
 pub mod SystemEvents
 pub mod Laying

@@ -4,6 +4,7 @@ use Rattle.std.specs.Prelude.{Option, Some, None}
 use Rattle.std.proofs.lemmas.List.{drop_all, drop_more, drop-set-lt, get_or-set_same}
 use Rattle.std.proofs.lemmas.Option.{slice_get-get_or}
 use Rattle.limits.specs.declared.TheConstants.{TABLES_MAX}
+use Rattle.tree_dir.specs.Leaves.{Directory}
 use Rattle.catalog.specs.Known.{Known}
 use Rattle.wt_code.specs.declared.answers.Answer.{Answer}
 use Rattle.wt_code.specs.declared.refusals.Invalid.TheVariants as why
@@ -22,7 +23,7 @@ use Rattle.engine_world.proofs.HubMoves.{decided-up, none-there, one-there}
 use Rattle.engine_world.proofs.Rollbacks.{up-living}
 use Rattle.engine.specs.Closes.{MayClose}
 use Rattle.engine.specs.Events.{HasWorld}
-use Rattle.engine.specs.Sound.{AreBuilt, IsSound, Keeps}
+use Rattle.engine.specs.Sound.{AreBuilt, IsSound, Keeps, LeavesPlaced}
 use Rattle.engine.specs.Whole.{CallsIn, MayCall}
 use Rattle.engine.proofs.Closes.{close-rests, close-up, resting-ends}
 use Rattle.engine.proofs.Ending.{keeps-same, keeps-then}
@@ -188,5 +189,7 @@ keeps-sound old new sound world kept = record {
   pieces = kept.pieces ∙ sound.pieces;
   states = ap length kept.states ∙ sound.states;
   numbers = subst (λ (k : Known). k.next + TABLES_MAX < 2 ^ 32 + length k.tables) (sym kept.tables) sound.numbers;
+  placed = subst (λ (k : Known). LeavesPlaced k.tables new.hub.dir.leaves) (sym kept.tables) (subst (λ (d : Directory). LeavesPlaced old.hub.tables.tables d.leaves) (sym kept.dir) sound.placed);
+  free = λ frame above. kept.free frame (sound.free frame (subst (λ (k : Known). length k.tables ≤ frame) kept.tables above));
   sizes = kept.sizes sound.sizes;
 }

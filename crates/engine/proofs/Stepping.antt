@@ -1,10 +1,9 @@
 -- What the next event of a session leaves, by the law of its stage.
-use Rattle.std.proofs.Common.{◌≡◌, ◌<◌, ◌≤◌, ℕ, zero, suc, refl, sym, List, [], ◌∷◌, length, inl, inr, subst, arith}
+use Rattle.std.proofs.Common.{◌≡◌, ◌<◌, ◌≤◌, ℕ, zero, suc, refl, ap, sym, ◌∙◌, List, [], ◌∷◌, length, inl, inr, subst, arith}
 use Rattle.std.specs.Prelude.{Option, Some, None, option_and_then, slice_get}
 use Rattle.std.proofs.lemmas.Option.{slice_get_within}
 use Rattle.stamp.specs.declared.View.{View}
 use Rattle.kv_model.specs.Holds.{Member}
-use Rattle.kv_model.specs.History.{Table}
 use Rattle.kv_model.specs.Machine.{Transaction, of_some}
 use Rattle.kv_model.specs.Allowed.{HasTransaction}
 use Rattle.txn_table.specs.declared.phase.Phase.TheVariants as phase
@@ -27,16 +26,18 @@ use Rattle.call_steps.specs.State.{State}
 use Rattle.call_steps.specs.Words.{next_at, next_of, stored}
 use Rattle.call_steps.specs.Written.{frame_at}
 use Rattle.engine_world.specs.Worlds.{World}
-use Rattle.engine_world.specs.Laws.{Leads, IsViewOf, with_hub, with_piece, with_hazard, with_session, BeginsGo, FindsGo, HistoriesGo, ReleasesGo, DecidesGo, ResolvesGo, EndsGo, ReadsGo, WritesGo, RowsGo, MarksGo, OrdersGo, StampsGo, UndosGo, PublishesGo, ClearsGo, ResetsGo, UnpinsGo, IsBegin, IsFind, IsHistory, IsRelease, IsDecide, IsResolve, IsDone, ReadsKey, WritesKey, StepsOn, IsLook, IsMark, IsOrder, IsStamp, IsUndo, IsPublish, IsClearing, IsReset, IsUnpin}
+use Rattle.engine_world.specs.Laws.{Leads, IsViewOf, with_hub, with_piece, with_hazard, with_session, BeginsGo, FindsGo, PassesGo, HistoriesGo, ReleasesGo, DecidesGo, ResolvesGo, EndsGo, ReadsGo, WritesGo, RowsGo, MarksGo, OrdersGo, StampsGo, UndosGo, PublishesGo, ClearsGo, ResetsGo, UnpinsGo, IsBegin, IsFind, IsPass, IsHistory, IsRelease, IsDecide, IsResolve, IsDone, ReadsKey, WritesKey, StepsOn, IsLook, IsMark, IsOrder, IsStamp, IsUndo, IsPublish, IsClearing, IsReset, IsUnpin}
 use Rattle.engine_world.specs.Leaves.{frame_in}
 use Rattle.engine_world.specs.Stages.{IsLeft, IsLeafOf, StageStands}
 use Rattle.engine_world.specs.Stands.{Engine, Stands}
+use Rattle.engine_world.proofs.Homes.{home-at, target-frame}
 
 -- ---- the hub
 
 pub record HubLaws : Type 0 where
   pub begins : BeginsGo
   pub finds : FindsGo
+  pub passes : PassesGo
   pub histories : HistoriesGo
   pub releases : ReleasesGo
   pub decides : DecidesGo
@@ -49,6 +50,7 @@ hub-goes laws e w session a st at on = by-stage a.stage refl on where
   by-stage : (s : Stage) → a.stage ≡ s → next_at s a ≡ next.Hub → let made = hub_made e.hub session a in Leads (with_session (with_hub e made.1.0) session made.1.1) w session made.0
   by-stage (stage.Begin read) is on = laws.begins e w session a st at (subst IsBegin (sym is) tt)
   by-stage (stage.Find call) is on = laws.finds e w session a st at (subst IsFind (sym is) tt)
+  by-stage (stage.Pass call target) is on = laws.passes e w session a st at (subst IsPass (sym is) tt)
   by-stage (stage.History call target) is on = laws.histories e w session a st at (subst IsHistory (sym is) tt)
   by-stage (stage.Release stamp) is on = laws.releases e w session a st at (subst IsRelease (sym is) tt)
   by-stage (stage.Decide stamps) is on = laws.decides e w session a st at (subst IsDecide (sym is) tt)
@@ -99,6 +101,7 @@ frame-goes laws e w session frame a a' p p' view st at on piece is-view made = b
   by-stage (stage.Find call) is to = absurd (cc)
   by-stage (stage.Publish call target) is to = absurd (cc)
   by-stage (stage.Validate call target) is to = absurd (cc)
+  by-stage (stage.Pass call target) is to = absurd (cc)
   by-stage (stage.History call target) is to = absurd (cc)
   by-stage (stage.ClearCursor call target) is to = absurd (cc)
   by-stage (stage.Clear call target) is to = absurd (cc)
@@ -123,9 +126,6 @@ piece-there pieces place f is = by-piece (slice_get pieces place) refl is where
 written-there : (e : Engine) (w : World) (session left : ℕ) (a : State) → Stands e w → slice_get e.sessions session ≡ Some a → IsLeft left a → frame_at a.written left < length e.pieces
 written-there e w session zero a st at some = absurd (let l = some.0 in omega arith)
 written-there e w session (suc n) a st at some = by-key (slice_get a.written n) refl where
-  known : List Table
-  known = e.hub.tables.tables
-
   member : (ks : List WrittenKey) (i : ℕ) (k : WrittenKey) → slice_get ks i ≡ Some k → Member k ks
   member [] i k is = absurd (cc)
   member (x ∷ ks) zero k is = inl (let y : x ≡ k = cc in sym y)
@@ -133,7 +133,8 @@ written-there e w session (suc n) a st at some = by-key (slice_get a.written n) 
 
   of-key : (k : WrittenKey) → Member k a.written → k.frame < length e.pieces
   of-key k in-written = let wrote = (st.sessions session a at).noted.wrote k in-written in
-      let leaf = st.leaves k.frame wrote.2.of wrote.2.there in piece-there e.pieces k.frame leaf.frame leaf.there
+      let home = home-at w.machine e.hub.dir e.pieces e.states wrote.0.table wrote.0.key k.frame st.dir st.leaves wrote.2.home in
+      piece-there e.pieces k.frame home.stands.laid.frame (ap (frame_in e.pieces) (sym home.at) ∙ home.stands.laid.there)
 
   by-key : (o : Option WrittenKey) → slice_get a.written n ≡ o → of_some 0 (λ (k : WrittenKey). k.frame) o < length e.pieces
   by-key None is = absurd (let past : length a.written ≤ n = past-none a.written n is in let l = some.1 in omega arith) where
@@ -152,13 +153,14 @@ is-ready e w session frame a st at on = by-stage a.stage refl on (st.sessions se
   ready : (place : ℕ) → place < length e.pieces → next.Frame place ≡ next.Frame frame → (phase_of e.hub.txns session ≡ phase.Idle → ⊥) → IsReady e session frame
   ready place there is busy = record { there = subst (λ f. f < length e.pieces) (let x : place ≡ frame = cc in x) there; busy = busy }
 
-  leaf-there : (target : Target) → IsLeafOf e.hub.tables.tables target → target.frame < length e.pieces
-  leaf-there target of = let leaf = st.leaves target.frame of.0 of.1 in piece-there e.pieces target.frame leaf.frame leaf.there
+  leaf-there : (target : Target) → IsLeafOf e.hub.dir.leaves target → target.frame < length e.pieces
+  leaf-there target of = let laid = (st.leaves of.0 of.1).laid in
+      piece-there e.pieces target.frame laid.frame (ap (frame_in e.pieces) (sym (target-frame e.pieces e.states of.0 target laid of.2)) ∙ laid.there)
 
-  by-stage : (s : Stage) → a.stage ≡ s → next_at s a ≡ next.Frame frame → StageStands a.stage w.machine e.hub.tables.tables e.pieces session a → IsReady e session frame
-  by-stage s is to stands = by-facts s to (subst (λ x. StageStands x w.machine e.hub.tables.tables e.pieces session a) is stands) where
-    by-facts : (s : Stage) → next_at s a ≡ next.Frame frame → StageStands s w.machine e.hub.tables.tables e.pieces session a → IsReady e session frame
-    by-facts (stage.Look call target) to on-leaf = ready target.frame (leaf-there target on-leaf.1) to (λ idle. busy-of _ on-leaf.0 idle)
+  by-stage : (s : Stage) → a.stage ≡ s → next_at s a ≡ next.Frame frame → StageStands a.stage w.machine e.hub.dir.leaves e.pieces session a → IsReady e session frame
+  by-stage s is to stands = by-facts s to (subst (λ x. StageStands x w.machine e.hub.dir.leaves e.pieces session a) is stands) where
+    by-facts : (s : Stage) → next_at s a ≡ next.Frame frame → StageStands s w.machine e.hub.dir.leaves e.pieces session a → IsReady e session frame
+    by-facts (stage.Look call target) to on-leaf = ready target.frame (leaf-there target on-leaf.0.1) to (λ idle. busy-of _ on-leaf.0.0 idle)
     by-facts (stage.Mark stamp left) to facts = ready (frame_at a.written left) (written-there e w session left a st at facts.0) to (λ idle. busy-of _ facts.1 idle)
     by-facts (stage.Order stamps left) to facts = ready (frame_at a.written left) (written-there e w session left a st at facts.0) to (λ idle. busy-of _ facts.1 idle)
     by-facts (stage.Stamp stamps left) to facts = ready (frame_at a.written left) (written-there e w session left a st at facts.0) to (λ idle. busy-of _ facts.1 idle)
@@ -168,6 +170,7 @@ is-ready e w session frame a st at on = by-stage a.stage refl on (st.sessions se
     by-facts (stage.Find call) to facts = absurd (cc)
     by-facts (stage.Publish call target) to facts = absurd (cc)
     by-facts (stage.Validate call target) to facts = absurd (cc)
+    by-facts (stage.Pass call target) to facts = absurd (cc)
     by-facts (stage.History call target) to facts = absurd (cc)
     by-facts (stage.ClearCursor call target) to facts = absurd (cc)
     by-facts (stage.Clear call target) to facts = absurd (cc)
@@ -200,6 +203,7 @@ store-goes laws e w session word value at a st there on = by-stage a.stage refl 
   by-stage (stage.Find call) is to = absurd (cc)
   by-stage (stage.Validate call target) is to = absurd (cc)
   by-stage (stage.Look call target) is to = absurd (cc)
+  by-stage (stage.Pass call target) is to = absurd (cc)
   by-stage (stage.History call target) is to = absurd (cc)
   by-stage (stage.Mark stamp left) is to = absurd (cc)
   by-stage (stage.Release stamp) is to = absurd (cc)

@@ -1,6 +1,9 @@
 -- The events of a create and of a set, over the data of an engine.
-use Rattle.std.proofs.Common.{◌≡◌, ◌<◌, ℕ, refl, ap, sym, ◌∙◌, Bool, true, false, not, List, [], ◌∷◌, length, inl, inr, arith}
-use Rattle.std.specs.Prelude.{Option, Some, None, Result, Ok, Err, nat_le, if◌then◌else◌}
+use Rattle.std.proofs.Common.{◌≡◌, ◌≢◌, ◌+◌, ◌<◌, ◌≤◌, ℕ, refl, ap, sym, ◌∙◌, Bool, true, false, not, List, [], ◌∷◌, ◌++◌, length, inl, inr, subst, arith}
+use Rattle.std.specs.Prelude.{Option, Some, None, Result, Ok, Err, nat_le, slice_get, if◌then◌else◌}
+use Rattle.std.specs.List.{Contains}
+use Rattle.core.proofs.iter.runs.Lists.{nth_left, nth_seam}
+use Rattle.std.proofs.lemmas.Option.{slice_get_within}
 use Rattle.std.proofs.lemmas.Bool.{leb-false}
 use Rattle.std.proofs.lemmas.List.{length-set, length-append}
 use Rattle.limits.specs.declared.TheConstants.{TABLES_MAX}
@@ -17,18 +20,24 @@ use Rattle.kv_model.specs.Decisions.{Outcome, Done, Refused, CreateCall, SetCall
 use Rattle.kv_model.specs.History.{Table, named}
 use Rattle.kv_model.specs.Machine.{Machine, Event, CreateTable, Nothing, SetStamps, after, of_some}
 use Rattle.kv_model.specs.Refusals.{first_of, set_rules, stamp_of}
+use Rattle.tree_dir.specs.declared.leaf.Leaf.{Leaf}
+use Rattle.tree_dir.specs.Leaves.{Directory, IsDirectory}
 use Rattle.ts_rules.specs.Rules.{answer_by, raised}
 use Rattle.ts_rules.specs.declared.stamps.Stamps.{Stamps}
 use Rattle.catalog.specs.Creates.{IsCreated, IsRefused, asked, decided}
 use Rattle.catalog.specs.Known.{AreTables, Known}
 use Rattle.catalog.specs.Laws.{CreatesAreJudged, CreatesSuit}
 use Rattle.catalog.specs.declared.created.Created.TheVariants.{New}
+use Rattle.engine_world.specs.Leaves.{frame_in}
 use Rattle.engine_world.specs.Stands.{Engine, Stands}
-use Rattle.engine_world.specs.Systems.{CreatesGo, SetsGo, with_table}
+use Rattle.engine_world.specs.Systems.{CreatesGo, HasFirstLeaf, SetsGo, first_piece, with_table}
 use Rattle.engine_world.specs.Worlds.{World}
-use Rattle.engine.specs.Sound.{IsSound}
+use Rattle.engine_world.proofs.NewLeaf.{IsCome, come-cases, comes, new_leaf}
+use Rattle.engine.specs.Sound.{IsPlaced, IsSound, LeavesPlaced}
 use Rattle.engine.specs.Systems.{Makes}
 use Rattle.engine.proofs.LeafSizes.{filled-fits, leaves-set}
+use Rattle.engine.proofs.Laying.{frame-other}
+use Rattle.engine.proofs.OneLeaf.{number-below}
 
 -- ---- a fault comes first
 
@@ -107,6 +116,10 @@ create-refused laws e w name formats r sound st well why_not = elim why_not [
   ]
 ]
 
+-- a table that was made is taken back where there is no memory for its leaf
+pub create-short : (e : Engine) (w : World) (name : List ℕ) (formats : Formats) → Stands e w → Makes e w (Create name formats) (answers.Refused refusal.NoMemory)
+create-short e w name formats st = (w.machine, inl (refl, refl), st)
+
 pub create-same : CreateLaws → (e : Engine) (w : World) (name : List ℕ) (formats : Formats) → Stands e w → e.hub.fault ≡ None
     → decided e.hub.tables.tables (table_in e name formats) ≡ (Done, Nothing) → Makes e w (Create name formats) answers.Done
 create-same laws e w name formats st well is = (
@@ -119,29 +132,82 @@ create-same laws e w name formats st well is = (
 place-there : (e : Engine) (t : Table) (known : Known) (place : ℕ) → IsCreated e.hub.tables t known (New place) → AreTables known → place < TABLES_MAX
 place-there e t known place made all = let few = all.few in let long = ap (λ (k : Known). length k.tables) made.2 ∙ length-append e.hub.tables.tables (t ∷ []) in let last = made.1 in omega arith
 
-pub create-new : CreateLaws → (e : Engine) (w : World) (name : List ℕ) (formats : Formats) (known : Known) (place : ℕ) → IsSound e → Stands e w → e.hub.fault ≡ None
-    → IsCreated e.hub.tables (table_in e name formats) known (New place) → AreTables known
-    → Makes (with_table e known (table_in e name formats) place) w (Create name formats) answers.Done
-create-new laws e w name formats known place sound st well made all = (
-  after w.machine (CreateTable (table_in e name formats)),
-  inr (table_in e name formats, table-suits laws e w name formats st, (Done, (CreateTable (table_in e name formats), decision-is laws e w name formats st well ∙ made.0, refl), refl)),
-  laws.goes e w name formats known place st made all (let there = place-there e (table_in e name formats) known place made all in let long = sound.pieces in omega arith) (let there = place-there e (table_in e name formats) known place made all in let long = sound.states in omega arith),
-)
+-- no leaf is of a table that is to come
+pub none-yet : (e : Engine) (w : World) → Stands e w → LeavesPlaced e.hub.tables.tables e.hub.dir.leaves → (l : Leaf) → Contains e.hub.dir.leaves l → l.table ≢ e.hub.tables.next
+none-yet e w st placed l there same = let p = placed l there in let below = number-below 1 e.hub.tables.tables e.hub.tables.next p.place p.table st.catalog.numbers p.there in let its = p.number in omega (arith, below, its, same)
 
-pub new-sound : CreateLaws → (e : Engine) (name : List ℕ) (formats : Formats) (known : Known) (place : ℕ) → IsSound e → e.hub.fault ≡ None
-    → IsCreated e.hub.tables (table_in e name formats) known (New place) → AreTables known
-    → IsSound (with_table e known (table_in e name formats) place)
-new-sound laws e name formats known place sound well made all = record {
-  world = (record sound.world.0 { machine = then.0 }, then.2);
-  built = sound.built;
-  actors = sound.actors;
-  pieces = length-set e.pieces place _ ∙ sound.pieces;
-  states = length-set e.states place _ ∙ sound.states;
-  numbers = (let room = sound.numbers in let long = ap (λ (k : Known). length k.tables) made.2 ∙ length-append e.hub.tables.tables (table_in e name formats ∷ []) in let next = ap (λ (k : Known). k.next) made.2 in omega arith);
-  sizes = record { leaves = leaves-set e.pieces place _ sound.sizes.leaves (filled-fits (table_in e name formats).number (record { page = []; chains = [] }) (λ key. tt)); sessions = sound.sizes.sessions; names = sound.sizes.names };
-} where
-  then : Makes (with_table e known (table_in e name formats) place) sound.world.0 (Create name formats) answers.Done
-  then = create-new laws e sound.world.0 name formats known place sound sound.world.1 well made all
+module _ (laws : CreateLaws) (e : Engine) (name : List ℕ) (formats : Formats) (known : Known) (dir : Directory) (place id : ℕ) (sound : IsSound e) (well : e.hub.fault ≡ None)
+    (made : IsCreated e.hub.tables (table_in e name formats) known (New place)) (all : AreTables known) (first : HasFirstLeaf e.hub.dir dir (table_in e name formats).number id place) (is : IsDirectory dir) where
+  abbrev t : Table
+  t = table_in e name formats
+
+  abbrev new : Engine
+  new = with_table e known dir t id place
+
+  there : place < TABLES_MAX
+  there = place-there e t known place made all
+
+  pub create-new : (w : World) → Stands e w → Makes (with_table e known dir (table_in e name formats) id place) w (Create name formats) answers.Done
+  create-new w st = (
+    after w.machine (CreateTable t),
+    inr (t, table-suits laws e w name formats st, (Done, (CreateTable t, decision-is laws e w name formats st well ∙ made.0, refl), refl)),
+    laws.goes e w name formats known dir place id place st made all first is (sound.free place (omega (arith, made.1))) (omega (arith, there, sound.pieces)) (omega (arith, there, sound.states)),
+  )
+
+  known-is : known.tables ≡ e.hub.tables.tables ++ t ∷ []
+  known-is = ap (λ (k : Known). k.tables) made.2
+
+  long : length known.tables ≡ length e.hub.tables.tables + 1
+  long = ap (λ (ts : List Table). length ts) known-is ∙ length-append e.hub.tables.tables (t ∷ [])
+
+  old-placed : (l : Leaf) → IsPlaced e.hub.tables.tables l → IsPlaced known.tables l
+  old-placed l p = record {
+    place = p.place;
+    table = p.table;
+    there = ap (λ (ts : List Table). slice_get ts p.place) known-is ∙ (nth_left e.hub.tables.tables (t ∷ []) p.place (slice_get_within e.hub.tables.tables p.place p.table p.there) ∙ p.there);
+    number = p.number;
+    frame = p.frame;
+  }
+
+  new-placed : IsPlaced known.tables (new_leaf t.number id place)
+  new-placed = record {
+    place = place;
+    table = t;
+    there = ap (λ (ts : List Table). slice_get ts place) known-is ∙ (ap (slice_get (e.hub.tables.tables ++ t ∷ [])) made.1 ∙ nth_seam e.hub.tables.tables t);
+    number = refl;
+    frame = refl;
+  }
+
+  world : Stands e sound.world.0
+  world = sound.world.1
+
+  come : IsCome e.hub.dir.leaves dir.leaves (new_leaf t.number id place)
+  come = comes e.hub.dir dir t.number id place world.dir (none-yet e sound.world.0 world sound.placed) first
+
+  placed : LeavesPlaced known.tables dir.leaves
+  placed l at = elim (come-cases e.hub.dir dir.leaves (new_leaf t.number id place) world.dir come l at) [
+    | inl old ↦ old-placed l (sound.placed l old)
+    | inr same ↦ subst (IsPlaced known.tables) same new-placed
+  ]
+
+  free : (frame : ℕ) → length known.tables ≤ frame → frame_in new.pieces frame ≡ None
+  free frame above = frame-other e.pieces place frame (first_piece t id) (λ same. omega (arith, made.1, long, above, same)) ∙ sound.free frame (omega (arith, long, above))
+
+  then : Makes new sound.world.0 (Create name formats) answers.Done
+  then = create-new sound.world.0 world
+
+  pub new-sound : IsSound (with_table e known dir (table_in e name formats) id place)
+  new-sound = record {
+    world = (record sound.world.0 { machine = then.0 }, then.2);
+    built = sound.built;
+    actors = sound.actors;
+    pieces = length-set e.pieces place _ ∙ sound.pieces;
+    states = length-set e.states place _ ∙ sound.states;
+    numbers = (let next = ap (λ (k : Known). k.next) made.2 in omega (arith, sound.numbers, long, next));
+    placed = placed;
+    free = free;
+    sizes = record { leaves = leaves-set e.pieces place _ sound.sizes.leaves (filled-fits t.number id (record { page = []; chains = [] }) (λ key. tt)); sessions = sound.sizes.sessions; names = sound.sizes.names };
+  }
 
 -- ---- set
 

@@ -33,6 +33,9 @@ asked-stands e w systems st = record {
   txns = st.txns;
   catalog = st.catalog;
   made = st.made;
+  dir = st.dir;
+  begun = st.begun;
+  owned = st.owned;
   leaves = st.leaves;
   count = st.count;
   doings = st.doings;
@@ -63,6 +66,8 @@ set-sound e number x sound new = record {
   pieces = sound.pieces;
   states = sound.states;
   numbers = sound.numbers;
+  placed = sound.placed;
+  free = sound.free;
   sizes = record { leaves = sound.sizes.leaves; sessions = sound.sizes.sessions; names = sound.sizes.names };
 }
 
@@ -75,6 +80,8 @@ more-sound law e sound = record {
   pieces = sound.pieces;
   states = sound.states;
   numbers = sound.numbers;
+  placed = sound.placed;
+  free = sound.free;
   sizes = opened-sizes e sound.sizes;
 }
 

@@ -25,11 +25,12 @@ LeavesFit pieces = (place : ℕ) (f : Frame) → frame_in pieces place ≡ Some 
 abbrev pub ItemsFit : State → Type 0
 ItemsFit a = (length a.key ≤ KEY_MAX) × (length a.value ≤ VALUE_MAX)
 
--- they do from the event that finds its table up to the look
+-- they do from the event that finds its table up to the last look
 abbrev pub CallFitsAt : Stage → State → Type 0
 CallFitsAt (stage.Publish call target) a = ItemsFit a
 CallFitsAt (stage.Validate call target) a = ItemsFit a
 CallFitsAt (stage.Look call target) a = ItemsFit a
+CallFitsAt (stage.Pass call target) a = ItemsFit a
 CallFitsAt _ a = Unit {0}
 
 -- so each session's

@@ -36,7 +36,7 @@ left_of (Decided answer event left) = left
 left_of (Ending answer left) = left
 
 abbrev pub left_at : Engine → ℕ → ℕ
-left_at e session = of_some 0 (λ a. left_of (doing_in session a)) (slice_get e.sessions session)
+left_at e session = of_some 0 (λ a. left_of (doing_in e.hub.dir.leaves session a)) (slice_get e.sessions session)
 
 -- a whole call: refused where the session has one that is not finished
 abbrev pub CallsIn : Doing → World → ℕ → Call → Answer (List ℕ) → World → Type 0

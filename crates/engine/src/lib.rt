@@ -10,6 +10,7 @@
 
 mod checkpoint;
 mod close;
+mod leaves;
 mod lent;
 mod local;
 mod opening;

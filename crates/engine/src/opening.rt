@@ -5,22 +5,24 @@ ghost use Rattle.std.specs.List.{AllByRecursion};
 ghost use Rattle.limits.specs.declared.TheConstants.{NUMBER_MAX, TABLES_MAX};
 ghost use Rattle.kv_model.specs.Content.{Content};
 ghost use Rattle.kv_model.specs.Regular.{IsRegular};
-ghost use Rattle.engine_world.specs.Leaves.{number_at};
+ghost use Rattle.tree_dir.specs.Leaves.{no_leaves};
 ghost use Rattle.engine_world.specs.Stands.{Stands};
 ghost use Rattle.engine_world.specs.Systems.{first_world};
 ghost use Rattle.engine.specs.Bases.{IsBaseOf};
-ghost use Rattle.engine.specs.Openings.{AreLaid, HasBase};
+ghost use Rattle.engine.specs.Openings.{AreBare, AreLaid, HasBase, number_at};
 ghost use Rattle.engine.specs.Sizes.{LeafFits, LeavesFit};
 ghost use Rattle.engine.specs.Sound.{IsSound};
 
+use crate::leaves::{add_leaf, put_leaf};
 use crate::parts::Parts;
-use call_steps::{Frame, FramePiece, Hub};
+use call_steps::{FramePiece, Hub};
 use catalog::Catalog;
 use engine_world::engines_start;
 use failure::NoMemory;
 use leaf_frame::LeafFrame;
 use limits::{SESSIONS_MAX, TABLES_MAX};
 use std::alloc::Global;
+use tree_dir::Dir;
 use ts_rules::Stamps;
 use txn_table::Txns;
 use wt_calls::SystemCall;
@@ -52,7 +54,10 @@ impl Parts {
         let count = tables.len();
         let txns = Txns::new(alloc, run, 0)?;
         let mut pieces = empty_pieces(alloc)?;
-        lay_leaves(pieces.as_mut_slice(), &tables, leaves);
+        let mut dir = Dir::new(alloc);
+        lay_leaves(alloc, &mut dir, pieces.as_mut_slice(), &tables, leaves)?;
+        // What holds of every directory holds of this one.
+        dir.stands();
         let states = words(alloc, count, 1, TABLES_MAX - count)?;
         let hazards = words(alloc, 0, 1, HAZARDS)?;
         let systems = no_calls(alloc)?;
@@ -61,6 +66,7 @@ impl Parts {
                 txns,
                 stamps: Stamps { oldest, stable },
                 tables,
+                dir,
                 fault: None,
             },
             pieces,
@@ -75,6 +81,7 @@ impl Parts {
 // A frame for each table that there may be, without a leaf.
 fn empty_pieces(alloc: Global) -> Result<Vec<FramePiece>, NoMemory>
     ensures count { IfOk result (λ v. length v.items ≡ TABLES_MAX) }
+    ensures bare { IfOk result (λ v. AreBare 0 v.items) }
     ensures fit { IfOk result (λ v. LeavesFit v.items) }
 {
     let mut pieces = Vec::with_capacity(alloc, TABLES_MAX)?;
@@ -89,23 +96,33 @@ fn empty_pieces(alloc: Global) -> Result<Vec<FramePiece>, NoMemory>
     Ok(pieces)
 }
 
-// Each leaf into the frame of its place.
-fn lay_leaves(pieces: &mut [FramePiece], tables: &Catalog, mut leaves: Vec<LeafFrame>)
+// Each leaf into the frame of its place, and into the directory.
+fn lay_leaves(
+    alloc: Global,
+    dir: &mut Dir,
+    pieces: &mut [FramePiece],
+    tables: &Catalog,
+    mut leaves: Vec<LeafFrame>,
+) -> Result<(), NoMemory>
+    requires empty { dir.old ≡ no_leaves }
+    requires bare { AreBare 0 pieces.old }
+    requires tables { length leaves.items ≡ length tables.now.tables }
     requires room { length leaves.items ≤ length pieces.old }
     requires few { length pieces.old ≤ TABLES_MAX }
-    ensures laid { AreLaid tables.now.tables leaves.items pieces.new }
-    ensures fit { LeavesFit pieces.old → AllByRecursion LeafFits leaves.items → LeavesFit pieces.new }
+    ensures laid { OnOk result (AreLaid 0 tables.now.tables leaves.items dir.new.leaves pieces.new) }
+    ensures bare { OnOk result (AreBare (length leaves.items) pieces.new) }
+    ensures fit { LeavesFit pieces.old → AllByRecursion LeafFits leaves.items → OnOk result (LeavesFit pieces.new) }
 {
+    // What holds of every catalog holds of this one.
+    let _count = tables.len();
     while let Some(leaf) = leaves.pop() {
-        let place = leaves.len();
-        pieces[place] = FramePiece {
-            generation: 0,
-            frame: Some(Frame {
-                table: number_at(tables, place as u32),
-                leaf,
-            }),
-        };
+        let place = leaves.len() as u32;
+        let table = number_at(tables, place);
+        dir.stands();
+        let id = add_leaf(alloc, dir, table, place)?;
+        put_leaf(pieces, place, table, id, leaf);
     }
+    Ok(())
 }
 
 // The number of the table at a place, 0 where there is none.

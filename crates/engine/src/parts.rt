@@ -23,8 +23,8 @@ use crate::step::Actor;
 use call_steps::{FramePiece, Hub, Next, Reply, SessionState, frame_event, hub_event};
 use engine_world::{
     begins_go, clears_go, decides_go, ends_go, finds_go, histories_go, loads_go, marks_go,
-    orders_go, publishes_go, reads_go, releases_go, resets_go, resolves_go, rows_go, stamps_go,
-    starts_go, steps_reach, undos_go, unpins_go, writes_go,
+    orders_go, passes_go, publishes_go, reads_go, releases_go, resets_go, resolves_go, rows_go,
+    stamps_go, starts_go, steps_reach, undos_go, unpins_go, writes_go,
 };
 use item::Item;
 use stamp::View;
@@ -162,6 +162,7 @@ impl Parts {
     {
         begins_go();
         finds_go();
+        passes_go();
         histories_go();
         releases_go();
         decides_go();

@@ -15,11 +15,13 @@ ghost use Rattle.engine.specs.Sound.{IsSound};
 ghost use Rattle.engine.specs.Systems.{Makes};
 ghost use Rattle.engine.specs.Whole.{MayAnswer, with_session_more};
 
+use crate::leaves::{add_leaf, put_leaf};
 use crate::parts::Parts;
 use crate::step::Actor;
-use call_steps::{Frame, FramePiece, Reply, SessionState};
+use call_steps::{Reply, SessionState};
 use catalog::{Created, creates_are_judged, creates_suit, names_turn, places_are_named};
 use engine_world::{creates_go, opens_go, sets_go};
+use failure::NoMemory;
 use item::{Formats, Item};
 use leaf_frame::LeafFrame;
 use limits::SESSIONS_MAX;
@@ -173,9 +175,20 @@ impl Parts {
             Ok(Created::New(place)) => {
                 // What holds of every catalog holds of the one with the new table.
                 let _count = self.hub.tables.len();
-                put_leaf(self.pieces.as_mut_slice(), alloc, place, number);
-                set_first_word(self.states.as_mut_slice(), place);
-                Answer::Done
+                match add_leaf(alloc, &mut self.hub.dir, number, place) {
+                    Err(NoMemory) => {
+                        self.hub.tables.take_back();
+                        Answer::Refused(Refusal::NoMemory)
+                    }
+                    Ok(id) => {
+                        // What holds of every directory holds of this one.
+                        self.hub.dir.stands();
+                        let leaf = LeafFrame::new(alloc);
+                        put_leaf(self.pieces.as_mut_slice(), place, number, id, leaf);
+                        set_first_word(self.states.as_mut_slice(), place);
+                        Answer::Done
+                    }
+                }
             }
         }
     }
@@ -201,22 +214,6 @@ impl Parts {
 
 // The state word of a frame that has the first leaf that it ever had.
 const FIRST_WORD: u64 = 1;
-
-// An empty leaf of the table of this number.
-fn put_leaf(pieces: &mut [FramePiece], alloc: Global, place: u32, number: u32)
-    ensures { pieces.new ≡ slice_set pieces.old place (record { generation = 0; frame = Some (record { table = number; leaf = record { page = []; chains = [] } }) }) }
-{
-    let at = place as usize;
-    if at < pieces.len() {
-        pieces[at] = FramePiece {
-            generation: 0,
-            frame: Some(Frame {
-                table: number,
-                leaf: LeafFrame::new(alloc),
-            }),
-        };
-    }
-}
 
 fn set_first_word(states: &mut [u64], place: u32)
     ensures { states.new ≡ slice_set states.old place first_word }

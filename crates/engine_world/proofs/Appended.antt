@@ -26,3 +26,7 @@ append-finds [] x y zero at = inr (refl, (let same : Some x ≡ Some y = at in c
 append-finds [] x y (suc i) at = let none : None ≡ Some y = at in absurd (cc)
 append-finds (z ∷ zs) x y zero at = inl at
 append-finds (z ∷ zs) x y (suc i) at = elim (append-finds zs x y i at) [ inl old ↦ inl old | inr last ↦ inr ((let here = last.0 in omega arith), last.1) ]
+
+pub append-last : {A : Type 0} (xs : List A) (x : A) → slice_get (xs ++ x ∷ []) (length xs) ≡ Some x
+append-last [] x = refl
+append-last (y ∷ ys) x = append-last ys x

@@ -1,20 +1,25 @@
 -- What an event of a session leaves to the other sessions.
 use Rattle.std.proofs.Common.{◌≡◌, ◌≢◌, ◌<◌, ◌≤◌, ℕ, true, List, length}
-use Rattle.std.specs.Prelude.{Some, slice_get}
+use Rattle.std.specs.Prelude.{Some, None}
+use Rattle.std.specs.List.{Contains}
 use Rattle.item.specs.declared.Change.{Change}
 use Rattle.stamp.specs.declared.Name.{Name}
 use Rattle.stamp.specs.declared.Version.{Version}
 use Rattle.kv_model.specs.Holds.{Member}
-use Rattle.kv_model.specs.History.{Table, line}
+use Rattle.kv_model.specs.History.{line}
 use Rattle.kv_model.specs.Machine.{Machine, Transaction, transaction_of, cursors_of, name_of, Event, BeginAt, DrawId, AcceptWrite, RefuseWrite, PrepareAt, CommitAt, StartLeaving, EndTransaction, PlaceCursor, Nothing}
 use Rattle.kv_model.specs.Pending.{NoneOf}
-use Rattle.kv_model.specs.Reads.{own_write, is_own, IsEnding}
+use Rattle.kv_model.specs.Reads.{own_write, is_own, IsEnding, Value, ReadAnswer}
+use Rattle.kv_model.specs.Rows.{Way}
+use Rattle.tree_dir.specs.declared.leaf.Leaf.{Leaf}
+use Rattle.tree_dir.specs.Leaves.{leaf_behind, leaf_under}
 use Rattle.txn_table.specs.Tabled.{phase_of}
 use Rattle.update_chain.specs.declared.update.Update.{Update}
 use Rattle.leaf_chains.specs.Slots.{chain_at, slot_of}
 use Rattle.call_steps.specs.declared.frame.FramePiece.{FramePiece}
 use Rattle.call_steps.specs.declared.hub.Hub.{Hub}
-use Rattle.engine_world.specs.Leaves.{slots_in}
+use Rattle.engine_world.specs.Leaves.{frame_of, slots_in, table_at}
+use Rattle.engine_world.specs.Walks.{leaves_on}
 
 -- an event of this session alone
 abbrev pub IsEventOf : ℕ → Event → Type 0
@@ -42,6 +47,8 @@ pub record MachineApart (session : ℕ) (m next : Machine) : Type 0 where
   pub grown : (table : ℕ) (key : List ℕ) (v : Version Change) → Member v (line m.history table key) → Member v (line next.history table key)
   -- none of a name that did not stand stands now, but of the session's own
   pub none : (r : ℕ) (t : Transaction) (table : ℕ) (key : List ℕ) → r ≢ session → transaction_of m r ≡ Some t → 0 < t.id → NoneOf (name_of m t) (line m.history table key) → NoneOf (name_of m t) (line next.history table key)
+  -- a key that read as absent goes on to
+  pub absent : (r : ℕ) (t : Transaction) (table : ℕ) (key : List ℕ) → r ≢ session → transaction_of m r ≡ Some t → ReadAnswer m r t table key (Value None) → ReadAnswer next r t table key (Value None)
 
 -- what the machine keeps for the others over an event of a session
 pub record MachineBeside (session : ℕ) (m next : Machine) : Type 0 where
@@ -50,37 +57,47 @@ pub record MachineBeside (session : ℕ) (m next : Machine) : Type 0 where
   pub stable : next.stable ≡ m.stable
   pub count : length next.sessions ≡ length m.sessions
 
--- a key keeps its slot
-abbrev pub SlotsStay : List FramePiece → List FramePiece → Type 0
-SlotsStay pieces later = (place : ℕ) (key : List ℕ) (i : ℕ) → slot_of key (slots_in pieces place) ≡ Some i → slot_of key (slots_in later place) ≡ Some i
+-- a frame stays with its table, and a key keeps its slot
+pub record SlotsStay (pieces later : List FramePiece) : Type 0 where
+  pub tables : (frame : ℕ) → table_at later frame ≡ table_at pieces frame
+  pub slots : (frame : ℕ) (key : List ℕ) (i : ℕ) → slot_of key (slots_in pieces frame) ≡ Some i → slot_of key (slots_in later frame) ≡ Some i
 
 -- an update of another name was there before
 abbrev pub BringsOnly : Name → List FramePiece → List FramePiece → Type 0
-BringsOnly name pieces later = (place : ℕ) (key : List ℕ) (u : Update) → Member u (chain_at key (slots_in later place)) → u.version.window.name ≢ name → Member u (chain_at key (slots_in pieces place))
+BringsOnly name pieces later = (frame : ℕ) (key : List ℕ) (u : Update) → Member u (chain_at key (slots_in later frame)) → u.version.window.name ≢ name → Member u (chain_at key (slots_in pieces frame))
 
 -- the updates of the other sessions' transactions were there before
 abbrev pub OthersUpdates : Machine → ℕ → List FramePiece → List FramePiece → Type 0
 OthersUpdates m session pieces later =
     (r : ℕ) (t : Transaction) → r ≢ session → transaction_of m r ≡ Some t → 0 < t.id
-    → (place : ℕ) (key : List ℕ) (u : Update) → Member u (chain_at key (slots_in later place)) → u.version.window.name ≡ name_of m t → Member u (chain_at key (slots_in pieces place))
+    → (frame : ℕ) (key : List ℕ) (u : Update) → Member u (chain_at key (slots_in later frame)) → u.version.window.name ≡ name_of m t → Member u (chain_at key (slots_in pieces frame))
 
 pub record Beside (session : ℕ) (m next : Machine) (hub later : Hub) (pieces pieces' : List FramePiece) : Type 0 where
   pub machine : MachineBeside session m next
   pub tables : later.tables ≡ hub.tables
+  pub dir : later.dir ≡ hub.dir
   pub seats : length later.txns.sessions ≡ length hub.txns.sessions
   pub phases : (r : ℕ) → r ≢ session → phase_of later.txns r ≡ phase_of hub.txns r
   pub slots : SlotsStay pieces pieces'
   pub updates : OthersUpdates m session pieces pieces'
 
--- the tables that were known are known at their places, and a key of them keeps its slot
-pub record LeavesStay (known made : List Table) (pieces later : List FramePiece) : Type 0 where
-  pub tables : (place : ℕ) (t : Table) → slice_get known place ≡ Some t → slice_get made place ≡ Some t
-  pub slots : (place : ℕ) (t : Table) (key : List ℕ) (i : ℕ) → slice_get known place ≡ Some t → slot_of key (slots_in pieces place) ≡ Some i → slot_of key (slots_in later place) ≡ Some i
+-- a directory says of the leaves that were there what it said
+pub record LeavesKept (leaves made : List Leaf) : Type 0 where
+  pub there : (l : Leaf) → Contains leaves l → Contains made l
+  pub under : (table : ℕ) (key : List ℕ) (l : Leaf) → leaf_under table key leaves ≡ Some l → leaf_under table key made ≡ Some l
+  pub behind : (l : Leaf) → Contains leaves l → leaf_behind l.id made ≡ leaf_behind l.id leaves
+  pub on : (way : Way) (l : Leaf) → Contains leaves l → leaves_on way l.table l.id made ≡ leaves_on way l.table l.id leaves
+
+-- and a frame that has one of them stays with its table, and a key in it keeps its slot
+pub record LeavesStay (leaves made : List Leaf) (pieces later : List FramePiece) : Type 0 where
+  pub kept : LeavesKept leaves made
+  pub tables : (table : ℕ) (key : List ℕ) (frame : ℕ) → frame_of leaves table key ≡ Some frame → table_at later frame ≡ table_at pieces frame
+  pub slots : (table : ℕ) (key : List ℕ) (frame : ℕ) (other : List ℕ) (i : ℕ) → frame_of leaves table key ≡ Some frame → slot_of other (slots_in pieces frame) ≡ Some i → slot_of other (slots_in later frame) ≡ Some i
 
 -- what is left to each session but this one, also while sessions are opened, stamps are raised and tables are made
 pub record Apart (session : ℕ) (m next : Machine) (hub later : Hub) (pieces pieces' : List FramePiece) : Type 0 where
   pub machine : MachineApart session m next
-  pub leaves : LeavesStay hub.tables.tables later.tables.tables pieces pieces'
+  pub leaves : LeavesStay hub.dir.leaves later.dir.leaves pieces pieces'
   pub seats : length hub.txns.sessions ≤ length later.txns.sessions
   pub phases : (r : ℕ) → r ≢ session → phase_of later.txns r ≡ phase_of hub.txns r
   pub updates : OthersUpdates m session pieces pieces'

@@ -1,20 +1,23 @@
 -- A checkpoint starts and finishes, with nobody between.
 use Rattle.std.proofs.Common.{ℕ, refl, length, arith}
+use Rattle.std.specs.Prelude.{None}
 use Rattle.kv_model.specs.Allowed.{Allowed}
 use Rattle.kv_model.specs.Machine.{Machine, CheckpointStart, CheckpointFinish, after}
 use Rattle.kv_model.specs.Valid.{Valid}
 use Rattle.kv_model.proofs.EveryEvent.{valid-after}
+use Rattle.kv_model.proofs.RowRanges.{value-goes-on}
 use Rattle.txn_table.specs.Stands.{TableStands}
 use Rattle.txn_table.proofs.Standing.{calls-stand}
 use Rattle.update_chain.specs.EventLaws.{ChainsGoOn}
 use Rattle.engine_world.specs.Systems.{CheckpointsGo, checkpointed}
 use Rattle.engine_world.proofs.Beside.{Apart, MachineApart}
 use Rattle.engine_world.proofs.Events.{updates-same}
+use Rattle.engine_world.proofs.HubMoves.{leaves-go-on}
 use Rattle.engine_world.proofs.Others.{others-stay}
-use Rattle.engine_world.proofs.SystemEvents.{leaf-goes-on, leaves-same, past-all}
+use Rattle.engine_world.proofs.SystemEvents.{leaves-same, past-all}
 
-checkpointed-apart : (session : ℕ) (m : Machine) → MachineApart session m (checkpointed m)
-checkpointed-apart session m = record {
+checkpointed-apart : (session : ℕ) (m : Machine) → Valid m → Allowed m CheckpointStart → MachineApart session m (checkpointed m)
+checkpointed-apart session m valid may = record {
   run = refl;
   fault = refl;
   others = λ r other. refl;
@@ -22,6 +25,7 @@ checkpointed-apart session m = record {
   held = λ r t table key other there alive own. refl;
   grown = λ table key v member. member;
   none = λ r t table key other there drawn none. none;
+  absent = λ r t table key other there reads. value-goes-on (after m CheckpointStart) CheckpointFinish r t table key None (valid-after m CheckpointStart valid may) tt there tt (value-goes-on m CheckpointStart r t table key None valid may there tt reads);
 }
 
 pub checkpoints-go : ChainsGoOn → CheckpointsGo
@@ -32,8 +36,11 @@ checkpoints-go chains e w st free none = record {
   txns = (calls-stand e.hub.txns begun valid table).others CheckpointFinish tt tt;
   catalog = st.catalog;
   made = st.made;
-  leaves = λ place t there. leaf-goes-on chains begun CheckpointFinish e.pieces e.states place t valid tt (λ key. tt)
-      (leaf-goes-on chains w.machine CheckpointStart e.pieces e.states place t st.valid may (λ key. tt) (st.leaves place t there));
+  dir = st.dir;
+  begun = st.begun;
+  owned = st.owned;
+  leaves = leaves-go-on chains begun CheckpointFinish e.hub.dir.leaves e.pieces e.states valid tt (λ table key. tt)
+      (leaves-go-on chains w.machine CheckpointStart e.hub.dir.leaves e.pieces e.states st.valid may (λ table key. tt) st.leaves);
   count = st.count;
   doings = st.doings;
   doing = st.doing;
@@ -54,8 +61,8 @@ checkpoints-go chains e w st free none = record {
 
   beside : Apart (length e.sessions) w.machine (checkpointed w.machine) e.hub e.hub e.pieces e.pieces
   beside = record {
-    machine = checkpointed-apart (length e.sessions) w.machine;
-    leaves = leaves-same e.hub.tables.tables e.pieces;
+    machine = checkpointed-apart (length e.sessions) w.machine st.valid may;
+    leaves = leaves-same e.hub.dir.leaves e.pieces;
     seats = omega arith;
     phases = λ r other. refl;
     updates = updates-same w.machine (length e.sessions) e.pieces;

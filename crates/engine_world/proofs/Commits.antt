@@ -57,18 +57,18 @@ durable_stamp stamps = or_stamp (stamp_of stamps.durable) (stamp_of stamps.commi
 
 commit-goes : ChainsGoOn → CommitsStand → (e : Engine) (w : World) (session : ℕ) (stamps : CommitStamps) (a : State) (t : Transaction) → Stands e w → slice_get e.sessions session ≡ Some a → transaction_of w.machine session ≡ Some t
     → t.phase ≡ Running → a.phase ≡ phase.Running → IsEdited (stamps_in Running stamps) w.machine e.pieces t a 0 → given stamps w.machine session ≡ (Done, CommitAt session (stamp_of stamps.commit) (stamp_of stamps.commit))
-    → w.machine.fault ≡ None → Settling w session a Done (CommitAt session (stamp_of stamps.commit) (stamp_of stamps.commit)) → Goes e w session (decides_running (Ok tt) e.hub session a)
+    → w.machine.fault ≡ None → Settling e.hub.dir.leaves w session a Done (CommitAt session (stamp_of stamps.commit) (stamp_of stamps.commit)) → Goes e w session (decides_running (Ok tt) e.hub session a)
 commit-goes chains-go-on commits-stand e w session stamps a t st at there running in_p edited d up settles =
     seat-leads e w session a (finished answers.Done a).1 now (seat_in e.hub.txns session phase.Idle) event (finished answers.Done a).0 st at may refl sets
     ((calls-stand e.hub.txns w.machine st.valid st.txns).releases session (stamp_of stamps.commit) (stamp_of stamps.commit) may (mine.seated.phase ∙ ap known_phase in_p))
     (ap (λ (m : Machine). tables m.history) after_is
     ∙ tables-appended t.writes (CommitEntry (name_of w.machine t) (stamped (stamp_of stamps.commit) (stamp_of stamps.commit) t.writes)) w.machine.history refl)
     (committed-leaves chains-go-on commits-stand e w session (stamp_of stamps.commit) a t st at there running may edited)
-    (settles (record { told = (finished answers.Done a).0; machine = next; doing = doing_in session (finished answers.Done a).1 }) (
+    (settles (record { told = (finished answers.Done a).0; machine = next; doing = doing_in e.hub.dir.leaves session (finished answers.Done a).1 }) (
       answers.Done,
       refl,
-      subst (λ o. EndsIn o answers.Done next session (decide_left a) (record { told = (finished answers.Done a).0; machine = next; doing = doing_in session (finished answers.Done a).1 })) (sym gone.none)
-          ((event-beside session w.machine event st.valid may refl).apart.fault ∙ up, finished-goes answers.Done (decide_left a) next session a (omega arith)),
+      subst (λ o. EndsIn o answers.Done next session (decide_left a) (record { told = (finished answers.Done a).0; machine = next; doing = doing_in e.hub.dir.leaves session (finished answers.Done a).1 })) (sym gone.none)
+          ((event-beside session w.machine event st.valid may refl).apart.fault ∙ up, finished-goes e.hub.dir.leaves answers.Done (decide_left a) next session a (omega arith)),
     ))
     (finished-stands next (record e.hub { txns = now }) e.pieces session a answers.Done gone (cursors-count w.machine e.hub e.pieces session a t st.valid there mine)
     seat.0 seat.1) where
@@ -103,21 +103,21 @@ commit-goes chains-go-on commits-stand e w session stamps a t st at there runnin
 
 resolve-goes : ChainsGoOn → ResolvesStand → (e : Engine) (w : World) (session stamp : ℕ) (stamps : CommitStamps) (a : State) (t : Transaction) → Stands e w → slice_get e.sessions session ≡ Some a → transaction_of w.machine session ≡ Some t
     → t.phase ≡ Prepared stamp → a.phase ≡ phase.Prepared stamp → given stamps w.machine session ≡ (Done, CommitAt session (stamp_of stamps.commit) (durable_stamp stamps))
-    → Settling w session a Done (CommitAt session (stamp_of stamps.commit) (durable_stamp stamps)) → Goes e w session (decides_prepared (Ok tt) e.hub session a stamps)
+    → Settling e.hub.dir.leaves w session a Done (CommitAt session (stamp_of stamps.commit) (durable_stamp stamps)) → Goes e w session (decides_prepared (Ok tt) e.hub session a stamps)
 resolve-goes chains-go-on resolves-stand e w session stamp stamps a t st at there is in_p d settles =
     seat-leads e w session a b now (seat_in e.hub.txns session phase.Resolving) event reply.More st at may refl sets
     ((calls-stand e.hub.txns w.machine st.valid st.txns).resolves session (stamp_of stamps.commit) (durable_stamp stamps) stamp may (mine.seated.phase ∙ ap known_phase in_p))
     (ap (λ (m : Machine). tables m.history) after_is
     ∙ tables-appended t.writes (ResolveEntry (name_of w.machine t) (stamped (stamp_of stamps.commit) (durable_stamp stamps) t.writes)) w.machine.history refl)
     (resolved-leaves chains-go-on resolves-stand e w session stamp (stamp_of stamps.commit) (durable_stamp stamps) a t st at there is may)
-    (settles (record { told = reply.More; machine = next; doing = doing_in session b }) (
+    (settles (record { told = reply.More; machine = next; doing = doing_in e.hub.dir.leaves session b }) (
       answers.Done,
       refl,
-      subst (λ o. EndsIn o answers.Done next session (decide_left a) (record { told = reply.More; machine = next; doing = doing_in session b })) (sym now_in.there)
+      subst (λ o. EndsIn o answers.Done next session (decide_left a) (record { told = reply.More; machine = next; doing = doing_in e.hub.dir.leaves session b })) (sym now_in.there)
           (inl (does.0, (let few = does.1 in omega arith), ap (λ d. record { told = reply.More; machine = next; doing = d }) does.2)),
     ))
     (phased-stands w.machine next e.hub now e.pieces session a b t Resolving mine there now_in seated refl refl refl
-    (stamps-stage stamps (length a.written) next e.hub.tables.tables e.pieces session (stamps_then stamps (length a.written) stage.Done) a t now_in.there committed refl)) where
+    (stamps-stage stamps (length a.written) next e.hub.dir.leaves e.pieces session (stamps_then stamps (length a.written) stage.Done) a t now_in.there committed refl)) where
       event : Event
       event = CommitAt session (stamp_of stamps.commit) (durable_stamp stamps)
 
@@ -149,8 +149,8 @@ resolve-goes chains-go-on resolves-stand e w session stamp stamps a t st at ther
       committed : AreCommitted stamps next (in_phase Resolving t)
       committed = subst (λ m. AreCommitted stamps m (in_phase Resolving t)) (sym after_is) (are-committed stamps w.machine session stamp t)
 
-      does : (fewer : ℕ) × (fewer ≤ length a.written + done_left a) × (doing_in session b ≡ Ending answers.Done fewer)
-      does = stamps-doing stamps (length a.written) session (stamps_then stamps (length a.written) stage.Done) a
+      does : (fewer : ℕ) × (fewer ≤ length a.written + done_left a) × (doing_in e.hub.dir.leaves session b ≡ Ending answers.Done fewer)
+      does = stamps-doing e.hub.dir.leaves stamps (length a.written) session (stamps_then stamps (length a.written) stage.Done) a
 
       seated : IsSeated (record e.hub { txns = now }) session b
       seated = seated-in e.hub now session phase.Resolving b sets (st.sessions session a at).seated.opened refl
@@ -168,11 +168,11 @@ decides-go chains-go-on commits-stand resolves-stand e w session a st at at-deci
   mine : SessionStands w.machine e.hub e.pieces session a
   mine = st.sessions session a at
 
-  stands : EndsOnlyDown w.machine session × ForTransaction w.machine session (λ t. DecidesStand t.phase stamps w.machine e.hub.tables.tables e.pieces t a)
+  stands : EndsOnlyDown w.machine session × ForTransaction w.machine session (λ t. DecidesStand t.phase stamps w.machine e.pieces t a)
   stands = stage-stands e w session a (stage.Decide stamps) st at is
 
-  settled : (outcome : Outcome) (event : Event) (made : Made) → given stamps w.machine session ≡ (outcome, event) → SettledBy outcome event w.machine session (decide_left a) made → GoesOn (doing_in session a) w.machine session made
-  settled outcome event made d by = subst (λ x. GoesOn x w.machine session made) (sym (doing-at session a (stage.Decide stamps) is))
+  settled : (outcome : Outcome) (event : Event) (made : Made) → given stamps w.machine session ≡ (outcome, event) → SettledBy outcome event w.machine session (decide_left a) made → GoesOn (doing_in e.hub.dir.leaves session a) w.machine session made
+  settled outcome event made d by = subst (λ x. GoesOn x w.machine session made) (sym (doing-at e.hub.dir.leaves session a (stage.Decide stamps) is))
       (inr (subst (λ (x : Outcome × Event). SettledBy x.0 x.1 w.machine session (decide_left a) made) (sym d) by))
 
   is-refused : (r : Refusal) → given stamps w.machine session ≡ refused r → Goes e w session (beside e.hub (refuses r a))
@@ -183,8 +183,8 @@ decides-go chains-go-on commits-stand resolves-stand e w session a st at at-deci
       ∙ (one-there w.machine session t (λ t. commit_decision t.phase w.machine session t stamps.commit stamps.durable) there ∙ ap (λ p. commit_decision p w.machine session t stamps.commit stamps.durable) in_q)
 
   -- the stamp that was found below the writes is the one that the rules ask for
-  prev : (t : Transaction) → transaction_of w.machine session ≡ Some t → IsOrdered stamps w.machine e.hub.tables.tables e.pieces t a 0 → stamps.prev ≡ durable_below w.machine t.writes
-  prev t there ordered = prev-is w.machine e.hub.tables.tables e.pieces t.writes a.written stamps.prev (noted-of e w session a t st at there) ordered
+  prev : (t : Transaction) → transaction_of w.machine session ≡ Some t → IsOrdered stamps w.machine e.pieces t a 0 → stamps.prev ≡ durable_below w.machine t.writes
+  prev t there ordered = prev-is w.machine e.hub.dir.leaves e.pieces t.writes a.written stamps.prev (noted-of e w session a t st at there) ordered
 
   running-by : e.hub.fault ≡ None → a.phase ≡ phase.Running → (t : Transaction) → transaction_of w.machine session ≡ Some t → t.phase ≡ Running → IsEdited (stamps_in Running stamps) w.machine e.pieces t a 0
       → (o : Option Invalid) → first_of (commit_rules w.machine.oldest w.machine.stable stamps.commit stamps.durable (durable_below w.machine t.writes)) ≡ o
@@ -210,7 +210,7 @@ decides-go chains-go-on commits-stand resolves-stand e w session a st at at-deci
   by-phase up phase.Idle in_p = is-refused (told.Invalid why.NoTxn) (decided-up w.machine session (CommitCall stamps.commit stamps.durable) (sym st.fault ∙ up)
       ∙ none-there w.machine session (λ t. commit_decision t.phase w.machine session t stamps.commit stamps.durable) (idle-none w.machine e.hub e.pieces session a mine in_p))
   by-phase up phase.Running in_p = let x = phase-there w.machine e.hub e.pieces session a phase.Running Running mine in_p refl in
-      let s = subst (λ p. DecidesStand p stamps w.machine e.hub.tables.tables e.pieces x.0 a) x.2 (stands.1 x.0 x.1) in
+      let s = subst (λ p. DecidesStand p stamps w.machine e.pieces x.0 a) x.2 (stands.1 x.0 x.1) in
       let rules : commit_rules e.hub.stamps.oldest e.hub.stamps.stable stamps.commit stamps.durable stamps.prev
       ≡ commit_rules w.machine.oldest w.machine.stable stamps.commit stamps.durable (durable_below w.machine x.0.writes) =
       ap (λ (k : Stamps). commit_rules k.oldest k.stable stamps.commit stamps.durable stamps.prev) st.stamps ∙ ap (commit_rules w.machine.oldest w.machine.stable stamps.commit stamps.durable) (prev x.0 x.1 s.0) in
@@ -218,7 +218,7 @@ decides-go chains-go-on commits-stand resolves-stand e w session a st at at-deci
       (running-by up in_p x.0 x.1 x.2 s.1 (first_of (commit_rules w.machine.oldest w.machine.stable stamps.commit stamps.durable (durable_below w.machine x.0.writes))) refl)
   by-phase up phase.Failed in_p = let x = phase-there w.machine e.hub e.pieces session a phase.Failed Failed mine in_p refl in is-refused (told.Invalid why.FailedTxn) (by-state up x.0 Failed x.1 x.2)
   by-phase up (phase.Prepared stamp) in_p = let x = phase-there w.machine e.hub e.pieces session a (phase.Prepared stamp) (Prepared stamp) mine in_p refl in
-      let s = subst (λ p. DecidesStand p stamps w.machine e.hub.tables.tables e.pieces x.0 a) x.2 (stands.1 x.0 x.1) in
+      let s = subst (λ p. DecidesStand p stamps w.machine e.pieces x.0 a) x.2 (stands.1 x.0 x.1) in
       let rules : resolve_rules e.hub.stamps.oldest e.hub.stamps.stable stamp stamps.commit stamps.durable stamps.prev
       ≡ resolve_rules w.machine.oldest w.machine.stable stamp stamps.commit stamps.durable (durable_below w.machine x.0.writes) =
       ap (λ (k : Stamps). resolve_rules k.oldest k.stable stamp stamps.commit stamps.durable stamps.prev) st.stamps ∙ ap (resolve_rules w.machine.oldest w.machine.stable stamp stamps.commit stamps.durable) (prev x.0 x.1 s) in

@@ -1,9 +1,10 @@
--- A table is made, with an empty leaf in the frame of its place.
-use Rattle.std.proofs.Common.{◌≡◌, ◌≢◌, ◌<◌, ℕ, false, refl, ap, sym, ◌∙◌, List, [], ◌∷◌, ◌++◌, length, inl, inr, subst, arith, reverse}
+-- A table is made, with one leaf, which is empty, in a frame that had none.
+use Rattle.std.proofs.Common.{◌≡◌, ◌≢◌, ◌<◌, ℕ, true, false, refl, ap, sym, ◌∙◌, List, [], ◌∷◌, ◌++◌, length, inl, inr, subst, arith, reverse}
 use Rattle.std.specs.Prelude.{◌==◌, Option, Some, None, option_and_then, slice_get, slice_set}
-use Rattle.std.proofs.lemmas.Bool.{cases_Bool, cases_eq, eqb-true}
+use Rattle.std.specs.List.{Contains}
+use Rattle.std.proofs.lemmas.Bool.{both_ways, cases_Bool, cases_eq, eqb-true}
 use Rattle.std.proofs.lemmas.List.{get_or-set_other, get_or-set_same, length-set, reverse-append}
-use Rattle.std.proofs.lemmas.Option.{slice_get-get_or, slice_get_within}
+use Rattle.std.proofs.lemmas.Option.{slice_get-get_or}
 use Rattle.item.specs.declared.Formats.{Formats}
 use Rattle.kv_model.specs.Allowed.{Allowed}
 use Rattle.kv_model.specs.Decisions.{Outcome, Done, CreateCall}
@@ -15,6 +16,8 @@ use Rattle.kv_model.proofs.ContentKeys.{any-from}
 use Rattle.kv_model.proofs.Deciding.{may-decide}
 use Rattle.kv_model.proofs.EveryEvent.{valid-after}
 use Rattle.kv_model.proofs.FinishedKeys.{absent-stands}
+use Rattle.tree_dir.specs.declared.leaf.Leaf.{Leaf}
+use Rattle.tree_dir.specs.Leaves.{Directory, IsDirectory, leaf_under}
 use Rattle.txn_table.proofs.Standing.{calls-stand}
 use Rattle.update_chain.specs.EventLaws.{ChainsGoOn}
 use Rattle.catalog.specs.Known.{AreTables, Known}
@@ -25,15 +28,19 @@ use Rattle.leaf_chains.specs.Slots.{chain_at, slot_of}
 use Rattle.call_steps.specs.declared.frame.Frame.{Frame}
 use Rattle.call_steps.specs.declared.frame.FramePiece.{FramePiece}
 use Rattle.call_steps.specs.Tables.{first_word}
-use Rattle.engine_world.specs.Leaves.{LeafStands, frame_in}
+use Rattle.engine_world.specs.Leaves.{LeafStands, LeavesOwned, TablesBegun, frame_in, frame_of}
 use Rattle.engine_world.specs.Stands.{Engine, Stands}
-use Rattle.engine_world.specs.Systems.{CreatesGo, first_piece, with_table}
+use Rattle.engine_world.specs.Systems.{CreatesGo, HasFirstLeaf, first_piece, with_table}
 use Rattle.engine_world.specs.Worlds.{World}
-use Rattle.engine_world.proofs.Appended.{append-finds, append-keeps}
-use Rattle.engine_world.proofs.Beside.{Apart, LeavesStay, OthersUpdates}
+use Rattle.engine_world.proofs.Appended.{append-finds, append-keeps, append-last}
+use Rattle.engine_world.proofs.Beside.{Apart, LeavesKept, LeavesStay, OthersUpdates}
+use Rattle.engine_world.proofs.Homes.{LeavesStand, home-at}
+use Rattle.engine_world.proofs.HubMoves.{leaves-go-on}
 use Rattle.engine_world.proofs.Moves.{get-set-other}
-use Rattle.engine_world.proofs.Others.{others-stay}
-use Rattle.engine_world.proofs.SystemEvents.{created-apart, leaf-goes-on, past-all}
+use Rattle.engine_world.proofs.NewLeaf.{IsCome, come-cases, come-kept, comes, new-there, new_leaf, under-come, under-same}
+use Rattle.engine_world.proofs.OnePiece.{table-there}
+use Rattle.engine_world.proofs.Others.{doing-kept, others-stay}
+use Rattle.engine_world.proofs.SystemEvents.{created-apart, past-all}
 
 -- ---- the event may come
 
@@ -71,76 +78,136 @@ chains_in o = of_some [] (λ (f : Frame). f.leaf.chains) o
 set-here : {A : Type 0} (xs : List A) (i : ℕ) (x : A) → i < length xs → slice_get (slice_set xs i x) i ≡ Some x
 set-here xs i x inside = let long = length-set xs i x in slice_get-get_or (slice_set xs i x) i x (omega arith) ∙ ap Some (get_or-set_same xs i x x inside)
 
-new-frame : (pieces : List FramePiece) (place : ℕ) (t : Table) → place < length pieces → frame_in (slice_set pieces place (first_piece t)) place ≡ Some (record { table = t.number; leaf = record { page = []; chains = [] } })
-new-frame pieces place t inside = ap (option_and_then (λ (p : FramePiece). p.frame)) (set-here pieces place (first_piece t) inside)
+new-frame : (pieces : List FramePiece) (frame id : ℕ) (t : Table) → frame < length pieces → frame_in (slice_set pieces frame (first_piece t id)) frame ≡ Some (record { table = t.number; id = id; leaf = record { page = []; chains = [] } })
+new-frame pieces frame id t inside = ap (option_and_then (λ (p : FramePiece). p.frame)) (set-here pieces frame (first_piece t id) inside)
 
-old-frame : (pieces : List FramePiece) (place other : ℕ) (p : FramePiece) → other ≢ place → frame_in (slice_set pieces place p) other ≡ frame_in pieces other
-old-frame pieces place other p elsewhere = ap (option_and_then (λ (p : FramePiece). p.frame)) (get-set-other pieces place other p elsewhere)
+old-frame : (pieces : List FramePiece) (frame other : ℕ) (p : FramePiece) → other ≢ frame → frame_in (slice_set pieces frame p) other ≡ frame_in pieces other
+old-frame pieces frame other p elsewhere = ap (option_and_then (λ (p : FramePiece). p.frame)) (get-set-other pieces frame other p elsewhere)
+
+-- a frame that has a leaf is not the empty one
+not-empty : (pieces : List FramePiece) (frame other : ℕ) (f : Frame) → frame_in pieces frame ≡ None → frame_in pieces other ≡ Some f → other ≢ frame
+not-empty pieces frame other f empty there same = let clash : None ≡ Some f = sym empty ∙ (ap (frame_in pieces) (sym same) ∙ there) in absurd (cc)
 
 -- ---- a table that is made behind the others
 
-record IsMade (e : Engine) (w : World) (known : Known) (t : Table) (place : ℕ) : Type 0 where
+record IsMade (e : Engine) (w : World) (known : Known) (dir : Directory) (t : Table) (id frame : ℕ) : Type 0 where
   stands : Stands e w
   may : Allowed w.machine (CreateTable t)
-  last : place ≡ length e.hub.tables.tables
   tables : known.tables ≡ e.hub.tables.tables ++ t ∷ []
-  frame : place < length e.pieces
-  word : place < length e.states
+  leaf : HasFirstLeaf e.hub.dir dir t.number id frame
+  dir_is : IsDirectory dir
+  empty : frame_in e.pieces frame ≡ None
+  piece : frame < length e.pieces
+  word : frame < length e.states
 
-module _ (chains : ChainsGoOn) (e : Engine) (w : World) (known : Known) (t : Table) (place : ℕ) (c : IsMade e w known t place) where
-  before : (old : ℕ) (u : Table) → slice_get e.hub.tables.tables old ≡ Some u → old ≢ place
-  before old u there = let within = slice_get_within e.hub.tables.tables old u there in let last = c.last in omega arith
+module _ (chains : ChainsGoOn) (e : Engine) (w : World) (known : Known) (dir : Directory) (t : Table) (id frame : ℕ) (c : IsMade e w known dir t id frame) where
+  abbrev next : Machine
+  next = after w.machine (CreateTable t)
 
-  new-leaf : LeafStands (after w.machine (CreateTable t)) (slice_set e.pieces place (first_piece t)) (slice_set e.states place first_word) place t
-  new-leaf = record {
-    frame = record { table = t.number; leaf = record { page = []; chains = [] } };
-    there = new-frame e.pieces place t c.frame;
-    word = get_or-set_same e.states place first_word 0 c.word;
-    keys = λ key. chains w.machine (CreateTable t) t.number key [] None [] c.stands.valid c.may tt
+  abbrev pieces : List FramePiece
+  pieces = slice_set e.pieces frame (first_piece t id)
+
+  abbrev states : List ℕ
+  states = slice_set e.states frame first_word
+
+  -- no leaf was of its number
+  none-of : (l : Leaf) → Contains e.hub.dir.leaves l → l.table ≢ t.number
+  none-of l there same = let owner = c.stands.owned l there in
+      both_ways (has_table (tables w.machine.history) t.number) (number-absent w.machine t c.may.0)
+      (subst (λ n. has_table (tables w.machine.history) n ≡ true) (sym owner.3 ∙ same) (table-there w.machine e.hub.tables.tables owner.0 owner.1 c.stands.made owner.2))
+
+  come : IsCome e.hub.dir.leaves dir.leaves (new_leaf t.number id frame)
+  come = comes e.hub.dir dir t.number id frame c.stands.dir none-of c.leaf
+
+  kept : LeavesKept e.hub.dir.leaves dir.leaves
+  kept = come-kept e.hub.dir dir.leaves (new_leaf t.number id frame) c.stands.dir come
+
+  new-stands : LeafStands next dir.leaves pieces states (new_leaf t.number id frame)
+  new-stands = record {
+    laid = record {
+      framed = record { frame = frame; generation = 0 };
+      placed = refl;
+      frame = record { table = t.number; id = id; leaf = record { page = []; chains = [] } };
+      there = new-frame e.pieces frame id t c.piece;
+      table = refl;
+      id = refl;
+      word = get_or-set_same e.states frame first_word 0 c.word;
+    };
+    keys = λ key under. chains w.machine (CreateTable t) t.number key [] None [] c.stands.valid c.may tt
         (absent-stands w.machine t.number key c.stands.valid (number-absent w.machine t c.may.0));
+    bare = λ key outside. absurd (outside (under-come e.hub.dir dir.leaves (new_leaf t.number id frame) c.stands.dir come refl key));
   }
 
-  old-leaf : (old : ℕ) (u : Table) → slice_get e.hub.tables.tables old ≡ Some u
-      → LeafStands (after w.machine (CreateTable t)) (slice_set e.pieces place (first_piece t)) (slice_set e.states place first_word) old u
-  old-leaf old u there = record {
-    frame = leaf.frame;
-    there = old-frame e.pieces place old (first_piece t) (before old u there) ∙ leaf.there;
-    word = get_or-set_other e.states place old first_word 0 (before old u there) ∙ leaf.word;
-    keys = leaf.keys;
+  old-stands : (l : Leaf) → Contains e.hub.dir.leaves l → LeafStands next dir.leaves pieces states l
+  old-stands l there = record {
+    laid = record {
+      framed = old.laid.framed;
+      placed = old.laid.placed;
+      frame = old.laid.frame;
+      there = old-frame e.pieces frame old.laid.framed.frame (first_piece t id) apart ∙ old.laid.there;
+      table = old.laid.table;
+      id = old.laid.id;
+      word = get_or-set_other e.states frame old.laid.framed.frame first_word 0 apart ∙ old.laid.word;
+    };
+    keys = λ key under. old.keys key (sym (same key) ∙ under);
+    bare = λ key outside. old.bare key (λ under. outside (same key ∙ under));
   } where
-    leaf : LeafStands (after w.machine (CreateTable t)) e.pieces e.states old u
-    leaf = leaf-goes-on chains w.machine (CreateTable t) e.pieces e.states old u c.stands.valid c.may (λ key. tt) (c.stands.leaves old u there)
+    old : LeafStands next e.hub.dir.leaves e.pieces e.states l
+    old = leaves-go-on chains w.machine (CreateTable t) e.hub.dir.leaves e.pieces e.states c.stands.valid c.may (λ table key. tt) c.stands.leaves l there
 
-  each-leaf : (at : ℕ) (u : Table) → slice_get known.tables at ≡ Some u
-      → LeafStands (after w.machine (CreateTable t)) (slice_set e.pieces place (first_piece t)) (slice_set e.states place first_word) at u
-  each-leaf at u there = elim (append-finds e.hub.tables.tables t u at (subst (λ l. slice_get l at ≡ Some u) c.tables there)) [
-    | inl old ↦ old-leaf at u old
-    | inr last ↦ subst (λ i. LeafStands (after w.machine (CreateTable t)) (slice_set e.pieces place (first_piece t)) (slice_set e.states place first_word) i u) (c.last ∙ sym last.0)
-        (subst (λ x. LeafStands (after w.machine (CreateTable t)) (slice_set e.pieces place (first_piece t)) (slice_set e.states place first_word) place x) last.1 new-leaf)
+    apart : old.laid.framed.frame ≢ frame
+    apart = not-empty e.pieces frame old.laid.framed.frame old.laid.frame c.empty old.laid.there
+
+    same : (key : List ℕ) → leaf_under l.table key dir.leaves ≡ leaf_under l.table key e.hub.dir.leaves
+    same key = under-same e.hub.dir dir.leaves (new_leaf t.number id frame) c.stands.dir come l.table key (come.apart l there)
+
+  each-stands : LeavesStand next dir.leaves pieces states
+  each-stands l there = elim (come-cases e.hub.dir dir.leaves (new_leaf t.number id frame) c.stands.dir come l there) [
+    | inl old ↦ old-stands l old
+    | inr same ↦ subst (LeafStands next dir.leaves pieces states) same new-stands
   ]
 
-  leaves-stay : LeavesStay e.hub.tables.tables known.tables e.pieces (slice_set e.pieces place (first_piece t))
+  all-begun : TablesBegun known.tables dir.leaves
+  all-begun place u there = elim (append-finds e.hub.tables.tables t u place (subst (λ l. slice_get l place ≡ Some u) c.tables there)) [
+    | inl old ↦ let l = c.stands.begun place u old in (l.0, kept.there l.0 l.1, l.2)
+    | inr last ↦ (new_leaf t.number id frame, new-there e.hub.dir dir.leaves (new_leaf t.number id frame) c.stands.dir come, ap (λ (x : Table). x.number) last.1)
+  ]
+
+  all-owned : LeavesOwned known.tables dir.leaves
+  all-owned l there = elim (come-cases e.hub.dir dir.leaves (new_leaf t.number id frame) c.stands.dir come l there) [
+    | inl old ↦ let owner = c.stands.owned l old in
+        (owner.0, owner.1, subst (λ ls. slice_get ls owner.0 ≡ Some owner.1) (sym c.tables) (append-keeps e.hub.tables.tables t owner.1 owner.0 owner.2), owner.3)
+    | inr same ↦ (length e.hub.tables.tables, t, subst (λ ls. slice_get ls (length e.hub.tables.tables) ≡ Some t) (sym c.tables) (append-last e.hub.tables.tables t), ap (λ (x : Leaf). x.table) (sym same))
+  ]
+
+  -- a frame that has a leaf is as it was
+  home-apart : (table : ℕ) (key : List ℕ) (f : ℕ) → frame_of e.hub.dir.leaves table key ≡ Some f → f ≢ frame
+  home-apart table key f home = let h = home-at w.machine e.hub.dir e.pieces e.states table key f c.stands.dir c.stands.leaves home in
+      not-empty e.pieces frame f h.stands.laid.frame c.empty (ap (frame_in e.pieces) (sym h.at) ∙ h.stands.laid.there)
+
+  leaves-stay : LeavesStay e.hub.dir.leaves dir.leaves e.pieces pieces
   leaves-stay = record {
-    tables = λ old u there. subst (λ l. slice_get l old ≡ Some u) (sym c.tables) (append-keeps e.hub.tables.tables t u old there);
-    slots = λ old u key i there slot. subst (λ f. slot_of key (chains_in f) ≡ Some i) (sym (old-frame e.pieces place old (first_piece t) (before old u there))) slot;
+    kept = kept;
+    tables = λ table key f home. ap (λ (o : Option Frame). of_some 0 (λ (x : Frame). x.table) o) (old-frame e.pieces frame f (first_piece t id) (home-apart table key f home));
+    slots = λ table key f other i home slot. ap (λ (o : Option Frame). slot_of other (chains_in o)) (old-frame e.pieces frame f (first_piece t id) (home-apart table key f home)) ∙ slot;
   }
 
-  updates-stay : OthersUpdates w.machine (length e.sessions) e.pieces (slice_set e.pieces place (first_piece t))
-  updates-stay r x other there drawn at key u member named = elim (cases_eq at place) [
-    | inl same ↦ absurd (subst (λ f. Member u (chain_at key (chains_in f))) (ap (frame_in (slice_set e.pieces place (first_piece t))) same ∙ new-frame e.pieces place t c.frame) member)
-    | inr elsewhere ↦ subst (λ f. Member u (chain_at key (chains_in f))) (old-frame e.pieces place at (first_piece t) elsewhere) member
+  updates-stay : OthersUpdates w.machine (length e.sessions) e.pieces pieces
+  updates-stay r x other there drawn at key u member named = elim (cases_eq at frame) [
+    | inl same ↦ absurd (subst (λ f. Member u (chain_at key (chains_in f))) (ap (frame_in pieces) same ∙ new-frame e.pieces frame id t c.piece) member)
+    | inr elsewhere ↦ subst (λ f. Member u (chain_at key (chains_in f))) (old-frame e.pieces frame at (first_piece t id) elsewhere) member
   ]
 
-  made-beside : Apart (length e.sessions) w.machine (after w.machine (CreateTable t)) e.hub (record e.hub { tables = known }) e.pieces (slice_set e.pieces place (first_piece t))
+  made-beside : Apart (length e.sessions) w.machine next e.hub (record e.hub { tables = known; dir = dir }) e.pieces pieces
   made-beside = record {
-    machine = created-apart (length e.sessions) w.machine t;
+    machine = created-apart (length e.sessions) w.machine t c.stands.valid c.may;
     leaves = leaves-stay;
     seats = omega arith;
     phases = λ r other. refl;
     updates = updates-stay;
   }
 
-  made-stands : AreTables known → Stands (with_table e known t place) (record w { machine = after w.machine (CreateTable t) })
+  made-stands : AreTables known → Stands (with_table e known dir t id frame) (record w { machine = next })
   made-stands are = record {
     valid = valid-after w.machine (CreateTable t) c.stands.valid c.may;
     fault = c.stands.fault;
@@ -148,21 +215,26 @@ module _ (chains : ChainsGoOn) (e : Engine) (w : World) (known : Known) (t : Tab
     txns = (calls-stand e.hub.txns w.machine c.stands.valid c.stands.txns).others (CreateTable t) tt c.may;
     catalog = are;
     made = ap reverse c.tables ∙ (reverse-append e.hub.tables.tables (t ∷ []) ∙ ap (λ l. t ∷ l) c.stands.made);
-    leaves = each-leaf;
+    dir = c.dir_is;
+    begun = all-begun;
+    owned = all-owned;
+    leaves = each-stands;
     count = c.stands.count;
     doings = c.stands.doings;
-    doing = c.stands.doing;
-    sessions = λ r b there. others-stay (length e.sessions) w.machine (after w.machine (CreateTable t)) e.hub (record e.hub { tables = known }) e.pieces (slice_set e.pieces place (first_piece t)) r b
+    doing = λ r b there. c.stands.doing r b there ∙ sym (doing-kept w.machine e.hub.dir.leaves dir.leaves e.pieces r b kept (c.stands.sessions r b there).stage);
+    sessions = λ r b there. others-stay (length e.sessions) w.machine next e.hub (record e.hub { tables = known; dir = dir }) e.pieces pieces r b
         made-beside (past-all e.sessions r b there) c.stands.valid (c.stands.sessions r b there);
     systems = c.stands.systems;
   }
 
 pub creates-go : ChainsGoOn → CreatesGo
-creates-go chains e w name formats known place st created are frame word = made-stands chains e w known (asked e.hub.tables name formats) place (record {
+creates-go chains e w name formats known dir place id frame st created are leaf is empty piece word = made-stands chains e w known dir (asked e.hub.tables name formats) id frame (record {
   stands = st;
   may = create-may w.machine e.hub.tables name formats st.catalog st.made created.0;
-  last = created.1;
   tables = ap (λ (k : Known). k.tables) created.2;
-  frame = frame;
+  leaf = leaf;
+  dir_is = is;
+  empty = empty;
+  piece = piece;
   word = word;
 }) are

@@ -9,6 +9,7 @@ use Rattle.kv_model.specs.Machine.{Machine, Transaction, Phase as ModelPhase, Ev
 use Rattle.kv_model.specs.Decisions.{Outcome, Done, Refused, ruled}
 use Rattle.kv_model.specs.Refusals.{first_of}
 use Rattle.kv_model.proofs.Seats.{seat-inside}
+use Rattle.tree_dir.specs.declared.leaf.Leaf.{Leaf}
 use Rattle.txn_table.specs.declared.phase.Phase.{Phase}
 use Rattle.txn_table.specs.SessionData.{SessionData, phase_in}
 use Rattle.txn_table.specs.Tabled.{Table, in_phase as put_in_phase, phase_of, released_in}
@@ -65,13 +66,13 @@ in-set m session t q history there = record {
 
 -- the session keeps its writes and its cursors
 pub phased-stands : (m next : Machine) (hub : Hub) (now : Table) (pieces : List FramePiece) (session : ℕ) (a b : State) (t : Transaction) (q : ModelPhase) → SessionStands m hub pieces session a → transaction_of m session ≡ Some t
-    → IsIn m next session t q → IsSeated (record hub { txns = now }) session b → phase_in b.phase ≡ Some q → b.cursors ≡ a.cursors → b.written ≡ a.written → StageStands b.stage next hub.tables.tables pieces session b
+    → IsIn m next session t q → IsSeated (record hub { txns = now }) session b → phase_in b.phase ≡ Some q → b.cursors ≡ a.cursors → b.written ≡ a.written → StageStands b.stage next hub.dir.leaves pieces session b
     → SessionStands next (record hub { txns = now }) pieces session b
 phased-stands m next hub now pieces session a b t q mine there is seated phase cursors written stands = record {
   phase = phase ∙ sym (ap (option_map (λ (x : Transaction). x.phase)) is.there);
   seated = seated;
   cursors = ap (map _) cursors ∙ (mine.cursors ∙ sym is.cursors);
-  noted = subst (λ keys. AreNoted hub.tables.tables pieces (writes_in next session) keys) (sym written) (subst (λ writes. AreNoted hub.tables.tables pieces writes a.written) (sym same) mine.noted);
+  noted = subst (λ keys. AreNoted hub.dir.leaves pieces (writes_in next session) keys) (sym written) (subst (λ writes. AreNoted hub.dir.leaves pieces writes a.written) (sym same) mine.noted);
   stage = stands;
 } where
   same : writes_in next session ≡ writes_in m session
@@ -100,5 +101,5 @@ seated-in hub now session p b sets opened is = let seat = seat-is hub.txns now s
 -- ---- the world's steps
 
 -- what the event that decides a commit or a rollback leads to
-abbrev pub Settling : World → ℕ → State → Outcome → Event → Type 0
-Settling w session a outcome event = (made : Made) → SettledBy outcome event w.machine session (decide_left a) made → GoesOn (doing_in session a) w.machine session made
+abbrev pub Settling : List Leaf → World → ℕ → State → Outcome → Event → Type 0
+Settling leaves w session a outcome event = (made : Made) → SettledBy outcome event w.machine session (decide_left a) made → GoesOn (doing_in leaves session a) w.machine session made

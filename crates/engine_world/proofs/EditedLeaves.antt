@@ -1,14 +1,17 @@
 -- What is done to the keys of one leaf that a transaction wrote.
 use Rattle.std.proofs.Common.{◌≡◌, ◌≢◌, ◌⊎◌, ◌<◌, ◌≤◌, ℕ, zero, suc, refl, ap, sym, ◌∙◌, List, [], ◌∷◌, length, inl, inr, subst, arith}
-use Rattle.std.specs.Prelude.{Some, slice_get, slice_set, bytes_eq, ◌==◌, if◌then◌else◌, option_map}
+use Rattle.std.specs.Prelude.{Option, Some, None, slice_get, slice_set, bytes_eq, ◌==◌, if◌then◌else◌, option_map}
 use Rattle.std.proofs.lemmas.Bool.{cases_Bool, cases_eq, both_ways, eqb-true, eq-eqb}
+use Rattle.std.specs.List.{Contains}
 use Rattle.std.proofs.lemmas.Slice.Eq.{bytes_eq-Decides}
 use Rattle.stamp.specs.declared.Name.{Name}
 use Rattle.kv_model.specs.Holds.{Member}
-use Rattle.kv_model.specs.History.{Table, Write}
+use Rattle.kv_model.specs.History.{Write}
 use Rattle.kv_model.specs.Machine.{Machine, Transaction, name_of, of_some}
 use Rattle.row_page.specs.Rows.{Row}
 use Rattle.rows_shown.specs.Shows.{shown_at}
+use Rattle.tree_dir.specs.declared.leaf.Leaf.{Leaf}
+use Rattle.tree_dir.specs.Leaves.{Directory, IsDirectory, leaf_under}
 use Rattle.update_chain.specs.declared.update.Update.{Update}
 use Rattle.update_chain.specs.EventLaws.{StandsFor}
 use Rattle.leaf_chains.specs.declared.slot.KeyChain.{KeyChain}
@@ -21,9 +24,10 @@ use Rattle.call_steps.specs.declared.written.WrittenKey.{WrittenKey}
 use Rattle.call_steps.specs.FrameEvents.{with_chains, piece_changed}
 use Rattle.call_steps.specs.Leaves.{edited, chain_in, leaf_changed}
 use Rattle.call_steps.specs.Written.{frame_at, slot_at, leaf_start}
-use Rattle.engine_world.specs.Leaves.{AllHave, LeafStands, IsSlotOf, AreNoted, EditedDownTo, slots_in}
+use Rattle.engine_world.specs.Leaves.{AllHave, LeafStands, IsSlotOf, AreNoted, EditedDownTo, frame_in, slots_in}
 use Rattle.engine_world.proofs.Beside.{SlotsStay, BringsOnly}
-use Rattle.engine_world.proofs.OnePiece.{slots_of, frame-there, slots-set, slots-other, slots-stay, brings-only, leaves-on}
+use Rattle.engine_world.proofs.Homes.{IsAt, LeavesStand, LiesIn, home-at, one-leaf}
+use Rattle.engine_world.proofs.OnePiece.{slots_of, table_of, frame-there, slots-set, slots-other, slots-stay, brings-only, leaves-on}
 use Rattle.engine_world.proofs.EditedChains.{Edits, edited-have, edited-brings}
 
 -- ---- lists
@@ -76,30 +80,33 @@ start-below keys (suc n) some = subst (λ b. (if b then leaf_start keys (frame_a
 
 -- ---- the chains of a leaf
 
--- the slot is that of a write
-pub record IsWritten (t : Transaction) (table : ℕ) (old : List KeyChain) (k : WrittenKey) : Type 0 where
+-- the slot is that of a write, the key of which lies in the leaf
+pub record IsWritten (t : Transaction) (table : ℕ) (Lies : List ℕ → Type 0) (old : List KeyChain) (k : WrittenKey) : Type 0 where
   pub write : Write
   pub there : Member write t.writes
   pub number : write.table ≡ table
+  pub lies : Lies write.key
   pub slot : slot_of write.key old ≡ Some k.slot
 
 -- done to the keys of this leaf, but to the first n
-pub record Edited (e : Edit) (name : Name) (m : Machine) (table frame from : ℕ) (keys : List WrittenKey) (page : List Row) (old : List KeyChain) (n : ℕ) (slots : List KeyChain) : Type 0 where
-  pub stands : (key : List ℕ) → StandsFor m table key (chain_at key slots) (shown_at key page) []
+pub record Edited (e : Edit) (name : Name) (m : Machine) (table : ℕ) (Lies : List ℕ → Type 0) (frame from : ℕ) (keys : List WrittenKey) (page : List Row) (old : List KeyChain) (n : ℕ) (slots : List KeyChain) : Type 0 where
+  pub stands : (key : List ℕ) → Lies key → StandsFor m table key (chain_at key slots) (shown_at key page) []
+  pub bare : (key : List ℕ) → (Lies key → ⊥) → chain_at key slots ≡ []
   pub places : (key : List ℕ) → slot_of key slots ≡ slot_of key old
   pub brings : (key : List ℕ) (u : Update) → Member u (chain_at key slots) → u.version.window.name ≢ name → Member u (chain_at key old)
   pub done : (i : ℕ) (k : WrittenKey) → n ≤ i → slice_get keys i ≡ Some k → k.frame ≡ frame → AllHave e name (chain_in slots k.slot)
   -- a key of another leaf was done before
   pub before : (i : ℕ) (k : WrittenKey) → n ≤ i → slice_get keys i ≡ Some k → k.frame ≢ frame → from ≤ i
 
-module _ (e : Edit) (m : Machine) (t : Transaction) (edits : Edits e m t) (table frame from : ℕ) (keys : List WrittenKey) (page : List Row) (old : List KeyChain) where
-  edited-one : (n : ℕ) (slots : List KeyChain) (k : WrittenKey) → slice_get keys n ≡ Some k → k.frame ≡ frame → IsWritten t table old k → Edited e (name_of m t) m table frame from keys page old (suc n) slots
-      → Edited e (name_of m t) m table frame from keys page old n (slot_changed k.slot (edited (name_of m t) e) slots)
+module _ (e : Edit) (m : Machine) (t : Transaction) (edits : Edits e m t) (table : ℕ) (Lies : List ℕ → Type 0) (frame from : ℕ) (keys : List WrittenKey) (page : List Row) (old : List KeyChain) where
+  edited-one : (n : ℕ) (slots : List KeyChain) (k : WrittenKey) → slice_get keys n ≡ Some k → k.frame ≡ frame → IsWritten t table Lies old k → Edited e (name_of m t) m table Lies frame from keys page old (suc n) slots
+      → Edited e (name_of m t) m table Lies frame from keys page old n (slot_changed k.slot (edited (name_of m t) e) slots)
   edited-one n slots k at here w s = record {
-    stands = λ other. elim (cases-key other key) [
+    stands = λ other lies. elim (cases-key other key) [
       | inl same ↦ subst (λ (q : List ℕ). StandsFor m table q (chain_at q later) (shown_at q page) []) (sym same) stands_here
-      | inr apart ↦ subst (λ c. StandsFor m table other c (shown_at other page) []) (sym (kept_chain key other change slots k.slot slot apart)) (s.stands other)
+      | inr apart ↦ subst (λ c. StandsFor m table other c (shown_at other page) []) (sym (kept_chain key other change slots k.slot slot apart)) (s.stands other lies)
     ];
+    bare = λ other outside. kept_chain key other change slots k.slot slot (λ same. outside (subst Lies (sym same) w.lies)) ∙ s.bare other outside;
     places = λ other. kept_slots other change slots k.slot ∙ s.places other;
     brings = λ other u member else_named. elim (cases-key other key) [
       | inl same ↦ subst (λ (q : List ℕ). Member u (chain_at q old)) (sym same) (brings_here u (subst (λ (q : List ℕ). Member u (chain_at q later)) same member) else_named)
@@ -133,7 +140,7 @@ module _ (e : Edit) (m : Machine) (t : Transaction) (edits : Edits e m t) (table
     changed = changed_chain w.write.key (edited (name_of m t) e) slots k.slot slot
 
     was : StandsFor m w.write.table w.write.key (chain_at w.write.key slots) (shown_at w.write.key page) []
-    was = subst (λ n. StandsFor m n w.write.key (chain_at w.write.key slots) (shown_at w.write.key page) []) (sym w.number) (s.stands w.write.key)
+    was = subst (λ n. StandsFor m n w.write.key (chain_at w.write.key slots) (shown_at w.write.key page) []) (sym w.number) (s.stands w.write.key w.lies)
 
     stands_here : StandsFor m table w.write.key (chain_at w.write.key (slot_changed k.slot (edited (name_of m t) e) slots)) (shown_at w.write.key page) []
     stands_here = subst (λ c. StandsFor m table w.write.key c (shown_at w.write.key page) []) (sym changed)
@@ -148,23 +155,23 @@ module _ (e : Edit) (m : Machine) (t : Transaction) (edits : Edits e m t) (table
         (edited-have e m (name_of m t) w.write.table w.write.key (chain_at w.write.key slots) (shown_at w.write.key page) (edits.has w.write w.there) was)
 
   -- done to all keys of the leaf that end the first n
-  edited-leaf : ((k : WrittenKey) → Member k keys → k.frame ≡ frame → IsWritten t table old k) → (n : ℕ) → n ≤ length keys → (slots : List KeyChain) → Edited e (name_of m t) m table frame from keys page old n slots
-      → Edited e (name_of m t) m table frame from keys page old (leaf_start keys frame n) (leaf_changed (edited (name_of m t) e) keys frame n slots)
+  edited-leaf : ((k : WrittenKey) → Member k keys → k.frame ≡ frame → IsWritten t table Lies old k) → (n : ℕ) → n ≤ length keys → (slots : List KeyChain) → Edited e (name_of m t) m table Lies frame from keys page old n slots
+      → Edited e (name_of m t) m table Lies frame from keys page old (leaf_start keys frame n) (leaf_changed (edited (name_of m t) e) keys frame n slots)
   edited-leaf written zero within slots s = s
   edited-leaf written (suc n) within slots s = elim (cases_Bool (frame_at keys (suc n) == frame)) [
-    | inl is ↦ subst (λ b. Edited e (name_of m t) m table frame from keys page old (if b then leaf_start keys frame n else suc n)
+    | inl is ↦ subst (λ b. Edited e (name_of m t) m table Lies frame from keys page old (if b then leaf_start keys frame n else suc n)
         (if b then leaf_changed (edited (name_of m t) e) keys frame n (slot_changed (slot_at keys (suc n)) (edited (name_of m t) e) slots) else slots)) (sym is) (more (edited-leaf written n (omega (arith, within))) (eqb-true (frame_at keys (suc n)) frame is))
-    | inr isnt ↦ subst (λ b. Edited e (name_of m t) m table frame from keys page old (if b then leaf_start keys frame n else suc n)
+    | inr isnt ↦ subst (λ b. Edited e (name_of m t) m table Lies frame from keys page old (if b then leaf_start keys frame n else suc n)
         (if b then leaf_changed (edited (name_of m t) e) keys frame n (slot_changed (slot_at keys (suc n)) (edited (name_of m t) e) slots) else slots)) (sym isnt) s
   ] where
     last : (k : WrittenKey) × (slice_get keys n ≡ Some k)
     last = some-at keys n (omega (arith, within))
 
-    more : ((slots : List KeyChain) → Edited e (name_of m t) m table frame from keys page old n slots → Edited e (name_of m t) m table frame from keys page old (leaf_start keys frame n) (leaf_changed (edited (name_of m t) e) keys frame n slots))
+    more : ((slots : List KeyChain) → Edited e (name_of m t) m table Lies frame from keys page old n slots → Edited e (name_of m t) m table Lies frame from keys page old (leaf_start keys frame n) (leaf_changed (edited (name_of m t) e) keys frame n slots))
         → frame_at keys (suc n) ≡ frame
-        → Edited e (name_of m t) m table frame from keys page old (leaf_start keys frame n) (leaf_changed (edited (name_of m t) e) keys frame n (slot_changed (slot_at keys (suc n)) (edited (name_of m t) e) slots))
+        → Edited e (name_of m t) m table Lies frame from keys page old (leaf_start keys frame n) (leaf_changed (edited (name_of m t) e) keys frame n (slot_changed (slot_at keys (suc n)) (edited (name_of m t) e) slots))
     more rest is = let here : last.0.frame ≡ frame = sym (ap (of_some 0 (λ (k : WrittenKey). k.frame)) last.1) ∙ is in
-        subst (λ (j : ℕ). Edited e (name_of m t) m table frame from keys page old (leaf_start keys frame n) (leaf_changed (edited (name_of m t) e) keys frame n (slot_changed j (edited (name_of m t) e) slots)))
+        subst (λ (j : ℕ). Edited e (name_of m t) m table Lies frame from keys page old (leaf_start keys frame n) (leaf_changed (edited (name_of m t) e) keys frame n (slot_changed j (edited (name_of m t) e) slots)))
         (sym (ap (of_some 0 (λ (k : WrittenKey). k.slot)) last.1))
         (rest (slot_changed last.0.slot (edited (name_of m t) e) slots)
         (edited-one n slots last.0 last.1 here (written last.0 (got-member keys n last.0 last.1) here) s))
@@ -172,17 +179,18 @@ module _ (e : Edit) (m : Machine) (t : Transaction) (edits : Edits e m t) (table
 -- ---- the frames
 
 -- the frames before, with a transaction whose noted keys are done down to so many
-pub record OnLeaf (e : Edit) (m : Machine) (t : Transaction) (known : List Table) (pieces : List FramePiece) (states : List ℕ) (keys : List WrittenKey) (left : ℕ) : Type 0 where
+pub record OnLeaf (e : Edit) (m : Machine) (t : Transaction) (d : Directory) (pieces : List FramePiece) (states : List ℕ) (keys : List WrittenKey) (left : ℕ) : Type 0 where
   pub edits : Edits e m t
-  pub leaves : (place : ℕ) (x : Table) → slice_get known place ≡ Some x → LeafStands m pieces states place x
-  pub noted : AreNoted known pieces t.writes keys
+  pub dir : IsDirectory d
+  pub leaves : LeavesStand m d.leaves pieces states
+  pub noted : AreNoted d.leaves pieces t.writes keys
   pub some : 1 ≤ left
   pub within : left ≤ length keys
   pub old : EditedDownTo e (name_of m t) pieces keys left
 
 -- and after the edit of one leaf
-pub record LeafEdited (e : Edit) (m : Machine) (t : Transaction) (known : List Table) (pieces later : List FramePiece) (states : List ℕ) (keys : List WrittenKey) (left : ℕ) : Type 0 where
-  pub leaves : (place : ℕ) (x : Table) → slice_get known place ≡ Some x → LeafStands m later states place x
+pub record LeafEdited (e : Edit) (m : Machine) (t : Transaction) (d : Directory) (pieces later : List FramePiece) (states : List ℕ) (keys : List WrittenKey) (left : ℕ) : Type 0 where
+  pub leaves : LeavesStand m d.leaves later states
   pub slots : SlotsStay pieces later
   pub brings : BringsOnly (name_of m t) pieces later
   pub done : EditedDownTo e (name_of m t) later keys left
@@ -190,15 +198,39 @@ pub record LeafEdited (e : Edit) (m : Machine) (t : Transaction) (known : List T
 abbrev pub piece_edited : Edit → Name → List WrittenKey → ℕ → FramePiece → FramePiece
 piece_edited e name keys left p = piece_changed (leaf_changed (edited name e) keys (frame_at keys left) left) p
 
-pub leaf-edited : (e : Edit) (m : Machine) (t : Transaction) (known : List Table) (pieces : List FramePiece) (states : List ℕ) (keys : List WrittenKey) (left : ℕ) (p : FramePiece)
-    → OnLeaf e m t known pieces states keys left → slice_get pieces (frame_at keys left) ≡ Some p
-    → LeafEdited e m t known pieces (slice_set pieces (frame_at keys left) (piece_edited e (name_of m t) keys left p)) states keys (leaf_start keys (frame_at keys left) left)
-leaf-edited e m t known pieces states keys zero p o at = absurd (let some = o.some in omega arith)
-leaf-edited e m t known pieces states keys (suc n) p o at = record {
-  leaves = leaves-on pieces frame p p' at m m states known (with_chains new leaf.frame) whole o.leaves
-      (λ x there_x key. subst (λ (z : Table). StandsFor m z.number key (chain_at key new) (shown_at key leaf.frame.leaf.page) []) (same-table x there_x) (final.stands key))
-      (λ place x other there_x key chain row k. k);
-  slots = slots-stay pieces frame p p' at (λ key i there. ap (slot_of key) now ∙ (final.places key ∙ (ap (slot_of key) was ∙ there)));
+-- an edit of chains leaves a piece with its table
+table-edited : (change : List KeyChain → List KeyChain) (p : FramePiece) → table_of (piece_changed change p) ≡ table_of p
+table-edited change p = by p.frame where
+  by : (o : Option Frame) → of_some 0 (λ (f : Frame). f.table) (option_map (λ (f : Frame). with_chains (change f.leaf.chains) f) o) ≡ of_some 0 (λ (f : Frame). f.table) o
+  by None = refl
+  by (Some f) = refl
+
+-- the frame of a leaf that stands
+pub leaf-framed : (m : Machine) (leaves : List Leaf) (pieces : List FramePiece) (states : List ℕ) (l : Leaf) (frame : ℕ) → (x : LeafStands m leaves pieces states l) → x.laid.framed.frame ≡ frame → frame_in pieces frame ≡ Some x.laid.frame
+leaf-framed m leaves pieces states l frame x at = ap (frame_in pieces) (sym at) ∙ x.laid.there
+
+-- a slot that was noted in the frame of a leaf is of a key that lies in it
+pub lies-in : (m : Machine) (d : Directory) (pieces : List FramePiece) (states : List ℕ) (l : Leaf) (frame : ℕ) (k : WrittenKey) (table : ℕ) (key : List ℕ) → IsDirectory d → LeavesStand m d.leaves pieces states → Contains d.leaves l
+    → (x : LeafStands m d.leaves pieces states l) → x.laid.framed.frame ≡ frame → k.frame ≡ frame → IsSlotOf d.leaves pieces k table key → (table ≡ l.table) × (leaf_under l.table key d.leaves ≡ Some l)
+lies-in m d pieces states l frame k table key is stand there x at same s = (
+  sym h.table_is ∙ ap (λ (n : Leaf). n.table) one,
+  subst (λ (n : Leaf). leaf_under n.table key d.leaves ≡ Some n) one h.under,
+) where
+  h : IsAt m d pieces states table key k.frame
+  h = home-at m d pieces states table key k.frame is stand s.home
+
+  one : h.leaf ≡ l
+  one = one-leaf d pieces states h.leaf l is h.there there h.stands.laid x.laid (h.at ∙ (same ∙ sym at))
+
+pub leaf-edited : (e : Edit) (m : Machine) (t : Transaction) (d : Directory) (pieces : List FramePiece) (states : List ℕ) (keys : List WrittenKey) (left : ℕ) (p : FramePiece)
+    → OnLeaf e m t d pieces states keys left → slice_get pieces (frame_at keys left) ≡ Some p
+    → LeafEdited e m t d pieces (slice_set pieces (frame_at keys left) (piece_edited e (name_of m t) keys left p)) states keys (leaf_start keys (frame_at keys left) left)
+leaf-edited e m t d pieces states keys zero p o at = absurd (let some = o.some in omega arith)
+leaf-edited e m t d pieces states keys (suc n) p o at = record {
+  leaves = leaves-on pieces frame p p' at m m states d home.leaf (with_chains new home.stands.laid.frame) o.dir o.leaves home.there home.stands.laid home.at
+      (record { is = whole; table = home.stands.laid.table; id = home.stands.laid.id; keys = final.stands; bare = λ key outside. (final.bare key outside, (home.stands.bare key outside).1) })
+      (λ l there other key chain row under k. k);
+  slots = slots-stay pieces frame p p' at (table-edited change p) (λ key i there. ap (slot_of key) now ∙ (final.places key ∙ (ap (slot_of key) was ∙ there)));
   brings = brings-only pieces frame p p' at (name_of m t) (λ key u member other. subst (λ l. Member u (chain_at key l)) was (final.brings key u (subst (λ l. Member u (chain_at key l)) now member) other));
   done = λ i k low there. elim (cases_eq k.frame frame) [
     | inl same ↦ subst (λ l. AllHave e (name_of m t) (chain_in l k.slot)) (sym (ap (slots_in later) same ∙ (slots-set pieces frame p p' at ∙ now))) (final.done i k low there same)
@@ -220,58 +252,56 @@ leaf-edited e m t known pieces states keys (suc n) p o at = record {
   here : last.0.frame ≡ frame_at keys (suc n)
   here = sym (ap (of_some 0 (λ (k : WrittenKey). k.frame)) last.1)
 
-  noted : (w : Write) × Member w t.writes × IsSlotOf known pieces last.0 w.table w.key
+  noted : (w : Write) × Member w t.writes × IsSlotOf d.leaves pieces last.0 w.table w.key
   noted = o.noted.wrote last.0 (got-member keys n last.0 last.1)
 
-  table : Table
-  table = noted.2.of
+  home : IsAt m d pieces states noted.0.table noted.0.key (frame_at keys (suc n))
+  home = home-at m d pieces states noted.0.table noted.0.key (frame_at keys (suc n)) o.dir o.leaves (noted.2.home ∙ ap Some here)
 
-  known-here : slice_get known (frame_at keys (suc n)) ≡ Some noted.2.of
-  known-here = ap (slice_get known) (sym here) ∙ noted.2.there
+  there : frame_in pieces (frame_at keys (suc n)) ≡ Some home.stands.laid.frame
+  there = leaf-framed m d.leaves pieces states home.leaf (frame_at keys (suc n)) home.stands home.at
 
-  same-table : (x : Table) → slice_get known (frame_at keys (suc n)) ≡ Some x → noted.2.of ≡ x
-  same-table x there_x = let both : Some noted.2.of ≡ Some x = sym known-here ∙ there_x in cc
+  framed : p.frame ≡ Some home.stands.laid.frame
+  framed = sym (frame-there pieces (frame_at keys (suc n)) p at) ∙ there
 
-  leaf : LeafStands m pieces states (frame_at keys (suc n)) noted.2.of
-  leaf = o.leaves (frame_at keys (suc n)) noted.2.of known-here
-
-  framed : p.frame ≡ Some leaf.frame
-  framed = sym (frame-there pieces (frame_at keys (suc n)) p at) ∙ leaf.there
-
-  was : leaf.frame.leaf.chains ≡ slots_of p
+  was : home.stands.laid.frame.leaf.chains ≡ slots_of p
   was = ap (of_some [] (λ (f : Frame). f.leaf.chains)) (sym framed)
 
   new : List KeyChain
-  new = leaf_changed (edited (name_of m t) e) keys (frame_at keys (suc n)) (suc n) leaf.frame.leaf.chains
+  new = leaf_changed (edited (name_of m t) e) keys (frame_at keys (suc n)) (suc n) home.stands.laid.frame.leaf.chains
 
   change : List KeyChain → List KeyChain
   change = leaf_changed (edited (name_of m t) e) keys (frame_at keys (suc n)) (suc n)
 
-  whole : (piece_edited e (name_of m t) keys (suc n) p).frame ≡ Some (with_chains (leaf_changed (edited (name_of m t) e) keys (frame_at keys (suc n)) (suc n) leaf.frame.leaf.chains) leaf.frame)
+  whole : (piece_edited e (name_of m t) keys (suc n) p).frame ≡ Some (with_chains (leaf_changed (edited (name_of m t) e) keys (frame_at keys (suc n)) (suc n) home.stands.laid.frame.leaf.chains) home.stands.laid.frame)
   whole = ap (option_map (λ (f : Frame). with_chains (leaf_changed (edited (name_of m t) e) keys (frame_at keys (suc n)) (suc n) f.leaf.chains) f)) framed
 
-  now : slots_of (piece_edited e (name_of m t) keys (suc n) p) ≡ leaf_changed (edited (name_of m t) e) keys (frame_at keys (suc n)) (suc n) leaf.frame.leaf.chains
+  now : slots_of (piece_edited e (name_of m t) keys (suc n) p) ≡ leaf_changed (edited (name_of m t) e) keys (frame_at keys (suc n)) (suc n) home.stands.laid.frame.leaf.chains
   now = ap (of_some [] (λ (f : Frame). f.leaf.chains)) whole
 
-  in-leaf : slots_in pieces (frame_at keys (suc n)) ≡ leaf.frame.leaf.chains
-  in-leaf = ap (of_some [] (λ (f : Frame). f.leaf.chains)) leaf.there
+  in-leaf : slots_in pieces (frame_at keys (suc n)) ≡ home.stands.laid.frame.leaf.chains
+  in-leaf = ap (of_some [] (λ (f : Frame). f.leaf.chains)) there
 
-  written : (k : WrittenKey) → Member k keys → k.frame ≡ frame_at keys (suc n) → IsWritten t noted.2.of.number leaf.frame.leaf.chains k
-  written k member same = let w = o.noted.wrote k member in record {
-    write = w.0;
-    there = w.1;
-    number = sym w.2.number ∙ ap (λ (z : Table). z.number) (sym (same-table w.2.of (ap (slice_get known) (sym same) ∙ w.2.there)));
-    slot = ap (slot_of w.0.key) (sym (ap (slots_in pieces) same ∙ in-leaf)) ∙ w.2.slot;
-  }
+  written : (k : WrittenKey) → Member k keys → k.frame ≡ frame_at keys (suc n) → IsWritten t home.leaf.table (LiesIn d.leaves home.leaf) home.stands.laid.frame.leaf.chains k
+  written k member same = let w = o.noted.wrote k member in
+      let lies = lies-in m d pieces states home.leaf (frame_at keys (suc n)) k w.0.table w.0.key o.dir o.leaves home.there home.stands home.at same w.2 in record {
+        write = w.0;
+        there = w.1;
+        number = lies.0;
+        lies = lies.1;
+        slot = ap (slot_of w.0.key) (sym (ap (slots_in pieces) same ∙ in-leaf)) ∙ w.2.slot;
+      }
 
-  first : Edited e (name_of m t) m noted.2.of.number (frame_at keys (suc n)) (suc n) keys leaf.frame.leaf.page leaf.frame.leaf.chains (suc n) leaf.frame.leaf.chains
+  first : Edited e (name_of m t) m home.leaf.table (LiesIn d.leaves home.leaf) (frame_at keys (suc n)) (suc n) keys home.stands.laid.frame.leaf.page home.stands.laid.frame.leaf.chains (suc n) home.stands.laid.frame.leaf.chains
   first = record {
-    stands = leaf.keys;
+    stands = home.stands.keys;
+    bare = λ key outside. (home.stands.bare key outside).0;
     places = λ key. refl;
     brings = λ key u member other. member;
     done = λ i k low there same. subst (λ l. AllHave e (name_of m t) (chain_in l k.slot)) (ap (slots_in pieces) same ∙ in-leaf) (o.old i k low there);
     before = λ i k low there other. low;
   }
 
-  final : Edited e (name_of m t) m noted.2.of.number (frame_at keys (suc n)) (suc n) keys leaf.frame.leaf.page leaf.frame.leaf.chains (leaf_start keys (frame_at keys (suc n)) (suc n)) (leaf_changed (edited (name_of m t) e) keys (frame_at keys (suc n)) (suc n) leaf.frame.leaf.chains)
-  final = edited-leaf e m t o.edits noted.2.of.number (frame_at keys (suc n)) (suc n) keys leaf.frame.leaf.page leaf.frame.leaf.chains written (suc n) o.within leaf.frame.leaf.chains first
+  final : Edited e (name_of m t) m home.leaf.table (LiesIn d.leaves home.leaf) (frame_at keys (suc n)) (suc n) keys home.stands.laid.frame.leaf.page home.stands.laid.frame.leaf.chains (leaf_start keys (frame_at keys (suc n)) (suc n))
+      (leaf_changed (edited (name_of m t) e) keys (frame_at keys (suc n)) (suc n) home.stands.laid.frame.leaf.chains)
+  final = edited-leaf e m t o.edits home.leaf.table (LiesIn d.leaves home.leaf) (frame_at keys (suc n)) (suc n) keys home.stands.laid.frame.leaf.page home.stands.laid.frame.leaf.chains written (suc n) o.within home.stands.laid.frame.leaf.chains first

@@ -4,7 +4,6 @@ use Rattle.std.specs.Prelude.{Option, Some, None, option_map, slice_get}
 use Rattle.failure.specs.declared.Fault.{Fault}
 use Rattle.wt_code.specs.declared.answers.Answer.TheVariants as answers
 use Rattle.wt_code.specs.declared.refusals.Refusal.TheVariants.{Panic}
-use Rattle.kv_model.specs.History.{Table}
 use Rattle.kv_model.specs.Machine.{Machine, Transaction, Phase as ModelPhase, Running, Failed, Prepared, Resolving, Leaving, of_some, EndTransaction, transaction_of, after}
 use Rattle.kv_model.specs.Allowed.{Allowed, HasTransaction}
 use Rattle.kv_model.specs.Decisions.{is_there}
@@ -41,12 +40,12 @@ done-stage : (g : Stage) → IsDone g → g ≡ stage.Done
 done-stage stage.Done is = refl
 done-stage _ is = absurd is
 
-done-ending : (p : ModelPhase) (m : Machine) (known : List Table) (pieces : List FramePiece) (t : Transaction) (a : State) → DoneStands p m known pieces t a → IsEnding p
-done-ending Resolving m known pieces t a done = tt
-done-ending Leaving m known pieces t a done = tt
-done-ending Running m known pieces t a done = done
-done-ending Failed m known pieces t a done = done
-done-ending (Prepared stamp) m known pieces t a done = done
+done-ending : (p : ModelPhase) (m : Machine) (pieces : List FramePiece) (t : Transaction) (a : State) → DoneStands p m pieces t a → IsEnding p
+done-ending Resolving m pieces t a done = tt
+done-ending Leaving m pieces t a done = tt
+done-ending Running m pieces t a done = done
+done-ending Failed m pieces t a done = done
+done-ending (Prepared stamp) m pieces t a done = done
 
 -- of one that is ending
 pub done-by : (p : Phase) (q : ModelPhase) (h : Hub) (session : ℕ) (a : State) → phase_in p ≡ Some q → IsEnding q → done_in p h session a ≡ done h session a
@@ -66,7 +65,7 @@ seat-idle m hub pieces session a mine = seat-is hub.txns (ended hub.txns session
 -- ---- the law
 
 end-goes : ChainsGoOn → EndsStand → (e : Engine) (w : World) (session : ℕ) (a : State) (t : Transaction) → Stands e w → slice_get e.sessions session ≡ Some a → a.stage ≡ stage.Done → e.hub.fault ≡ None
-    → transaction_of w.machine session ≡ Some t → DoneStands t.phase w.machine e.hub.tables.tables e.pieces t a → Goes e w session (done e.hub session a)
+    → transaction_of w.machine session ≡ Some t → DoneStands t.phase w.machine e.pieces t a → Goes e w session (done e.hub session a)
 end-goes chains-go-on ends-stand e w session a t st at is up there done =
     seat-leads e w session a (finished a.answer (without_answer a)).1 (ended e.hub.txns session) (seat_in e.hub.txns session phase.Idle) (EndTransaction session) (finished a.answer (without_answer a)).0 st at
     may refl (ended-sets e.hub.txns session) ((calls-stand e.hub.txns w.machine st.valid st.txns).ends session may) refl
@@ -81,26 +80,26 @@ end-goes chains-go-on ends-stand e w session a t st at is up there done =
       seat = seat-idle w.machine e.hub e.pieces session a mine
 
       may : Allowed w.machine (EndTransaction session)
-      may = (t, there, done-ending t.phase w.machine e.hub.tables.tables e.pieces t a done)
+      may = (t, there, done-ending t.phase w.machine e.pieces t a done)
 
       up_here : w.machine.fault ≡ None
       up_here = sym st.fault ∙ up
 
-      goes : GoesOn (doing_in session a) w.machine session
-          (record { told = (finished a.answer (without_answer a)).0; machine = after w.machine (EndTransaction session); doing = doing_in session (finished a.answer (without_answer a)).1 })
+      goes : GoesOn (doing_in e.hub.dir.leaves session a) w.machine session
+          (record { told = (finished a.answer (without_answer a)).0; machine = after w.machine (EndTransaction session); doing = doing_in e.hub.dir.leaves session (finished a.answer (without_answer a)).1 })
       goes = subst (λ d. GoesOn d w.machine session
-          (record { told = (finished a.answer (without_answer a)).0; machine = after w.machine (EndTransaction session); doing = doing_in session (finished a.answer (without_answer a)).1 }))
-          (sym (doing-at session a stage.Done is))
+          (record { told = (finished a.answer (without_answer a)).0; machine = after w.machine (EndTransaction session); doing = doing_in e.hub.dir.leaves session (finished a.answer (without_answer a)).1 }))
+          (sym (doing-at e.hub.dir.leaves session a stage.Done is))
           (inr (subst (λ f. EndsUnless f a.answer w.machine session (done_left a)
-          (record { told = (finished a.answer (without_answer a)).0; machine = after w.machine (EndTransaction session); doing = doing_in session (finished a.answer (without_answer a)).1 }))
-          (sym up_here) (finished-goes a.answer (done_left a) (after w.machine (EndTransaction session)) session (without_answer a) (omega arith))))
+          (record { told = (finished a.answer (without_answer a)).0; machine = after w.machine (EndTransaction session); doing = doing_in e.hub.dir.leaves session (finished a.answer (without_answer a)).1 }))
+          (sym up_here) (finished-goes e.hub.dir.leaves a.answer (done_left a) (after w.machine (EndTransaction session)) session (without_answer a) (omega arith))))
 
 pub ends-go : ChainsGoOn → EndsStand → EndsGo
 ends-go chains-go-on ends-stand e w session a st at at-done = subst (λ g. Goes e w session (hub_made_at g e.hub session a)) (sym is) (by-fault e.hub.fault refl) where
   is : a.stage ≡ stage.Done
   is = done-stage a.stage at-done
 
-  stands : HasTransaction w.machine session (λ t. DoneStands t.phase w.machine e.hub.tables.tables e.pieces t a)
+  stands : HasTransaction w.machine session (λ t. DoneStands t.phase w.machine e.pieces t a)
   stands = stage-stands e w session a stage.Done st at is
 
   by-fault : (f : Option Fault) → e.hub.fault ≡ f → Goes e w session (of_some (done_in a.phase e.hub session a) (λ fault. beside e.hub (refuses (Panic fault) a)) f)
@@ -108,5 +107,5 @@ ends-go chains-go-on ends-stand e w session a st at at-done = subst (λ g. Goes 
       refused-goes e w session a stage.Done (Panic fault) st at is (down-ends w.machine session fault down_here)
       (inr (subst (λ f. EndsUnless f a.answer w.machine session (done_left a) (record { told = reply.Answer (answers.Refused (Panic fault)); machine = w.machine; doing = Resting })) (sym down_here) refl))
   by-fault None up = subst (Goes e w session) (sym (done-by a.phase stands.0.phase e.hub session a ((st.sessions session a at).phase ∙ ap (option_map (λ (t : Transaction). t.phase)) stands.1)
-      (done-ending stands.0.phase w.machine e.hub.tables.tables e.pieces stands.0 a stands.2)))
+      (done-ending stands.0.phase w.machine e.pieces stands.0 a stands.2)))
       (end-goes chains-go-on ends-stand e w session a stands.0 st at is up stands.1 stands.2)

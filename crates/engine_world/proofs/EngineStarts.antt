@@ -7,7 +7,7 @@ use Rattle.stamp.specs.declared.Version.{Version}
 use Rattle.kv_model.specs.Content.{Content, base, descending, kept, placed_lt, start, table_lt}
 use Rattle.kv_model.specs.Droppable.{covers}
 use Rattle.kv_model.specs.Holds.{Descends, Stores}
-use Rattle.kv_model.specs.History.{Table, line}
+use Rattle.kv_model.specs.History.{line}
 use Rattle.kv_model.specs.Ordered.{Older}
 use Rattle.kv_model.specs.Pending.{InFrame, KeyStands, settled}
 use Rattle.kv_model.specs.ReconcileLaws.{FramesAlike}
@@ -19,12 +19,14 @@ use Rattle.kv_model.proofs.Ordering.{line-descends}
 use Rattle.txn_table.specs.Stands.{TableStands}
 use Rattle.txn_table.proofs.Starting.{new-stands}
 use Rattle.rows_shown.specs.Shows.{shown_at}
+use Rattle.tree_dir.specs.declared.leaf.Leaf.{Leaf}
 use Rattle.update_chain.specs.declared.update.Update.{Update}
 use Rattle.update_chain.specs.EventLaws.{StandsFor}
 use Rattle.update_chain.specs.Updates.{unmarked_update, update_in}
 use Rattle.leaf_chains.specs.Slots.{chain_at}
 use Rattle.wt_calls.specs.declared.system_call.SystemCall.{SystemCall}
 use Rattle.wt_calls.specs.Calls.{system_call_in}
+use Rattle.call_steps.specs.declared.frame.FramePiece.{FramePiece}
 use Rattle.call_steps.specs.State.{State}
 use Rattle.engine_world.specs.Leaves.{LeafStands}
 use Rattle.engine_world.specs.Stands.{Engine}
@@ -66,12 +68,11 @@ key-starts alike c table key chain row regular first = subst (λ l. KeyStands (s
     (alike (start c) table key (line (base c) table key) first.above None row [] (λ v there passes s t at. absurd (no-seat s t at))
     (sym first.all ∙ sym (append-nil (line (base c) table key))) (in-chain c table key regular))
 
-leaf-starts : FramesAlike → (c : Content) (e : Engine) (place : ℕ) (t : Table) → IsRegular c → LeafStarts c e.pieces e.states place t → LeafStands (start c) e.pieces e.states place t
-leaf-starts alike c e place t regular leaf = record {
-  frame = leaf.frame;
-  there = leaf.there;
-  word = leaf.word;
-  keys = λ key. key-starts alike c t.number key (chain_at key leaf.frame.leaf.chains) (shown_at key leaf.frame.leaf.page) regular (leaf.keys key);
+leaf-starts : FramesAlike → (c : Content) (leaves : List Leaf) (pieces : List FramePiece) (states : List ℕ) (l : Leaf) → IsRegular c → LeafStarts c leaves pieces states l → LeafStands (start c) leaves pieces states l
+leaf-starts alike c leaves pieces states l regular leaf = record {
+  laid = leaf.laid;
+  keys = λ key under. key-starts alike c l.table key (chain_at key leaf.laid.frame.leaf.chains) (shown_at key leaf.laid.frame.leaf.page) regular (leaf.keys key under);
+  bare = leaf.bare;
 }
 
 -- ---- nobody is at work
@@ -91,7 +92,10 @@ engines-start alike c e regular b = record {
   txns = subst (λ t. TableStands t (start c)) (sym b.txns) (new-stands c 0);
   catalog = b.catalog;
   made = b.tables ∙ sym (tables-base (descending table_lt c.tables) (descending placed_lt (kept c)));
-  leaves = λ place t there. leaf-starts alike c e place t regular (b.leaves place t there);
+  dir = b.dir;
+  begun = b.begun;
+  owned = b.owned;
+  leaves = λ l there. leaf-starts alike c e.hub.dir.leaves e.pieces e.states l regular (b.leaves l there);
   count = ap length b.sessions;
   doings = sym (ap length b.sessions);
   doing = λ session a there. absurd (no-session e session a b.sessions there);

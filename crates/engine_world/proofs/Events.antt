@@ -16,6 +16,7 @@ use Rattle.kv_model.specs.Valid.{Valid}
 use Rattle.kv_model.proofs.Committing.{lines-apart}
 use Rattle.kv_model.proofs.Finishing.{member-append, named-so}
 use Rattle.kv_model.proofs.Onward.{Grew, history-grew, run-after, session-stays}
+use Rattle.kv_model.proofs.RowRanges.{value-goes-on}
 use Rattle.call_steps.specs.declared.frame.FramePiece.{FramePiece}
 use Rattle.call_steps.specs.declared.hub.Hub.{Hub}
 use Rattle.engine_world.proofs.Beside.{Beside, MachineApart, MachineBeside, IsEventOf, SlotsStay, OthersUpdates}
@@ -159,6 +160,7 @@ event-beside session m event valid may of = record {
     held = lines.held;
     grown = lines.grown;
     none = lines.none;
+    absent = λ r t table key other there reads. value-goes-on m event r t table key None valid may there (of-others session r event of other) reads;
   };
   oldest = plain.oldest;
   stable = plain.stable;
@@ -182,6 +184,7 @@ apart-then session m middle next v w = record {
   grown = λ table key x member. w.grown table key x (v.grown table key x member);
   none = λ r t table key other there drawn none. subst (λ run. NoneOf (record { run = run; id = t.id }) (line next.history table key)) v.run
       (w.none r t table key other (v.others r other ∙ there) drawn (subst (λ run. NoneOf (record { run = run; id = t.id }) (line middle.history table key)) (sym v.run) (v.none r t table key other there drawn none)));
+  absent = λ r t table key other there reads. w.absent r t table key other (v.others r other ∙ there) (v.absent r t table key other there reads);
 }
 
 pub beside-then : (session : ℕ) (m middle next : Machine) → MachineBeside session m middle → MachineBeside session middle next → MachineBeside session m next
@@ -201,6 +204,7 @@ apart-same session m = record {
   held = λ r t table key other there live own. refl;
   grown = λ table key v member. member;
   none = λ r t table key other there drawn none. none;
+  absent = λ r t table key other there reads. reads;
 }
 
 pub beside-same : (session : ℕ) (m : Machine) → MachineBeside session m m
@@ -209,16 +213,17 @@ beside-same session m = record { apart = apart-same session m; oldest = refl; st
 -- ---- the frames and the hub
 
 pub slots-same : (pieces : List FramePiece) → SlotsStay pieces pieces
-slots-same pieces place key i at = at
+slots-same pieces = record { tables = λ frame. refl; slots = λ frame key i at. at }
 
 pub updates-same : (m : Machine) (session : ℕ) (pieces : List FramePiece) → OthersUpdates m session pieces pieces
-updates-same m session pieces r t other there drawn place key u member named = member
+updates-same m session pieces r t other there drawn frame key u member named = member
 
 -- the frames and the hub stay
 pub all-same : (session : ℕ) (m next : Machine) (hub : Hub) (pieces : List FramePiece) → MachineBeside session m next → Beside session m next hub hub pieces pieces
 all-same session m next hub pieces machine = record {
   machine = machine;
   tables = refl;
+  dir = refl;
   seats = refl;
   phases = λ r other. refl;
   slots = slots-same pieces;

@@ -1,5 +1,5 @@
 -- The event that finds the table of a call.
-use Rattle.std.proofs.Common.{◌≡◌, ◌⊎◌, ◌<◌, ℕ, refl, ap, sym, ◌∙◌, Bool, true, false, ◌&&◌, [], length, inl, inr, subst}
+use Rattle.std.proofs.Common.{◌≡◌, ◌⊎◌, ◌<◌, ◌+◌, ℕ, refl, ap, sym, ◌∙◌, Bool, true, false, ◌&&◌, [], length, inl, inr, subst}
 use Rattle.std.specs.Prelude.{Option, Some, None, option_map, slice_get, nat_lt, ◌==◌, if◌then◌else◌}
 use Rattle.std.proofs.lemmas.List.{get_or-set_same}
 use Rattle.failure.specs.declared.Fault.{Fault}
@@ -11,7 +11,7 @@ use Rattle.wt_code.specs.declared.refusals.Invalid.{Invalid}
 use Rattle.wt_code.specs.declared.refusals.Invalid.TheVariants as why
 use Rattle.wt_code.specs.declared.refusals.Limit.TheVariants as counted
 use Rattle.kv_model.specs.History.{Table as KnownTable, tables, named}
-use Rattle.kv_model.specs.Machine.{Transaction, Phase as ModelPhase, Running, Failed, Prepared, Resolving, Leaving, transaction_of, of_some, Event, DrawId, Nothing, after}
+use Rattle.kv_model.specs.Machine.{Machine, Transaction, Phase as ModelPhase, Running, Failed, Prepared, Resolving, Leaving, transaction_of, cursors_of, of_some, Event, DrawId, Nothing, after}
 use Rattle.kv_model.specs.Allowed.{Allowed}
 use Rattle.kv_model.specs.Refusals.{first_of}
 use Rattle.kv_model.specs.Decisions.{Outcome, Done, refused, invalid, in_state, decision}
@@ -28,19 +28,21 @@ use Rattle.call_steps.specs.declared.stage.Target.{Target}
 use Rattle.call_steps.specs.Stages.{is_write}
 use Rattle.call_steps.specs.HubEvents.{beside, with_txns, item_checks, finds_drawn, finds_at, finds, find_made, refuses_as, hub_made_at}
 use Rattle.call_steps.specs.State.{State, at_stage, refuses}
-use Rattle.call_steps.specs.Tables.{target_at, target_of}
+use Rattle.call_steps.specs.Tables.{target_of}
 use Rattle.call_steps.specs.Words.{unless_running}
 use Rattle.update_chain.specs.EventLaws.{ChainsGoOn}
 use Rattle.engine_world.specs.Worlds.{World, Resting}
-use Rattle.engine_world.specs.Doings.{call_in, doing_in}
+use Rattle.engine_world.specs.Doings.{call_in, doing_in, find_left, further_left}
 use Rattle.engine_world.specs.Steps.{GoesOn}
 use Rattle.engine_world.specs.Leaves.{AreNoted}
-use Rattle.engine_world.specs.Stages.{EndsOnlyDown, IsLeafOf, NamesOnly}
+use Rattle.engine_world.specs.Stages.{EndsOnlyDown, IsSought, NamesOnly}
 use Rattle.engine_world.specs.Stands.{Engine, Stands, SessionStands}
 use Rattle.engine_world.specs.Laws.{FindsGo, IsFind}
+use Rattle.engine_world.proofs.Homes.{target-from, target_at}
 use Rattle.engine_world.proofs.Moves.{alone-leads}
 use Rattle.engine_world.proofs.HubMoves.{Goes, decided-up, decided-down, none-there, in-phase, idle-none, phase-there, stage-stands, goes-from, refused-goes, leaves-go-on, SetsSeat, seat-now, seats-opened, seat-leads}
-use Rattle.engine_world.proofs.FindChecks.{request_in, judged_in, draw_by, goes_in, named_by, named_then, checked_then, judged-as, off-page, checks-agree, NotThere, StandsAt, find-name, has-id, has-none, drawn_seat, drawn-seat, call-kept, judges, found-refused, found-done}
+use Rattle.engine_world.proofs.FindChecks.{request_in, judged_in, draw_by, goes_in, named_by, named_then, checked_then, judged-as, off-page, checks-agree, NotThere, StandsAt, find-name, has-id, has-none, drawn_seat, drawn-seat, call-kept, judges, found-refused, found-done, placed-less}
+use Rattle.engine_world.proofs.Seeking.{begins-sought}
 
 module _ (law : ChainsGoOn) (e : Engine) (w : World) (session : ℕ) (a : State) (call : KeyCall) (st : Stands e w) (at : slice_get e.sessions session ≡ Some a) (is : a.stage ≡ stage.Find call) where
   mine : SessionStands w.machine e.hub e.pieces session a
@@ -57,38 +59,43 @@ module _ (law : ChainsGoOn) (e : Engine) (w : World) (session : ℕ) (a : State)
 
   refuses-by : (r : Refusal) → decision w.machine session (request_in call a) ≡ refused r → Goes e w session (beside e.hub (refuses r a))
   refuses-by r decided = refused-goes e w session a (stage.Find call) r st at is ends
-      (inr (judges call a w.machine session 7 (record { told = reply.Answer (answers.Refused r); machine = w.machine; doing = Resting })
-      (found-refused (decision w.machine session (request_in call a)) r w.machine (call_in call a) a.name 7 decided)))
+      (inr (judges call a w.machine session find_left (record { told = reply.Answer (answers.Refused r); machine = w.machine; doing = Resting })
+      (found-refused (decision w.machine session (request_in call a)) r w.machine (call_in call a) a.name find_left decided)))
 
   -- ---- the table is found
+
+  abbrev Found : Type 0
+  Found = StandsAt e.hub.tables e.hub.dir.leaves e.pieces e.states w.machine call a
 
   -- the call goes on to its leaf
   abbrev on_leaf : Target → State
   on_leaf target = at_stage (stage.Publish call target) a
 
-  found-goes : (event : Event) (s : StandsAt e.hub.tables w.machine a.name) → tables (after w.machine event).history ≡ tables w.machine.history → decision w.machine session (request_in call a) ≡ (Done, event)
-      → GoesOn (doing_in session a) w.machine session (record { told = reply.More; machine = after w.machine event; doing = doing_in session (on_leaf (target_at s.place s.of)) })
-  found-goes event s kept decided = goes-from session a (stage.Find call) w.machine (record { told = reply.More; machine = after w.machine event; doing = doing_in session (on_leaf (target_at s.place s.of)) }) is
-      (inr (judges call a w.machine session 7 (record { told = reply.More; machine = after w.machine event; doing = doing_in session (on_leaf (target_at s.place s.of)) })
-      (found-done (decision w.machine session (request_in call a)) event w.machine (call_in call a) (call_in call (on_leaf (target_at s.place s.of))) a.name s.of decided
-      (call-kept call (stage.Publish call (target_at s.place s.of)) a) (ap (named a.name) kept ∙ s.table))))
+  found-goes : (event : Event) (s : Found) → tables (after w.machine event).history ≡ tables w.machine.history → decision w.machine session (request_in call a) ≡ (Done, event)
+      → GoesOn (doing_in e.hub.dir.leaves session a) w.machine session (record { told = reply.More; machine = after w.machine event; doing = doing_in e.hub.dir.leaves session (on_leaf (target_at s.leaf s.laid.framed)) })
+  found-goes event s kept decided = goes-from e.hub.dir.leaves session a (stage.Find call) w.machine (record { told = reply.More; machine = after w.machine event; doing = doing_in e.hub.dir.leaves session (on_leaf (target_at s.leaf s.laid.framed)) }) is
+      (inr (judges call a w.machine session find_left (record { told = reply.More; machine = after w.machine event; doing = doing_in e.hub.dir.leaves session (on_leaf (target_at s.leaf s.laid.framed)) })
+      (found-done (decision w.machine session (request_in call a)) event w.machine (call_in call a) (call_in call (on_leaf (target_at s.leaf s.laid.framed))) a.name s.of s.leaf.table
+      (6 + further_left call (target_at s.leaf s.laid.framed) e.hub.dir.leaves) decided
+      (call-kept call (stage.Publish call (target_at s.leaf s.laid.framed)) a) (ap (named a.name) kept ∙ s.table) s.number (placed-less call (target_at s.leaf s.laid.framed) e.hub.dir.leaves st.dir.few))))
 
-  is-leaf : (s : StandsAt e.hub.tables w.machine a.name) → IsLeafOf e.hub.tables.tables (target_at s.place s.of)
-  is-leaf s = (s.of, s.slot, refl)
+  -- the cursors are those of the machine after it
+  is-sought : (m : Machine) (s : Found) → cursors_of m session ≡ cursors_of w.machine session → IsSought m e.hub.dir.leaves session (on_leaf (target_at s.leaf s.laid.framed)) call s.leaf
+  is-sought m s same = begins-sought m e.hub.dir session a (stage.Publish call (target_at s.leaf s.laid.framed)) call s.leaf st.dir (mine.cursors ∙ sym same) s.sought
 
   -- without an id more
-  quiet : (t : Transaction) (s : StandsAt e.hub.tables w.machine a.name) → transaction_of w.machine session ≡ Some t → t.phase ≡ Running → (is_write call && (t.id == 0)) ≡ false
-      → decision w.machine session (request_in call a) ≡ (Done, Nothing) → Goes e w session (beside e.hub (reply.More, on_leaf (target_at s.place s.of)))
-  quiet t s there running none decided = alone-leads e w session a (on_leaf (target_at s.place s.of)) e.hazards reply.More st at (found-goes Nothing s refl decided) (record {
+  quiet : (t : Transaction) (s : Found) → transaction_of w.machine session ≡ Some t → t.phase ≡ Running → (is_write call && (t.id == 0)) ≡ false
+      → decision w.machine session (request_in call a) ≡ (Done, Nothing) → Goes e w session (beside e.hub (reply.More, on_leaf (target_at s.leaf s.laid.framed)))
+  quiet t s there running none decided = alone-leads e w session a (on_leaf (target_at s.leaf s.laid.framed)) e.hazards reply.More st at (found-goes Nothing s refl decided) (record {
     phase = mine.phase;
     seated = record { opened = mine.seated.opened; phase = mine.seated.phase };
     cursors = mine.cursors;
     noted = mine.noted;
-    stage = ((t, there, (running, has-id (is_write call) t.id none)), is-leaf s);
+    stage = (((t, there, (running, has-id (is_write call) t.id none)), (s.leaf, s.there, target-from s.leaf s.laid.framed s.laid.placed)), is-sought w.machine s refl);
   })
 
-  drawn-stands : (t : Transaction) (s : StandsAt e.hub.tables w.machine a.name) → transaction_of w.machine session ≡ Some t → t.phase ≡ Running
-      → SessionStands (after w.machine (DrawId session)) (record e.hub { txns = drawn e.hub.txns session }) e.pieces session (on_leaf (target_at s.place s.of))
+  drawn-stands : (t : Transaction) (s : Found) → transaction_of w.machine session ≡ Some t → t.phase ≡ Running
+      → SessionStands (after w.machine (DrawId session)) (record e.hub { txns = drawn e.hub.txns session }) e.pieces session (on_leaf (target_at s.leaf s.laid.framed))
   drawn-stands t s there running = record {
     phase = mine.phase ∙ (ap phase-with there ∙ sym (ap phase-with now));
     seated = record {
@@ -97,7 +104,7 @@ module _ (law : ChainsGoOn) (e : Engine) (w : World) (session : ℕ) (a : State)
     };
     cursors = mine.cursors;
     noted = subst noted-with (sym now) (subst noted-with there mine.noted);
-    stage = ((with-id t, now, (running, λ write. st.valid.next)), is-leaf s);
+    stage = (((with-id t, now, (running, λ write. st.valid.next)), (s.leaf, s.there, target-from s.leaf s.laid.framed s.laid.placed)), is-sought (after w.machine (DrawId session)) s refl);
   } where
     with-id : Transaction → Transaction
     with-id t = record t { id = w.machine.next }
@@ -112,43 +119,43 @@ module _ (law : ChainsGoOn) (e : Engine) (w : World) (session : ℕ) (a : State)
     phase-with o = option_map (λ (t : Transaction). t.phase) o
 
     noted-with : Option Transaction → Type 0
-    noted-with o = AreNoted e.hub.tables.tables e.pieces (of_some [] (λ (t : Transaction). t.writes) o) a.written
+    noted-with o = AreNoted e.hub.dir.leaves e.pieces (of_some [] (λ (t : Transaction). t.writes) o) a.written
 
   -- with an id that it draws
-  drawing : (t : Transaction) (s : StandsAt e.hub.tables w.machine a.name) → transaction_of w.machine session ≡ Some t → t.phase ≡ Running → t.id ≡ 0
-      → decision w.machine session (request_in call a) ≡ (Done, DrawId session) → Goes e w session (with_txns e.hub (drawn e.hub.txns session) (reply.More, on_leaf (target_at s.place s.of)))
-  drawing t s there running none decided = seat-leads e w session a (on_leaf (target_at s.place s.of)) (drawn e.hub.txns session) (drawn_seat e.hub.txns session) (DrawId session) reply.More st at
+  drawing : (t : Transaction) (s : Found) → transaction_of w.machine session ≡ Some t → t.phase ≡ Running → t.id ≡ 0
+      → decision w.machine session (request_in call a) ≡ (Done, DrawId session) → Goes e w session (with_txns e.hub (drawn e.hub.txns session) (reply.More, on_leaf (target_at s.leaf s.laid.framed)))
+  drawing t s there running none decided = seat-leads e w session a (on_leaf (target_at s.leaf s.laid.framed)) (drawn e.hub.txns session) (drawn_seat e.hub.txns session) (DrawId session) reply.More st at
       may refl (drawn-seat e.hub.txns session) ((calls-stand e.hub.txns w.machine st.valid st.txns).draws session may) refl
-      (leaves-go-on law w.machine (DrawId session) e.hub.tables.tables e.pieces e.states st.valid may (λ table key. tt) st.leaves)
+      (leaves-go-on law w.machine (DrawId session) e.hub.dir.leaves e.pieces e.states st.valid may (λ table key. tt) st.leaves)
       (found-goes (DrawId session) s refl decided) (drawn-stands t s there running) where
         may : Allowed w.machine (DrawId session)
         may = (t, there, (running, none))
 
   -- ---- by what is found
 
-  by-full : (t : Transaction) (s : StandsAt e.hub.tables w.machine a.name) → transaction_of w.machine session ≡ Some t → t.phase ≡ Running → (is_write call && (t.id == 0)) ≡ true
+  by-full : (t : Transaction) (s : Found) → transaction_of w.machine session ≡ Some t → t.phase ≡ Running → (is_write call && (t.id == 0)) ≡ true
       → (full : Bool) → nat_lt NUMBER_MAX w.machine.next ≡ full → decision w.machine session (request_in call a) ≡ draw_by true full session
-      → Goes e w session (if full then beside e.hub (refuses (told.Limit counted.Ids) a) else with_txns e.hub (drawn e.hub.txns session) (reply.More, on_leaf (target_at s.place s.of)))
+      → Goes e w session (if full then beside e.hub (refuses (told.Limit counted.Ids) a) else with_txns e.hub (drawn e.hub.txns session) (reply.More, on_leaf (target_at s.leaf s.laid.framed)))
   by-full t s there running draw true full decided = refuses-by (told.Limit counted.Ids) decided
   by-full t s there running draw false few decided = drawing t s there running (has-none (is_write call) t.id draw) decided
 
-  by-draw : (t : Transaction) (s : StandsAt e.hub.tables w.machine a.name) → transaction_of w.machine session ≡ Some t → t.phase ≡ Running → (draw : Bool) → (is_write call && (t.id == 0)) ≡ draw
+  by-draw : (t : Transaction) (s : Found) → transaction_of w.machine session ≡ Some t → t.phase ≡ Running → (draw : Bool) → (is_write call && (t.id == 0)) ≡ draw
       → decision w.machine session (request_in call a) ≡ draw_by draw (nat_lt NUMBER_MAX w.machine.next) session
-      → Goes e w session (if draw then finds_drawn e.hub session a call (target_at s.place s.of) else beside e.hub (reply.More, on_leaf (target_at s.place s.of)))
+      → Goes e w session (if draw then finds_drawn e.hub session a call (target_at s.leaf s.laid.framed) else beside e.hub (reply.More, on_leaf (target_at s.leaf s.laid.framed)))
   by-draw t s there running false none decided = quiet t s there running none decided
   by-draw t s there running true draw decided =
-      subst (λ n. Goes e w session (if nat_lt NUMBER_MAX n then beside e.hub (refuses (told.Limit counted.Ids) a) else with_txns e.hub (drawn e.hub.txns session) (reply.More, on_leaf (target_at s.place s.of))))
+      subst (λ n. Goes e w session (if nat_lt NUMBER_MAX n then beside e.hub (refuses (told.Limit counted.Ids) a) else with_txns e.hub (drawn e.hub.txns session) (reply.More, on_leaf (target_at s.leaf s.laid.framed))))
       (sym st.txns.next) (by-full t s there running draw (nat_lt NUMBER_MAX w.machine.next) refl decided)
 
   -- the id that the table has is the transaction's
-  finds-it : (t : Transaction) (s : StandsAt e.hub.tables w.machine a.name) → transaction_of w.machine session ≡ Some t → t.phase ≡ Running
-      → decision w.machine session (request_in call a) ≡ goes_in call w.machine session t → Goes e w session (finds_at e.hub session a call (Some (target_at s.place s.of)))
+  finds-it : (t : Transaction) (s : Found) → transaction_of w.machine session ≡ Some t → t.phase ≡ Running
+      → decision w.machine session (request_in call a) ≡ goes_in call w.machine session t → Goes e w session (finds_at e.hub session a call (Some (target_at s.leaf s.laid.framed)))
   finds-it t s there running decided =
-      subst (λ n. Goes e w session (if is_write call && (n == 0) then finds_drawn e.hub session a call (target_at s.place s.of) else beside e.hub (reply.More, on_leaf (target_at s.place s.of))))
+      subst (λ n. Goes e w session (if is_write call && (n == 0) then finds_drawn e.hub session a call (target_at s.leaf s.laid.framed) else beside e.hub (reply.More, on_leaf (target_at s.leaf s.laid.framed))))
       (sym (state-at e.hub.txns w.machine session t st.txns there).id) (by-draw t s there running (is_write call && (t.id == 0)) refl decided)
 
   by-name : (t : Transaction) → transaction_of w.machine session ≡ Some t → t.phase ≡ Running → decision w.machine session (request_in call a) ≡ named_then w.machine a.name (goes_in call w.machine session t)
-      → NotThere e.hub.tables w.machine a.name ⊎ StandsAt e.hub.tables w.machine a.name → Goes e w session (finds_at e.hub session a call (target_of e.hub.tables a.name))
+      → NotThere e.hub.tables e.hub.dir.leaves w.machine call a ⊎ Found → Goes e w session (finds_at e.hub session a call (target_of e.hub.tables e.hub.dir.leaves call a))
   by-name t there running decided (inl none) = subst (λ o. Goes e w session (finds_at e.hub session a call o)) (sym none.target)
       (refuses-by told.NoTable (decided ∙ ap (λ (o : Option KnownTable). named_by o (goes_in call w.machine session t)) none.table))
   by-name t there running decided (inr s) = subst (λ o. Goes e w session (finds_at e.hub session a call o)) (sym s.target)
@@ -156,8 +163,8 @@ module _ (law : ChainsGoOn) (e : Engine) (w : World) (session : ℕ) (a : State)
 
   by-check : (t : Transaction) → transaction_of w.machine session ≡ Some t → t.phase ≡ Running → (o : Option Invalid)
       → decision w.machine session (request_in call a) ≡ checked_then o (named_then w.machine a.name (goes_in call w.machine session t))
-      → Goes e w session (of_some (finds_at e.hub session a call (target_of e.hub.tables a.name)) (λ (reason : Invalid). refuses_as reason e.hub a) o)
-  by-check t there running None decided = by-name t there running decided (find-name e.hub.tables w.machine a.name st.catalog st.made)
+      → Goes e w session (of_some (finds_at e.hub session a call (target_of e.hub.tables e.hub.dir.leaves call a)) (λ (reason : Invalid). refuses_as reason e.hub a) o)
+  by-check t there running None decided = by-name t there running decided (find-name e.hub.tables e.hub.dir e.pieces e.states w.machine call a st.catalog st.made st.dir st.begun st.leaves)
   by-check t there running (Some reason) decided = refuses-by (told.Invalid reason) decided
 
   decided-in : (t : Transaction) (p : ModelPhase) → w.machine.fault ≡ None → transaction_of w.machine session ≡ Some t → t.phase ≡ p

@@ -8,6 +8,7 @@ use Rattle.wt_code.specs.declared.answers.Answer.{Answer}
 use Rattle.kv_model.specs.Machine.{Machine, Transaction, Position as ModelPosition, of_some, no_cursors, transaction_of, cursors_of, without_transaction}
 use Rattle.kv_model.specs.Valid.{Valid}
 use Rattle.kv_model.proofs.Seats.{seat-inside}
+use Rattle.tree_dir.specs.declared.leaf.Leaf.{Leaf}
 use Rattle.txn_table.specs.declared.phase.Phase.TheVariants as phase
 use Rattle.txn_table.specs.Tabled.{phase_of}
 use Rattle.call_steps.specs.declared.cursor.Cursor.{Cursor}
@@ -87,8 +88,8 @@ finished-stands next hub pieces session a answer gone many opened idle = by-firs
   cursors : map position_in (map (placed None) a.cursors) ≡ cursors_of next session
   cursors = none-placed a.cursors ∙ (ap (λ n. replicate n None) many ∙ sym gone.cursors)
 
-  noted : AreNoted hub.tables.tables pieces (writes_in next session) []
-  noted = subst (λ o. AreNoted hub.tables.tables pieces (of_some [] (λ (t : Transaction). t.writes) o) []) (sym gone.none) (record { noted = λ w there. absurd there; wrote = λ k there. absurd there })
+  noted : AreNoted hub.dir.leaves pieces (writes_in next session) []
+  noted = subst (λ o. AreNoted hub.dir.leaves pieces (of_some [] (λ (t : Transaction). t.writes) o) []) (sym gone.none) (record { noted = λ w there. absurd there; wrote = λ k there. absurd there })
 
   by-first : (first : Option ℕ) → first_pinned a.cursors ≡ first → SessionStands next hub pieces session (finished_by first answer a).1
   by-first None is = record {
@@ -107,9 +108,9 @@ finished-stands next hub pieces session a answer gone many opened idle = by-firs
   }
 
 -- the call has ended, or there are words of cursors to clear
-pub finished-goes : (answer : Answer (List ℕ)) (left : ℕ) (next : Machine) (session : ℕ) (a : State) → unpins_left a < left
-    → Finishes answer left next (record { told = (finished answer a).0; machine = next; doing = doing_in session (finished answer a).1 })
-finished-goes answer left next session a less = by-first (first_pinned a.cursors) where
-  by-first : (first : Option ℕ) → Finishes answer left next (record { told = (finished_by first answer a).0; machine = next; doing = doing_in session (finished_by first answer a).1 })
+pub finished-goes : (leaves : List Leaf) (answer : Answer (List ℕ)) (left : ℕ) (next : Machine) (session : ℕ) (a : State) → unpins_left a < left
+    → Finishes answer left next (record { told = (finished answer a).0; machine = next; doing = doing_in leaves session (finished answer a).1 })
+finished-goes leaves answer left next session a less = by-first (first_pinned a.cursors) where
+  by-first : (first : Option ℕ) → Finishes answer left next (record { told = (finished_by first answer a).0; machine = next; doing = doing_in leaves session (finished_by first answer a).1 })
   by-first None = inl refl
   by-first (Some cursor) = inr (length (filter is_pinned (map (placed None) a.cursors)), (let same = pins-stay a.cursors in omega (arith, less)), refl)

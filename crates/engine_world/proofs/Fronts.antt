@@ -1,19 +1,22 @@
 -- The slot that was noted of a write, and the update on top of the chain in it.
-use Rattle.std.proofs.Common.{◌≡◌, ◌⊎◌, ◌≤◌, ◌+◌, ℕ, zero, suc, refl, ap, sym, ◌∙◌, true, false, List, [], ◌∷◌, ◌++◌, inl, inr, subst, map, arith}
+use Rattle.std.proofs.Common.{◌≡◌, ◌⊎◌, ℕ, suc, refl, ap, sym, ◌∙◌, true, false, List, [], ◌∷◌, ◌++◌, inl, inr, subst, map, arith}
 use Rattle.std.specs.Prelude.{Option, Some, None, slice_get}
 use Rattle.std.proofs.lemmas.Bool.{cases_eq}
+use Rattle.std.proofs.lemmas.Option.{same_Some}
 use Rattle.item.specs.declared.Change.{Change}
 use Rattle.stamp.specs.declared.Name.{Name}
 use Rattle.stamp.specs.declared.Version.{Version}
 use Rattle.kv_model.specs.Allowed.{Allowed}
 use Rattle.kv_model.specs.Holds.{Member}
-use Rattle.kv_model.specs.History.{Table, Write, writes_at}
+use Rattle.kv_model.specs.History.{Write, writes_at}
 use Rattle.kv_model.specs.Machine.{Machine, Transaction, Event, transaction_of, name_of, of_some, after}
 use Rattle.kv_model.specs.Pending.{Update as ModelUpdate, TopStands, settled}
 use Rattle.kv_model.specs.Reads.{own_write, is_own, IsEnding}
 use Rattle.kv_model.proofs.Newest.{find-member}
 use Rattle.kv_model.proofs.OwnWrites.{at-parts}
 use Rattle.rows_shown.specs.Shows.{shown_at}
+use Rattle.tree_dir.specs.declared.leaf.Leaf.{Leaf}
+use Rattle.tree_dir.specs.Leaves.{leaf_under}
 use Rattle.update_chain.specs.declared.update.Update.{Update}
 use Rattle.update_chain.specs.EventLaws.{StandsFor, DidNotWrite, LeavesAlone, ChainsGoOn}
 use Rattle.update_chain.specs.Updates.{update_in}
@@ -21,7 +24,6 @@ use Rattle.update_chain.proofs.Reading.{one-transaction}
 use Rattle.leaf_chains.specs.declared.slot.KeyChain.{KeyChain}
 use Rattle.leaf_chains.specs.Slots.{chain_at, slot_of}
 use Rattle.leaf_chains.proofs.Changes.{held}
-use Rattle.catalog.specs.Known.{Known, AreTables, NumbersAscend}
 use Rattle.call_steps.specs.declared.edit.Edit.{Edit}
 use Rattle.call_steps.specs.declared.frame.Frame.{Frame}
 use Rattle.call_steps.specs.declared.frame.FramePiece.{FramePiece}
@@ -29,8 +31,9 @@ use Rattle.call_steps.specs.declared.written.WrittenKey.{WrittenKey}
 use Rattle.call_steps.specs.Leaves.{chain_in}
 use Rattle.call_steps.specs.State.{State}
 use Rattle.engine_world.specs.Worlds.{World}
-use Rattle.engine_world.specs.Leaves.{AreNoted, LeafStands, AllHave, EditedDownTo, frame_in, slots_in}
+use Rattle.engine_world.specs.Leaves.{AreNoted, IsLaid, IsSlotOf, LeafStands, AllHave, EditedDownTo, frame_in, frame_of, slots_in}
 use Rattle.engine_world.specs.Stands.{Engine, Stands}
+use Rattle.engine_world.proofs.Homes.{LeavesStand, frame-of-leaf}
 
 -- ---- fronts
 
@@ -86,28 +89,11 @@ index-of [] x there = absurd there
 index-of (y ∷ l) x (inl same) = (0, ap Some (sym same))
 index-of (y ∷ l) x (inr there) = let k = index-of l x there in (suc k.0, k.1)
 
-low-at : (low : ℕ) (known : List Table) (next i : ℕ) (t : Table) → NumbersAscend low known next → slice_get known i ≡ Some t → low ≤ t.number
-low-at low [] next i t ascend at = absurd (cc)
-low-at low (x ∷ known) next zero t ascend at = let same : x ≡ t = cc in subst (λ (z : Table). low ≤ z.number) same ascend.0
-low-at low (x ∷ known) next (suc i) t ascend at = let later = low-at (x.number + 1) known next i t ascend.1 at in let first = ascend.0 in omega arith
-
--- no two places have tables of one number
-pub one-place : (low : ℕ) (known : List Table) (next i j : ℕ) (t u : Table) → NumbersAscend low known next → slice_get known i ≡ Some t → slice_get known j ≡ Some u → t.number ≡ u.number → i ≡ j
-one-place low [] next i j t u ascend at there same = absurd (cc)
-one-place low (x ∷ known) next zero zero t u ascend at there same = refl
-one-place low (x ∷ known) next zero (suc j) t u ascend at there same =
-    let is : x ≡ t = cc in let number : x.number ≡ t.number = ap (λ (z : Table). z.number) is in
-    let later = low-at (x.number + 1) known next j u ascend.1 there in absurd (omega arith)
-one-place low (x ∷ known) next (suc i) zero t u ascend at there same =
-    let is : x ≡ u = cc in let number : x.number ≡ u.number = ap (λ (z : Table). z.number) is in
-    let later = low-at (x.number + 1) known next i t ascend.1 at in absurd (omega arith)
-one-place low (x ∷ known) next (suc i) (suc j) t u ascend at there same = ap suc (one-place (x.number + 1) known next i j t u ascend.1 at there same)
-
 -- the slot of a key holds its chain
 pub chain-in : (slots : List KeyChain) (key : List ℕ) (i : ℕ) → slot_of key slots ≡ Some i → chain_in slots i ≡ chain_at key slots
 chain-in slots key i at = ap (of_some [] (λ (s : KeyChain). s.chain)) (held key slots i at)
 
--- the slot that was noted of a key in the leaf at a place
+-- the slot that was noted of a key in the leaf in a frame
 pub record SlotIs (pieces : List FramePiece) (keys : List WrittenKey) (place : ℕ) (key : List ℕ) : Type 0 where
   pub index : ℕ
   pub slot : WrittenKey
@@ -116,24 +102,37 @@ pub record SlotIs (pieces : List FramePiece) (keys : List WrittenKey) (place : �
   pub of : slot_of key (slots_in pieces place) ≡ Some slot.slot
   pub chain : chain_in (slots_in pieces slot.frame) slot.slot ≡ chain_at key (slots_in pieces place)
 
-pub slot-is : (known : Known) (pieces : List FramePiece) (writes : List Write) (keys : List WrittenKey) (place : ℕ) (t : Table) (w : Write) → AreTables known → AreNoted known.tables pieces writes keys
-    → slice_get known.tables place ≡ Some t → Member w writes → w.table ≡ t.number → SlotIs pieces keys place w.key
-slot-is known pieces writes keys place t w are noted at member table = let n = noted.noted w member in let i = index-of keys n.0 n.1 in
-    let here : n.0.frame ≡ place = one-place 1 known.tables known.next n.0.frame place n.2.of t are.numbers n.2.there at (n.2.number ∙ table) in record {
-      index = i.0;
-      slot = n.0;
-      there = i.1;
-      frame = here;
-      of = subst (λ p. slot_of w.key (slots_in pieces p) ≡ Some n.0.slot) here n.2.slot;
-      chain = chain-in (slots_in pieces n.0.frame) w.key n.0.slot n.2.slot ∙ ap (λ p. chain_at w.key (slots_in pieces p)) here;
-    }
+pub slot-is : (leaves : List Leaf) (pieces : List FramePiece) (states : List ℕ) (writes : List Write) (keys : List WrittenKey) (l : Leaf) (key : List ℕ) (w : Write) → AreNoted leaves pieces writes keys
+    → (x : IsLaid pieces states l) → leaf_under l.table key leaves ≡ Some l → Member w writes → w.table ≡ l.table → w.key ≡ key → SlotIs pieces keys x.framed.frame key
+slot-is leaves pieces states writes keys l key w noted x under member table same = record {
+  index = i.0;
+  slot = n.0;
+  there = i.1;
+  frame = here;
+  of = ap (λ p. slot_of key (slots_in pieces p)) (sym here) ∙ slot;
+  chain = chain-in (slots_in pieces n.0.frame) key n.0.slot slot ∙ ap (λ p. chain_at key (slots_in pieces p)) here;
+} where
+  n : (k : WrittenKey) × Member k keys × IsSlotOf leaves pieces k w.table w.key
+  n = noted.noted w member
+
+  i : (i : ℕ) × (slice_get keys i ≡ Some n.0)
+  i = index-of keys n.0 n.1
+
+  home : frame_of leaves l.table key ≡ Some n.0.frame
+  home = ap (λ t. frame_of leaves t key) (sym table) ∙ (ap (frame_of leaves w.table) (sym same) ∙ n.2.home)
+
+  here : n.0.frame ≡ x.framed.frame
+  here = same_Some n.0.frame x.framed.frame (sym home ∙ frame-of-leaf leaves pieces states l key x under)
+
+  slot : slot_of key (slots_in pieces n.0.frame) ≡ Some n.0.slot
+  slot = ap (λ k. slot_of k (slots_in pieces n.0.frame)) (sym same) ∙ n.2.slot
 
 -- so it is of a key that the transaction wrote
-pub own-slot : (known : Known) (pieces : List FramePiece) (x : Transaction) (keys : List WrittenKey) (place : ℕ) (t : Table) (key : List ℕ) (o : Write) → AreTables known → AreNoted known.tables pieces x.writes keys
-    → slice_get known.tables place ≡ Some t → own_write x t.number key ≡ Some o → SlotIs pieces keys place key
-own-slot known pieces x keys place t key o are noted at own =
-    let found = find-member (writes_at t.number key) x.writes o own in let parts = at-parts t.number key o found.1 in
-    subst (SlotIs pieces keys place) parts.1 (slot-is known pieces x.writes keys place t o are noted at found.0 parts.0)
+pub own-slot : (leaves : List Leaf) (pieces : List FramePiece) (states : List ℕ) (t : Transaction) (keys : List WrittenKey) (l : Leaf) (key : List ℕ) (o : Write) → AreNoted leaves pieces t.writes keys
+    → (x : IsLaid pieces states l) → leaf_under l.table key leaves ≡ Some l → own_write t l.table key ≡ Some o → SlotIs pieces keys x.framed.frame key
+own-slot leaves pieces states t keys l key o noted x under own =
+    let found = find-member (writes_at l.table key) t.writes o own in let parts = at-parts l.table key o found.1 in
+    slot-is leaves pieces states t.writes keys l key o noted x under found.0 parts.0 parts.1
 
 -- what was done in all the slots was done in this one
 pub edited-at : (e : Edit) (name : Name) (pieces : List FramePiece) (keys : List WrittenKey) (place : ℕ) (key : List ℕ) → EditedDownTo e name pieces keys 0 → SlotIs pieces keys place key
@@ -142,22 +141,22 @@ edited-at e name pieces keys place key done s = subst (AllHave e name) s.chain (
 
 -- ---- leaves
 
--- the row of a key in the leaf at a place
+-- the row of a key in the leaf in a frame
 abbrev pub row_at : List FramePiece → ℕ → List ℕ → Option (Version Change)
 row_at pieces place key = shown_at key (of_some [] (λ (f : Frame). f.leaf.page) (frame_in pieces place))
 
 -- what a leaf holds, key by key, with the frames as they are
-pub leaf-with : (m next : Machine) (pieces : List FramePiece) (states : List ℕ) (place : ℕ) (t : Table) → LeafStands m pieces states place t
-    → ((key : List ℕ) → StandsFor m t.number key (chain_at key (slots_in pieces place)) (row_at pieces place key) [] → StandsFor next t.number key (chain_at key (slots_in pieces place)) (row_at pieces place key) [])
-    → LeafStands next pieces states place t
-leaf-with m next pieces states place t l on = record {
-  frame = l.frame;
-  there = l.there;
-  word = l.word;
-  keys = λ key. subst (Holds next key) l.there (on key (subst (Holds m key) (sym l.there) (l.keys key)));
+pub leaf-with : (m next : Machine) (leaves : List Leaf) (pieces : List FramePiece) (states : List ℕ) (l : Leaf) → (x : LeafStands m leaves pieces states l)
+    → ((key : List ℕ) → leaf_under l.table key leaves ≡ Some l → StandsFor m l.table key (chain_at key (slots_in pieces x.laid.framed.frame)) (row_at pieces x.laid.framed.frame key) []
+    → StandsFor next l.table key (chain_at key (slots_in pieces x.laid.framed.frame)) (row_at pieces x.laid.framed.frame key) [])
+    → LeafStands next leaves pieces states l
+leaf-with m next leaves pieces states l x on = record {
+  laid = x.laid;
+  keys = λ key under. subst (Holds next key) x.laid.there (on key under (subst (Holds m key) (sym x.laid.there) (x.keys key under)));
+  bare = x.bare;
 } where
   Holds : Machine → List ℕ → Option Frame → Type 0
-  Holds x key o = StandsFor x t.number key (chain_at key (of_some [] (λ (f : Frame). f.leaf.chains) o)) (shown_at key (of_some [] (λ (f : Frame). f.leaf.page) o)) []
+  Holds m key o = StandsFor m l.table key (chain_at key (of_some [] (λ (f : Frame). f.leaf.chains) o)) (shown_at key (of_some [] (λ (f : Frame). f.leaf.page) o)) []
 
 pub own-cases : (o : Option Write) → (o ≡ None) ⊎ ((w : Write) × (o ≡ Some w))
 own-cases None = inl refl
@@ -172,12 +171,15 @@ did-not m s t table key there none x wrote =
 -- an event over the keys that a session's transaction wrote and over the others, with the frames as they are
 pub leaves-own : ChainsGoOn → (e : Engine) (w : World) (s : ℕ) (a : State) (x : Transaction) (event : Event) → Stands e w → slice_get e.sessions s ≡ Some a → transaction_of w.machine s ≡ Some x → Allowed w.machine event
     → ((table : ℕ) (key : List ℕ) → DidNotWrite w.machine s table key → LeavesAlone w.machine table key event)
-    → ((place : ℕ) (t : Table) (key : List ℕ) (o : Write) → own_write x t.number key ≡ Some o → SlotIs e.pieces a.written place key → StandsFor w.machine t.number key (chain_at key (slots_in e.pieces place)) (row_at e.pieces place key) []
-    → StandsFor (after w.machine event) t.number key (chain_at key (slots_in e.pieces place)) (row_at e.pieces place key) [])
-    → (place : ℕ) (t : Table) → slice_get e.hub.tables.tables place ≡ Some t → LeafStands (after w.machine event) e.pieces e.states place t
-leaves-own chains-go-on e w s a x event st at there may alone on place t known = leaf-with w.machine (after w.machine event) e.pieces e.states place t (st.leaves place t known) (λ key k. elim (own-cases (own_write x t.number key)) [
-  | inl none ↦ chains-go-on w.machine event t.number key (chain_at key (slots_in e.pieces place)) (row_at e.pieces place key) [] st.valid may (alone t.number key (did-not w.machine s x t.number key there none)) k
-  | inr own ↦ on place t key own.0 own.1 (own-slot e.hub.tables e.pieces x a.written place t key own.0 st.catalog noted known own.1) k
+    → ((place table : ℕ) (key : List ℕ) (o : Write) → own_write x table key ≡ Some o → SlotIs e.pieces a.written place key → StandsFor w.machine table key (chain_at key (slots_in e.pieces place)) (row_at e.pieces place key) []
+    → StandsFor (after w.machine event) table key (chain_at key (slots_in e.pieces place)) (row_at e.pieces place key) [])
+    → LeavesStand (after w.machine event) e.hub.dir.leaves e.pieces e.states
+leaves-own chains-go-on e w s a x event st at there may alone on l here = leaf-with w.machine (after w.machine event) e.hub.dir.leaves e.pieces e.states l leaf (λ key under k. elim (own-cases (own_write x l.table key)) [
+  | inl none ↦ chains-go-on w.machine event l.table key (chain_at key (slots_in e.pieces leaf.laid.framed.frame)) (row_at e.pieces leaf.laid.framed.frame key) [] st.valid may (alone l.table key (did-not w.machine s x l.table key there none)) k
+  | inr own ↦ on leaf.laid.framed.frame l.table key own.0 own.1 (own-slot e.hub.dir.leaves e.pieces e.states x a.written l key own.0 noted leaf.laid under own.1) k
 ]) where
-  noted : AreNoted e.hub.tables.tables e.pieces x.writes a.written
-  noted = subst (λ o. AreNoted e.hub.tables.tables e.pieces (of_some [] (λ (z : Transaction). z.writes) o) a.written) there (st.sessions s a at).noted
+  leaf : LeafStands w.machine e.hub.dir.leaves e.pieces e.states l
+  leaf = st.leaves l here
+
+  noted : AreNoted e.hub.dir.leaves e.pieces x.writes a.written
+  noted = subst (λ o. AreNoted e.hub.dir.leaves e.pieces (of_some [] (λ (z : Transaction). z.writes) o) a.written) there (st.sessions s a at).noted

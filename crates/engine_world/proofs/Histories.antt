@@ -32,19 +32,19 @@ module _ (e : Engine) (w : World) (session : ℕ) (a : State) (call : KeyCall) (
   mine : SessionStands w.machine e.hub e.pieces session a
   mine = st.sessions session a at
 
-  on : IsOnLeaf w.machine e.hub.tables.tables session call target
+  on : IsOnLeaf w.machine e.hub.dir.leaves session call target
   on = stage-stands e w session a (stage.History call target) st at is
 
-  looked : HasLooked w.machine e.hub.tables.tables session call target
+  looked : HasLooked w.machine e.hub.dir.leaves session call target
   looked = ((on.0.0, on.0.1, inl on.0.2.0), on.1)
 
   -- the session goes on to this stage with this answer
-  answered-goes : (g : Stage) (answer : Answer (List ℕ)) → StageStands g w.machine e.hub.tables.tables e.pieces session (record a { stage = g; answer = answer })
+  answered-goes : (g : Stage) (answer : Answer (List ℕ)) → StageStands g w.machine e.hub.dir.leaves e.pieces session (record a { stage = g; answer = answer })
       → GoesOn (Decided (answers.Refused told.NotFound) (event_with session call target a.key (answers.Refused told.NotFound)) 3) w.machine session
-      (record { told = reply.More; machine = w.machine; doing = doing_in session (record a { stage = g; answer = answer }) })
+      (record { told = reply.More; machine = w.machine; doing = doing_in e.hub.dir.leaves session (record a { stage = g; answer = answer }) })
       → Goes e w session (reply.More, (e.hub, record a { stage = g; answer = answer }))
   answered-goes g answer stands goes = alone-leads e w session a (record a { stage = g; answer = answer }) e.hazards reply.More st at
-      (goes-from session a (stage.History call target) w.machine (record { told = reply.More; machine = w.machine; doing = doing_in session (record a { stage = g; answer = answer }) }) is goes)
+      (goes-from e.hub.dir.leaves session a (stage.History call target) w.machine (record { told = reply.More; machine = w.machine; doing = doing_in e.hub.dir.leaves session (record a { stage = g; answer = answer }) }) is goes)
       (record {
         phase = mine.phase;
         seated = record { opened = mine.seated.opened; phase = mine.seated.phase };

@@ -8,7 +8,7 @@ use Rattle.wt_code.specs.declared.answers.Answer.TheVariants as answers
 use Rattle.wt_code.specs.declared.refusals.Refusal.{Refusal}
 use Rattle.wt_code.specs.declared.refusals.Refusal.TheVariants.{Panic}
 use Rattle.wt_code.specs.declared.refusals.Invalid.TheVariants as why
-use Rattle.kv_model.specs.History.{Table as KnownTable, tables}
+use Rattle.kv_model.specs.History.{tables}
 use Rattle.kv_model.specs.Machine.{Machine, Transaction, Phase as ModelPhase, transaction_of, of_some, Event, after}
 use Rattle.kv_model.specs.Allowed.{Allowed}
 use Rattle.kv_model.specs.Reads.{IsEnding}
@@ -16,6 +16,7 @@ use Rattle.kv_model.specs.Valid.{Valid}
 use Rattle.kv_model.specs.Decisions.{Outcome, Request, refused, invalid, with_session as with_transaction_of, in_state, running_session, judged, decision, is_on_page}
 use Rattle.kv_model.proofs.EveryEvent.{valid-after}
 use Rattle.rows_shown.specs.Shows.{shown_at}
+use Rattle.tree_dir.specs.declared.leaf.Leaf.{Leaf}
 use Rattle.txn_table.specs.declared.phase.Phase.{Phase}
 use Rattle.txn_table.specs.declared.phase.Phase.TheVariants as phase
 use Rattle.txn_table.specs.SessionData.{SessionData, opened, is_unreleased, phase_in}
@@ -34,12 +35,12 @@ use Rattle.call_steps.specs.State.{State, at_stage, refuses}
 use Rattle.engine_world.specs.Worlds.{World, Doing, Resting}
 use Rattle.engine_world.specs.Steps.{GoesOn, JudgedBy, SettledBy, Made as Left}
 use Rattle.engine_world.specs.Doings.{doing_at, doing_in}
-use Rattle.engine_world.specs.Leaves.{LeafStands}
 use Rattle.engine_world.specs.Laws.{Leads, with_session, with_hub}
 use Rattle.engine_world.specs.Stages.{EndsOnlyDown, StageStands}
 use Rattle.engine_world.specs.Stands.{Engine, Stands, SessionStands}
 use Rattle.engine_world.proofs.Beside.{Beside, MachineBeside, IsEventOf}
 use Rattle.engine_world.proofs.Events.{event-beside, slots-same, updates-same}
+use Rattle.engine_world.proofs.Homes.{LeavesStand}
 use Rattle.engine_world.proofs.Moves.{leads, alone-leads}
 
 -- what the law of an event on the hub says, of what it makes
@@ -117,33 +118,31 @@ rest-stands m hub pieces session a mine ends = record {
   stage = ends;
 }
 
-pub doing-at : (session : ℕ) (a : State) (g : Stage) → a.stage ≡ g → doing_in session a ≡ doing_at g session a
-doing-at session a g is = ap (λ (g : Stage). doing_at g session a) is
+pub doing-at : (leaves : List Leaf) (session : ℕ) (a : State) (g : Stage) → a.stage ≡ g → doing_in leaves session a ≡ doing_at g leaves session a
+doing-at leaves session a g is = ap (λ (g : Stage). doing_at g leaves session a) is
 
-pub stage-stands : (e : Engine) (w : World) (session : ℕ) (a : State) (g : Stage) → Stands e w → slice_get e.sessions session ≡ Some a → a.stage ≡ g → StageStands g w.machine e.hub.tables.tables e.pieces session a
-stage-stands e w session a g st at is = subst (λ (g : Stage). StageStands g w.machine e.hub.tables.tables e.pieces session a) is (st.sessions session a at).stage
+pub stage-stands : (e : Engine) (w : World) (session : ℕ) (a : State) (g : Stage) → Stands e w → slice_get e.sessions session ≡ Some a → a.stage ≡ g → StageStands g w.machine e.hub.dir.leaves e.pieces session a
+stage-stands e w session a g st at is = subst (λ (g : Stage). StageStands g w.machine e.hub.dir.leaves e.pieces session a) is (st.sessions session a at).stage
 
-pub goes-from : (session : ℕ) (a : State) (g : Stage) (m : Machine) (left : Left) → a.stage ≡ g → GoesOn (doing_at g session a) m session left → GoesOn (doing_in session a) m session left
-goes-from session a g m left is goes = subst (λ (d : Doing). GoesOn d m session left) (sym (doing-at session a g is)) goes
+pub goes-from : (leaves : List Leaf) (session : ℕ) (a : State) (g : Stage) (m : Machine) (left : Left) → a.stage ≡ g → GoesOn (doing_at g leaves session a) m session left → GoesOn (doing_in leaves session a) m session left
+goes-from leaves session a g m left is goes = subst (λ (d : Doing). GoesOn d m session left) (sym (doing-at leaves session a g is)) goes
 
 -- the machine stays, and the session rests
 pub refused-goes : (e : Engine) (w : World) (session : ℕ) (a : State) (g : Stage) (r : Refusal) → Stands e w → slice_get e.sessions session ≡ Some a → a.stage ≡ g → EndsOnlyDown w.machine session
-    → GoesOn (doing_at g session a) w.machine session (record { told = reply.Answer (answers.Refused r); machine = w.machine; doing = Resting })
+    → GoesOn (doing_at g e.hub.dir.leaves session a) w.machine session (record { told = reply.Answer (answers.Refused r); machine = w.machine; doing = Resting })
     → Goes e w session (beside e.hub (refuses r a))
 refused-goes e w session a g r st at is ends goes = alone-leads e w session a (at_stage stage.Rest a) e.hazards (reply.Answer (answers.Refused r)) st at
-    (goes-from session a g w.machine (record { told = reply.Answer (answers.Refused r); machine = w.machine; doing = Resting }) is goes)
+    (goes-from e.hub.dir.leaves session a g w.machine (record { told = reply.Answer (answers.Refused r); machine = w.machine; doing = Resting }) is goes)
     (rest-stands w.machine e.hub e.pieces session a (st.sessions session a at) ends)
 
 -- ---- leaves
 
-pub leaves-go-on : ChainsGoOn → (m : Machine) (event : Event) (known : List KnownTable) (pieces : List FramePiece) (states : List ℕ) → Valid m → Allowed m event → ((table : ℕ) (key : List ℕ) → LeavesAlone m table key event)
-    → ((place : ℕ) (t : KnownTable) → slice_get known place ≡ Some t → LeafStands m pieces states place t)
-    → (place : ℕ) (t : KnownTable) → slice_get known place ≡ Some t → LeafStands (after m event) pieces states place t
-leaves-go-on law m event known pieces states v may alone stand place t there = record {
-  frame = (stand place t there).frame;
-  there = (stand place t there).there;
-  word = (stand place t there).word;
-  keys = λ key. law m event t.number key (chain_at key (stand place t there).frame.leaf.chains) (shown_at key (stand place t there).frame.leaf.page) [] v may (alone t.number key) ((stand place t there).keys key);
+pub leaves-go-on : ChainsGoOn → (m : Machine) (event : Event) (leaves : List Leaf) (pieces : List FramePiece) (states : List ℕ) → Valid m → Allowed m event → ((table : ℕ) (key : List ℕ) → LeavesAlone m table key event)
+    → LeavesStand m leaves pieces states → LeavesStand (after m event) leaves pieces states
+leaves-go-on law m event leaves pieces states v may alone stand l there = record {
+  laid = (stand l there).laid;
+  keys = λ key home. law m event l.table key (chain_at key (stand l there).laid.frame.leaf.chains) (shown_at key (stand l there).laid.frame.leaf.page) [] v may (alone l.table key) ((stand l there).keys key home);
+  bare = (stand l there).bare;
 }
 
 -- ---- the table of transactions
@@ -177,6 +176,7 @@ pub seat-beside : (session : ℕ) (m next : Machine) (hub : Hub) (now : Table) (
 seat-beside session m next hub now u pieces machine s = record {
   machine = machine;
   tables = refl;
+  dir = refl;
   seats = seats-opened hub.txns now session u s;
   phases = λ r other. ap (λ (x : SessionData). x.phase) (other-seats hub.txns now session u s r other);
   slots = slots-same pieces;
@@ -188,8 +188,8 @@ seat-beside session m next hub now u pieces machine s = record {
 -- it changes one seat, and the leaves stand
 pub seat-leads : (e : Engine) (w : World) (session : ℕ) (old a : State) (now : Table) (u : SessionData) (event : Event) (told : Reply) → Stands e w → slice_get e.sessions session ≡ Some old
     → Allowed w.machine event → IsEventOf session event → SetsSeat e.hub.txns now session u → TableStands now (after w.machine event) → tables (after w.machine event).history ≡ tables w.machine.history
-    → ((place : ℕ) (t : KnownTable) → slice_get e.hub.tables.tables place ≡ Some t → LeafStands (after w.machine event) e.pieces e.states place t)
-    → GoesOn (doing_in session old) w.machine session (record { told = told; machine = after w.machine event; doing = doing_in session a })
+    → LeavesStand (after w.machine event) e.hub.dir.leaves e.pieces e.states
+    → GoesOn (doing_in e.hub.dir.leaves session old) w.machine session (record { told = told; machine = after w.machine event; doing = doing_in e.hub.dir.leaves session a })
     → SessionStands (after w.machine event) (record e.hub { txns = now }) e.pieces session a
     → Goes e w session (told, (record e.hub { txns = now }, a))
 seat-leads e w session old a now u event told st at may of seat stands known leaves goes mine =

@@ -3,12 +3,13 @@ use Rattle.std.proofs.Common.{◌≡◌, ◌+◌, ℕ, zero, suc, refl, ap, sym,
 use Rattle.std.specs.Prelude.{Some, find, slice_get}
 use Rattle.wt_code.specs.declared.answers.Answer.{Answer}
 use Rattle.kv_model.specs.Allowed.{Allowed}
-use Rattle.kv_model.specs.History.{Table as KnownTable, Write, tables, writes_at}
+use Rattle.kv_model.specs.History.{Write, tables, writes_at}
 use Rattle.kv_model.specs.Machine.{Machine, Transaction, Running, Failed, Leaving, StartLeaving, EndTransaction, of_some, in_phase, transaction_of, name_of, with_transaction, after}
 use Rattle.kv_model.specs.Decisions.{Outcome}
 use Rattle.kv_model.specs.Told.{Tells}
 use Rattle.kv_model.specs.Valid.{Valid}
 use Rattle.kv_model.proofs.EveryEvent.{valid-after}
+use Rattle.tree_dir.specs.declared.leaf.Leaf.{Leaf}
 use Rattle.txn_table.specs.declared.phase.Phase.TheVariants as phase
 use Rattle.txn_table.specs.Stands.{TableStands}
 use Rattle.txn_table.specs.Tabled.{ended}
@@ -61,29 +62,29 @@ no-keys : (keys : List WrittenKey) → length keys ≡ 0 → keys ≡ []
 no-keys [] none = refl
 no-keys (k ∷ keys) none = absurd (omega (arith, none))
 
-no-writes : (known : List KnownTable) (pieces : List FramePiece) (writes : List Write) → AreNoted known pieces writes [] → writes ≡ []
-no-writes known pieces [] noted = refl
-no-writes known pieces (w ∷ writes) noted = absurd (noted.noted w (inl refl)).1
+no-writes : (leaves : List Leaf) (pieces : List FramePiece) (writes : List Write) → AreNoted leaves pieces writes [] → writes ≡ []
+no-writes leaves pieces [] noted = refl
+no-writes leaves pieces (w ∷ writes) noted = absurd (noted.noted w (inl refl)).1
 
 pub noted-of : (e : Engine) (w : World) (session : ℕ) (a : State) (t : Transaction) → Stands e w → slice_get e.sessions session ≡ Some a → transaction_of w.machine session ≡ Some t
-    → AreNoted e.hub.tables.tables e.pieces t.writes a.written
-noted-of e w session a t st at there = subst (λ o. AreNoted e.hub.tables.tables e.pieces (of_some [] (λ (x : Transaction). x.writes) o) a.written) there (st.sessions session a at).noted
+    → AreNoted e.hub.dir.leaves e.pieces t.writes a.written
+noted-of e w session a t st at there = subst (λ o. AreNoted e.hub.dir.leaves e.pieces (of_some [] (λ (x : Transaction). x.writes) o) a.written) there (st.sessions session a at).noted
 
 wrote-none : (e : Engine) (w : World) (session : ℕ) (a : State) (t : Transaction) → Stands e w → slice_get e.sessions session ≡ Some a → transaction_of w.machine session ≡ Some t → length a.written ≡ 0 → t.writes ≡ []
-wrote-none e w session a t st at there none = no-writes e.hub.tables.tables e.pieces t.writes
-    (subst (λ keys. AreNoted e.hub.tables.tables e.pieces t.writes keys) (no-keys a.written none) (noted-of e w session a t st at there))
+wrote-none e w session a t st at there none = no-writes e.hub.dir.leaves e.pieces t.writes
+    (subst (λ keys. AreNoted e.hub.dir.leaves e.pieces t.writes keys) (no-keys a.written none) (noted-of e w session a t st at there))
 
 -- ---- the two ways
 
 -- it wrote nothing, and ends at once
 at-once : ChainsGoOn → (e : Engine) (w : World) (session : ℕ) (a : State) (t : Transaction) (outcome : Outcome) (answer : Answer (List ℕ)) → Stands e w → slice_get e.sessions session ≡ Some a → MayLeave w.machine session a t → w.machine.fault ≡ None → t.writes ≡ []
-    → Tells outcome answer → Settling w session a outcome (StartLeaving session) → Goes e w session (with_txns e.hub (ended e.hub.txns session) (finished answer a))
+    → Tells outcome answer → Settling e.hub.dir.leaves w session a outcome (StartLeaving session) → Goes e w session (with_txns e.hub (ended e.hub.txns session) (finished answer a))
 at-once law e w session a t outcome answer st at v up empty tells settles = leads e w session a (finished answer a).1 (record e.hub { txns = ended e.hub.txns session }) e.pieces e.hazards next (finished answer a).0 st at
-    (settles (record { told = (finished answer a).0; machine = next; doing = doing_in session (finished answer a).1 }) (
+    (settles (record { told = (finished answer a).0; machine = next; doing = doing_in e.hub.dir.leaves session (finished answer a).1 }) (
       answer,
       tells,
-      subst (λ o. EndsIn o answer middle session (decide_left a) (record { told = (finished answer a).0; machine = next; doing = doing_in session (finished answer a).1 })) (sym now.there)
-          (inr (still-up, empty, finished-goes answer (decide_left a) next session a (omega arith))),
+      subst (λ o. EndsIn o answer middle session (decide_left a) (record { told = (finished answer a).0; machine = next; doing = doing_in e.hub.dir.leaves session (finished answer a).1 })) (sym now.there)
+          (inr (still-up, empty, finished-goes e.hub.dir.leaves answer (decide_left a) next session a (omega arith))),
     ))
     (record {
       valid = valid-after middle (EndTransaction session) valid may;
@@ -94,8 +95,8 @@ at-once law e w session a t outcome answer st at v up empty tells settles = lead
       stamps = refl;
       txns = (calls-stand e.hub.txns middle valid (left-lags e w session a t st at v)).ends session may;
       made = ap (λ (m : Machine). tables m.history) v.leaves;
-      leaves = leaves-go-on law middle (EndTransaction session) e.hub.tables.tables e.pieces e.states valid may (λ table key. did-not middle session (in_phase Leaving t) table key now.there (ap (find (writes_at table key)) empty))
-          (leaves-go-on law w.machine (StartLeaving session) e.hub.tables.tables e.pieces e.states st.valid tt (λ table key. tt) st.leaves);
+      leaves = leaves-go-on law middle (EndTransaction session) e.hub.dir.leaves e.pieces e.states valid may (λ table key. did-not middle session (in_phase Leaving t) table key now.there (ap (find (writes_at table key)) empty))
+          (leaves-go-on law w.machine (StartLeaving session) e.hub.dir.leaves e.pieces e.states st.valid tt (λ table key. tt) st.leaves);
       mine = finished-stands next (record e.hub { txns = ended e.hub.txns session }) e.pieces session a answer (without-gone middle session (in_phase Leaving t) valid now.there)
           (cursors-count w.machine e.hub e.pieces session a t st.valid v.there (st.sessions session a at))
           (seat-idle w.machine e.hub e.pieces session a (st.sessions session a at)).0 (seat-idle w.machine e.hub e.pieces session a (st.sessions session a at)).1;
@@ -120,12 +121,12 @@ at-once law e w session a t outcome answer st at v up empty tells settles = lead
 
 -- it has updates to take out
 with-undos : ChainsGoOn → (e : Engine) (w : World) (session n : ℕ) (a : State) (t : Transaction) (outcome : Outcome) (answer : Answer (List ℕ)) → Stands e w → slice_get e.sessions session ≡ Some a → MayLeave w.machine session a t
-    → length a.written ≡ suc n → Tells outcome answer → Settling w session a outcome (StartLeaving session) → Goes e w session (beside e.hub (reply.More, leaves answer a))
+    → length a.written ≡ suc n → Tells outcome answer → Settling e.hub.dir.leaves w session a outcome (StartLeaving session) → Goes e w session (beside e.hub (reply.More, leaves answer a))
 with-undos law e w session n a t outcome answer st at v some tells settles = leads e w session a (leaves answer a) e.hub e.pieces e.hazards next reply.More st at
-    (settles (record { told = reply.More; machine = next; doing = doing_in session (leaves answer a) }) (
+    (settles (record { told = reply.More; machine = next; doing = doing_in e.hub.dir.leaves session (leaves answer a) }) (
       answer,
       tells,
-      subst (λ o. EndsIn o answer next session (decide_left a) (record { told = reply.More; machine = next; doing = doing_in session (leaves answer a) })) (sym now.there)
+      subst (λ o. EndsIn o answer next session (decide_left a) (record { told = reply.More; machine = next; doing = doing_in e.hub.dir.leaves session (leaves answer a) })) (sym now.there)
           (inl (suc n + done_left a, (omega (arith, some)), ap (λ d. record { told = reply.More; machine = next; doing = d }) does)),
     ))
     (record {
@@ -135,9 +136,9 @@ with-undos law e w session n a t outcome answer st at v some tells settles = lea
       stamps = refl;
       txns = left-lags e w session a t st at v;
       made = ap (λ (m : Machine). tables m.history) v.leaves;
-      leaves = leaves-go-on law w.machine (StartLeaving session) e.hub.tables.tables e.pieces e.states st.valid tt (λ table key. tt) st.leaves;
+      leaves = leaves-go-on law w.machine (StartLeaving session) e.hub.dir.leaves e.pieces e.states st.valid tt (λ table key. tt) st.leaves;
       mine = phased-stands w.machine next e.hub e.hub.txns e.pieces session a (leaves answer a) t Leaving mine v.there now (record { opened = mine.seated.opened; phase = mine.seated.phase ∙ v.known }) refl refl refl
-          (subst (λ k. StageStands (undoes k) next e.hub.tables.tables e.pieces session (leaves answer a)) (sym some) (
+          (subst (λ k. StageStands (undoes k) next e.hub.dir.leaves e.pieces session (leaves answer a)) (sym some) (
             ((omega arith), (omega (arith, some))),
             (in_phase Leaving t, now.there, edited-none edit.Undo (name_of next (in_phase Leaving t)) e.pieces a.written (suc n) (omega (arith, some))),
           ));
@@ -151,12 +152,12 @@ with-undos law e w session n a t outcome answer st at v some tells settles = lea
       mine : SessionStands w.machine e.hub e.pieces session a
       mine = st.sessions session a at
 
-      does : doing_in session (leaves answer a) ≡ Ending answer (suc n + done_left a)
-      does = ap (λ k. doing_at (undoes k) session (leaves answer a)) some
+      does : doing_in e.hub.dir.leaves session (leaves answer a) ≡ Ending answer (suc n + done_left a)
+      does = ap (λ k. doing_at (undoes k) e.hub.dir.leaves session (leaves answer a)) some
 
 -- either of them
 pub leaves-goes : ChainsGoOn → (e : Engine) (w : World) (session : ℕ) (a : State) (t : Transaction) (outcome : Outcome) (answer : Answer (List ℕ)) → Stands e w → slice_get e.sessions session ≡ Some a → MayLeave w.machine session a t → w.machine.fault ≡ None
-    → Tells outcome answer → Settling w session a outcome (StartLeaving session) → Goes e w session (leaves_with (length a.written) answer e.hub session a)
+    → Tells outcome answer → Settling e.hub.dir.leaves w session a outcome (StartLeaving session) → Goes e w session (leaves_with (length a.written) answer e.hub session a)
 leaves-goes law e w session a t outcome answer st at v up tells settles = by-count (length a.written) refl where
   by-count : (n : ℕ) → length a.written ≡ n → Goes e w session (leaves_with n answer e.hub session a)
   by-count zero none = at-once law e w session a t outcome answer st at v up (wrote-none e w session a t st at v.there none) tells settles

@@ -1,17 +1,18 @@
 -- What stands where a call looks at its leaf, and what its answer leaves of its session.
-use Rattle.std.proofs.Common.{◌≡◌, ◌<◌, ℕ, zero, suc, refl, ap, sym, ◌∙◌, true, List, [], ◌∷◌, inl, inr, subst, arith, map}
+use Rattle.std.proofs.Common.{◌≡◌, ◌<◌, ◌≤◌, ◌+◌, ℕ, zero, suc, refl, ap, sym, ◌∙◌, true, List, [], ◌∷◌, inl, inr, subst, arith, map}
 use Rattle.std.specs.Prelude.{Option, Some, None, option_map, slice_get, slice_set}
+use Rattle.std.specs.List.{Contains}
 use Rattle.stamp.specs.declared.View.{View}
 use Rattle.wt_code.specs.declared.answers.Answer.{Answer}
 use Rattle.wt_code.specs.declared.answers.Answer.TheVariants as answers
 use Rattle.wt_code.specs.declared.refusals.Refusal.TheVariants as refusal
-use Rattle.kv_model.specs.History.{Table}
 use Rattle.kv_model.specs.Machine.{Machine, Transaction, Running, of_some, transaction_of, cursors_of, Event, Nothing}
 use Rattle.kv_model.specs.Decisions.{Outcome}
 use Rattle.kv_model.specs.Told.{Tells}
 use Rattle.rows_shown.specs.Shows.{shown_at}
 use Rattle.snapshot.specs.Sight.{Sight}
 use Rattle.snapshot.specs.Matters.{SeesFirst}
+use Rattle.tree_dir.specs.declared.leaf.Leaf.{Leaf}
 use Rattle.txn_table.specs.SessionData.{phase_in}
 use Rattle.txn_table.specs.Stands.{TableStands}
 use Rattle.txn_table.proofs.Standing.{state-at}
@@ -33,14 +34,16 @@ use Rattle.call_steps.specs.HubEvents.{IsSeated}
 use Rattle.call_steps.specs.Looks.{LookedBy}
 use Rattle.call_steps.specs.Stages.{is_write, cursor_in}
 use Rattle.call_steps.specs.State.{State, changed_at, takes_word, at_stage, clears, lands, misses, moves, answered}
+use Rattle.call_steps.specs.Tables.{target_in}
 use Rattle.call_steps.specs.Words.{next_of, next_at}
 use Rattle.engine_world.specs.Worlds.{World, Placed, Decided}
-use Rattle.engine_world.specs.Doings.{call_in, event_with, doing_at, doing_in}
+use Rattle.engine_world.specs.Doings.{call_in, event_with, doing_at, doing_in, further_left}
 use Rattle.engine_world.specs.Steps.{Made, GoesTo, GoesOn, LookAnswer, LooksOn}
 use Rattle.engine_world.specs.Laws.{Leads, IsViewOf, with_session, with_piece}
-use Rattle.engine_world.specs.Leaves.{AreNoted, LeafStands, frame_in}
-use Rattle.engine_world.specs.Stages.{StageStands, IsOnLeaf, HasLooked}
+use Rattle.engine_world.specs.Leaves.{AreNoted, IsLaid, frame_in}
+use Rattle.engine_world.specs.Stages.{StageStands, IsOnLeaf, IsSought, HasLooked, Seeks}
 use Rattle.engine_world.specs.Stands.{Engine, Stands, SessionStands, position_in, writes_in}
+use Rattle.engine_world.proofs.Homes.{LiesIn, target-frame, target-is}
 use Rattle.engine_world.proofs.Moves.{alone-leads}
 use Rattle.engine_world.proofs.OnePiece.{set-same, frame-there}
 
@@ -50,7 +53,7 @@ pub record Keeps (m : Machine) (hub : Hub) (pieces : List FramePiece) (session :
   pub phase : phase_in a.phase ≡ option_map (λ (t : Transaction). t.phase) (transaction_of m session)
   pub seated : IsSeated hub session a
   pub cursors : map position_in a.cursors ≡ cursors_of m session
-  pub noted : AreNoted hub.tables.tables pieces (writes_in m session) a.written
+  pub noted : AreNoted hub.dir.leaves pieces (writes_in m session) a.written
 
 -- a word that is taken over moves no cursor
 placed-same : (word : ℕ) (target : Target) (ks : List Cursor) (n : ℕ) → map position_in (changed_at ks n (takes_word word target)) ≡ map position_in ks
@@ -58,22 +61,22 @@ placed-same word target [] n = refl
 placed-same word target (k ∷ ks) zero = refl
 placed-same word target (k ∷ ks) (suc n) = ap (λ l. position_in k ∷ l) (placed-same word target ks n)
 
-pub looked : (m : Machine) (known : List Table) (session : ℕ) (call : KeyCall) (target : Target) → IsOnLeaf m known session call target → HasLooked m known session call target
-looked m known session call target on = ((on.0.0, on.0.1, inl on.0.2.0), on.1)
+pub looked : (m : Machine) (leaves : List Leaf) (session : ℕ) (call : KeyCall) (target : Target) → IsOnLeaf m leaves session call target → HasLooked m leaves session call target
+looked m leaves session call target on = ((on.0.0, on.0.1, inl on.0.2.0), on.1)
 
 module _ (m : Machine) (hub : Hub) (pieces : List FramePiece) (session : ℕ) where
   pub keeps : (a : State) → SessionStands m hub pieces session a → Keeps m hub pieces session a
   keeps a s = record { phase = s.phase; seated = s.seated; cursors = s.cursors; noted = s.noted }
 
-  pub stands-at : (a : State) → Keeps m hub pieces session a → StageStands a.stage m hub.tables.tables pieces session a → SessionStands m hub pieces session a
+  pub stands-at : (a : State) → Keeps m hub pieces session a → StageStands a.stage m hub.dir.leaves pieces session a → SessionStands m hub pieces session a
   stands-at a k s = record { phase = k.phase; seated = k.seated; cursors = k.cursors; noted = k.noted; stage = s }
 
   pub clears-keep : (call : KeyCall) (target : Target) (answer : Answer (List ℕ)) (a : State) → Keeps m hub pieces session a → Keeps m hub pieces session (clears call target answer a)
   clears-keep call target answer a k = record { phase = k.phase; seated = record { opened = k.seated.opened; phase = k.seated.phase }; cursors = k.cursors; noted = k.noted }
 
-module _ (m : Machine) (hub : Hub) (pieces : List FramePiece) (session : ℕ) (call : KeyCall) (target : Target) (a : State) (k : Keeps m hub pieces session a) (on : IsOnLeaf m hub.tables.tables session call target) where
+module _ (m : Machine) (hub : Hub) (pieces : List FramePiece) (session : ℕ) (call : KeyCall) (target : Target) (a : State) (k : Keeps m hub pieces session a) (on : IsOnLeaf m hub.dir.leaves session call target) where
   pub clears-stand : (answer : Answer (List ℕ)) → SessionStands m hub pieces session (clears call target answer a)
-  clears-stand answer = stands-at m hub pieces session (clears call target answer a) (clears-keep m hub pieces session call target answer a k) (looked m hub.tables.tables session call target on)
+  clears-stand answer = stands-at m hub pieces session (clears call target answer a) (clears-keep m hub pieces session call target answer a k) (looked m hub.dir.leaves session call target on)
 
   pub older-stands : SessionStands m hub pieces session (at_stage (stage.History call target) a)
   older-stands = stands-at m hub pieces session (at_stage (stage.History call target) a)
@@ -86,7 +89,7 @@ module _ (m : Machine) (hub : Hub) (pieces : List FramePiece) (session : ℕ) (c
   lands-stand : (cursor : ℕ) (answer : Answer (List ℕ)) → SessionStands m hub pieces session (lands cursor call target answer a)
   lands-stand cursor answer = stands-at m hub pieces session (lands cursor call target answer a)
       (record { phase = k.phase; seated = record { opened = k.seated.opened; phase = k.seated.phase }; cursors = placed-same a.word target a.cursors cursor ∙ k.cursors; noted = k.noted })
-      (looked m hub.tables.tables session call target on)
+      (looked m hub.dir.leaves session call target on)
 
   moves-stand : (cursor : ℕ) (answer : Answer (List ℕ)) → SessionStands m hub pieces session (moves cursor call target answer a)
   moves-stand cursor (answers.Value v) = lands-stand cursor (answers.Value v)
@@ -102,31 +105,32 @@ module _ (m : Machine) (hub : Hub) (pieces : List FramePiece) (session : ℕ) (c
 
 -- ---- what the session does after a look
 
-abbrev pub made_in : Machine → ℕ → State → Made
-made_in next session b = record { told = reply.More; machine = next; doing = doing_in session b }
+abbrev pub made_in : List Leaf → Machine → ℕ → State → Made
+made_in leaves next session b = record { told = reply.More; machine = next; doing = doing_in leaves session b }
 
-module _ (next : Machine) (session : ℕ) (call : KeyCall) (target : Target) (a : State) where
-  pub clears-does : (answer : Answer (List ℕ)) → GoesTo (Decided answer (event_with session call target a.key answer)) 4 next (made_in next session (clears call target answer a))
-  clears-does answer = (1, omega arith, refl)
+-- with three steps left at least
+module _ (leaves : List Leaf) (left : ℕ) (enough : 3 ≤ left) (next : Machine) (session : ℕ) (call : KeyCall) (target : Target) (a : State) where
+  pub clears-does : (answer : Answer (List ℕ)) → GoesTo (Decided answer (event_with session call target a.key answer)) left next (made_in leaves next session (clears call target answer a))
+  clears-does answer = (1, omega (arith, enough), refl)
 
-  pub older-does : GoesTo (Decided (answers.Refused refusal.NotFound) (event_with session call target a.key (answers.Refused refusal.NotFound))) 4 next (made_in next session (at_stage (stage.History call target) a))
-  older-does = (3, omega arith, refl)
+  pub older-does : 4 ≤ left → GoesTo (Decided (answers.Refused refusal.NotFound) (event_with session call target a.key (answers.Refused refusal.NotFound))) left next (made_in leaves next session (at_stage (stage.History call target) a))
+  older-does more = (3, omega (arith, more), refl)
 
-  moves-does : (cursor : ℕ) (answer : Answer (List ℕ)) → GoesTo (Decided answer (event_with session call target a.key answer)) 4 next (made_in next session (moves cursor call target answer a))
-  moves-does cursor (answers.Value v) = (1, omega arith, refl)
-  moves-does cursor (answers.Row key v) = (1, omega arith, refl)
-  moves-does cursor (answers.Refused refusal.NotFound) = (2, omega arith, refl)
-  moves-does cursor answer = (1, omega arith, refl)
+  moves-does : (cursor : ℕ) (answer : Answer (List ℕ)) → GoesTo (Decided answer (event_with session call target a.key answer)) left next (made_in leaves next session (moves cursor call target answer a))
+  moves-does cursor (answers.Value v) = (1, omega (arith, enough), refl)
+  moves-does cursor (answers.Row key v) = (1, omega (arith, enough), refl)
+  moves-does cursor (answers.Refused refusal.NotFound) = (2, omega (arith, enough), refl)
+  moves-does cursor answer = (1, omega (arith, enough), refl)
 
-  pub answered-does : (answer : Answer (List ℕ)) → GoesTo (Decided answer (event_with session call target a.key answer)) 4 next (made_in next session (answered call target answer a))
+  pub answered-does : (answer : Answer (List ℕ)) → GoesTo (Decided answer (event_with session call target a.key answer)) left next (made_in leaves next session (answered call target answer a))
   answered-does answer = by (cursor_in call) where
-    by : (o : Option ℕ) → GoesTo (Decided answer (event_with session call target a.key answer)) 4 next (made_in next session (of_some (clears call target answer a) (λ cursor. moves cursor call target answer a) o))
+    by : (o : Option ℕ) → GoesTo (Decided answer (event_with session call target a.key answer)) left next (made_in leaves next session (of_some (clears call target answer a) (λ cursor. moves cursor call target answer a) o))
     by None = clears-does answer
     by (Some cursor) = moves-does cursor answer
 
   -- memory was too short
-  pub short-does : GoesTo (Decided (answers.Refused refusal.NoMemory) Nothing) 4 next (made_in next session (answered call target (answers.Refused refusal.NoMemory) a))
-  short-does = subst (λ event. GoesTo (Decided (answers.Refused refusal.NoMemory) event) 4 next (made_in next session (answered call target (answers.Refused refusal.NoMemory) a))) (by (cursor_in call)) (answered-does (answers.Refused refusal.NoMemory)) where
+  pub short-does : GoesTo (Decided (answers.Refused refusal.NoMemory) Nothing) left next (made_in leaves next session (answered call target (answers.Refused refusal.NoMemory) a))
+  short-does = subst (λ event. GoesTo (Decided (answers.Refused refusal.NoMemory) event) left next (made_in leaves next session (answered call target (answers.Refused refusal.NoMemory) a))) (by (cursor_in call)) (answered-does (answers.Refused refusal.NoMemory)) where
     by : (o : Option ℕ) → of_some Nothing (λ cursor. Nothing) o ≡ Nothing
     by None = refl
     by (Some cursor) = refl
@@ -138,16 +142,24 @@ pub record AtLeaf (e : Engine) (w : World) (session frame : ℕ) (a : State) (p 
   pub there : transaction_of w.machine session ≡ Some transaction
   pub running : transaction.phase ≡ Running
   pub drawn : is_write call ≡ true → 0 < transaction.id
-  pub table : Table
-  pub known : slice_get e.hub.tables.tables target.frame ≡ Some table
-  pub number : table.number ≡ target.table
+  -- its leaf, and where it is
+  pub home : Leaf
+  pub home_there : Contains e.hub.dir.leaves home
+  pub targeted : target_in home ≡ Some target
+  pub number : home.table ≡ target.table
+  pub laid : IsLaid e.pieces e.states home
+  pub laid_at : laid.framed.frame ≡ frame
   pub place : target.frame ≡ frame
   -- as the frame was
   pub was : Frame
   pub held : p.frame ≡ Some was
-  pub keys : (key : List ℕ) → StandsFor w.machine target.table key (chain_at key was.leaf.chains) (shown_at key was.leaf.page) []
+  pub table : was.table ≡ home.table
+  pub id : was.id ≡ home.id
+  pub keys : (key : List ℕ) → LiesIn e.hub.dir.leaves home key → StandsFor w.machine target.table key (chain_at key was.leaf.chains) (shown_at key was.leaf.page) []
+  pub bare : (key : List ℕ) → (LiesIn e.hub.dir.leaves home key → ⊥) → (chain_at key was.leaf.chains ≡ []) × (shown_at key was.leaf.page ≡ None)
   pub sees : ViewStands w.machine transaction view
-  pub on : IsOnLeaf w.machine e.hub.tables.tables session call target
+  pub on : IsOnLeaf w.machine e.hub.dir.leaves session call target
+  pub sought : IsSought w.machine e.hub.dir.leaves session a call home
   pub keeps : Keeps w.machine e.hub e.pieces session a
 
 pub view-stands : (hub : Hub) (m : Machine) (session : ℕ) (t : Transaction) (view : View) → TableStands hub.txns m → IsViewOf hub session view → transaction_of m session ≡ Some t → ViewStands m t view
@@ -161,32 +173,40 @@ module _ (e : Engine) (w : World) (session frame : ℕ) (a : State) (p : FramePi
   pub at-leaf : Stands e w → slice_get e.sessions session ≡ Some a → a.stage ≡ stage.Look call target → next_of a ≡ next.Frame frame → slice_get e.pieces frame ≡ Some p → IsViewOf e.hub session view
       → AtLeaf e w session frame a p view call target
   at-leaf st at is goes there v = record {
-    transaction = on.0.0;
-    there = on.0.1;
-    running = on.0.2.0;
-    drawn = on.0.2.1;
-    table = on.1.0;
-    known = on.1.1;
+    transaction = seeks.0.0.0;
+    there = seeks.0.0.1;
+    running = seeks.0.0.2.0;
+    drawn = seeks.0.0.2.1;
+    home = seeks.0.1.0;
+    home_there = seeks.0.1.1;
+    targeted = seeks.0.1.2;
     number = number;
+    laid = (st.leaves seeks.0.1.0 seeks.0.1.1).laid;
+    laid_at = laid_at;
     place = place;
-    was = old.frame;
-    held = sym (frame-there e.pieces frame p there) ∙ (ap (frame_in e.pieces) (sym place) ∙ old.there);
-    keys = λ key. subst (λ n. StandsFor w.machine n key (chain_at key old.frame.leaf.chains) (shown_at key old.frame.leaf.page) []) number (old.keys key);
-    sees = view-stands e.hub w.machine session on.0.0 view st.txns v on.0.1;
-    on = on;
+    was = (st.leaves seeks.0.1.0 seeks.0.1.1).laid.frame;
+    held = sym (frame-there e.pieces frame p there) ∙ (ap (frame_in e.pieces) (sym laid_at) ∙ (st.leaves seeks.0.1.0 seeks.0.1.1).laid.there);
+    table = (st.leaves seeks.0.1.0 seeks.0.1.1).laid.table;
+    id = (st.leaves seeks.0.1.0 seeks.0.1.1).laid.id;
+    keys = λ key lies. subst (λ n. StandsFor w.machine n key (chain_at key (st.leaves seeks.0.1.0 seeks.0.1.1).laid.frame.leaf.chains) (shown_at key (st.leaves seeks.0.1.0 seeks.0.1.1).laid.frame.leaf.page) []) number
+        ((st.leaves seeks.0.1.0 seeks.0.1.1).keys key lies);
+    bare = (st.leaves seeks.0.1.0 seeks.0.1.1).bare;
+    sees = view-stands e.hub w.machine session seeks.0.0.0 view st.txns v seeks.0.0.1;
+    on = seeks.0;
+    sought = seeks.1;
     keeps = keeps w.machine e.hub e.pieces session a (st.sessions session a at);
   } where
-    on : IsOnLeaf w.machine e.hub.tables.tables session call target
-    on = subst (λ g. StageStands g w.machine e.hub.tables.tables e.pieces session a) is (st.sessions session a at).stage
+    seeks : Seeks w.machine e.hub.dir.leaves session call target a
+    seeks = subst (λ g. StageStands g w.machine e.hub.dir.leaves e.pieces session a) is (st.sessions session a at).stage
 
-    old : LeafStands w.machine e.pieces e.states target.frame on.1.0
-    old = st.leaves target.frame on.1.0 on.1.1
-
-    number : on.1.0.number ≡ target.table
-    number = ap (λ (x : Target). x.table) (sym on.1.2)
+    number : seeks.0.1.0.table ≡ target.table
+    number = ap (λ (x : Target). x.table) (target-is seeks.0.1.0 target seeks.0.1.2).is
 
     place : target.frame ≡ frame
     place = let same : next.Frame target.frame ≡ next.Frame frame = subst (λ g. next_at g a ≡ next.Frame frame) is goes in cc
+
+    laid_at : (st.leaves seeks.0.1.0 seeks.0.1.1).laid.framed.frame ≡ frame
+    laid_at = target-frame e.pieces e.states seeks.0.1.0 target (st.leaves seeks.0.1.0 seeks.0.1.1).laid seeks.0.1.2 ∙ place
 
   -- what the look makes of the leaf
   pub look-made : (a' : State) (p' : FramePiece) (x : AtLeaf e w session frame a p view call target) → a.stage ≡ stage.Look call target → FrameMade view p a p' a'
@@ -194,8 +214,8 @@ module _ (e : Engine) (w : World) (session frame : ℕ) (a : State) (p : FramePi
   look-made a' p' x is made = subst (λ o. LookMade o call view target p a p' a') x.held (subst (λ g. FrameMadeAt g view p a p' a') is made)
 
   -- the step of a call at its look
-  pub goes-placed : (made : Made) → a.stage ≡ stage.Look call target → GoesOn (Placed (call_in call a) target.table 4) w.machine session made → GoesOn (doing_in session a) w.machine session made
-  goes-placed made is goes = subst (λ g. GoesOn (doing_at g session a) w.machine session made) (sym is) goes
+  pub goes-placed : (made : Made) → a.stage ≡ stage.Look call target → GoesOn (Placed (call_in call a) target.table (4 + further_left call target e.hub.dir.leaves)) w.machine session made → GoesOn (doing_in e.hub.dir.leaves session a) w.machine session made
+  goes-placed made is goes = subst (λ g. GoesOn (doing_at g e.hub.dir.leaves session a) w.machine session made) (sym is) goes
 
   pub pieces-same : (p' : FramePiece) (leaf : HeldLeaf) (x : AtLeaf e w session frame a p view call target) → slice_get e.pieces frame ≡ Some p → p' ≡ record p { frame = Some (with_leaf leaf x.was) } → leaf ≡ x.was.leaf
       → slice_set e.pieces frame p' ≡ e.pieces
@@ -206,7 +226,7 @@ module _ (e : Engine) (w : World) (session frame : ℕ) (a : State) (p : FramePi
   -- a look that changes no leaf
   pub quiet-leads : (a' : State) (p' : FramePiece) (leaf : HeldLeaf) (x : AtLeaf e w session frame a p view call target) → Stands e w → slice_get e.sessions session ≡ Some a → slice_get e.pieces frame ≡ Some p
       → p' ≡ record p { frame = Some (with_leaf leaf x.was) } → leaf ≡ x.was.leaf
-      → GoesOn (doing_in session a) w.machine session (made_in w.machine session a') → SessionStands w.machine e.hub e.pieces session a'
+      → GoesOn (doing_in e.hub.dir.leaves session a) w.machine session (made_in e.hub.dir.leaves w.machine session a') → SessionStands w.machine e.hub e.pieces session a'
       → Leads (with_session (with_piece e frame p') session a') w session reply.More
   quiet-leads a' p' leaf x st at there is same goes mine = subst (λ l. Leads (with_session (record e { pieces = l }) session a') w session reply.More) (sym (pieces-same p' leaf x there is same))
       (alone-leads e w session a a' e.hazards reply.More st at goes mine)
@@ -218,9 +238,9 @@ module _ (e : Engine) (w : World) (session frame : ℕ) (a a' : State) (p p' : F
     (is : p' ≡ record p { frame = Some (with_leaf leaf x.was) }) (same : leaf ≡ x.was.leaf) where
   -- it finds this outcome
   pub looks-lead : (outcome : Outcome) (event : Event) (answer : Answer (List ℕ)) → LookAnswer (call_in call a) w.machine session x.transaction target.table outcome event → Tells outcome answer
-      → LooksOn (call_in call a) w.machine answer event 4 (made_in w.machine session a') → SessionStands w.machine e.hub e.pieces session a' → Leads (with_session (with_piece e frame p') session a') w session reply.More
+      → LooksOn (call_in call a) w.machine answer event (4 + further_left call target e.hub.dir.leaves) (made_in e.hub.dir.leaves w.machine session a') → SessionStands w.machine e.hub e.pieces session a' → Leads (with_session (with_piece e frame p') session a') w session reply.More
   looks-lead outcome event answer finds tells goes mine = quiet-leads e w session frame a p view call target a' p' leaf x st at there is same
-      (goes-placed e w session frame a p view call target (made_in w.machine session a') look (inr (inl (record {
+      (goes-placed e w session frame a p view call target (made_in e.hub.dir.leaves w.machine session a') look (inr (inl (record {
         transaction = x.transaction;
         outcome = outcome;
         event = event;
@@ -232,6 +252,6 @@ module _ (e : Engine) (w : World) (session frame : ℕ) (a a' : State) (p p' : F
       })))) mine
 
   -- or memory was too short
-  pub shorts-lead : GoesTo (Decided (answers.Refused refusal.NoMemory) Nothing) 4 w.machine (made_in w.machine session a') → SessionStands w.machine e.hub e.pieces session a' → Leads (with_session (with_piece e frame p') session a') w session reply.More
+  pub shorts-lead : GoesTo (Decided (answers.Refused refusal.NoMemory) Nothing) (4 + further_left call target e.hub.dir.leaves) w.machine (made_in e.hub.dir.leaves w.machine session a') → SessionStands w.machine e.hub e.pieces session a' → Leads (with_session (with_piece e frame p') session a') w session reply.More
   shorts-lead goes mine = quiet-leads e w session frame a p view call target a' p' leaf x st at there is same
-      (goes-placed e w session frame a p view call target (made_in w.machine session a') look (inr (inr goes))) mine
+      (goes-placed e w session frame a p view call target (made_in e.hub.dir.leaves w.machine session a') look (inr (inr goes))) mine

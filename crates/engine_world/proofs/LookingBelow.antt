@@ -7,12 +7,13 @@ use Rattle.std.proofs.lemmas.Option.{slice_get_within}
 use Rattle.item.specs.declared.Change.{Change}
 use Rattle.stamp.specs.declared.Version.{Version}
 use Rattle.kv_model.specs.Holds.{Member}
-use Rattle.kv_model.specs.History.{Table, Write, line}
+use Rattle.kv_model.specs.History.{Write, line}
 use Rattle.kv_model.specs.Machine.{Machine, Transaction, Running as ModelRunning, Failed as ModelFailed, Leaving as ModelLeaving, Prepared as ModelPrepared, Resolving as ModelResolving, transaction_of, of_some}
 use Rattle.kv_model.specs.Pending.{Update as ModelUpdate, settled, TopStands}
 use Rattle.kv_model.specs.Reads.{own_write, is_own, IsEnding}
 use Rattle.kv_model.specs.Refusals.{newest_durable}
 use Rattle.kv_model.specs.Valid.{Valid}
+use Rattle.tree_dir.specs.declared.leaf.Leaf.{Leaf}
 use Rattle.txn_table.specs.SessionData.{phase_in}
 use Rattle.txn_table.specs.declared.phase.Phase.{Phase}
 use Rattle.txn_table.specs.declared.phase.Phase.TheVariants as phase
@@ -24,7 +25,7 @@ use Rattle.update_chain.specs.FrameLaws.{durable_of, OrdersStand as OrdersLaw}
 use Rattle.update_chain.specs.Writing.{newest_of}
 use Rattle.update_chain.proofs.Reading.{running-alive}
 use Rattle.leaf_chains.specs.declared.slot.KeyChain.{KeyChain}
-use Rattle.leaf_chains.specs.Slots.{chain_at, key_at, slot_of}
+use Rattle.leaf_chains.specs.Slots.{chain_at, slot_of}
 use Rattle.leaf_chains.proofs.Changes.{held}
 use Rattle.leaf_frame.specs.Leaf.{HeldLeaf, durable_under as durable_below}
 use Rattle.call_steps.specs.declared.frame.Frame.{Frame}
@@ -44,15 +45,17 @@ use Rattle.call_steps.specs.Written.{frame_at, slot_at, leaf_start}
 use Rattle.engine_world.specs.Worlds.{World, Asked}
 use Rattle.engine_world.specs.Doings.{doing_in, doing_at, commit_in, decide_left}
 use Rattle.engine_world.specs.Laws.{Leads, IsOrder, OrdersGo, with_session, with_piece}
-use Rattle.engine_world.specs.Leaves.{AreNoted, LeafStands, IsSlotOf, OrderedDownTo, durable_under, slots_in}
+use Rattle.engine_world.specs.Leaves.{AreNoted, IsSlotOf, OrderedDownTo, durable_under, frame_in, slots_in}
 use Rattle.engine_world.specs.Stages.{StageStands, OrdersStand, DecidesStand, IsEdited, IsOrdered, IsLeft, stamps_in}
 use Rattle.engine_world.specs.Stands.{Engine, Stands}
 use Rattle.engine_world.specs.Steps.{GoesOn}
 use Rattle.engine_world.proofs.Events.{slots-same}
+use Rattle.engine_world.proofs.Homes.{IsAt, home-at}
 use Rattle.engine_world.proofs.Moves.{alone-leads, engine_with}
+use Rattle.engine_world.proofs.NotedSlots.{slot-durable}
 use Rattle.engine_world.proofs.OnePiece.{frame-there, set-same}
 use Rattle.engine_world.proofs.EditedChains.{own-of}
-use Rattle.engine_world.proofs.EditedLeaves.{got-member, some-at, key-held, start-within, start-below}
+use Rattle.engine_world.proofs.EditedLeaves.{got-member, leaf-framed, lies-in, some-at, start-within, start-below}
 use Rattle.engine_world.proofs.EditMoves.{the-one, known-phase, alive-only, noted-of, session-on, asked-on}
 use Rattle.engine_world.proofs.StampingLeaves.{decide-doing, decide-stage}
 
@@ -77,19 +80,19 @@ max-cases : (a b : ℕ) → (max a b ≡ a) ⊎ (max a b ≡ b)
 max-cases a b = elim (cases_eq (max a b) a) [ inl same ↦ inl same | inr other ↦ inr (omega (arith, other)) ]
 
 -- what is below a key that was noted
-record UnderIs (m : Machine) (known : List Table) (pieces : List FramePiece) (t : Transaction) (leaf : HeldLeaf) (k : WrittenKey) : Type 0 where
+record UnderIs (m : Machine) (pieces : List FramePiece) (t : Transaction) (leaf : HeldLeaf) (k : WrittenKey) : Type 0 where
   pub write : Write
   pub there : Member write t.writes
   pub below : durable_below leaf.page (slice_get leaf.chains k.slot) ≡ newest_durable (line m.history write.table write.key)
-  pub under : durable_under m known pieces k ≡ newest_durable (line m.history write.table write.key)
+  pub under : durable_under m pieces k ≡ newest_durable (line m.history write.table write.key)
 
-module _ (m : Machine) (t : Transaction) (known : List Table) (pieces : List FramePiece) (leaf : HeldLeaf) (keys : List WrittenKey) (frame : ℕ) where
-  ordered-one : (n prev : ℕ) (k : WrittenKey) → slice_get keys n ≡ Some k → UnderIs m known pieces t leaf k → OrderedDownTo m known pieces t.writes keys prev (suc n)
-      → OrderedDownTo m known pieces t.writes keys (max prev (durable_below leaf.page (slice_get leaf.chains k.slot))) n
+module _ (m : Machine) (t : Transaction) (pieces : List FramePiece) (leaf : HeldLeaf) (keys : List WrittenKey) (frame : ℕ) where
+  ordered-one : (n prev : ℕ) (k : WrittenKey) → slice_get keys n ≡ Some k → UnderIs m pieces t leaf k → OrderedDownTo m pieces t.writes keys prev (suc n)
+      → OrderedDownTo m pieces t.writes keys (max prev (durable_below leaf.page (slice_get leaf.chains k.slot))) n
   ordered-one n prev k at u o = record {
     covers = λ i x low there. elim (cases_eq i n) [
       | inl same ↦ let one : Some k ≡ Some x = sym at ∙ (ap (slice_get keys) (sym same) ∙ there) in let is : k ≡ x = cc in
-          subst (λ (z : WrittenKey). durable_under m known pieces z ≤ max prev (durable_below leaf.page (slice_get leaf.chains k.slot))) is
+          subst (λ (z : WrittenKey). durable_under m pieces z ≤ max prev (durable_below leaf.page (slice_get leaf.chains k.slot))) is
           (subst (λ d. d ≤ max prev (durable_below leaf.page (slice_get leaf.chains k.slot))) (u.below ∙ sym u.under) (le-max_right prev (durable_below leaf.page (slice_get leaf.chains k.slot))))
       | inr apart ↦ let deep = o.covers i x (omega (arith, low, apart)) there in let more = le-max_left prev (durable_below leaf.page (slice_get leaf.chains k.slot)) in omega (arith, deep, more)
     ];
@@ -99,21 +102,21 @@ module _ (m : Machine) (t : Transaction) (known : List Table) (pieces : List Fra
     ];
   }
 
-  ordered-leaf : ((k : WrittenKey) → Member k keys → k.frame ≡ frame → UnderIs m known pieces t leaf k) → (n : ℕ) → n ≤ length keys → (prev : ℕ) → OrderedDownTo m known pieces t.writes keys prev n
-      → OrderedDownTo m known pieces t.writes keys (leaf_prev keys frame n leaf prev) (leaf_start keys frame n)
+  ordered-leaf : ((k : WrittenKey) → Member k keys → k.frame ≡ frame → UnderIs m pieces t leaf k) → (n : ℕ) → n ≤ length keys → (prev : ℕ) → OrderedDownTo m pieces t.writes keys prev n
+      → OrderedDownTo m pieces t.writes keys (leaf_prev keys frame n leaf prev) (leaf_start keys frame n)
   ordered-leaf under zero within prev o = o
   ordered-leaf under (suc n) within prev o = elim (cases_Bool (frame_at keys (suc n) == frame)) [
-    | inl is ↦ subst (λ b. OrderedDownTo m known pieces t.writes keys (if b then leaf_prev keys frame n leaf (max prev (durable_below leaf.page (slice_get leaf.chains (slot_at keys (suc n))))) else prev) (if b then leaf_start keys frame n else suc n)) (sym is)
+    | inl is ↦ subst (λ b. OrderedDownTo m pieces t.writes keys (if b then leaf_prev keys frame n leaf (max prev (durable_below leaf.page (slice_get leaf.chains (slot_at keys (suc n))))) else prev) (if b then leaf_start keys frame n else suc n)) (sym is)
         (more (ordered-leaf under n (omega (arith, within))) (eqb-true (frame_at keys (suc n)) frame is))
-    | inr isnt ↦ subst (λ b. OrderedDownTo m known pieces t.writes keys (if b then leaf_prev keys frame n leaf (max prev (durable_below leaf.page (slice_get leaf.chains (slot_at keys (suc n))))) else prev) (if b then leaf_start keys frame n else suc n)) (sym isnt) o
+    | inr isnt ↦ subst (λ b. OrderedDownTo m pieces t.writes keys (if b then leaf_prev keys frame n leaf (max prev (durable_below leaf.page (slice_get leaf.chains (slot_at keys (suc n))))) else prev) (if b then leaf_start keys frame n else suc n)) (sym isnt) o
   ] where
     last : (k : WrittenKey) × (slice_get keys n ≡ Some k)
     last = some-at keys n (omega (arith, within))
 
-    more : ((p : ℕ) → OrderedDownTo m known pieces t.writes keys p n → OrderedDownTo m known pieces t.writes keys (leaf_prev keys frame n leaf p) (leaf_start keys frame n)) → frame_at keys (suc n) ≡ frame
-        → OrderedDownTo m known pieces t.writes keys (leaf_prev keys frame n leaf (max prev (durable_below leaf.page (slice_get leaf.chains (slot_at keys (suc n)))))) (leaf_start keys frame n)
+    more : ((p : ℕ) → OrderedDownTo m pieces t.writes keys p n → OrderedDownTo m pieces t.writes keys (leaf_prev keys frame n leaf p) (leaf_start keys frame n)) → frame_at keys (suc n) ≡ frame
+        → OrderedDownTo m pieces t.writes keys (leaf_prev keys frame n leaf (max prev (durable_below leaf.page (slice_get leaf.chains (slot_at keys (suc n)))))) (leaf_start keys frame n)
     more rest is = let here : last.0.frame ≡ frame = sym (ap (of_some 0 (λ (k : WrittenKey). k.frame)) last.1) ∙ is in
-        subst (λ j. OrderedDownTo m known pieces t.writes keys (leaf_prev keys frame n leaf (max prev (durable_below leaf.page (slice_get leaf.chains j)))) (leaf_start keys frame n)) (sym (ap (of_some 0 (λ (k : WrittenKey). k.slot)) last.1))
+        subst (λ j. OrderedDownTo m pieces t.writes keys (leaf_prev keys frame n leaf (max prev (durable_below leaf.page (slice_get leaf.chains j)))) (leaf_start keys frame n)) (sym (ap (of_some 0 (λ (k : WrittenKey). k.slot)) last.1))
         (rest (max prev (durable_below leaf.page (slice_get leaf.chains last.0.slot))) (ordered-one n prev last.0 last.1 (under last.0 (got-member keys n last.0 last.1) here) o))
 
 -- ---- the leaf of a frame
@@ -128,14 +131,11 @@ record OrdersAt (e : Engine) (w : World) (session : ℕ) (a : State) (p : FrameP
   pub there : transaction_of w.machine session ≡ Some t
 
 prev-ordered : OrdersLaw → (e : Engine) (w : World) (session : ℕ) (a : State) (p : FramePiece) (stamps : CommitStamps) (left : ℕ) (t : Transaction) → OrdersAt e w session a p stamps left t → (IsEnding t.phase → ⊥)
-    → IsOrdered stamps w.machine e.hub.tables.tables e.pieces t a left
-    → OrderedDownTo w.machine e.hub.tables.tables e.pieces t.writes a.written (prev_in p.frame a left stamps.prev) (leaf_start a.written (frame_at a.written left) left)
-prev-ordered law e w session a p stamps left t o alive now = subst (λ f. OrderedDownTo w.machine known e.pieces t.writes a.written (prev_in f a left stamps.prev) (leaf_start a.written (frame_at a.written left) left)) (sym framed)
-    (ordered-leaf w.machine t known e.pieces leaf.frame.leaf a.written (frame_at a.written left) under left o.some.1 stamps.prev now) where
-      known : List Table
-      known = e.hub.tables.tables
-
-      noted : AreNoted e.hub.tables.tables e.pieces t.writes a.written
+    → IsOrdered stamps w.machine e.pieces t a left
+    → OrderedDownTo w.machine e.pieces t.writes a.written (prev_in p.frame a left stamps.prev) (leaf_start a.written (frame_at a.written left) left)
+prev-ordered law e w session a p stamps left t o alive now = subst (λ f. OrderedDownTo w.machine e.pieces t.writes a.written (prev_in f a left stamps.prev) (leaf_start a.written (frame_at a.written left) left)) (sym framed)
+    (ordered-leaf w.machine t e.pieces home.stands.laid.frame.leaf a.written (frame_at a.written left) under left o.some.1 stamps.prev now) where
+      noted : AreNoted e.hub.dir.leaves e.pieces t.writes a.written
       noted = noted-of w.machine e.hub e.pieces session a t (o.st.sessions session a o.at) o.there
 
       last-of : (n : ℕ) → 1 ≤ n → n ≤ length a.written → (k : WrittenKey) × Member k a.written × (k.frame ≡ frame_at a.written n)
@@ -145,64 +145,66 @@ prev-ordered law e w session a p stamps left t o alive now = subst (λ f. Ordere
       last : (k : WrittenKey) × Member k a.written × (k.frame ≡ frame_at a.written left)
       last = last-of left o.some.0 o.some.1
 
-      wrote : (x : Write) × Member x t.writes × IsSlotOf e.hub.tables.tables e.pieces last.0 x.table x.key
+      wrote : (x : Write) × Member x t.writes × IsSlotOf e.hub.dir.leaves e.pieces last.0 x.table x.key
       wrote = noted.wrote last.0 last.1
 
-      leaf : LeafStands w.machine e.pieces e.states (frame_at a.written left) wrote.2.of
-      leaf = o.st.leaves (frame_at a.written left) wrote.2.of (ap (slice_get e.hub.tables.tables) (sym last.2) ∙ wrote.2.there)
+      -- the leaf in the frame
+      home : IsAt w.machine e.hub.dir e.pieces e.states wrote.0.table wrote.0.key (frame_at a.written left)
+      home = home-at w.machine e.hub.dir e.pieces e.states wrote.0.table wrote.0.key (frame_at a.written left) o.st.dir o.st.leaves (wrote.2.home ∙ ap Some last.2)
 
-      framed : p.frame ≡ Some leaf.frame
-      framed = sym (frame-there e.pieces (frame_at a.written left) p o.piece) ∙ leaf.there
+      there : frame_in e.pieces (frame_at a.written left) ≡ Some home.stands.laid.frame
+      there = leaf-framed w.machine e.hub.dir.leaves e.pieces e.states home.leaf (frame_at a.written left) home.stands home.at
 
-      in-leaf : slots_in e.pieces (frame_at a.written left) ≡ leaf.frame.leaf.chains
-      in-leaf = ap (of_some [] (λ (f : Frame). f.leaf.chains)) leaf.there
+      framed : p.frame ≡ Some home.stands.laid.frame
+      framed = sym (frame-there e.pieces (frame_at a.written left) p o.piece) ∙ there
 
-      under : (k : WrittenKey) → Member k a.written → k.frame ≡ frame_at a.written left → UnderIs w.machine e.hub.tables.tables e.pieces t leaf.frame.leaf k
-      under k member same = let x = noted.wrote k member in let slot : slot_of x.0.key leaf.frame.leaf.chains ≡ Some k.slot = ap (slot_of x.0.key) (sym (ap (slots_in e.pieces) same ∙ in-leaf)) ∙ x.2.slot in
-          let one : Some wrote.2.of ≡ Some x.2.of = sym wrote.2.there ∙ (ap (slice_get e.hub.tables.tables) (last.2 ∙ sym same) ∙ x.2.there) in
-          let table : wrote.2.of ≡ x.2.of = cc in
-          let number : wrote.2.of.number ≡ x.0.table = ap (λ (z : Table). z.number) table ∙ x.2.number in record {
+      in-leaf : slots_in e.pieces (frame_at a.written left) ≡ home.stands.laid.frame.leaf.chains
+      in-leaf = ap (of_some [] (λ (f : Frame). f.leaf.chains)) there
+
+      under : (k : WrittenKey) → Member k a.written → k.frame ≡ frame_at a.written left → UnderIs w.machine e.pieces t home.stands.laid.frame.leaf k
+      under k member same = let x = noted.wrote k member in
+          let slot : slot_of x.0.key home.stands.laid.frame.leaf.chains ≡ Some k.slot = ap (slot_of x.0.key) (sym (ap (slots_in e.pieces) same ∙ in-leaf)) ∙ x.2.slot in
+          let lies = lies-in w.machine e.hub.dir e.pieces e.states home.leaf (frame_at a.written left) k x.0.table x.0.key o.st.dir o.st.leaves home.there home.stands home.at same x.2 in record {
             write = x.0;
             there = x.1;
-            below = below-slot x.0.key leaf.frame.leaf.page leaf.frame.leaf.chains k.slot slot
-                ∙ below-is law w.machine session t x.0 o.st.valid o.there alive (own-of w.machine session t x.0 o.st.valid o.there x.1) (chain_at x.0.key leaf.frame.leaf.chains) (shown_at x.0.key leaf.frame.leaf.page)
-                (subst (λ n. StandsFor w.machine n x.0.key (chain_at x.0.key leaf.frame.leaf.chains) (shown_at x.0.key leaf.frame.leaf.page) []) number (leaf.keys x.0.key));
-            under = ap (λ n. newest_durable (line w.machine.history n (key_at (slots_in e.pieces k.frame) k.slot))) (ap (of_some 0 (λ (z : Table). z.number)) x.2.there ∙ x.2.number)
-                ∙ ap (λ q. newest_durable (line w.machine.history x.0.table q)) (key-held (slots_in e.pieces k.frame) x.0.key k.slot x.2.slot);
+            below = below-slot x.0.key home.stands.laid.frame.leaf.page home.stands.laid.frame.leaf.chains k.slot slot
+                ∙ below-is law w.machine session t x.0 o.st.valid o.there alive (own-of w.machine session t x.0 o.st.valid o.there x.1) (chain_at x.0.key home.stands.laid.frame.leaf.chains) (shown_at x.0.key home.stands.laid.frame.leaf.page)
+                (subst (λ n. StandsFor w.machine n x.0.key (chain_at x.0.key home.stands.laid.frame.leaf.chains) (shown_at x.0.key home.stands.laid.frame.leaf.page) []) (sym lies.0) (home.stands.keys x.0.key lies.1));
+            under = slot-durable w.machine e.hub.dir.leaves e.pieces k x.0.table x.0.key x.2;
           }
 
 -- ---- what the session does then, and what stands then
 
-run-doing : (stamps : CommitStamps) (n keys session : ℕ) (a : State) → a.phase ≡ phase.Running → keys ≡ length a.written
-    → doing_in session (at_stage (orders stamps n (stamps_then stamps keys (stage.Decide stamps))) a) ≡ Asked (commit_in stamps) (n + (length a.written + decide_left a))
-run-doing stamps zero keys session a running all = let sum : keys + decide_left a ≡ zero + (length a.written + decide_left a) = omega (arith, all) in decide-doing stamps keys session a running ∙ ap (Asked (commit_in stamps)) sum
-run-doing stamps (suc n) keys session a running all = refl
+run-doing : (leaves : List Leaf) (stamps : CommitStamps) (n keys session : ℕ) (a : State) → a.phase ≡ phase.Running → keys ≡ length a.written
+    → doing_in leaves session (at_stage (orders stamps n (stamps_then stamps keys (stage.Decide stamps))) a) ≡ Asked (commit_in stamps) (n + (length a.written + decide_left a))
+run-doing leaves stamps zero keys session a running all = let sum : keys + decide_left a ≡ zero + (length a.written + decide_left a) = omega (arith, all) in decide-doing leaves stamps keys session a running ∙ ap (Asked (commit_in stamps)) sum
+run-doing leaves stamps (suc n) keys session a running all = refl
 
-run-stage : (stamps : CommitStamps) (n keys : ℕ) (m : Machine) (known : List Table) (pieces : List FramePiece) (session : ℕ) (a : State) (t : Transaction) → n ≤ length a.written → keys ≡ length a.written → transaction_of m session ≡ Some t
-    → t.phase ≡ ModelRunning → IsOrdered stamps m known pieces t a n
-    → StageStands (orders stamps n (stamps_then stamps keys (stage.Decide stamps))) m known pieces session (at_stage (orders stamps n (stamps_then stamps keys (stage.Decide stamps))) a)
-run-stage stamps zero keys m known pieces session a t within all there running done = decide-stage stamps keys m known pieces session a t (omega (arith, all)) there running done none where
+run-stage : (stamps : CommitStamps) (n keys : ℕ) (m : Machine) (leaves : List Leaf) (pieces : List FramePiece) (session : ℕ) (a : State) (t : Transaction) → n ≤ length a.written → keys ≡ length a.written → transaction_of m session ≡ Some t
+    → t.phase ≡ ModelRunning → IsOrdered stamps m pieces t a n
+    → StageStands (orders stamps n (stamps_then stamps keys (stage.Decide stamps))) m leaves pieces session (at_stage (orders stamps n (stamps_then stamps keys (stage.Decide stamps))) a)
+run-stage stamps zero keys m leaves pieces session a t within all there running done = decide-stage stamps keys m leaves pieces session a t (omega (arith, all)) there running done none where
   none : IsEdited (stamps_in ModelRunning stamps) m pieces t a keys
   none i k low at = let inside = slice_get_within a.written i k at in absurd (omega (arith, low, inside, all))
-run-stage stamps (suc n) keys m known pieces session a t within all there running done =
-    ((omega arith, within), (t, there, subst (λ p. OrdersStand p stamps m known pieces t (at_stage (stage.Order stamps (suc n)) a) (suc n)) (sym running) done))
+run-stage stamps (suc n) keys m leaves pieces session a t within all there running done =
+    ((omega arith, within), (t, there, subst (λ p. OrdersStand p stamps m pieces t (at_stage (stage.Order stamps (suc n)) a) (suc n)) (sym running) done))
 
-prepared-doing : (stamps : CommitStamps) (n session : ℕ) (a : State) → (fewer : ℕ) × (fewer ≤ n + (length a.written + decide_left a)) × (doing_in session (at_stage (orders stamps n (stage.Decide stamps)) a) ≡ Asked (commit_in stamps) fewer)
-prepared-doing stamps zero session a = (decide_left a, omega arith, refl)
-prepared-doing stamps (suc n) session a = (suc n + (length a.written + decide_left a), omega arith, refl)
+prepared-doing : (leaves : List Leaf) (stamps : CommitStamps) (n session : ℕ) (a : State) → (fewer : ℕ) × (fewer ≤ n + (length a.written + decide_left a)) × (doing_in leaves session (at_stage (orders stamps n (stage.Decide stamps)) a) ≡ Asked (commit_in stamps) fewer)
+prepared-doing leaves stamps zero session a = (decide_left a, omega arith, refl)
+prepared-doing leaves stamps (suc n) session a = (suc n + (length a.written + decide_left a), omega arith, refl)
 
 prepared-alive : (t : Transaction) (stamp : ℕ) → t.phase ≡ ModelPrepared stamp → IsEnding t.phase → ⊥
 prepared-alive t stamp prepared ending = subst IsEnding prepared ending
 
-prepared-stage : (stamps : CommitStamps) (n stamp : ℕ) (m : Machine) (known : List Table) (pieces : List FramePiece) (session : ℕ) (a : State) (t : Transaction) → n ≤ length a.written → transaction_of m session ≡ Some t → t.phase ≡ ModelPrepared stamp
-    → IsOrdered stamps m known pieces t a n → StageStands (orders stamps n (stage.Decide stamps)) m known pieces session (at_stage (orders stamps n (stage.Decide stamps)) a)
-prepared-stage stamps zero stamp m known pieces session a t within there prepared done = (
+prepared-stage : (stamps : CommitStamps) (n stamp : ℕ) (m : Machine) (leaves : List Leaf) (pieces : List FramePiece) (session : ℕ) (a : State) (t : Transaction) → n ≤ length a.written → transaction_of m session ≡ Some t → t.phase ≡ ModelPrepared stamp
+    → IsOrdered stamps m pieces t a n → StageStands (orders stamps n (stage.Decide stamps)) m leaves pieces session (at_stage (orders stamps n (stage.Decide stamps)) a)
+prepared-stage stamps zero stamp m leaves pieces session a t within there prepared done = (
   alive-only m session t there (prepared-alive t stamp prepared),
-  λ x at. subst (λ (z : Transaction). DecidesStand z.phase stamps m known pieces z (at_stage (stage.Decide stamps) a)) (the-one m session t x there at)
-      (subst (λ p. DecidesStand p stamps m known pieces t (at_stage (stage.Decide stamps) a)) (sym prepared) done),
+  λ x at. subst (λ (z : Transaction). DecidesStand z.phase stamps m pieces z (at_stage (stage.Decide stamps) a)) (the-one m session t x there at)
+      (subst (λ p. DecidesStand p stamps m pieces t (at_stage (stage.Decide stamps) a)) (sym prepared) done),
 )
-prepared-stage stamps (suc n) stamp m known pieces session a t within there prepared done =
-    ((omega arith, within), (t, there, subst (λ p. OrdersStand p stamps m known pieces t (at_stage (stage.Order stamps (suc n)) a) (suc n)) (sym prepared) done))
+prepared-stage stamps (suc n) stamp m leaves pieces session a t within there prepared done =
+    ((omega arith, within), (t, there, subst (λ p. OrdersStand p stamps m pieces t (at_stage (stage.Order stamps (suc n)) a) (suc n)) (sym prepared) done))
 
 -- ---- the event
 
@@ -210,13 +212,13 @@ abbrev pub state_ordered : State → FramePiece → CommitStamps → ℕ → Pha
 state_ordered a p stamps left ph = let with = with_prev stamps (prev_in p.frame a left stamps.prev) in at_stage (orders with (starts_at a left) (after_orders ph with (length a.written))) a
 
 run-ordered : OrdersLaw → (e : Engine) (w : World) (session : ℕ) (a : State) (p : FramePiece) (stamps : CommitStamps) (left : ℕ) (t : Transaction) → OrdersAt e w session a p stamps left t → a.phase ≡ phase.Running → t.phase ≡ ModelRunning
-    → IsOrdered stamps w.machine e.hub.tables.tables e.pieces t a left → Leads (engine_with e session e.hub e.pieces e.hazards (state_ordered a p stamps left phase.Running)) w session reply.More
+    → IsOrdered stamps w.machine e.pieces t a left → Leads (engine_with e session e.hub e.pieces e.hazards (state_ordered a p stamps left phase.Running)) w session reply.More
 run-ordered law e w session a p stamps left t o in-phase running now = alone-leads e w session a (state_ordered a p stamps left phase.Running) e.hazards reply.More o.st o.at
-    (subst (λ d. GoesOn d w.machine session (record { told = reply.More; machine = w.machine; doing = doing_in session (state_ordered a p stamps left phase.Running) })) (sym (ap (λ x. doing_at x session a) o.same))
-    (asked-on (commit_in stamps) (left + (length a.written + decide_left a)) (n + (length a.written + decide_left a)) w.machine session (doing_in session (state_ordered a p stamps left phase.Running))
-    (let low = start-below a.written left o.some.0 in omega (arith, low)) (run-doing with n (length a.written) session a in-phase refl)))
+    (subst (λ d. GoesOn d w.machine session (record { told = reply.More; machine = w.machine; doing = doing_in e.hub.dir.leaves session (state_ordered a p stamps left phase.Running) })) (sym (ap (λ x. doing_at x e.hub.dir.leaves session a) o.same))
+    (asked-on (commit_in stamps) (left + (length a.written + decide_left a)) (n + (length a.written + decide_left a)) w.machine session (doing_in e.hub.dir.leaves session (state_ordered a p stamps left phase.Running))
+    (let low = start-below a.written left o.some.0 in omega (arith, low)) (run-doing e.hub.dir.leaves with n (length a.written) session a in-phase refl)))
     (session-on w.machine e.hub e.pieces e.pieces session a (orders with n (stamps_then with (length a.written) (stage.Decide with))) (slots-same e.pieces) (o.st.sessions session a o.at)
-    (run-stage with n (length a.written) w.machine e.hub.tables.tables e.pieces session a t (let low = start-within a.written (frame_at a.written left) left in let most = o.some.1 in omega (arith, low, most)) refl o.there running
+    (run-stage with n (length a.written) w.machine e.hub.dir.leaves e.pieces session a t (let low = start-within a.written (frame_at a.written left) left in let most = o.some.1 in omega (arith, low, most)) refl o.there running
     (prev-ordered law e w session a p stamps left t o (running-alive t running) now))) where
       n : ℕ
       n = leaf_start a.written (frame_at a.written left) left
@@ -225,13 +227,13 @@ run-ordered law e w session a p stamps left t o in-phase running now = alone-lea
       with = with_prev stamps (prev_in p.frame a left stamps.prev)
 
 prepared-ordered : OrdersLaw → (e : Engine) (w : World) (session : ℕ) (a : State) (p : FramePiece) (stamps : CommitStamps) (left : ℕ) (t : Transaction) (stamp : ℕ) → OrdersAt e w session a p stamps left t → t.phase ≡ ModelPrepared stamp
-    → IsOrdered stamps w.machine e.hub.tables.tables e.pieces t a left → Leads (engine_with e session e.hub e.pieces e.hazards (state_ordered a p stamps left (phase.Prepared stamp))) w session reply.More
+    → IsOrdered stamps w.machine e.pieces t a left → Leads (engine_with e session e.hub e.pieces e.hazards (state_ordered a p stamps left (phase.Prepared stamp))) w session reply.More
 prepared-ordered law e w session a p stamps left t stamp o prepared now = alone-leads e w session a (state_ordered a p stamps left (phase.Prepared stamp)) e.hazards reply.More o.st o.at
-    (subst (λ d. GoesOn d w.machine session (record { told = reply.More; machine = w.machine; doing = doing_in session (state_ordered a p stamps left (phase.Prepared stamp)) })) (sym (ap (λ x. doing_at x session a) o.same))
-    (asked-on (commit_in stamps) (left + (length a.written + decide_left a)) doing.0 w.machine session (doing_in session (state_ordered a p stamps left (phase.Prepared stamp)))
+    (subst (λ d. GoesOn d w.machine session (record { told = reply.More; machine = w.machine; doing = doing_in e.hub.dir.leaves session (state_ordered a p stamps left (phase.Prepared stamp)) })) (sym (ap (λ x. doing_at x e.hub.dir.leaves session a) o.same))
+    (asked-on (commit_in stamps) (left + (length a.written + decide_left a)) doing.0 w.machine session (doing_in e.hub.dir.leaves session (state_ordered a p stamps left (phase.Prepared stamp)))
     (let low = start-below a.written left o.some.0 in let few = doing.1 in omega (arith, low, few)) doing.2))
     (session-on w.machine e.hub e.pieces e.pieces session a (orders with n (stage.Decide with)) (slots-same e.pieces) (o.st.sessions session a o.at)
-    (prepared-stage with n stamp w.machine e.hub.tables.tables e.pieces session a t (let low = start-within a.written (frame_at a.written left) left in let most = o.some.1 in omega (arith, low, most)) o.there prepared
+    (prepared-stage with n stamp w.machine e.hub.dir.leaves e.pieces session a t (let low = start-within a.written (frame_at a.written left) left in let most = o.some.1 in omega (arith, low, most)) o.there prepared
     (prev-ordered law e w session a p stamps left t o (prepared-alive t stamp prepared) now))) where
       n : ℕ
       n = leaf_start a.written (frame_at a.written left) left
@@ -239,30 +241,30 @@ prepared-ordered law e w session a p stamps left t stamp o prepared now = alone-
       with : CommitStamps
       with = with_prev stamps (prev_in p.frame a left stamps.prev)
 
-      doing : (fewer : ℕ) × (fewer ≤ leaf_start a.written (frame_at a.written left) left + (length a.written + decide_left a)) × (doing_in session (state_ordered a p stamps left (phase.Prepared stamp)) ≡ Asked (commit_in stamps) fewer)
-      doing = prepared-doing (with_prev stamps (prev_in p.frame a left stamps.prev)) (leaf_start a.written (frame_at a.written left) left) session a
+      doing : (fewer : ℕ) × (fewer ≤ leaf_start a.written (frame_at a.written left) left + (length a.written + decide_left a)) × (doing_in e.hub.dir.leaves session (state_ordered a p stamps left (phase.Prepared stamp)) ≡ Asked (commit_in stamps) fewer)
+      doing = prepared-doing e.hub.dir.leaves (with_prev stamps (prev_in p.frame a left stamps.prev)) (leaf_start a.written (frame_at a.written left) left) session a
 
 -- by the phase
 ordered-in : OrdersLaw → (e : Engine) (w : World) (session : ℕ) (a : State) (p : FramePiece) (stamps : CommitStamps) (left : ℕ) (t : Transaction) → OrdersAt e w session a p stamps left t
-    → OrdersStand t.phase stamps w.machine e.hub.tables.tables e.pieces t a left → (ph : Phase) → a.phase ≡ ph → phase_in ph ≡ Some t.phase
+    → OrdersStand t.phase stamps w.machine e.pieces t a left → (ph : Phase) → a.phase ≡ ph → phase_in ph ≡ Some t.phase
     → Leads (engine_with e session e.hub e.pieces e.hazards (state_ordered a p stamps left ph)) w session reply.More
 ordered-in law e w session a p stamps left t o now phase.Running is known = let running : t.phase ≡ ModelRunning = cc in
-    run-ordered law e w session a p stamps left t o is running (subst (λ q. OrdersStand q stamps w.machine e.hub.tables.tables e.pieces t a left) running now)
+    run-ordered law e w session a p stamps left t o is running (subst (λ q. OrdersStand q stamps w.machine e.pieces t a left) running now)
 ordered-in law e w session a p stamps left t o now (phase.Prepared stamp) is known = let prepared : t.phase ≡ ModelPrepared stamp = cc in
-    prepared-ordered law e w session a p stamps left t stamp o prepared (subst (λ q. OrdersStand q stamps w.machine e.hub.tables.tables e.pieces t a left) prepared now)
+    prepared-ordered law e w session a p stamps left t stamp o prepared (subst (λ q. OrdersStand q stamps w.machine e.pieces t a left) prepared now)
 ordered-in law e w session a p stamps left t o now phase.Idle is known = absurd (cc)
-ordered-in law e w session a p stamps left t o now phase.Failed is known = let failed : t.phase ≡ ModelFailed = cc in absurd (subst (λ q. OrdersStand q stamps w.machine e.hub.tables.tables e.pieces t a left) failed now)
-ordered-in law e w session a p stamps left t o now phase.Leaving is known = let leaving : t.phase ≡ ModelLeaving = cc in absurd (subst (λ q. OrdersStand q stamps w.machine e.hub.tables.tables e.pieces t a left) leaving now)
-ordered-in law e w session a p stamps left t o now phase.Resolving is known = let resolving : t.phase ≡ ModelResolving = cc in absurd (subst (λ q. OrdersStand q stamps w.machine e.hub.tables.tables e.pieces t a left) resolving now)
+ordered-in law e w session a p stamps left t o now phase.Failed is known = let failed : t.phase ≡ ModelFailed = cc in absurd (subst (λ q. OrdersStand q stamps w.machine e.pieces t a left) failed now)
+ordered-in law e w session a p stamps left t o now phase.Leaving is known = let leaving : t.phase ≡ ModelLeaving = cc in absurd (subst (λ q. OrdersStand q stamps w.machine e.pieces t a left) leaving now)
+ordered-in law e w session a p stamps left t o now phase.Resolving is known = let resolving : t.phase ≡ ModelResolving = cc in absurd (subst (λ q. OrdersStand q stamps w.machine e.pieces t a left) resolving now)
 
 looked : OrdersLaw → (e : Engine) (w : World) (session frame : ℕ) (a a' : State) (p p' : FramePiece) (stamps : CommitStamps) (left : ℕ) → Stands e w → slice_get e.sessions session ≡ Some a → a.stage ≡ stage.Order stamps left
     → next.Frame (frame_at a.written left) ≡ next.Frame frame → slice_get e.pieces frame ≡ Some p → (p' ≡ p) × (a' ≡ ordered (with_prev stamps (prev_in p.frame a left stamps.prev)) (starts_at a left) a)
     → Leads (with_session (with_piece e frame p') session a') w session reply.More
-looked law e w session frame a a' p p' stamps left st at same here piece made = by-stage (subst (λ s. StageStands s w.machine e.hub.tables.tables e.pieces session a) same (st.sessions session a at).stage) where
+looked law e w session frame a a' p p' stamps left st at same here piece made = by-stage (subst (λ s. StageStands s w.machine e.hub.dir.leaves e.pieces session a) same (st.sessions session a at).stage) where
   frames : frame_at a.written left ≡ frame
   frames = cc
 
-  by-stage : StageStands (stage.Order stamps left) w.machine e.hub.tables.tables e.pieces session a → Leads (with_session (with_piece e frame p') session a') w session reply.More
+  by-stage : StageStands (stage.Order stamps left) w.machine e.hub.dir.leaves e.pieces session a → Leads (with_session (with_piece e frame p') session a') w session reply.More
   by-stage now = subst (λ q. Leads (with_session (with_piece e frame q) session a') w session reply.More) (sym made.0)
       (subst (λ s. Leads (with_session (with_piece e frame p) session s) w session reply.More) (sym made.1)
       (subst (λ l. Leads (engine_with e session e.hub l e.hazards (state_ordered a p stamps left a.phase)) w session reply.More) (sym (set-same e.pieces frame p piece))

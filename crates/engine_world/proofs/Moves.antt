@@ -4,11 +4,13 @@ use Rattle.std.specs.Prelude.{Some, reverse, slice_get, slice_set}
 use Rattle.std.proofs.lemmas.Bool.{cases_eq}
 use Rattle.std.proofs.lemmas.List.{get_or-set_same, get_or-set_other, length-set}
 use Rattle.std.proofs.lemmas.Option.{slice_get_within, slice_get-get_or}
-use Rattle.kv_model.specs.History.{Table, tables}
+use Rattle.kv_model.specs.History.{tables}
 use Rattle.kv_model.specs.Machine.{Machine}
 use Rattle.kv_model.specs.Valid.{Valid}
+use Rattle.tree_dir.specs.declared.leaf.Leaf.{Leaf}
+use Rattle.tree_dir.specs.Leaves.{Directory, IsDirectory}
 use Rattle.txn_table.specs.Stands.{TableStands}
-use Rattle.catalog.specs.Known.{AreTables}
+use Rattle.catalog.specs.Known.{AreTables, Known}
 use Rattle.call_steps.specs.declared.frame.FramePiece.{FramePiece}
 use Rattle.call_steps.specs.declared.hub.Hub.{Hub}
 use Rattle.call_steps.specs.declared.reply.Reply.{Reply}
@@ -17,10 +19,11 @@ use Rattle.engine_world.specs.Worlds.{World, Resting, doing_of}
 use Rattle.engine_world.specs.Laws.{Leads}
 use Rattle.engine_world.specs.Steps.{GoesOn}
 use Rattle.engine_world.specs.Doings.{doing_in}
-use Rattle.engine_world.specs.Leaves.{LeafStands}
+use Rattle.engine_world.specs.Leaves.{LeavesOwned, TablesBegun}
 use Rattle.engine_world.specs.Stands.{Engine, Stands, SessionStands}
 use Rattle.engine_world.proofs.Beside.{Beside}
 use Rattle.engine_world.proofs.Events.{all-same, beside-same}
+use Rattle.engine_world.proofs.Homes.{LeavesStand}
 use Rattle.engine_world.proofs.Others.{others-go-on}
 
 -- ---- lists by index
@@ -46,18 +49,18 @@ pub record Moves (e : Engine) (w : World) (session : ℕ) (hub : Hub) (pieces : 
   pub stamps : hub.stamps ≡ e.hub.stamps
   pub txns : TableStands hub.txns next
   pub made : tables next.history ≡ tables w.machine.history
-  pub leaves : (place : ℕ) (t : Table) → slice_get e.hub.tables.tables place ≡ Some t → LeafStands next pieces e.states place t
+  pub leaves : LeavesStand next e.hub.dir.leaves pieces e.states
   pub mine : SessionStands next hub pieces session a
 
 -- the engine and the world after it
 abbrev pub engine_with : Engine → ℕ → Hub → List FramePiece → List ℕ → State → Engine
 engine_with e session hub pieces hazards a = record e { hub = hub; pieces = pieces; hazards = hazards; sessions = slice_set e.sessions session a }
 
-abbrev pub world_with : World → ℕ → State → Machine → World
-world_with w session a next = record w { machine = next; sessions = slice_set w.sessions session (doing_in session a) }
+abbrev pub world_with : World → List Leaf → ℕ → State → Machine → World
+world_with w leaves session a next = record w { machine = next; sessions = slice_set w.sessions session (doing_in leaves session a) }
 
 pub moves : (e : Engine) (w : World) (session : ℕ) (old a : State) (hub : Hub) (pieces : List FramePiece) (hazards : List ℕ) (next : Machine) → Stands e w → slice_get e.sessions session ≡ Some old
-    → Moves e w session hub pieces a next → Stands (engine_with e session hub pieces hazards a) (world_with w session a next)
+    → Moves e w session hub pieces a next → Stands (engine_with e session hub pieces hazards a) (world_with w e.hub.dir.leaves session a next)
 moves e w session old a hub pieces hazards next st at v = record {
   valid = v.valid;
   fault = v.fault ∙ (st.fault ∙ sym v.beside.machine.apart.fault);
@@ -65,13 +68,16 @@ moves e w session old a hub pieces hazards next st at v = record {
   txns = v.txns;
   catalog = subst AreTables (sym v.beside.tables) st.catalog;
   made = ap (λ k. reverse k.tables) v.beside.tables ∙ (st.made ∙ sym v.made);
-  leaves = λ place t there. v.leaves place t (sym (ap (λ k. slice_get k.tables place) v.beside.tables) ∙ there);
+  dir = subst IsDirectory (sym v.beside.dir) st.dir;
+  begun = subst (λ (d : Directory). TablesBegun hub.tables.tables d.leaves) (sym v.beside.dir) (subst (λ (k : Known). TablesBegun k.tables e.hub.dir.leaves) (sym v.beside.tables) st.begun);
+  owned = subst (λ (d : Directory). LeavesOwned hub.tables.tables d.leaves) (sym v.beside.dir) (subst (λ (k : Known). LeavesOwned k.tables e.hub.dir.leaves) (sym v.beside.tables) st.owned);
+  leaves = subst (λ (d : Directory). LeavesStand next d.leaves pieces e.states) (sym v.beside.dir) v.leaves;
   count = length-set e.sessions session a ∙ (st.count ∙ sym v.beside.machine.count);
-  doings = length-set w.sessions session (doing_in session a) ∙ (st.doings ∙ sym (length-set e.sessions session a));
-  doing = λ r b there. elim (cases_eq r session) [
+  doings = length-set w.sessions session (doing_in e.hub.dir.leaves session a) ∙ (st.doings ∙ sym (length-set e.sessions session a));
+  doing = λ r b there. subst (λ (d : Directory). doing_of (world_with w e.hub.dir.leaves session a next) r ≡ doing_in d.leaves r b) (sym v.beside.dir) (elim (cases_eq r session) [
     | inl same ↦ mine-does r b same there
-    | inr other ↦ get_or-set_other w.sessions session r (doing_in session a) Resting other ∙ st.doing r b (sym (get-set-other e.sessions session r a other) ∙ there)
-  ];
+    | inr other ↦ get_or-set_other w.sessions session r (doing_in e.hub.dir.leaves session a) Resting other ∙ st.doing r b (sym (get-set-other e.sessions session r a other) ∙ there)
+  ]);
   sessions = λ r b there. elim (cases_eq r session) [
     | inl same ↦ mine-stands r b same there
     | inr other ↦ others-go-on session w.machine next e.hub hub e.pieces pieces r b v.beside other st.valid (st.sessions r b (sym (get-set-other e.sessions session r a other) ∙ there))
@@ -84,9 +90,9 @@ moves e w session old a hub pieces hazards next st at v = record {
   this : (r : ℕ) (b : State) → r ≡ session → slice_get (slice_set e.sessions session a) r ≡ Some b → a ≡ b
   this r b same there = let e : Some a ≡ Some b = sym (get-set-same e.sessions session old a at) ∙ (ap (λ i. slice_get (slice_set e.sessions session a) i) (sym same) ∙ there) in cc
 
-  mine-does : (r : ℕ) (b : State) → r ≡ session → slice_get (slice_set e.sessions session a) r ≡ Some b → doing_of (world_with w session a next) r ≡ doing_in r b
-  mine-does r b same there = ap (λ i. doing_of (world_with w session a next) i) same ∙ (get_or-set_same w.sessions session (doing_in session a) Resting (let d = st.doings in omega arith)
-      ∙ (ap (λ i. doing_in i a) (sym same) ∙ ap (λ x. doing_in r x) (this r b same there)))
+  mine-does : (r : ℕ) (b : State) → r ≡ session → slice_get (slice_set e.sessions session a) r ≡ Some b → doing_of (world_with w e.hub.dir.leaves session a next) r ≡ doing_in e.hub.dir.leaves r b
+  mine-does r b same there = ap (λ i. doing_of (world_with w e.hub.dir.leaves session a next) i) same ∙ (get_or-set_same w.sessions session (doing_in e.hub.dir.leaves session a) Resting (let d = st.doings in omega arith)
+      ∙ (ap (λ i. doing_in e.hub.dir.leaves i a) (sym same) ∙ ap (λ x. doing_in e.hub.dir.leaves r x) (this r b same there)))
 
   mine-stands : (r : ℕ) (b : State) → r ≡ session → slice_get (slice_set e.sessions session a) r ≡ Some b → SessionStands next hub pieces r b
   mine-stands r b same there = subst (λ i. SessionStands next hub pieces i b) (sym same) (subst (λ x. SessionStands next hub pieces session x) (this r b same there) v.mine)
@@ -94,13 +100,13 @@ moves e w session old a hub pieces hazards next st at v = record {
 -- ---- the world's step with it
 
 pub leads : (e : Engine) (w : World) (session : ℕ) (old a : State) (hub : Hub) (pieces : List FramePiece) (hazards : List ℕ) (next : Machine) (told : Reply) → Stands e w → slice_get e.sessions session ≡ Some old
-    → GoesOn (doing_in session old) w.machine session (record { told = told; machine = next; doing = doing_in session a }) → Moves e w session hub pieces a next
+    → GoesOn (doing_in e.hub.dir.leaves session old) w.machine session (record { told = told; machine = next; doing = doing_in e.hub.dir.leaves session a }) → Moves e w session hub pieces a next
     → Leads (engine_with e session hub pieces hazards a) w session told
 leads e w session old a hub pieces hazards next told st at goes v = (
-  world_with w session a next,
+  world_with w e.hub.dir.leaves session a next,
   record {
-    made = record { told = told; machine = next; doing = doing_in session a };
-    goes = subst (λ d. GoesOn d w.machine session (record { told = told; machine = next; doing = doing_in session a })) (sym (st.doing session old at)) goes;
+    made = record { told = told; machine = next; doing = doing_in e.hub.dir.leaves session a };
+    goes = subst (λ d. GoesOn d w.machine session (record { told = told; machine = next; doing = doing_in e.hub.dir.leaves session a })) (sym (st.doing session old at)) goes;
     tells = refl;
     leaves = refl;
   },
@@ -109,7 +115,7 @@ leads e w session old a hub pieces hazards next told st at goes v = (
 
 -- the session's state alone changes, and a hazard word
 pub alone-leads : (e : Engine) (w : World) (session : ℕ) (old a : State) (hazards : List ℕ) (told : Reply) → Stands e w → slice_get e.sessions session ≡ Some old
-    → GoesOn (doing_in session old) w.machine session (record { told = told; machine = w.machine; doing = doing_in session a }) → SessionStands w.machine e.hub e.pieces session a
+    → GoesOn (doing_in e.hub.dir.leaves session old) w.machine session (record { told = told; machine = w.machine; doing = doing_in e.hub.dir.leaves session a }) → SessionStands w.machine e.hub e.pieces session a
     → Leads (engine_with e session e.hub e.pieces hazards a) w session told
 alone-leads e w session old a hazards told st at goes mine = leads e w session old a e.hub e.pieces hazards w.machine told st at goes (record {
   valid = st.valid;

@@ -3,7 +3,7 @@ use Rattle.std.proofs.Common.{◌≡◌, ◌<◌, ℕ, zero, suc, refl, ap, ◌�
 use Rattle.std.specs.Prelude.{Option, Some, None, find, slice_get}
 use Rattle.std.proofs.lemmas.Bool.{cases_Bool, both_ways}
 use Rattle.kv_model.specs.Holds.{Member}
-use Rattle.kv_model.specs.History.{Table, Write, line, writes_at}
+use Rattle.kv_model.specs.History.{Write, line, writes_at}
 use Rattle.kv_model.specs.Machine.{Machine, Transaction, of_some, transaction_of}
 use Rattle.kv_model.specs.Reads.{is_own}
 use Rattle.kv_model.specs.Refusals.{newest_durable}
@@ -13,11 +13,13 @@ use Rattle.kv_model.proofs.Releasing.{drawn-by-write}
 use Rattle.leaf_chains.specs.declared.slot.KeyChain.{KeyChain}
 use Rattle.leaf_chains.specs.Slots.{chain_at, key_at, key_of, slot_of}
 use Rattle.leaf_chains.proofs.Changes.{held}
+use Rattle.tree_dir.specs.declared.leaf.Leaf.{Leaf}
 use Rattle.call_steps.specs.declared.frame.FramePiece.{FramePiece}
 use Rattle.call_steps.specs.declared.written.WrittenKey.{WrittenKey}
 use Rattle.call_steps.specs.Leaves.{chain_in}
-use Rattle.engine_world.specs.Leaves.{AreNoted, IsSlotOf, durable_under, number_at, slots_in}
-use Rattle.engine_world.proofs.Beside.{LeavesStay}
+use Rattle.engine_world.specs.Leaves.{AreNoted, IsSlotOf, durable_under, frame_of, slots_in}
+use Rattle.engine_world.proofs.Beside.{LeavesKept, LeavesStay, SlotsStay}
+use Rattle.engine_world.proofs.Homes.{IsHome, frame-from, home-is}
 
 -- ---- one slot
 
@@ -55,28 +57,39 @@ drawn-with m session t w valid there member = by-writes t.writes refl member whe
 
 -- ---- a slot that was noted
 
-pub slot-number : (known : List Table) (pieces : List FramePiece) (k : WrittenKey) (table : ℕ) (key : List ℕ) → IsSlotOf known pieces k table key → number_at known k.frame ≡ table
-slot-number known pieces k table key s = ap (of_some 0 (λ (t : Table). t.number)) s.there ∙ s.number
-
 -- the newest version that stands of the key
-pub slot-durable : (m : Machine) (known : List Table) (pieces : List FramePiece) (k : WrittenKey) (table : ℕ) (key : List ℕ) → IsSlotOf known pieces k table key
-    → durable_under m known pieces k ≡ newest_durable (line m.history table key)
-slot-durable m known pieces k table key s =
-    λ i. newest_durable (line m.history (slot-number known pieces k table key s i) (slot-key key (slots_in pieces k.frame) k.slot s.slot i))
+pub slot-durable : (m : Machine) (leaves : List Leaf) (pieces : List FramePiece) (k : WrittenKey) (table : ℕ) (key : List ℕ) → IsSlotOf leaves pieces k table key → durable_under m pieces k ≡ newest_durable (line m.history table key)
+slot-durable m leaves pieces k table key s = λ i. newest_durable (line m.history (s.number i) (slot-key key (slots_in pieces k.frame) k.slot s.slot i))
 
--- where the leaves stay
-pub slot-stays : (known made : List Table) (pieces later : List FramePiece) (k : WrittenKey) (table : ℕ) (key : List ℕ) → LeavesStay known made pieces later
-    → IsSlotOf known pieces k table key → IsSlotOf made later k table key
-slot-stays known made pieces later k table key stay s = record {
-  of = s.of;
-  there = stay.tables k.frame s.of s.there;
-  number = s.number;
-  slot = stay.slots k.frame s.of key k.slot s.there s.slot;
+-- where the directory is the same
+pub kept-same : (leaves : List Leaf) → LeavesKept leaves leaves
+kept-same leaves = record { there = λ l there. there; under = λ table key l e. e; behind = λ l there. refl; on = λ way l there. refl }
+
+pub stay-same : (leaves : List Leaf) (pieces later : List FramePiece) → SlotsStay pieces later → LeavesStay leaves leaves pieces later
+stay-same leaves pieces later stays = record {
+  kept = kept-same leaves;
+  tables = λ table key frame e. stays.tables frame;
+  slots = λ table key frame other i e at. stays.slots frame other i at;
 }
 
-pub noted-stay : (known made : List Table) (pieces later : List FramePiece) (writes : List Write) (keys : List WrittenKey) → LeavesStay known made pieces later
-    → AreNoted known pieces writes keys → AreNoted made later writes keys
-noted-stay known made pieces later writes keys stay n = record {
-  noted = λ w member. let k = n.noted w member in (k.0, k.1, slot-stays known made pieces later k.0 w.table w.key stay k.2);
-  wrote = λ k member. let w = n.wrote k member in (w.0, w.1, slot-stays known made pieces later k w.0.table w.0.key stay w.2);
+-- a key stays in its frame
+pub home-stays : (leaves made : List Leaf) (table : ℕ) (key : List ℕ) (frame : ℕ) → LeavesKept leaves made → frame_of leaves table key ≡ Some frame → frame_of made table key ≡ Some frame
+home-stays leaves made table key frame kept e = frame-from made table key h.leaf h.framed (kept.under table key h.leaf h.under) h.placed ∙ ap Some h.at where
+  h : IsHome leaves table key frame
+  h = home-is leaves table key frame e
+
+-- where the leaves stay
+pub slot-stays : (leaves made : List Leaf) (pieces later : List FramePiece) (k : WrittenKey) (table : ℕ) (key : List ℕ) → LeavesStay leaves made pieces later
+    → IsSlotOf leaves pieces k table key → IsSlotOf made later k table key
+slot-stays leaves made pieces later k table key stay s = record {
+  home = home-stays leaves made table key k.frame stay.kept s.home;
+  number = stay.tables table key k.frame s.home ∙ s.number;
+  slot = stay.slots table key k.frame key k.slot s.home s.slot;
+}
+
+pub noted-stay : (leaves made : List Leaf) (pieces later : List FramePiece) (writes : List Write) (keys : List WrittenKey) → LeavesStay leaves made pieces later
+    → AreNoted leaves pieces writes keys → AreNoted made later writes keys
+noted-stay leaves made pieces later writes keys stay n = record {
+  noted = λ w member. let k = n.noted w member in (k.0, k.1, slot-stays leaves made pieces later k.0 w.table w.key stay k.2);
+  wrote = λ k member. let w = n.wrote k member in (w.0, w.1, slot-stays leaves made pieces later k w.0.table w.0.key stay w.2);
 }

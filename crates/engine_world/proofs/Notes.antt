@@ -6,7 +6,7 @@ use Rattle.item.specs.declared.Change.{Change}
 use Rattle.stamp.specs.declared.Name.{Name}
 use Rattle.stamp.specs.declared.Version.{Version}
 use Rattle.kv_model.specs.Holds.{Member}
-use Rattle.kv_model.specs.History.{Table, Write, line, released, writes_at}
+use Rattle.kv_model.specs.History.{Write, line, released, writes_at}
 use Rattle.kv_model.specs.Machine.{Machine, Transaction, Running, transaction_of, name_of, joined, unstamped}
 use Rattle.kv_model.specs.Reads.{own_write}
 use Rattle.kv_model.specs.Valid.{Valid, PhaseStands}
@@ -14,6 +14,7 @@ use Rattle.kv_model.specs.Pending.{Update as ModelUpdate, settled, TopStands}
 use Rattle.kv_model.proofs.OwnWrites.{at-parts, member-joined}
 use Rattle.kv_model.proofs.Releases.{name_eq-same}
 use Rattle.kv_model.proofs.Snapshots.{line-released}
+use Rattle.tree_dir.specs.declared.leaf.Leaf.{Leaf}
 use Rattle.update_chain.specs.declared.update.Update.{Update}
 use Rattle.update_chain.specs.EventLaws.{StandsFor}
 use Rattle.update_chain.specs.Updates.{update_in, is_led_by}
@@ -74,30 +75,30 @@ member-kept p (y ∷ ys) x (inr there) is = elim (cases_Bool (p y)) [ inl t ↦ 
 not-from : (b : Bool) → b ≡ false → not b ≡ true
 not-from b e = rw e refl
 
-module _ (known : List Table) (pieces later : List FramePiece) (table : ℕ) (key : List ℕ) (change : Change) (writes : List Write) (a : State) (k : WrittenKey)
-    (stays : SlotsStay pieces later) (old : AreNoted known pieces writes a.written) (mine : IsSlotOf known later k table key) where
+module _ (leaves : List Leaf) (pieces later : List FramePiece) (table : ℕ) (key : List ℕ) (change : Change) (writes : List Write) (a : State) (k : WrittenKey)
+    (stays : SlotsStay pieces later) (old : AreNoted leaves pieces writes a.written) (mine : IsSlotOf leaves later k table key) where
   abbrev new : Write
   new = unstamped table key change
 
-  slot-at : (k : WrittenKey) (n : ℕ) (l : List ℕ) (o : ℕ) (r : List ℕ) → IsSlotOf known later k n l → n ≡ o → l ≡ r → IsSlotOf known later k o r
-  slot-at k n l o r s numbers keys = subst (λ i. IsSlotOf known later k i r) numbers (subst (λ z. IsSlotOf known later k n z) keys s)
+  slot-at : (k : WrittenKey) (n : ℕ) (l : List ℕ) (o : ℕ) (r : List ℕ) → IsSlotOf leaves later k n l → n ≡ o → l ≡ r → IsSlotOf leaves later k o r
+  slot-at k n l o r s numbers keys = subst (λ i. IsSlotOf leaves later k i r) numbers (subst (λ z. IsSlotOf leaves later k n z) keys s)
 
-  noted-before : (w : Write) → Member w writes → (j : WrittenKey) × Member j a.written × IsSlotOf known later j w.table w.key
-  noted-before w member = let o = old.noted w member in (o.0, o.1, slot-stays known pieces later stays o.0 w.table w.key o.2)
+  noted-before : (w : Write) → Member w writes → (j : WrittenKey) × Member j a.written × IsSlotOf leaves later j w.table w.key
+  noted-before w member = let o = old.noted w member in (o.0, o.1, slot-stays leaves pieces later stays o.0 w.table w.key o.2)
 
-  wrote-before : (j : WrittenKey) → Member j a.written → (w : Write) × Member w (joined new writes) × IsSlotOf known later j w.table w.key
-  wrote-before j member = let o = old.wrote j member in let s = slot-stays known pieces later stays j o.0.table o.0.key o.2 in elim (cases_Bool (writes_at table key o.0)) [
+  wrote-before : (j : WrittenKey) → Member j a.written → (w : Write) × Member w (joined new writes) × IsSlotOf leaves later j w.table w.key
+  wrote-before j member = let o = old.wrote j member in let s = slot-stays leaves pieces later stays j o.0.table o.0.key o.2 in elim (cases_Bool (writes_at table key o.0)) [
     | inl is ↦ let parts = at-parts table key o.0 is in (new, inl refl, slot-at j o.0.table o.0.key table key s parts.0 parts.1)
     | inr isnt ↦ (o.0, inr (member-kept (λ w. not (writes_at table key w)) writes o.0 o.1 (not-from (writes_at table key o.0) isnt)), s)
   ]
 
   -- the key is noted where it was not led by the own name; else it was noted before
-  pub noted-on : (led : Bool) → (led ≡ true → (w : Write) × Member w writes × (writes_at table key w ≡ true)) → AreNoted known later (joined new writes) (noted led k a).written
+  pub noted-on : (led : Bool) → (led ≡ true → (w : Write) × Member w writes × (writes_at table key w ≡ true)) → AreNoted leaves later (joined new writes) (noted led k a).written
   noted-on true own = record {
     noted = λ w member. elim (member-joined new writes w member) [ inl is ↦ again w is | inr there ↦ noted-before w there ];
     wrote = λ j member. wrote-before j member;
   } where
-    again : (w : Write) → w ≡ new → (j : WrittenKey) × Member j a.written × IsSlotOf known later j w.table w.key
+    again : (w : Write) → w ≡ new → (j : WrittenKey) × Member j a.written × IsSlotOf leaves later j w.table w.key
     again w is = let o = own refl in let parts = at-parts table key o.0 o.2 in let n = noted-before o.0 o.1 in
         (n.0, n.1, slot-at n.0 o.0.table o.0.key w.table w.key n.2 (parts.0 ∙ ap (λ (z : Write). z.table) (sym is)) (parts.1 ∙ ap (λ (z : Write). z.key) (sym is)))
   noted-on false own = record {
@@ -107,7 +108,7 @@ module _ (known : List Table) (pieces later : List FramePiece) (table : ℕ) (ke
     ];
     wrote = λ j member. by j (member-append j a.written (k ∷ []) member);
   } where
-    by : (j : WrittenKey) → Member j a.written ⊎ Member j (k ∷ []) → (w : Write) × Member w (joined new writes) × IsSlotOf known later j w.table w.key
+    by : (j : WrittenKey) → Member j a.written ⊎ Member j (k ∷ []) → (w : Write) × Member w (joined new writes) × IsSlotOf leaves later j w.table w.key
     by j (inl there) = wrote-before j there
-    by j (inr (inl is)) = (new, inl refl, subst (λ z. IsSlotOf known later z table key) (sym is) mine)
+    by j (inr (inl is)) = (new, inl refl, subst (λ z. IsSlotOf leaves later z table key) (sym is) mine)
     by j (inr (inr none)) = absurd none

@@ -1,8 +1,9 @@
 -- One piece of the frames changes, and the others stay.
-use Rattle.std.proofs.Common.{◌≡◌, ◌≢◌, ◌≤◌, ◌+◌, ℕ, zero, suc, refl, ap, sym, ◌∙◌, Bool, true, List, [], ◌∷◌, ◌++◌, inl, inr, subst, arith}
-use Rattle.std.specs.Prelude.{Option, Some, ◌==◌, reverse, slice_get, slice_set, option_and_then}
-use Rattle.std.specs.List.{list_any}
+use Rattle.std.proofs.Common.{◌≡◌, ◌≢◌, ℕ, zero, suc, refl, ap, sym, ◌∙◌, Bool, true, List, [], ◌∷◌, ◌++◌, inl, inr, subst}
+use Rattle.std.specs.Prelude.{Option, Some, None, ◌==◌, reverse, slice_get, slice_set, option_and_then}
+use Rattle.std.specs.List.{Contains, list_any}
 use Rattle.std.proofs.lemmas.Bool.{cases_eq, eq-eqb, or_left, or_right, cases_Bool}
+use Rattle.std.proofs.lemmas.Option.{same_Some}
 use Rattle.item.specs.declared.Change.{Change}
 use Rattle.stamp.specs.declared.Name.{Name}
 use Rattle.stamp.specs.declared.Version.{Version}
@@ -11,17 +12,20 @@ use Rattle.kv_model.specs.History.{Table, tables, has_table}
 use Rattle.kv_model.specs.Machine.{Machine, Transaction, of_some, transaction_of, name_of}
 use Rattle.kv_model.specs.Valid.{Valid}
 use Rattle.rows_shown.specs.Shows.{shown_at}
+use Rattle.tree_dir.specs.declared.leaf.Framed.{Framed}
+use Rattle.tree_dir.specs.declared.leaf.Leaf.{Leaf}
+use Rattle.tree_dir.specs.Leaves.{Directory, IsDirectory, leaf_under}
 use Rattle.update_chain.specs.declared.update.Update.{Update}
 use Rattle.update_chain.specs.EventLaws.{StandsFor}
 use Rattle.leaf_chains.specs.declared.slot.KeyChain.{KeyChain}
 use Rattle.leaf_chains.specs.Slots.{chain_at, slot_of}
-use Rattle.catalog.specs.Known.{NumbersAscend}
 use Rattle.catalog.proofs.Turning.{turn_one}
 use Rattle.call_steps.specs.declared.frame.Frame.{Frame}
 use Rattle.call_steps.specs.declared.frame.FramePiece.{FramePiece}
 use Rattle.call_steps.specs.declared.written.WrittenKey.{WrittenKey}
-use Rattle.engine_world.specs.Leaves.{LeafStands, IsSlotOf, frame_in, slots_in}
+use Rattle.engine_world.specs.Leaves.{IsLaid, LeafStands, IsSlotOf, frame_in, slots_in, table_at}
 use Rattle.engine_world.proofs.Beside.{SlotsStay, BringsOnly, OthersUpdates}
+use Rattle.engine_world.proofs.Homes.{LeavesStand, one-leaf}
 use Rattle.engine_world.proofs.Moves.{get-set-same, get-set-other}
 
 -- ---- lists
@@ -36,12 +40,26 @@ set-same (y ∷ ys) (suc i) x at = ap (λ l. y ∷ l) (set-same ys i x at)
 abbrev pub slots_of : FramePiece → List KeyChain
 slots_of p = of_some [] (λ (f : Frame). f.leaf.chains) p.frame
 
+abbrev pub table_of : FramePiece → ℕ
+table_of p = of_some 0 (λ (f : Frame). f.table) p.frame
+
 module _ (pieces : List FramePiece) (frame : ℕ) (p : FramePiece) where
   pub frame-there : slice_get pieces frame ≡ Some p → frame_in pieces frame ≡ p.frame
   frame-there at = ap (λ o. option_and_then (λ (q : FramePiece). q.frame) o) at
 
   pub slots-there : slice_get pieces frame ≡ Some p → slots_in pieces frame ≡ slots_of p
   slots-there at = ap (λ o. of_some [] (λ (f : Frame). f.leaf.chains) o) (frame-there at)
+
+  pub table-there-at : slice_get pieces frame ≡ Some p → table_at pieces frame ≡ table_of p
+  table-there-at at = ap (λ o. of_some 0 (λ (f : Frame). f.table) o) (frame-there at)
+
+-- a piece has this frame, which stands for the leaf
+pub record IsNow (next : Machine) (leaves : List Leaf) (home : Leaf) (p : FramePiece) (f : Frame) : Type 0 where
+  pub is : p.frame ≡ Some f
+  pub table : f.table ≡ home.table
+  pub id : f.id ≡ home.id
+  pub keys : (key : List ℕ) → leaf_under home.table key leaves ≡ Some home → StandsFor next home.table key (chain_at key f.leaf.chains) (shown_at key f.leaf.page) []
+  pub bare : (key : List ℕ) → leaf_under home.table key leaves ≢ Some home → (chain_at key f.leaf.chains ≡ []) × (shown_at key f.leaf.page ≡ None)
 
 module _ (pieces : List FramePiece) (frame : ℕ) (p p' : FramePiece) (at : slice_get pieces frame ≡ Some p) where
   pub frame-set : frame_in (slice_set pieces frame p') frame ≡ p'.frame
@@ -56,15 +74,25 @@ module _ (pieces : List FramePiece) (frame : ℕ) (p p' : FramePiece) (at : slic
   pub slots-other : (place : ℕ) → place ≢ frame → slots_in (slice_set pieces frame p') place ≡ slots_in pieces place
   slots-other place other = ap (λ o. of_some [] (λ (f : Frame). f.leaf.chains) o) (frame-other place other)
 
-  -- each key of the piece keeps its slot
-  pub slots-stay : ((key : List ℕ) (i : ℕ) → slot_of key (slots_of p) ≡ Some i → slot_of key (slots_of p') ≡ Some i) → SlotsStay pieces (slice_set pieces frame p')
-  slots-stay keeps place key i there = elim (cases_eq place frame) [
-    | inl same ↦ here same
-    | inr other ↦ ap (slot_of key) (slots-other place other) ∙ there
-  ] where
-    here : place ≡ frame → slot_of key (slots_in (slice_set pieces frame p') place) ≡ Some i
-    here same = ap (λ j. slot_of key (slots_in (slice_set pieces frame p') j)) same ∙ (ap (slot_of key) slots-set
+  -- the piece stays with its table, and each key of it keeps its slot
+  pub slots-stay : table_of p' ≡ table_of p → ((key : List ℕ) (i : ℕ) → slot_of key (slots_of p) ≡ Some i → slot_of key (slots_of p') ≡ Some i) → SlotsStay pieces (slice_set pieces frame p')
+  slots-stay table keeps = record { tables = tables; slots = slots } where
+    tables : (place : ℕ) → table_at (slice_set pieces frame p') place ≡ table_at pieces place
+    tables place = elim (cases_eq place frame) [
+      | inl same ↦ ap (λ j. table_at (slice_set pieces frame p') j) same ∙ (ap (λ o. of_some 0 (λ (f : Frame). f.table) o) frame-set
+          ∙ (table ∙ (sym (table-there-at pieces frame p at) ∙ ap (λ j. table_at pieces j) (sym same))))
+      | inr other ↦ ap (λ o. of_some 0 (λ (f : Frame). f.table) o) (frame-other place other)
+    ]
+
+    here : (place : ℕ) (key : List ℕ) (i : ℕ) → place ≡ frame → slot_of key (slots_in pieces place) ≡ Some i → slot_of key (slots_in (slice_set pieces frame p') place) ≡ Some i
+    here place key i same there = ap (λ j. slot_of key (slots_in (slice_set pieces frame p') j)) same ∙ (ap (slot_of key) slots-set
         ∙ keeps key i (ap (slot_of key) (sym (slots-there pieces frame p at)) ∙ (ap (λ j. slot_of key (slots_in pieces j)) (sym same) ∙ there)))
+
+    slots : (place : ℕ) (key : List ℕ) (i : ℕ) → slot_of key (slots_in pieces place) ≡ Some i → slot_of key (slots_in (slice_set pieces frame p') place) ≡ Some i
+    slots place key i there = elim (cases_eq place frame) [
+      | inl same ↦ here place key i same there
+      | inr other ↦ ap (slot_of key) (slots-other place other) ∙ there
+    ]
 
   -- an update of another name was in the piece
   pub brings-only : (name : Name) → ((key : List ℕ) (u : Update) → Member u (chain_at key (slots_of p')) → u.version.window.name ≢ name → Member u (chain_at key (slots_of p))) → BringsOnly name pieces (slice_set pieces frame p')
@@ -76,35 +104,50 @@ module _ (pieces : List FramePiece) (frame : ℕ) (p p' : FramePiece) (at : slic
     here same = subst (λ l. Member u (chain_at key l)) (sym (slots-there pieces frame p at) ∙ ap (slots_in pieces) (sym same))
         (was key u (subst (λ l. Member u (chain_at key l)) (ap (slots_in (slice_set pieces frame p')) same ∙ slots-set) there) other_name)
 
-  -- the leaf of the piece stands, and so do the others
-  pub leaves-on : (m next : Machine) (states : List ℕ) (known : List Table) (f' : Frame) → p'.frame ≡ Some f'
-      → ((place : ℕ) (t : Table) → slice_get known place ≡ Some t → LeafStands m pieces states place t)
-      → ((t : Table) → slice_get known frame ≡ Some t → (key : List ℕ) → StandsFor next t.number key (chain_at key f'.leaf.chains) (shown_at key f'.leaf.page) [])
-      → ((place : ℕ) (t : Table) → place ≢ frame → slice_get known place ≡ Some t → (key : List ℕ) (chain : List Update) (row : Option (Version Change)) → StandsFor m t.number key chain row [] → StandsFor next t.number key chain row [])
-      → (place : ℕ) (t : Table) → slice_get known place ≡ Some t → LeafStands next (slice_set pieces frame p') states place t
-  leaves-on m next states known f' is leaves here there place t known_at = elim (cases_eq place frame) [
-    | inl same ↦ this same
+  -- a leaf of another frame is where it was
+  abbrev laid-other : (states : List ℕ) (l : Leaf) → (x : IsLaid pieces states l) → x.framed.frame ≢ frame → IsLaid (slice_set pieces frame p') states l
+  laid-other states l x other = record { framed = x.framed; placed = x.placed; frame = x.frame; there = frame-other x.framed.frame other ∙ x.there; table = x.table; id = x.id; word = x.word }
+
+  here-stands : (next : Machine) (states : List ℕ) (leaves : List Leaf) (home : Leaf) (f' : Frame) → (x : IsLaid pieces states home) → x.framed.frame ≡ frame → IsNow next leaves home p' f'
+      → LeafStands next leaves (slice_set pieces frame p') states home
+  here-stands next states leaves home f' x same now = record {
+    laid = record {
+      framed = x.framed;
+      placed = x.placed;
+      frame = f';
+      there = ap (frame_in (slice_set pieces frame p')) same ∙ (frame-set ∙ now.is);
+      table = now.table;
+      id = now.id;
+      word = x.word;
+    };
+    keys = now.keys;
+    bare = now.bare;
+  }
+
+  -- the leaf in the piece stands, and so do the others
+  pub leaves-on : (m next : Machine) (states : List ℕ) (d : Directory) (home : Leaf) (f' : Frame) → IsDirectory d → LeavesStand m d.leaves pieces states → Contains d.leaves home → (x : IsLaid pieces states home) → x.framed.frame ≡ frame
+      → IsNow next d.leaves home p' f'
+      → ((l : Leaf) → Contains d.leaves l → l ≢ home → (key : List ℕ) (chain : List Update) (row : Option (Version Change)) → leaf_under l.table key d.leaves ≡ Some l → StandsFor m l.table key chain row [] → StandsFor next l.table key chain row [])
+      → LeavesStand next d.leaves (slice_set pieces frame p') states
+  leaves-on m next states d home f' is stand home_there x same now elsewhere l there = elim (cases_eq old.laid.framed.frame frame) [
+    | inl here ↦ subst (λ (n : Leaf). LeafStands next d.leaves (slice_set pieces frame p') states n)
+        (one-leaf d pieces states home l is home_there there x old.laid (same ∙ sym here)) (here-stands next states d.leaves home f' x same now)
     | inr other ↦ record {
-      frame = old.frame;
-      there = frame-other place other ∙ old.there;
-      word = old.word;
-      keys = λ key. there place t other known_at key (chain_at key old.frame.leaf.chains) (shown_at key old.frame.leaf.page) (old.keys key);
+      laid = laid-other states l old.laid other;
+      keys = λ key under. elsewhere l there (λ one. other (moved one)) key (chain_at key old.laid.frame.leaf.chains) (shown_at key old.laid.frame.leaf.page) under (old.keys key under);
+      bare = old.bare;
     }
   ] where
-    old : LeafStands m pieces states place t
-    old = leaves place t known_at
+    old : LeafStands m d.leaves pieces states l
+    old = stand l there
 
-    this : place ≡ frame → LeafStands next (slice_set pieces frame p') states place t
-    this same = record {
-      frame = f';
-      there = ap (frame_in (slice_set pieces frame p')) same ∙ (frame-set ∙ is);
-      word = old.word;
-      keys = here t (ap (slice_get known) (sym same) ∙ known_at);
-    }
+    -- one leaf is in one frame
+    moved : l ≡ home → (stand l there).laid.framed.frame ≡ frame
+    moved one = ap (λ (f : Framed). f.frame) (same_Some (stand l there).laid.framed x.framed (sym (stand l there).laid.placed ∙ (ap (λ (n : Leaf). n.frame) one ∙ x.placed))) ∙ same
 
 -- a slot that was noted stays that of its key
-pub slot-stays : (known : List Table) (pieces later : List FramePiece) → SlotsStay pieces later → (k : WrittenKey) (table : ℕ) (key : List ℕ) → IsSlotOf known pieces k table key → IsSlotOf known later k table key
-slot-stays known pieces later stays k table key s = record { of = s.of; there = s.there; number = s.number; slot = stays k.frame key k.slot s.slot }
+pub slot-stays : (leaves : List Leaf) (pieces later : List FramePiece) → SlotsStay pieces later → (k : WrittenKey) (table : ℕ) (key : List ℕ) → IsSlotOf leaves pieces k table key → IsSlotOf leaves later k table key
+slot-stays leaves pieces later stays k table key s = record { home = s.home; number = stays.tables k.frame ∙ s.number; slot = stays.slots k.frame key k.slot s.slot }
 
 -- ---- names
 
@@ -114,21 +157,6 @@ brings-others m session t pieces later valid there brings r x other there_x draw
     brings place key u member (λ same. valid.sessions.distinct r session x t there_x there other drawn (ap (λ (n : Name). n.id) (sym named ∙ same)))
 
 -- ---- tables
-
-low-number : (low : ℕ) (known : List Table) (next place : ℕ) (t : Table) → NumbersAscend low known next → slice_get known place ≡ Some t → low ≤ t.number
-low-number low [] next place t ascend at = absurd (cc)
-low-number low (x ∷ later) next zero t ascend at = let same : x ≡ t = cc in subst (λ (z : Table). low ≤ z.number) same ascend.0
-low-number low (x ∷ later) next (suc place) t ascend at = let deep = low-number (x.number + 1) later next place t ascend.1 at in omega (arith, ascend.0, deep)
-
--- tables at two places have two numbers
-pub numbers-differ : (low : ℕ) (known : List Table) (next i j : ℕ) (t u : Table) → NumbersAscend low known next → slice_get known i ≡ Some t → slice_get known j ≡ Some u → i ≢ j → t.number ≢ u.number
-numbers-differ low [] next i j t u ascend at at_u other = absurd (cc)
-numbers-differ low (x ∷ later) next zero zero t u ascend at at_u other = absurd (other refl)
-numbers-differ low (x ∷ later) next zero (suc j) t u ascend at at_u other = λ e. let same : x ≡ t = cc in let deep = low-number (x.number + 1) later next j u ascend.1 at_u in
-    let one : x.number ≡ u.number = ap (λ (z : Table). z.number) same ∙ e in omega (arith, deep, one)
-numbers-differ low (x ∷ later) next (suc i) zero t u ascend at at_u other = λ e. let same : x ≡ u = cc in let deep = low-number (x.number + 1) later next i t ascend.1 at in
-    let one : x.number ≡ t.number = ap (λ (z : Table). z.number) same ∙ sym e in omega (arith, deep, one)
-numbers-differ low (x ∷ later) next (suc i) (suc j) t u ascend at at_u other = numbers-differ (x.number + 1) later next i j t u ascend.1 at at_u (λ e. other (ap suc e))
 
 any-left : (p : Table → Bool) (xs ys : List Table) → list_any p xs ≡ true → list_any p (xs ++ ys) ≡ true
 any-left p [] ys is = absurd (cc)

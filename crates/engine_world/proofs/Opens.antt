@@ -6,6 +6,7 @@ use Rattle.std.proofs.Math.Seq.{get_or-append_seam}
 use Rattle.kv_model.specs.Machine.{Machine, Transaction, OpenSession, after, cursors_of, no_cursors, of_some, transaction_of}
 use Rattle.kv_model.specs.Valid.{Valid}
 use Rattle.kv_model.proofs.Beginning.{append-none, valid-open}
+use Rattle.kv_model.proofs.RowRanges.{value-goes-on}
 use Rattle.txn_table.specs.SessionData.{SessionData, opened as opened_seat}
 use Rattle.txn_table.proofs.Standing.{calls-stand}
 use Rattle.update_chain.specs.EventLaws.{ChainsGoOn}
@@ -18,9 +19,10 @@ use Rattle.engine_world.specs.Worlds.{Resting, World, doing_of}
 use Rattle.engine_world.proofs.Appended.{append-default, append-finds, append-other}
 use Rattle.engine_world.proofs.Beside.{Apart, MachineApart}
 use Rattle.engine_world.proofs.Events.{updates-same}
+use Rattle.engine_world.proofs.HubMoves.{leaves-go-on}
 use Rattle.engine_world.proofs.Others.{others-stay}
 use Rattle.engine_world.proofs.OwnStates.{none-ends}
-use Rattle.engine_world.proofs.SystemEvents.{leaf-goes-on, leaves-same, past-all}
+use Rattle.engine_world.proofs.SystemEvents.{leaves-same, past-all}
 
 abbrev world_opened : World → World
 world_opened w = record w { machine = after w.machine OpenSession; sessions = w.sessions ++ Resting ∷ [] }
@@ -36,12 +38,13 @@ opened-apart session m valid last = record {
   held = λ r t table key other there alive own. refl;
   grown = λ table key v member. member;
   none = λ r t table key other there drawn none. none;
+  absent = λ r t table key other there reads. value-goes-on m OpenSession r t table key None valid tt there tt reads;
 }
 
 opened-beside : (e : Engine) (w : World) → Stands e w → Apart (length e.sessions) w.machine (after w.machine OpenSession) e.hub (with_opened e).hub e.pieces e.pieces
 opened-beside e w st = record {
   machine = opened-apart (length e.sessions) w.machine st.valid st.count;
-  leaves = leaves-same e.hub.tables.tables e.pieces;
+  leaves = leaves-same e.hub.dir.leaves e.pieces;
   seats = (let long = length-append e.hub.txns.sessions (opened_seat e.hub.txns.run ∷ []) in omega arith);
   phases = λ r other. ap (λ (x : SessionData). x.phase) (append-default e.hub.txns.sessions (opened_seat e.hub.txns.run) r);
   updates = updates-same w.machine (length e.sessions) e.pieces;
@@ -64,16 +67,16 @@ opened-stands e w st = record {
         ∙ get_or_past e.hub.txns.sessions (length e.sessions) (opened_seat e.hub.txns.run) (let seats = st.txns.count in let count = st.count in omega arith));
   };
   cursors = sym (last-cursors w.machine (length e.sessions) st.valid st.count);
-  noted = subst (λ (o : Option Transaction). AreNoted e.hub.tables.tables e.pieces (of_some [] (λ (t : Transaction). t.writes) o) []) (sym none)
+  noted = subst (λ (o : Option Transaction). AreNoted e.hub.dir.leaves e.pieces (of_some [] (λ (t : Transaction). t.writes) o) []) (sym none)
       (record { noted = λ x member. absurd member; wrote = λ k member. absurd member });
   stage = none-ends (after w.machine OpenSession) (length e.sessions) none;
 } where
   none : transaction_of (after w.machine OpenSession) (length e.sessions) ≡ None
   none = last-none w.machine (length e.sessions) st.count
 
-opened-rests : (e : Engine) (w : World) (session : ℕ) (a : State) → Stands e w → session ≡ length e.sessions → opened ≡ a → doing_of (world_opened w) session ≡ doing_in session a
+opened-rests : (e : Engine) (w : World) (session : ℕ) (a : State) → Stands e w → session ≡ length e.sessions → opened ≡ a → doing_of (world_opened w) session ≡ doing_in e.hub.dir.leaves session a
 opened-rests e w session a st last same = append-default w.sessions Resting session
-    ∙ (get_or_past w.sessions session Resting (let many = st.doings in omega arith) ∙ ap (λ (x : State). doing_in session x) same)
+    ∙ (get_or_past w.sessions session Resting (let many = st.doings in omega arith) ∙ ap (λ (x : State). doing_in e.hub.dir.leaves session x) same)
 
 pub opens-go : ChainsGoOn → OpensGo
 opens-go chains e w st = record {
@@ -83,7 +86,10 @@ opens-go chains e w st = record {
   txns = (calls-stand e.hub.txns w.machine st.valid st.txns).opens;
   catalog = st.catalog;
   made = st.made;
-  leaves = λ place t there. leaf-goes-on chains w.machine OpenSession e.pieces e.states place t st.valid tt (λ key. tt) (st.leaves place t there);
+  dir = st.dir;
+  begun = st.begun;
+  owned = st.owned;
+  leaves = leaves-go-on chains w.machine OpenSession e.hub.dir.leaves e.pieces e.states st.valid tt (λ table key. tt) st.leaves;
   count = (let here = length-append e.sessions (opened ∷ []) in let there = length-append w.machine.sessions (None ∷ []) in let same = st.count in omega arith);
   doings = (let here = length-append w.sessions (Resting ∷ []) in let there = length-append e.sessions (opened ∷ []) in let same = st.doings in omega arith);
   doing = λ r b there. elim (append-finds e.sessions opened b r there) [

@@ -1,14 +1,15 @@
 -- The greatest durable stamp that was found below the writes is the one that the stamp rules ask for.
 use Rattle.std.proofs.Common.{◌≡◌, ◌⊎◌, ◌≤◌, ℕ, refl, ap, ◌∙◌, List, [], ◌∷◌, inl, inr, arith}
 use Rattle.kv_model.specs.Holds.{Member}
-use Rattle.kv_model.specs.History.{Table, Write, line}
-use Rattle.kv_model.specs.Machine.{Machine, of_some}
+use Rattle.kv_model.specs.History.{Write, line}
+use Rattle.kv_model.specs.Machine.{Machine}
 use Rattle.kv_model.specs.Refusals.{newest_durable, durable_below}
+use Rattle.tree_dir.specs.declared.leaf.Leaf.{Leaf}
 use Rattle.leaf_chains.specs.Slots.{key_of, key_at}
 use Rattle.leaf_chains.proofs.Changes.{held}
 use Rattle.call_steps.specs.declared.frame.FramePiece.{FramePiece}
 use Rattle.call_steps.specs.declared.written.WrittenKey.{WrittenKey}
-use Rattle.engine_world.specs.Leaves.{AreNoted, IsSlotOf, OrderedDownTo, durable_under, number_at, slots_in}
+use Rattle.engine_world.specs.Leaves.{AreNoted, IsSlotOf, OrderedDownTo, durable_under, slots_in}
 use Rattle.engine_world.proofs.Fronts.{index-of}
 
 -- the durable stamp of the newest version of the key of a write
@@ -25,20 +26,17 @@ bounded m [] bound all = omega arith
 bounded m (x ∷ writes) bound all = let first = all x (inl refl) in let later = bounded m writes bound (λ w there. all w (inr there)) in omega arith
 
 -- under the slot that was noted stands the key of the write
-under-is : (m : Machine) (known : List Table) (pieces : List FramePiece) (k : WrittenKey) (w : Write) → IsSlotOf known pieces k w.table w.key → durable_under m known pieces k ≡ durable_at m w
-under-is m known pieces k w slot = ap (λ n. newest_durable (line m.history n (key_at (slots_in pieces k.frame) k.slot))) number ∙ ap (λ key. newest_durable (line m.history w.table key)) key where
-  number : number_at known k.frame ≡ w.table
-  number = ap (of_some 0 (λ (t : Table). t.number)) slot.there ∙ slot.number
-
+under-is : (m : Machine) (leaves : List Leaf) (pieces : List FramePiece) (k : WrittenKey) (w : Write) → IsSlotOf leaves pieces k w.table w.key → durable_under m pieces k ≡ durable_at m w
+under-is m leaves pieces k w slot = ap (λ n. newest_durable (line m.history n (key_at (slots_in pieces k.frame) k.slot))) slot.number ∙ ap (λ key. newest_durable (line m.history w.table key)) key where
   key : key_at (slots_in pieces k.frame) k.slot ≡ w.key
   key = ap key_of (held w.key (slots_in pieces k.frame) k.slot slot.slot)
 
-pub prev-is : (m : Machine) (known : List Table) (pieces : List FramePiece) (writes : List Write) (keys : List WrittenKey) (prev : ℕ) → AreNoted known pieces writes keys → OrderedDownTo m known pieces writes keys prev 0
+pub prev-is : (m : Machine) (leaves : List Leaf) (pieces : List FramePiece) (writes : List Write) (keys : List WrittenKey) (prev : ℕ) → AreNoted leaves pieces writes keys → OrderedDownTo m pieces writes keys prev 0
     → prev ≡ durable_below m writes
-prev-is m known pieces writes keys prev noted ordered = let low = bounded m writes prev covers in let high = least ordered.least in omega arith where
+prev-is m leaves pieces writes keys prev noted ordered = let low = bounded m writes prev covers in let high = least ordered.least in omega arith where
   covers : (w : Write) → Member w writes → durable_at m w ≤ prev
   covers w there = let n = noted.noted w there in let i = index-of keys n.0 n.1 in
-      let under = ordered.covers i.0 n.0 (omega arith) i.1 in let is = under-is m known pieces n.0 w n.2 in omega arith
+      let under = ordered.covers i.0 n.0 (omega arith) i.1 in let is = under-is m leaves pieces n.0 w n.2 in omega arith
 
   least : (prev ≡ 0) ⊎ ((w : Write) × Member w writes × (prev ≡ newest_durable (line m.history w.table w.key))) → prev ≤ durable_below m writes
   least (inl none) = omega arith

@@ -1,25 +1,30 @@
 -- What stands of a session goes on to stand over an event of another, and over those of the system.
-use Rattle.std.proofs.Common.{◌≡◌, ◌≢◌, ◌⊎◌, ◌<◌, ◌≤◌, ℕ, true, refl, ap, sym, ◌∙◌, List, [], inl, inr, subst, arith}
-use Rattle.std.specs.Prelude.{Option, Some, None, option_map, slice_get}
+use Rattle.std.proofs.Common.{◌≡◌, ◌≢◌, ◌⊎◌, ◌<◌, ◌≤◌, ◌+◌, ◌*◌, ℕ, Bool, true, refl, ap, sym, ◌∙◌, List, [], inl, inr, subst, arith}
+use Rattle.std.specs.Prelude.{Option, Some, None, option_map, slice_index_or}
+use Rattle.std.specs.List.{Contains}
 use Rattle.failure.specs.declared.Fault.{Fault}
 use Rattle.kv_model.specs.Allowed.{HasTransaction}
 use Rattle.kv_model.specs.Decisions.{is_there}
 use Rattle.kv_model.specs.Holds.{Member}
-use Rattle.kv_model.specs.History.{Table, Write, line, version_of}
+use Rattle.kv_model.specs.History.{Write, line, version_of}
 use Rattle.kv_model.specs.Machine.{Machine, Transaction, Phase, Running, Failed, Prepared, Resolving, Leaving, of_some, name_in, transaction_of}
 use Rattle.kv_model.specs.Pending.{NoneOf}
 use Rattle.kv_model.specs.Reads.{IsEnding}
 use Rattle.kv_model.specs.Refusals.{newest_durable, stamp_of, or_stamp}
+use Rattle.kv_model.specs.Rows.{Way, is_past, starts_at}
 use Rattle.kv_model.specs.Valid.{Valid}
+use Rattle.tree_dir.specs.declared.leaf.Leaf.{Leaf}
+use Rattle.tree_dir.specs.Leaves.{Directory}
 use Rattle.update_chain.specs.declared.update.Update.{Update}
 use Rattle.update_chain.specs.EventLaws.{outcome}
-use Rattle.catalog.specs.Known.{Known}
+use Rattle.wt_calls.specs.Calls.{way_in}
 use Rattle.call_steps.specs.declared.edit.Edit.{Edit}
 use Rattle.call_steps.specs.declared.edit.Edit.TheVariants as edit
 use Rattle.call_steps.specs.declared.frame.FramePiece.{FramePiece}
 use Rattle.call_steps.specs.declared.hub.Hub.{Hub}
 use Rattle.call_steps.specs.declared.stage.CommitStamps.{CommitStamps}
 use Rattle.call_steps.specs.declared.stage.KeyCall.{KeyCall}
+use Rattle.call_steps.specs.declared.stage.KeyCall.TheVariants as key_call
 use Rattle.call_steps.specs.declared.stage.Stage.{Stage}
 use Rattle.call_steps.specs.declared.stage.Stage.TheVariants as stage
 use Rattle.call_steps.specs.declared.stage.Target.{Target}
@@ -27,22 +32,27 @@ use Rattle.call_steps.specs.declared.written.WrittenKey.{WrittenKey}
 use Rattle.call_steps.specs.Leaves.{chain_in}
 use Rattle.call_steps.specs.Stages.{is_write, cursor_in}
 use Rattle.call_steps.specs.State.{State}
+use Rattle.engine_world.specs.Doings.{call_in, doing_at, doing_in, further_left}
 use Rattle.engine_world.specs.Leaves.{AreNoted, EditedDownTo, IsSlotOf, durable_under, slots_in}
-use Rattle.engine_world.specs.Stages.{AreCommitted, DecidesStand, DoneStands, EndsOnlyDown, ForTransaction, HasLooked, IsEdited, IsLeafOf, IsOnLeaf, IsOrdered, MarksStand, NoneStands, OrdersStand, ResolvesStand, StageStands, StampsStand, UndoesStand, stamps_in}
+use Rattle.engine_world.specs.Stages.{AreCommitted, DecidesStand, DoneStands, EndsOnlyDown, ForTransaction, HasLooked, IsEdited, IsLeafOf, IsOnLeaf, IsOrdered, IsPassed, IsSought, MarksStand, NoneAmong, NoneStands, OrdersStand, ResolvesStand, Seeks, StageStands, StampsStand, UndoesStand, stamps_in, way_of}
 use Rattle.engine_world.specs.Stands.{SessionStands, writes_in}
-use Rattle.engine_world.proofs.Beside.{Apart, Beside, LeavesStay, MachineApart, OthersUpdates}
-use Rattle.engine_world.proofs.NotedSlots.{at-index, drawn-with, noted-stay, own-found, slot-chain, slot-durable, slot-stays}
+use Rattle.engine_world.specs.Walks.{leaves_on, passed, passed_with}
+use Rattle.engine_world.specs.Worlds.{Placed}
+use Rattle.engine_world.proofs.Beside.{Apart, Beside, LeavesKept, LeavesStay, MachineApart, OthersUpdates}
+use Rattle.engine_world.proofs.Homes.{target-is}
+use Rattle.engine_world.proofs.NotedSlots.{at-index, drawn-with, noted-stay, own-found, slot-chain, slot-durable, slot-stays, stay-same}
+use Rattle.engine_world.proofs.WalkKeys.{passed-kept, passed-with-kept}
 
 -- a session beside the one of which the event is, with the slots that were noted for it
-record IsOther (session : ℕ) (m next : Machine) (known made : List Table) (pieces later : List FramePiece) (r : ℕ) (b : State) : Type 0 where
+record IsOther (session : ℕ) (m next : Machine) (leaves made : List Leaf) (pieces later : List FramePiece) (r : ℕ) (b : State) : Type 0 where
   machine : MachineApart session m next
-  leaves : LeavesStay known made pieces later
+  stay : LeavesStay leaves made pieces later
   updates : OthersUpdates m session pieces later
   other : r ≢ session
   valid : Valid m
-  noted : AreNoted known pieces (writes_in m r) b.written
+  noted : AreNoted leaves pieces (writes_in m r) b.written
 
-module _ (session : ℕ) (m next : Machine) (known made : List Table) (pieces later : List FramePiece) (r : ℕ) (b : State) (o : IsOther session m next known made pieces later r b) where
+module _ (session : ℕ) (m next : Machine) (leaves made : List Leaf) (pieces later : List FramePiece) (r : ℕ) (b : State) (o : IsOther session m next leaves made pieces later r b) where
   -- ---- its transaction
 
   same : transaction_of next r ≡ transaction_of m r
@@ -57,40 +67,66 @@ module _ (session : ℕ) (m next : Machine) (known made : List Table) (pieces la
   ends-down : EndsOnlyDown m r → EndsOnlyDown next r
   ends-down down t there ending = subst (λ (f : Option Fault). is_there f ≡ true) (sym o.machine.fault) (down t (sym same ∙ there) ending)
 
-  leaf-stays : (target : Target) → IsLeafOf known target → IsLeafOf made target
-  leaf-stays target x = (x.0, o.leaves.tables target.frame x.0 x.1, x.2)
+  abbrev leaf-stays : (target : Target) → IsLeafOf leaves target → IsLeafOf made target
+  leaf-stays target x = (x.0, o.stay.kept.there x.0 x.1, x.2)
 
-  on-leaf : (call : KeyCall) (target : Target) → IsOnLeaf m known r call target → IsOnLeaf next made r call target
+  abbrev on-leaf : (call : KeyCall) (target : Target) → IsOnLeaf m leaves r call target → IsOnLeaf next made r call target
   on-leaf call target x =
       (still (λ t. (t.phase ≡ Running) × (is_write call ≡ true → 0 < t.id)) (λ t. (t.phase ≡ Running) × (is_write call ≡ true → 0 < t.id)) (λ t there p. p) x.0, leaf-stays target x.1)
 
-  looked : (call : KeyCall) (target : Target) → HasLooked m known r call target → HasLooked next made r call target
+  looked : (call : KeyCall) (target : Target) → HasLooked m leaves r call target → HasLooked next made r call target
   looked call target x = (still Of Of (λ t there p. p) x.0, leaf-stays target x.1) where
     Of : Transaction → Type 0
     Of t = (t.phase ≡ Running) ⊎ ((t.phase ≡ Failed) × (cursor_in call ≡ None))
 
+  -- ---- its walk
+
+  -- what had no row has none
+  none-stays : (table : ℕ) (way : Way) (range later_range : List ℕ → Bool) → ((k : List ℕ) → later_range k ≡ range k) → NoneAmong m r table way range → NoneAmong next r table way later_range
+  none-stays table way range later_range equal none t there k is = o.machine.absent r t table k o.other (sym same ∙ there) (none t (sym same ∙ there) k (sym (equal k) ∙ is))
+
+  -- its cursors start where they did
+  way-same : (table cursor : ℕ) (way : Way) → way_of next r table cursor way ≡ way_of m r table cursor way
+  way-same table cursor way = ap (λ cursors. is_past way (starts_at table (slice_index_or cursors cursor None))) (o.machine.cursors r o.other)
+
+  sought-stays : (call : KeyCall) (l : Leaf) → Contains leaves l → IsSought m leaves r b call l → IsSought next made r b call l
+  sought-stays (key_call.Step cursor way) l there x = none-stays l.table (way_in way) (passed (way_in way) leaves l (way_of m r l.table cursor (way_in way))) (passed (way_in way) made l (way_of next r l.table cursor (way_in way)))
+      (λ k. passed-kept (way_in way) leaves made l (way_of next r l.table cursor (way_in way)) k (o.stay.kept.behind l there)
+      ∙ ap (λ within. passed (way_in way) leaves l within k) (way-same l.table cursor (way_in way))) x
+  sought-stays call l there x = o.stay.kept.under l.table b.key l x
+
+  seeks-stay : (call : KeyCall) (target : Target) → Seeks m leaves r call target b → Seeks next made r call target b
+  seeks-stay call target x = (on-leaf call target x.0, sought-stays call x.0.1.0 x.0.1.1 x.1)
+
+  passed-stays : (call : KeyCall) (l : Leaf) → Contains leaves l → IsPassed m leaves r call l → IsPassed next made r call l
+  passed-stays (key_call.Step cursor way) l there x =
+      none-stays l.table (way_in way) (passed_with (way_in way) leaves l (way_of m r l.table cursor (way_in way))) (passed_with (way_in way) made l (way_of next r l.table cursor (way_in way)))
+      (λ k. passed-with-kept (way_in way) leaves made l (way_of next r l.table cursor (way_in way)) k (o.stay.kept.behind l there)
+      ∙ ap (λ within. passed_with (way_in way) leaves l within k) (way-same l.table cursor (way_in way))) x
+  passed-stays call l there x = x
+
   -- ---- its writes
 
-  of-writes : (t : Transaction) → transaction_of m r ≡ Some t → AreNoted known pieces t.writes b.written
-  of-writes t there = subst (λ ws. AreNoted known pieces ws b.written) (ap (of_some [] (λ (x : Transaction). x.writes)) there) o.noted
+  of-writes : (t : Transaction) → transaction_of m r ≡ Some t → AreNoted leaves pieces t.writes b.written
+  of-writes t there = subst (λ ws. AreNoted leaves pieces ws b.written) (ap (of_some [] (λ (x : Transaction). x.writes)) there) o.noted
 
   -- the line of a key that it holds
   line-held : (t : Transaction) → transaction_of m r ≡ Some t → (IsEnding t.phase → ⊥) → (w : Write) → Member w t.writes → line next.history w.table w.key ≡ line m.history w.table w.key
   line-held t there alive w member = o.machine.held r t w.table w.key o.other there alive (own-found w t.writes member)
 
   -- a chain in a slot that was noted has no more updates of its name than before
-  update-was : (t : Transaction) → transaction_of m r ≡ Some t → (k : WrittenKey) (w : Write) → Member w t.writes → IsSlotOf known pieces k w.table w.key
+  update-was : (t : Transaction) → transaction_of m r ≡ Some t → (k : WrittenKey) (w : Write) → Member w t.writes → IsSlotOf leaves pieces k w.table w.key
       → (u : Update) → Member u (chain_in (slots_in later k.frame) k.slot) → u.version.window.name ≡ name_in m.run t → Member u (chain_in (slots_in pieces k.frame) k.slot)
   update-was t there k w member s u now named = subst (λ l. Member u l) (sym (slot-chain w.key (slots_in pieces k.frame) k.slot s.slot))
       (o.updates r t o.other there (drawn-with m r t w o.valid there member) k.frame w.key u
-      (subst (λ l. Member u l) (slot-chain w.key (slots_in later k.frame) k.slot (o.leaves.slots k.frame s.of w.key k.slot s.there s.slot)) now) named)
+      (subst (λ l. Member u l) (slot-chain w.key (slots_in later k.frame) k.slot (o.stay.slots w.table w.key k.frame w.key k.slot s.home s.slot)) now) named)
 
   edited : (t : Transaction) → transaction_of m r ≡ Some t → (e : Edit) (left : ℕ) → IsEdited e m pieces t b left → IsEdited e next later t b left
   edited t there e left done = subst (λ run. EditedDownTo e (name_in run t) later b.written left) (sym o.machine.run)
       (λ i k le at u now named. let w = (of-writes t there).wrote k (at-index b.written i k at) in done i k le at u (update-was t there k w.0 w.1 w.2 u now named) named)
 
   ordered : (t : Transaction) → transaction_of m r ≡ Some t → (IsEnding t.phase → ⊥) → (stamps : CommitStamps) (left : ℕ)
-      → IsOrdered stamps m known pieces t b left → IsOrdered stamps next made later t b left
+      → IsOrdered stamps m pieces t b left → IsOrdered stamps next later t b left
   ordered t there alive stamps left x = record {
     covers = λ i k le at. subst (λ d. d ≤ stamps.prev) (sym (under k (at-index b.written i k at))) (x.covers i k le at);
     least = elim x.least [
@@ -98,10 +134,10 @@ module _ (session : ℕ) (m next : Machine) (known made : List Table) (pieces la
       | inr one ↦ inr (one.0, one.1, one.2 ∙ ap newest_durable (sym (line-held t there alive one.0 one.1)))
     ];
   } where
-    under : (k : WrittenKey) → Member k b.written → durable_under next made later k ≡ durable_under m known pieces k
+    under : (k : WrittenKey) → Member k b.written → durable_under next later k ≡ durable_under m pieces k
     under k member = let w = (of-writes t there).wrote k member in
-        slot-durable next made later k w.0.table w.0.key (slot-stays known made pieces later k w.0.table w.0.key o.leaves w.2)
-        ∙ (ap newest_durable (line-held t there alive w.0 w.1) ∙ sym (slot-durable m known pieces k w.0.table w.0.key w.2))
+        slot-durable next made later k w.0.table w.0.key (slot-stays leaves made pieces later k w.0.table w.0.key o.stay w.2)
+        ∙ (ap newest_durable (line-held t there alive w.0 w.1) ∙ sym (slot-durable m leaves pieces k w.0.table w.0.key w.2))
 
   committed : (t : Transaction) (stamps : CommitStamps) → AreCommitted stamps m t → AreCommitted stamps next t
   committed t stamps x w member =
@@ -115,34 +151,34 @@ module _ (session : ℕ) (m next : Machine) (known made : List Table) (pieces la
 
   -- ---- by the phase
 
-  marks : (t : Transaction) → transaction_of m r ≡ Some t → (p : Phase) (stamp : ℕ) → MarksStand p stamp m known pieces t b → MarksStand p stamp next made later t b
+  marks : (t : Transaction) → transaction_of m r ≡ Some t → (p : Phase) (stamp : ℕ) → MarksStand p stamp m pieces t b → MarksStand p stamp next later t b
   marks t there Running stamp x = edited t there (edit.Mark stamp) 0 x
   marks t there _ stamp x = x
 
   orders : (t : Transaction) → transaction_of m r ≡ Some t → (p : Phase) → t.phase ≡ p → (stamps : CommitStamps) (left : ℕ)
-      → OrdersStand p stamps m known pieces t b left → OrdersStand p stamps next made later t b left
+      → OrdersStand p stamps m pieces t b left → OrdersStand p stamps next later t b left
   orders t there Running is stamps left x = ordered t there (λ e. subst IsEnding is e) stamps left x
   orders t there (Prepared at) is stamps left x = ordered t there (λ e. subst IsEnding is e) stamps left x
   orders t there _ is stamps left x = x
 
   stamped : (t : Transaction) → transaction_of m r ≡ Some t → (p : Phase) → t.phase ≡ p → (stamps : CommitStamps) (left : ℕ)
-      → StampsStand p stamps m known pieces t b left → StampsStand p stamps next made later t b left
+      → StampsStand p stamps m pieces t b left → StampsStand p stamps next later t b left
   stamped t there Running is stamps left x = (ordered t there (λ e. subst IsEnding is e) stamps 0 x.0, edited t there (stamps_in Running stamps) left x.1)
   stamped t there Resolving is stamps left x = (committed t stamps x.0, edited t there (stamps_in Resolving stamps) left x.1)
   stamped t there _ is stamps left x = x
 
   decides : (t : Transaction) → transaction_of m r ≡ Some t → (p : Phase) → t.phase ≡ p → (stamps : CommitStamps)
-      → DecidesStand p stamps m known pieces t b → DecidesStand p stamps next made later t b
+      → DecidesStand p stamps m pieces t b → DecidesStand p stamps next later t b
   decides t there Running is stamps x = (ordered t there (λ e. subst IsEnding is e) stamps 0 x.0, edited t there (stamps_in Running stamps) 0 x.1)
   decides t there (Prepared at) is stamps x = ordered t there (λ e. subst IsEnding is e) stamps 0 x
   decides t there _ is stamps x = x
 
-  undone : (t : Transaction) → transaction_of m r ≡ Some t → (p : Phase) (left : ℕ) → UndoesStand p m known pieces t b left → UndoesStand p next made later t b left
+  undone : (t : Transaction) → transaction_of m r ≡ Some t → (p : Phase) (left : ℕ) → UndoesStand p m pieces t b left → UndoesStand p next later t b left
   undone t there Leaving left x = edited t there edit.Undo left x
   undone t there Resolving left x = (none-stands t there x.0, edited t there edit.Undo left x.1)
   undone t there _ left x = x
 
-  done : (t : Transaction) → transaction_of m r ≡ Some t → (p : Phase) → DoneStands p m known pieces t b → DoneStands p next made later t b
+  done : (t : Transaction) → transaction_of m r ≡ Some t → (p : Phase) → DoneStands p m pieces t b → DoneStands p next later t b
   done t there Leaving x = edited t there edit.Undo 0 x
   done t there Resolving x = elim x [
     | inl out ↦ inl (edited t there edit.Undo 0 out)
@@ -152,13 +188,14 @@ module _ (session : ℕ) (m next : Machine) (known made : List Table) (pieces la
 
   -- ---- by the stage
 
-  stays : (at : Stage) → StageStands at m known pieces r b → StageStands at next made later r b
+  stays : (at : Stage) → StageStands at m leaves pieces r b → StageStands at next made later r b
   stays stage.Rest x = ends-down x
   stays (stage.Begin read) x = ends-down x
   stays (stage.Find call) x = (ends-down x.0, x.1)
-  stays (stage.Publish call target) x = on-leaf call target x
-  stays (stage.Validate call target) x = on-leaf call target x
-  stays (stage.Look call target) x = on-leaf call target x
+  stays (stage.Publish call target) x = seeks-stay call target x
+  stays (stage.Validate call target) x = seeks-stay call target x
+  stays (stage.Look call target) x = seeks-stay call target x
+  stays (stage.Pass call target) x = (on-leaf call target x.0, passed-stays call x.0.1.0 x.0.1.1 x.1)
   stays (stage.History call target) x = on-leaf call target x
   stays (stage.ClearCursor call target) x = on-leaf call target x
   stays (stage.Clear call target) x = looked call target x
@@ -169,29 +206,29 @@ module _ (session : ℕ) (m next : Machine) (known made : List Table) (pieces la
         (λ t there p. (p.0, edited t there (edit.Mark stamp) left p.1)) x.1,
   )
   stays (stage.Release stamp) x =
-      (ends-down x.0, each (λ t. MarksStand t.phase stamp m known pieces t b) (λ t. MarksStand t.phase stamp next made later t b) (λ t there p. marks t there t.phase stamp p) x.1)
+      (ends-down x.0, each (λ t. MarksStand t.phase stamp m pieces t b) (λ t. MarksStand t.phase stamp next later t b) (λ t there p. marks t there t.phase stamp p) x.1)
   stays (stage.Order stamps left) x = (
     x.0,
-    still (λ t. OrdersStand t.phase stamps m known pieces t b left) (λ t. OrdersStand t.phase stamps next made later t b left)
+    still (λ t. OrdersStand t.phase stamps m pieces t b left) (λ t. OrdersStand t.phase stamps next later t b left)
         (λ t there p. orders t there t.phase refl stamps left p) x.1,
   )
   stays (stage.Stamp stamps left) x = (
     x.0,
-    still (λ t. StampsStand t.phase stamps m known pieces t b left) (λ t. StampsStand t.phase stamps next made later t b left)
+    still (λ t. StampsStand t.phase stamps m pieces t b left) (λ t. StampsStand t.phase stamps next later t b left)
         (λ t there p. stamped t there t.phase refl stamps left p) x.1,
   )
   stays (stage.Decide stamps) x = (
     ends-down x.0,
-    each (λ t. DecidesStand t.phase stamps m known pieces t b) (λ t. DecidesStand t.phase stamps next made later t b)
+    each (λ t. DecidesStand t.phase stamps m pieces t b) (λ t. DecidesStand t.phase stamps next later t b)
         (λ t there p. decides t there t.phase refl stamps p) x.1,
   )
   stays stage.Resolve x = (ends-down x.0, each (λ t. ResolvesStand t.phase t) (λ t. ResolvesStand t.phase t) (λ t there p. p) x.1)
   stays (stage.Undo left) x = (
     x.0,
-    still (λ t. UndoesStand t.phase m known pieces t b left) (λ t. UndoesStand t.phase next made later t b left)
+    still (λ t. UndoesStand t.phase m pieces t b left) (λ t. UndoesStand t.phase next later t b left)
         (λ t there p. undone t there t.phase left p) x.1,
   )
-  stays stage.Done x = still (λ t. DoneStands t.phase m known pieces t b) (λ t. DoneStands t.phase next made later t b) (λ t there p. done t there t.phase p) x
+  stays stage.Done x = still (λ t. DoneStands t.phase m pieces t b) (λ t. DoneStands t.phase next later t b) (λ t there p. done t there t.phase p) x
   stays (stage.Unpin cursor) x = (same ∙ x.0, x.1)
 
 pub others-stay : (session : ℕ) (m next : Machine) (hub later : Hub) (pieces pieces' : List FramePiece) (r : ℕ) (b : State) → Apart session m next hub later pieces pieces' → r ≢ session → Valid m
@@ -200,11 +237,11 @@ others-stay session m next hub later pieces pieces' r b v other valid st = recor
   phase = st.phase ∙ sym (ap (option_map (λ (t : Transaction). t.phase)) same-one);
   seated = record { opened = (let before = st.seated.opened in let more = v.seats in omega arith); phase = v.phases r other ∙ st.seated.phase };
   cursors = st.cursors ∙ sym (v.machine.cursors r other);
-  noted = subst (λ (x : Option Transaction). AreNoted later.tables.tables pieces' (of_some [] (λ (t : Transaction). t.writes) x) b.written) (sym same-one)
-      (noted-stay hub.tables.tables later.tables.tables pieces pieces' (writes_in m r) b.written v.leaves st.noted);
-  stage = stays session m next hub.tables.tables later.tables.tables pieces pieces' r b (record {
+  noted = subst (λ (x : Option Transaction). AreNoted later.dir.leaves pieces' (of_some [] (λ (t : Transaction). t.writes) x) b.written) (sym same-one)
+      (noted-stay hub.dir.leaves later.dir.leaves pieces pieces' (writes_in m r) b.written v.leaves st.noted);
+  stage = stays session m next hub.dir.leaves later.dir.leaves pieces pieces' r b (record {
     machine = v.machine;
-    leaves = v.leaves;
+    stay = v.leaves;
     updates = v.updates;
     other = other;
     valid = valid;
@@ -218,10 +255,7 @@ others-stay session m next hub later pieces pieces' r b v other valid st = recor
 beside-apart : (session : ℕ) (m next : Machine) (hub later : Hub) (pieces pieces' : List FramePiece) → Beside session m next hub later pieces pieces' → Apart session m next hub later pieces pieces'
 beside-apart session m next hub later pieces pieces' v = record {
   machine = v.machine.apart;
-  leaves = record {
-    tables = λ place t there. ap (λ (k : Known). slice_get k.tables place) v.tables ∙ there;
-    slots = λ place t key i there at. v.slots place key i at;
-  };
+  leaves = subst (λ (d : Directory). LeavesStay hub.dir.leaves d.leaves pieces pieces') (sym v.dir) (stay-same hub.dir.leaves pieces pieces' v.slots);
   seats = (let same = v.seats in omega arith);
   phases = v.phases;
   updates = v.updates;
@@ -230,3 +264,20 @@ beside-apart session m next hub later pieces pieces' v = record {
 pub others-go-on : (session : ℕ) (m next : Machine) (hub later : Hub) (pieces pieces' : List FramePiece) (r : ℕ) (b : State) → Beside session m next hub later pieces pieces' → r ≢ session → Valid m
     → SessionStands m hub pieces r b → SessionStands next later pieces' r b
 others-go-on session m next hub later pieces pieces' r b v = others-stay session m next hub later pieces pieces' r b (beside-apart session m next hub later pieces pieces' v)
+
+-- ---- what a session does, where leaves came to the directory
+
+further-kept : (leaves made : List Leaf) (call : KeyCall) (target : Target) → LeavesKept leaves made → IsLeafOf leaves target → further_left call target made ≡ further_left call target leaves
+further-kept leaves made (key_call.Step cursor way) target kept x = let t = target-is x.0 target x.2 in
+    ap (λ n. 4 * n) (subst (λ (to : Target). leaves_on (way_in way) to.table to.leaf made ≡ leaves_on (way_in way) to.table to.leaf leaves) t.is (kept.on (way_in way) x.0 x.1))
+further-kept leaves made call target kept x = refl
+
+doing-at-kept : (m : Machine) (leaves made : List Leaf) (pieces : List FramePiece) (session : ℕ) (a : State) (g : Stage) → LeavesKept leaves made → StageStands g m leaves pieces session a → doing_at g made session a ≡ doing_at g leaves session a
+doing-at-kept m leaves made pieces session a (stage.Publish call target) kept x = ap (λ n. Placed (call_in call a) target.table (6 + n)) (further-kept leaves made call target kept x.0.1)
+doing-at-kept m leaves made pieces session a (stage.Validate call target) kept x = ap (λ n. Placed (call_in call a) target.table (5 + n)) (further-kept leaves made call target kept x.0.1)
+doing-at-kept m leaves made pieces session a (stage.Look call target) kept x = ap (λ n. Placed (call_in call a) target.table (4 + n)) (further-kept leaves made call target kept x.0.1)
+doing-at-kept m leaves made pieces session a (stage.Pass call target) kept x = ap (λ n. Placed (call_in call a) target.table (3 + n)) (further-kept leaves made call target kept x.0.1)
+doing-at-kept m leaves made pieces session a g kept x = refl
+
+pub doing-kept : (m : Machine) (leaves made : List Leaf) (pieces : List FramePiece) (session : ℕ) (a : State) → LeavesKept leaves made → StageStands a.stage m leaves pieces session a → doing_in made session a ≡ doing_in leaves session a
+doing-kept m leaves made pieces session a kept x = doing-at-kept m leaves made pieces session a a.stage kept x

@@ -19,12 +19,12 @@ use Rattle.engine_world.specs.Stands.{SessionStands, position_in, writes_in}
 
 -- with the same phase, writes and positions
 pub restates : (m : Machine) (hub : Hub) (pieces : List FramePiece) (session : ℕ) (a b : State) → b.phase ≡ a.phase → b.written ≡ a.written → map position_in b.cursors ≡ map position_in a.cursors
-    → StageStands b.stage m hub.tables.tables pieces session b → SessionStands m hub pieces session a → SessionStands m hub pieces session b
+    → StageStands b.stage m hub.dir.leaves pieces session b → SessionStands m hub pieces session a → SessionStands m hub pieces session b
 restates m hub pieces session a b phase written cursors stands st = record {
   phase = ap phase_in phase ∙ st.phase;
   seated = record { opened = st.seated.opened; phase = st.seated.phase ∙ ap known_phase (sym phase) };
   cursors = cursors ∙ st.cursors;
-  noted = subst (λ keys. AreNoted hub.tables.tables pieces (writes_in m session) keys) (sym written) st.noted;
+  noted = subst (λ keys. AreNoted hub.dir.leaves pieces (writes_in m session) keys) (sym written) st.noted;
   stage = stands;
 }
 

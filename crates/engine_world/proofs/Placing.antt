@@ -19,8 +19,6 @@ use Rattle.txn_table.specs.declared.phase.Phase.TheVariants as phase
 use Rattle.txn_table.specs.SessionData.{phase_in}
 use Rattle.txn_table.proofs.Standing.{calls-stand}
 use Rattle.update_chain.specs.EventLaws.{ChainsGoOn}
-use Rattle.rows_shown.specs.Shows.{shown_at}
-use Rattle.leaf_chains.specs.Slots.{chain_at}
 use Rattle.call_steps.specs.declared.cursor.Cursor.{Cursor}
 use Rattle.call_steps.specs.declared.cursor.Position.{Position}
 use Rattle.call_steps.specs.declared.reply.Reply.{Reply}
@@ -42,6 +40,7 @@ use Rattle.engine_world.specs.Steps.{GoesOn, JudgedBy, Made}
 use Rattle.engine_world.specs.Worlds.{World, Decided, Resting}
 use Rattle.engine_world.proofs.CursorChanges.{positions-set}
 use Rattle.engine_world.proofs.Events.{all-same, event-beside}
+use Rattle.engine_world.proofs.HubMoves.{leaves-go-on}
 use Rattle.engine_world.proofs.Moves.{alone-leads, engine_with, leads}
 use Rattle.engine_world.proofs.OwnStates.{alive-ends, has-phase, restates}
 use Rattle.engine_world.proofs.WordEvents.{clear-cursor}
@@ -59,7 +58,7 @@ record Places (session cursor : ℕ) (old a : State) (position : Option ModelPos
 
 place-leads : ChainsGoOn → (e : Engine) (w : World) (session : ℕ) (old a : State) (hazards : List ℕ) (told : Reply) (cursor : ℕ) (position : Option ModelPosition)
     → Stands e w → slice_get e.sessions session ≡ Some old → HasTransaction w.machine session (λ t. t.phase ≡ Running) → Places session cursor old a position
-    → GoesOn (doing_in session old) w.machine session (record { told = told; machine = after w.machine (PlaceCursor session cursor position); doing = doing_in session a })
+    → GoesOn (doing_in e.hub.dir.leaves session old) w.machine session (record { told = told; machine = after w.machine (PlaceCursor session cursor position); doing = doing_in e.hub.dir.leaves session a })
     → Leads (engine_with e session e.hub e.pieces hazards a) w session told
 place-leads chains e w session old a hazards told cursor position st there has p goes =
     leads e w session old a e.hub e.pieces hazards next told st there goes (record {
@@ -69,19 +68,14 @@ place-leads chains e w session old a hazards told cursor position st there has p
       stamps = refl;
       txns = (calls-stand e.hub.txns m st.valid st.txns).others event tt has;
       made = refl;
-      leaves = λ place t at. let leaf = st.leaves place t at in record {
-        frame = leaf.frame;
-        there = leaf.there;
-        word = leaf.word;
-        keys = λ key. chains m event t.number key (chain_at key leaf.frame.leaf.chains) (shown_at key leaf.frame.leaf.page) [] st.valid has tt (leaf.keys key);
-      };
+      leaves = leaves-go-on chains m event e.hub.dir.leaves e.pieces e.states st.valid has (λ table key. tt) st.leaves;
       mine = record {
         phase = ap phase_in p.phase ∙ mine.phase;
         seated = record { opened = mine.seated.opened; phase = mine.seated.phase ∙ ap known_phase (sym p.phase) };
         cursors = ap (map position_in) p.cursors ∙ (positions-set old.cursors cursor p.change position p.to ∙ (ap (λ l. slice_set l cursor position) mine.cursors
             ∙ sym (get_or-set_same m.cursors session (slice_set (cursors_of m session) cursor position) [] inside)));
-        noted = subst (λ keys. AreNoted e.hub.tables.tables e.pieces (writes_in m session) keys) (sym p.written) mine.noted;
-        stage = subst (λ s. StageStands s next e.hub.tables.tables e.pieces session a) (sym p.stage) (alive-ends next session has.0 has.1 (λ ending. subst IsEnding has.2 ending));
+        noted = subst (λ keys. AreNoted e.hub.dir.leaves e.pieces (writes_in m session) keys) (sym p.written) mine.noted;
+        stage = subst (λ s. StageStands s next e.hub.dir.leaves e.pieces session a) (sym p.stage) (alive-ends next session has.0 has.1 (λ ending. subst IsEnding has.2 ending));
       };
     }) where
       m : Machine
@@ -189,14 +183,14 @@ lands-or-stays session cursor target (answer.Row key v) a = inl (record { positi
 lands-or-stays session cursor target (answer.Refused refusal.NotFound) a = inl (record { position = None; key = a.key; event = refl; state = refl })
 lands-or-stays session cursor target _ a = inr (refl, refl)
 
-looked-ends : (e : Engine) (w : World) (session : ℕ) (call : KeyCall) (target : Target) → HasLooked w.machine e.hub.tables.tables session call target → EndsOnlyDown w.machine session
+looked-ends : (e : Engine) (w : World) (session : ℕ) (call : KeyCall) (target : Target) → HasLooked w.machine e.hub.dir.leaves session call target → EndsOnlyDown w.machine session
 looked-ends e w session call target x = alive-ends w.machine session x.0.0 x.0.1 (λ ending. elim x.0.2 [
   | inl running ↦ subst IsEnding running ending
   | inr failed ↦ subst IsEnding failed.0 ending
 ])
 
 -- a call that moves a cursor was not refused a write
-looked-runs : (e : Engine) (w : World) (session cursor : ℕ) (call : KeyCall) (target : Target) → HasLooked w.machine e.hub.tables.tables session call target → cursor_in call ≡ Some cursor
+looked-runs : (e : Engine) (w : World) (session cursor : ℕ) (call : KeyCall) (target : Target) → HasLooked w.machine e.hub.dir.leaves session call target → cursor_in call ≡ Some cursor
     → HasTransaction w.machine session (λ t. t.phase ≡ Running)
 looked-runs e w session cursor call target x of = (
   x.0.0,
@@ -211,7 +205,7 @@ module _ (chains : ChainsGoOn) (e : Engine) (w : World) (session value word : �
   abbrev old : State
   old = at_stage (stage.Clear call target) a
 
-  looked : HasLooked w.machine e.hub.tables.tables session call target
+  looked : HasLooked w.machine e.hub.dir.leaves session call target
   looked = (st.sessions session old there).stage
 
   -- the call ends in this state
@@ -219,7 +213,7 @@ module _ (chains : ChainsGoOn) (e : Engine) (w : World) (session value word : �
   EndsIn s = let made = ends s in Leads (with_session (with_hazard e word value) session made.1) w session made.0
 
   answers-by : (event : Event) → event_with session call target a.key a.answer ≡ event
-      → GoesOn (doing_in session old) w.machine session (record { told = reply.Answer a.answer; machine = after w.machine event; doing = Resting })
+      → GoesOn (doing_in e.hub.dir.leaves session old) w.machine session (record { told = reply.Answer a.answer; machine = after w.machine event; doing = Resting })
   answers-by event by = subst (λ d. GoesOn (Decided a.answer d 1) w.machine session (record { told = reply.Answer a.answer; machine = after w.machine event; doing = Resting })) (sym by) (inr (inl refl))
 
   answers-still : event_with session call target a.key a.answer ≡ Nothing → EndsIn a

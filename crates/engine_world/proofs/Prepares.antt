@@ -50,7 +50,7 @@ prepare-goes chains-go-on prepares-stand e w session stamp a t st at is there ru
     ((calls-stand e.hub.txns w.machine st.valid st.txns).prepares session stamp may)
     (ap (λ (m : Machine). tables m.history) after_is ∙ tables-appended t.writes (PrepareEntry (name_of w.machine t) stamp) w.machine.history refl)
     (prepared-leaves chains-go-on prepares-stand e w session stamp a t st at there running may marked)
-    (subst (λ d. GoesOn d w.machine session (record { told = reply.Answer answers.Done; machine = after w.machine (PrepareAt session stamp); doing = Resting })) (sym (doing-at session a (stage.Release stamp) is))
+    (subst (λ d. GoesOn d w.machine session (record { told = reply.Answer answers.Done; machine = after w.machine (PrepareAt session stamp); doing = Resting })) (sym (doing-at e.hub.dir.leaves session a (stage.Release stamp) is))
     (inr (subst (λ d. JudgedBy d w.machine (record { told = reply.Answer answers.Done; machine = after w.machine (PrepareAt session stamp); doing = Resting })) (sym d) (answers.Done, refl, refl))))
     (phased-stands w.machine (after w.machine (PrepareAt session stamp)) e.hub now e.pieces session a b t (Prepared stamp) (st.sessions session a at) there now_in seated refl refl refl
     (phase-ends (after w.machine (PrepareAt session stamp)) session (in_phase (Prepared stamp) t) (Prepared stamp) now_in.there refl (λ z. z))) where
@@ -87,7 +87,7 @@ releases-go chains-go-on prepares-stand e w session a st at at-release = subst (
   mine : SessionStands w.machine e.hub e.pieces session a
   mine = st.sessions session a at
 
-  stands : EndsOnlyDown w.machine session × ForTransaction w.machine session (λ t. MarksStand t.phase stamp w.machine e.hub.tables.tables e.pieces t a)
+  stands : EndsOnlyDown w.machine session × ForTransaction w.machine session (λ t. MarksStand t.phase stamp w.machine e.pieces t a)
   stands = stage-stands e w session a (stage.Release stamp) st at is
 
   go : Transaction → Outcome × Event
@@ -105,7 +105,7 @@ releases-go chains-go-on prepares-stand e w session a st at at-release = subst (
   by-rules up running (Some reason) holds = is-refused (told.Invalid reason) (by-state up phase.Running Running running refl ∙ ruled-some (prepare_rules w.machine.stable stamp) (PrepareAt session stamp) Nothing reason holds)
   by-rules up running None passes = let x = phase-there w.machine e.hub e.pieces session a phase.Running Running mine running refl in
       prepare-goes chains-go-on prepares-stand e w session stamp a x.0 st at is x.1 x.2
-      (subst (λ p. MarksStand p stamp w.machine e.hub.tables.tables e.pieces x.0 a) x.2 (stands.1 x.0 x.1))
+      (subst (λ p. MarksStand p stamp w.machine e.pieces x.0 a) x.2 (stands.1 x.0 x.1))
       (by-state up phase.Running Running running refl ∙ ruled-none (prepare_rules w.machine.stable stamp) (PrepareAt session stamp) Nothing passes)
 
   by-phase : e.hub.fault ≡ None → (p : Phase) → a.phase ≡ p

@@ -6,13 +6,14 @@ use Rattle.std.proofs.lemmas.Option.{slice_get_within}
 use Rattle.stamp.specs.declared.Name.{Name}
 use Rattle.wt_code.specs.declared.answers.Answer.TheVariants as answers
 use Rattle.kv_model.specs.Holds.{Member}
-use Rattle.kv_model.specs.History.{Entry, Resolve, Undo, Table, Write, line, committed, version_of, writes_at}
+use Rattle.kv_model.specs.History.{Entry, Resolve, Undo, Write, line, committed, version_of, writes_at}
 use Rattle.kv_model.specs.Machine.{Machine, Transaction, Prepared, Resolving, appended, decided, in_phase, left, stamped, transaction_of, name_of}
 use Rattle.kv_model.specs.Refusals.{stamp_of, or_stamp}
 use Rattle.kv_model.specs.Valid.{Valid, PhaseStands, PreparedStands}
 use Rattle.kv_model.proofs.Finishing.{line-committed}
 use Rattle.kv_model.proofs.Ordering.{line-writes}
 use Rattle.kv_model.proofs.OwnWrites.{at-own, with_stamps}
+use Rattle.tree_dir.specs.declared.leaf.Leaf.{Leaf}
 use Rattle.call_steps.specs.declared.edit.Edit.{Edit}
 use Rattle.call_steps.specs.declared.edit.Edit.TheVariants as edit
 use Rattle.call_steps.specs.declared.frame.FramePiece.{FramePiece}
@@ -84,28 +85,28 @@ none-stands m session stamp t valid there is w own v at named = both_ways (commi
 abbrev pub resolving_at : Stage → State → State
 resolving_at g a = record a { phase = phase.Resolving; stage = g; answer = answers.Done }
 
-pub stamps-doing : (stamps : CommitStamps) (n session : ℕ) (g : Stage) (a : State) → (fewer : ℕ) × (fewer ≤ n + done_left a) × (doing_at (stamps_then stamps n stage.Done) session (resolving_at g a) ≡ Ending answers.Done fewer)
-stamps-doing stamps zero session g a = (done_left a, omega arith, refl)
-stamps-doing stamps (suc n) session g a = (suc n + done_left a, omega arith, refl)
+pub stamps-doing : (leaves : List Leaf) (stamps : CommitStamps) (n session : ℕ) (g : Stage) (a : State) → (fewer : ℕ) × (fewer ≤ n + done_left a) × (doing_at (stamps_then stamps n stage.Done) leaves session (resolving_at g a) ≡ Ending answers.Done fewer)
+stamps-doing leaves stamps zero session g a = (done_left a, omega arith, refl)
+stamps-doing leaves stamps (suc n) session g a = (suc n + done_left a, omega arith, refl)
 
-pub undos-doing : (n session : ℕ) (g : Stage) (a : State) → (fewer : ℕ) × (fewer ≤ n + done_left a) × (doing_at (undoes n) session (resolving_at g a) ≡ Ending answers.Done fewer)
-undos-doing zero session g a = (done_left a, omega arith, refl)
-undos-doing (suc n) session g a = (suc n + done_left a, omega arith, refl)
+pub undos-doing : (leaves : List Leaf) (n session : ℕ) (g : Stage) (a : State) → (fewer : ℕ) × (fewer ≤ n + done_left a) × (doing_at (undoes n) leaves session (resolving_at g a) ≡ Ending answers.Done fewer)
+undos-doing leaves zero session g a = (done_left a, omega arith, refl)
+undos-doing leaves (suc n) session g a = (suc n + done_left a, omega arith, refl)
 
-pub stamps-stage : (stamps : CommitStamps) (n : ℕ) (next : Machine) (known : List Table) (pieces : List FramePiece) (session : ℕ) (g : Stage) (a : State) (t : Transaction) → transaction_of next session ≡ Some (in_phase Resolving t)
-    → AreCommitted stamps next (in_phase Resolving t) → length a.written ≡ n → StageStands (stamps_then stamps n stage.Done) next known pieces session (resolving_at g a)
-stamps-stage stamps zero next known pieces session g a t there committed none =
+pub stamps-stage : (stamps : CommitStamps) (n : ℕ) (next : Machine) (leaves : List Leaf) (pieces : List FramePiece) (session : ℕ) (g : Stage) (a : State) (t : Transaction) → transaction_of next session ≡ Some (in_phase Resolving t)
+    → AreCommitted stamps next (in_phase Resolving t) → length a.written ≡ n → StageStands (stamps_then stamps n stage.Done) next leaves pieces session (resolving_at g a)
+stamps-stage stamps zero next leaves pieces session g a t there committed none =
     (in_phase Resolving t, there, inl (edited-none edit.Undo (name_of next (in_phase Resolving t)) pieces a.written 0 (omega (arith, none))))
-stamps-stage stamps (suc n) next known pieces session g a t there committed some = (
+stamps-stage stamps (suc n) next leaves pieces session g a t there committed some = (
   ((omega arith), (omega (arith, some))),
   (in_phase Resolving t, there, (committed, edited-none (stamps_in Resolving stamps) (name_of next (in_phase Resolving t)) pieces a.written (suc n) (omega (arith, some)))),
 )
 
-pub undos-stage : (n : ℕ) (next : Machine) (known : List Table) (pieces : List FramePiece) (session : ℕ) (g : Stage) (a : State) (t : Transaction) → transaction_of next session ≡ Some (in_phase Resolving t)
-    → NoneStands next (in_phase Resolving t) → length a.written ≡ n → StageStands (undoes n) next known pieces session (resolving_at g a)
-undos-stage zero next known pieces session g a t there gone none =
+pub undos-stage : (n : ℕ) (next : Machine) (leaves : List Leaf) (pieces : List FramePiece) (session : ℕ) (g : Stage) (a : State) (t : Transaction) → transaction_of next session ≡ Some (in_phase Resolving t)
+    → NoneStands next (in_phase Resolving t) → length a.written ≡ n → StageStands (undoes n) next leaves pieces session (resolving_at g a)
+undos-stage zero next leaves pieces session g a t there gone none =
     (in_phase Resolving t, there, inl (edited-none edit.Undo (name_of next (in_phase Resolving t)) pieces a.written 0 (omega (arith, none))))
-undos-stage (suc n) next known pieces session g a t there gone some = (
+undos-stage (suc n) next leaves pieces session g a t there gone some = (
   ((omega arith), (omega (arith, some))),
   (in_phase Resolving t, there, (gone, edited-none edit.Undo (name_of next (in_phase Resolving t)) pieces a.written (suc n) (omega (arith, some)))),
 )

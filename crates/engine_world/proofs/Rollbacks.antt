@@ -56,20 +56,20 @@ on-hub m session stands = by-there (transaction_of m session) refl where
 
 -- the rollback of a prepared transaction
 undo-goes : ChainsGoOn → (e : Engine) (w : World) (session stamp : ℕ) (a : State) (t : Transaction) → Stands e w → slice_get e.sessions session ≡ Some a → transaction_of w.machine session ≡ Some t → t.phase ≡ Prepared stamp
-    → a.phase ≡ phase.Prepared stamp → Settling w session a Done (StartLeaving session) → Goes e w session (resolves_in (phase.Prepared stamp) e.hub session a)
+    → a.phase ≡ phase.Prepared stamp → Settling e.hub.dir.leaves w session a Done (StartLeaving session) → Goes e w session (resolves_in (phase.Prepared stamp) e.hub session a)
 undo-goes law e w session stamp a t st at there is in_p settles =
     seat-leads e w session a b now (seat_in e.hub.txns session phase.Resolving) (StartLeaving session) reply.More st at tt refl sets
     ((calls-stand e.hub.txns w.machine st.valid st.txns).undoes session stamp (mine.seated.phase ∙ ap known_phase in_p))
     (ap (λ (m : Machine). tables m.history) after_is ∙ tables-appended t.writes (Undo (name_of w.machine t)) w.machine.history refl)
-    (leaves-go-on law w.machine (StartLeaving session) e.hub.tables.tables e.pieces e.states st.valid tt (λ table key. tt) st.leaves)
-    (settles (record { told = reply.More; machine = next; doing = doing_in session b }) (
+    (leaves-go-on law w.machine (StartLeaving session) e.hub.dir.leaves e.pieces e.states st.valid tt (λ table key. tt) st.leaves)
+    (settles (record { told = reply.More; machine = next; doing = doing_in e.hub.dir.leaves session b }) (
       answers.Done,
       refl,
-      subst (λ o. EndsIn o answers.Done next session (decide_left a) (record { told = reply.More; machine = next; doing = doing_in session b })) (sym now_in.there)
+      subst (λ o. EndsIn o answers.Done next session (decide_left a) (record { told = reply.More; machine = next; doing = doing_in e.hub.dir.leaves session b })) (sym now_in.there)
           (inl (does.0, (let few = does.1 in omega arith), ap (λ d. record { told = reply.More; machine = next; doing = d }) does.2)),
     ))
     (phased-stands w.machine next e.hub now e.pieces session a b t Resolving mine there now_in seated refl refl refl
-    (undos-stage (length a.written) next e.hub.tables.tables e.pieces session (undoes (length a.written)) a t now_in.there gone refl)) where
+    (undos-stage (length a.written) next e.hub.dir.leaves e.pieces session (undoes (length a.written)) a t now_in.there gone refl)) where
       b : State
       b = resolving_at (undoes (length a.written)) a
 
@@ -94,8 +94,8 @@ undo-goes law e w session stamp a t st at there is in_p settles =
       gone : NoneStands next (in_phase Resolving t)
       gone = subst (λ m. NoneStands m (in_phase Resolving t)) (sym after_is) (none-stands w.machine session stamp t st.valid there is)
 
-      does : (fewer : ℕ) × (fewer ≤ length a.written + done_left a) × (doing_in session b ≡ Ending answers.Done fewer)
-      does = undos-doing (length a.written) session (undoes (length a.written)) a
+      does : (fewer : ℕ) × (fewer ≤ length a.written + done_left a) × (doing_in e.hub.dir.leaves session b ≡ Ending answers.Done fewer)
+      does = undos-doing e.hub.dir.leaves (length a.written) session (undoes (length a.written)) a
 
       seated : IsSeated (record e.hub { txns = now }) session b
       seated = seated-in e.hub now session phase.Resolving b sets (st.sessions session a at).seated.opened refl
@@ -111,8 +111,8 @@ resolves-go law e w session a st at at-resolve = subst (λ g. Goes e w session (
   stands : EndsOnlyDown w.machine session × ForTransaction w.machine session (λ t. ResolvesStand t.phase t)
   stands = stage-stands e w session a stage.Resolve st at is
 
-  settled : (outcome : Outcome) (event : Event) (made : Made) → decision w.machine session RollbackCall ≡ (outcome, event) → SettledBy outcome event w.machine session (decide_left a) made → GoesOn (doing_in session a) w.machine session made
-  settled outcome event made d by = subst (λ x. GoesOn x w.machine session made) (sym (doing-at session a stage.Resolve is))
+  settled : (outcome : Outcome) (event : Event) (made : Made) → decision w.machine session RollbackCall ≡ (outcome, event) → SettledBy outcome event w.machine session (decide_left a) made → GoesOn (doing_in e.hub.dir.leaves session a) w.machine session made
+  settled outcome event made d by = subst (λ x. GoesOn x w.machine session made) (sym (doing-at e.hub.dir.leaves session a stage.Resolve is))
       (inr (subst (λ (x : Outcome × Event). SettledBy x.0 x.1 w.machine session (decide_left a) made) (sym d) by))
 
   is-refused : (r : Refusal) → decision w.machine session RollbackCall ≡ refused r → Goes e w session (beside e.hub (refuses r a))

@@ -16,8 +16,9 @@ use Rattle.update_chain.specs.EventLaws.{ChainsGoOn}
 use Rattle.engine_world.specs.Systems.{SetsGo}
 use Rattle.engine_world.proofs.Beside.{Apart}
 use Rattle.engine_world.proofs.Events.{updates-same}
+use Rattle.engine_world.proofs.HubMoves.{leaves-go-on}
 use Rattle.engine_world.proofs.Others.{others-stay}
-use Rattle.engine_world.proofs.SystemEvents.{leaf-goes-on, leaves-same, past-all, raised-apart}
+use Rattle.engine_world.proofs.SystemEvents.{leaves-same, past-all, raised-apart}
 
 -- ---- the rules pass
 
@@ -41,7 +42,10 @@ sets-go chains e w oldest stable st answer = record {
   txns = (calls-stand e.hub.txns w.machine st.valid st.txns).others event tt may;
   catalog = st.catalog;
   made = st.made;
-  leaves = λ place t there. leaf-goes-on chains w.machine event e.pieces e.states place t st.valid may (λ key. tt) (st.leaves place t there);
+  dir = st.dir;
+  begun = st.begun;
+  owned = st.owned;
+  leaves = leaves-go-on chains w.machine event e.hub.dir.leaves e.pieces e.states st.valid may (λ table key. tt) st.leaves;
   count = st.count;
   doings = st.doings;
   doing = st.doing;
@@ -61,8 +65,8 @@ sets-go chains e w oldest stable st answer = record {
 
   beside : Apart (length e.sessions) w.machine (after w.machine event) e.hub (record e.hub { stamps = raised e.hub.stamps oldest stable }) e.pieces e.pieces
   beside = record {
-    machine = raised-apart (length e.sessions) w.machine (stamp_of oldest) (stamp_of stable);
-    leaves = leaves-same e.hub.tables.tables e.pieces;
+    machine = raised-apart (length e.sessions) w.machine (stamp_of oldest) (stamp_of stable) st.valid may;
+    leaves = leaves-same e.hub.dir.leaves e.pieces;
     seats = omega arith;
     phases = λ r other. refl;
     updates = updates-same w.machine (length e.sessions) e.pieces;

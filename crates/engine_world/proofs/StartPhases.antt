@@ -30,7 +30,7 @@ with_keys a g keys = record a { stage = g; written = keys }
 -- the call at its first stage
 abbrev pub StartsWith : Engine → World → ℕ → State → Stage → Call → List WrittenKey → Type 0
 StartsWith e w session a g c keys =
-    (left : ℕ) × (doing_at g session (with_keys a g keys) ≡ Asked c left) × StageStands g w.machine e.hub.tables.tables e.pieces session (with_keys a g keys)
+    (left : ℕ) × (doing_at g e.hub.dir.leaves session (with_keys a g keys) ≡ Asked c left) × StageStands g w.machine e.hub.dir.leaves e.pieces session (with_keys a g keys)
 
 module _ (e : Engine) (w : World) (session : ℕ) (a : State) (mine : SessionStands w.machine e.hub e.pieces session a) (ends : EndsOnlyDown w.machine session) where
   -- the transaction's phase is the session's
@@ -41,7 +41,7 @@ module _ (e : Engine) (w : World) (session : ℕ) (a : State) (mine : SessionSta
   none-edited : (t : Transaction) (what : Edit) (keys : List WrittenKey) (left : ℕ) → length keys ≤ left → EditedDownTo what (name_of w.machine t) e.pieces keys left
   none-edited t what keys left all i k le there = absurd (past-all keys i k (omega arith) there)
 
-  none-ordered : (writes : List Write) (keys : List WrittenKey) (left : ℕ) → length keys ≤ left → OrderedDownTo w.machine e.hub.tables.tables e.pieces writes keys 0 left
+  none-ordered : (writes : List Write) (keys : List WrittenKey) (left : ℕ) → length keys ≤ left → OrderedDownTo w.machine e.pieces writes keys 0 left
   none-ordered writes keys left all = record {
     covers = λ i k le there. absurd (past-all keys i k (omega arith) there);
     least = inl refl;
@@ -50,7 +50,7 @@ module _ (e : Engine) (w : World) (session : ℕ) (a : State) (mine : SessionSta
   -- ---- a prepare
 
   marks-by : (q : ModelPhase) (t : Transaction) (stamp : ℕ) (s : State) → (q ≡ Running → EditedDownTo (edit.Mark stamp) (name_of w.machine t) e.pieces s.written 0)
-      → MarksStand q stamp w.machine e.hub.tables.tables e.pieces t s
+      → MarksStand q stamp w.machine e.pieces t s
   marks-by Running t stamp s none = none refl
   marks-by Failed t stamp s none = tt
   marks-by (Prepared at) t stamp s none = tt
@@ -75,7 +75,7 @@ module _ (e : Engine) (w : World) (session : ℕ) (a : State) (mine : SessionSta
   -- ---- a commit
 
   decides-by : (q : ModelPhase) (t : Transaction) (commit durable : Option ℕ) (keys : List WrittenKey) → (q ≡ Running → length keys ≤ 0) → ((at : ℕ) → q ≡ Prepared at → length keys ≤ 0)
-      → DecidesStand q (stamps_given commit durable) w.machine e.hub.tables.tables e.pieces t (with_keys a (stage.Decide (stamps_given commit durable)) keys)
+      → DecidesStand q (stamps_given commit durable) w.machine e.pieces t (with_keys a (stage.Decide (stamps_given commit durable)) keys)
   decides-by Running t commit durable keys run prepared = (none-ordered t.writes keys 0 (run refl), none-edited t (stamps_in Running (stamps_given commit durable)) keys 0 (run refl))
   decides-by Failed t commit durable keys run prepared = tt
   decides-by (Prepared at) t commit durable keys run prepared = none-ordered t.writes keys 0 (prepared at refl)
@@ -93,7 +93,7 @@ module _ (e : Engine) (w : World) (session : ℕ) (a : State) (mine : SessionSta
   )
 
   orders-on : (t : Transaction) (commit durable : Option ℕ) (keys : List WrittenKey) (n : ℕ) → transaction_of w.machine session ≡ Some t → length keys ≡ suc n
-      → OrdersStand t.phase (stamps_given commit durable) w.machine e.hub.tables.tables e.pieces t (with_keys a (stage.Order (stamps_given commit durable) (suc n)) keys) (suc n)
+      → OrdersStand t.phase (stamps_given commit durable) w.machine e.pieces t (with_keys a (stage.Order (stamps_given commit durable) (suc n)) keys) (suc n)
       → StartsWith e w session a (stage.Order (stamps_given commit durable) (suc n)) (Commit commit durable) keys
   orders-on t commit durable keys n there long stands = (
     suc n + (length keys + decide_left (with_keys a (stage.Order (stamps_given commit durable) (suc n)) keys)),
@@ -102,11 +102,11 @@ module _ (e : Engine) (w : World) (session : ℕ) (a : State) (mine : SessionSta
   )
 
   orders-in : (p : Phase) (q : ModelPhase) (commit durable : Option ℕ) (keys : List WrittenKey) (n : ℕ) → a.phase ≡ p → phase_in p ≡ Some q → length keys ≡ suc n
-      → ((t : Transaction) → OrdersStand q (stamps_given commit durable) w.machine e.hub.tables.tables e.pieces t (with_keys a (stage.Order (stamps_given commit durable) (suc n)) keys) (suc n))
+      → ((t : Transaction) → OrdersStand q (stamps_given commit durable) w.machine e.pieces t (with_keys a (stage.Order (stamps_given commit durable) (suc n)) keys) (suc n))
       → StartsWith e w session a (stage.Order (stamps_given commit durable) (suc n)) (Commit commit durable) keys
   orders-in p q commit durable keys n here to long stands = let t = phase-there w.machine e.hub e.pieces session a p q mine here to in
       orders-on t.0 commit durable keys n t.1 long (subst (λ (q : ModelPhase).
-      OrdersStand q (stamps_given commit durable) w.machine e.hub.tables.tables e.pieces t.0 (with_keys a (stage.Order (stamps_given commit durable) (suc n)) keys) (suc n)) (sym t.2) (stands t.0))
+      OrdersStand q (stamps_given commit durable) w.machine e.pieces t.0 (with_keys a (stage.Order (stamps_given commit durable) (suc n)) keys) (suc n)) (sym t.2) (stands t.0))
 
   pub by-order : (p : Phase) → a.phase ≡ p → (n : ℕ) (commit durable : Option ℕ) (keys : List WrittenKey) → length keys ≡ n
       → StartsWith e w session a (first_order p (stamps_given commit durable) n) (Commit commit durable) keys
@@ -140,12 +140,12 @@ module _ (e : Engine) (w : World) (session : ℕ) (a : State) (mine : SessionSta
   -- where it noted no key it has no write
   unwritten : (t : Transaction) → transaction_of w.machine session ≡ Some t → length a.written ≤ 0 → t.writes ≡ []
   unwritten t there none = none-in t.writes (λ x has. let k = noted.noted x has in member-none a.written k.0 none k.1) where
-    noted : AreNoted e.hub.tables.tables e.pieces t.writes a.written
-    noted = subst (λ (o : Option Transaction). AreNoted e.hub.tables.tables e.pieces (of_some [] (λ (t : Transaction). t.writes) o) a.written) there mine.noted
+    noted : AreNoted e.hub.dir.leaves e.pieces t.writes a.written
+    noted = subst (λ (o : Option Transaction). AreNoted e.hub.dir.leaves e.pieces (of_some [] (λ (t : Transaction). t.writes) o) a.written) there mine.noted
 
   undoes-in : (p : Phase) (q : ModelPhase) (keys : List WrittenKey) (n : ℕ) → a.phase ≡ p → phase_in p ≡ Some q
       → undoing p (suc n) (with_keys a (stage.Undo (suc n)) keys) ≡ Asked Rollback (suc n + done_left (with_keys a (stage.Undo (suc n)) keys))
-      → length keys ≡ suc n → ((t : Transaction) → UndoesStand q w.machine e.hub.tables.tables e.pieces t (with_keys a (stage.Undo (suc n)) keys) (suc n)) → StartsWith e w session a (stage.Undo (suc n)) Rollback keys
+      → length keys ≡ suc n → ((t : Transaction) → UndoesStand q w.machine e.pieces t (with_keys a (stage.Undo (suc n)) keys) (suc n)) → StartsWith e w session a (stage.Undo (suc n)) Rollback keys
   undoes-in p q keys n here to does long stands = let t = phase-there w.machine e.hub e.pieces session a p q mine here to in (
     suc n + done_left (with_keys a (stage.Undo (suc n)) keys),
     ap (λ (p : Phase). undoing p (suc n) (with_keys a (stage.Undo (suc n)) keys)) here ∙ does,
@@ -154,7 +154,7 @@ module _ (e : Engine) (w : World) (session : ℕ) (a : State) (mine : SessionSta
       (
         t.0,
         t.1,
-        subst (λ (q : ModelPhase). UndoesStand q w.machine e.hub.tables.tables e.pieces t.0 (with_keys a (stage.Undo (suc n)) keys) (suc n)) (sym t.2) (stands t.0),
+        subst (λ (q : ModelPhase). UndoesStand q w.machine e.pieces t.0 (with_keys a (stage.Undo (suc n)) keys) (suc n)) (sym t.2) (stands t.0),
       ),
     ),
   )

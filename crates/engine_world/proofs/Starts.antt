@@ -6,6 +6,7 @@ use Rattle.wt_code.specs.declared.answers.Answer.TheVariants as answers
 use Rattle.wt_code.specs.declared.refusals.Refusal.TheVariants as told
 use Rattle.wt_code.specs.declared.refusals.Invalid.TheVariants as why
 use Rattle.kv_model.specs.Calls.{Call}
+use Rattle.tree_dir.specs.declared.leaf.Leaf.{Leaf}
 use Rattle.txn_table.specs.declared.phase.Phase.{Phase}
 use Rattle.txn_table.specs.declared.phase.Phase.TheVariants as phase
 use Rattle.wt_calls.specs.declared.SessionCall.{SessionCall}
@@ -22,7 +23,7 @@ use Rattle.call_steps.specs.Stages.{first_mark, first_order, first_undo}
 use Rattle.call_steps.specs.Starts.{AreArranged, Arranges, asks, StartsAt, StartsIn, stamps_given}
 use Rattle.call_steps.specs.State.{State, at_stage}
 use Rattle.engine_world.specs.Worlds.{World, Doing, Resting, Asked, Placed, Decided, Ending, doing_of}
-use Rattle.engine_world.specs.Doings.{doing_at, doing_in, stamping, undoing}
+use Rattle.engine_world.specs.Doings.{doing_at, doing_in, find_left, stamping, undoing}
 use Rattle.engine_world.specs.Steps.{BeginsIn, MayBegin}
 use Rattle.engine_world.specs.Stages.{EndsOnlyDown, StageStands}
 use Rattle.engine_world.specs.Stands.{Engine, Stands, SessionStands}
@@ -66,11 +67,11 @@ busy-undoing (phase.Prepared stamp) left a = tt
 busy-undoing phase.Resolving left a = tt
 busy-undoing phase.Leaving left a = tt
 
-busy-at : (g : Stage) (session : ℕ) (a : State) → IsCalled g → IsBusy (doing_at g session a)
-busy-at stage.Rest session a called = called
-busy-at (stage.Stamp stamps left) session a called = busy-stamping a.phase stamps left a
-busy-at (stage.Undo left) session a called = busy-undoing a.phase left a
-busy-at _ session a called = tt
+busy-at : (leaves : List Leaf) (g : Stage) (session : ℕ) (a : State) → IsCalled g → IsBusy (doing_at g leaves session a)
+busy-at leaves stage.Rest session a called = called
+busy-at leaves (stage.Stamp stamps left) session a called = busy-stamping a.phase stamps left a
+busy-at leaves (stage.Undo left) session a called = busy-undoing a.phase left a
+busy-at leaves _ session a called = tt
 
 refused-in : (d : Doing) (w : World) (session : ℕ) (c : Call) (told : Reply) → IsBusy d → told ≡ in_call → BeginsIn d w session c told w
 refused-in Resting w session c told busy is = absurd busy
@@ -91,18 +92,18 @@ module _ (e : Engine) (w : World) (session : ℕ) (a : State) (st : Stands e w) 
   stays : (g : Stage) (a' : State) (c : Call) (told : Reply) → a.stage ≡ g → IsCalled g → told ≡ in_call → a' ≡ a → Begins e w session c told a'
   stays g a' c told is called refused same = (
     w,
-    refused-in (doing_of w session) w session c told (subst IsBusy (sym (st.doing session a at ∙ doing-at session a g is)) (busy-at g session a called)) refused,
+    refused-in (doing_of w session) w session c told (subst IsBusy (sym (st.doing session a at ∙ doing-at e.hub.dir.leaves session a g is)) (busy-at e.hub.dir.leaves g session a called)) refused,
     subst (λ (l : List State). Stands (record e { sessions = l }) w) (sym (ap (λ (x : State). slice_set e.sessions session x) same ∙ set-same e.sessions session a at)) st,
   )
 
   -- ---- a session at rest
 
   -- the session begins the call in this state
-  start-as : (new a' : State) (c : Call) (told : Reply) (left : ℕ) → a.stage ≡ stage.Rest → told ≡ reply.Started → a' ≡ new → doing_in session new ≡ Asked c left → SessionStands w.machine e.hub e.pieces session new
+  start-as : (new a' : State) (c : Call) (told : Reply) (left : ℕ) → a.stage ≡ stage.Rest → told ≡ reply.Started → a' ≡ new → doing_in e.hub.dir.leaves session new ≡ Asked c left → SessionStands w.machine e.hub e.pieces session new
       → Begins e w session c told a'
   start-as new a' c told left rest started is does stands = subst (λ (x : State). Begins e w session c told x) (sym is) (
-    world_with w session new w.machine,
-    subst (λ (d : Doing). BeginsIn d w session c told (world_with w session new w.machine)) (sym (st.doing session a at ∙ doing-at session a stage.Rest rest))
+    world_with w e.hub.dir.leaves session new w.machine,
+    subst (λ (d : Doing). BeginsIn d w session c told (world_with w e.hub.dir.leaves session new w.machine)) (sym (st.doing session a at ∙ doing-at e.hub.dir.leaves session a stage.Rest rest))
         (left, started, ap (λ (d : Doing). record w { sessions = slice_set w.sessions session d }) does),
     moves e w session a new e.hub e.pieces e.hazards w.machine st at (record {
       valid = st.valid;
@@ -117,7 +118,7 @@ module _ (e : Engine) (w : World) (session : ℕ) (a : State) (st : Stands e w) 
   )
 
   -- what it wrote is as it was
-  asked-stands : (g : Stage) (name key value : List ℕ) → StageStands g w.machine e.hub.tables.tables e.pieces session (record a { stage = g; name = name; key = key; value = value })
+  asked-stands : (g : Stage) (name key value : List ℕ) → StageStands g w.machine e.hub.dir.leaves e.pieces session (record a { stage = g; name = name; key = key; value = value })
       → SessionStands w.machine e.hub e.pieces session (record a { stage = g; name = name; key = key; value = value })
   asked-stands g name key value stands = record {
     phase = mine.phase;
@@ -128,7 +129,7 @@ module _ (e : Engine) (w : World) (session : ℕ) (a : State) (st : Stands e w) 
   }
 
   -- what it wrote is arranged by leaf
-  arranged-stands : (g : Stage) (keys : List WrittenKey) → AreArranged a.written keys → StageStands g w.machine e.hub.tables.tables e.pieces session (with_keys a g keys)
+  arranged-stands : (g : Stage) (keys : List WrittenKey) → AreArranged a.written keys → StageStands g w.machine e.hub.dir.leaves e.pieces session (with_keys a g keys)
       → SessionStands w.machine e.hub e.pieces session (with_keys a g keys)
   arranged-stands g keys arranged stands = record {
     phase = mine.phase;
@@ -150,15 +151,15 @@ module _ (e : Engine) (w : World) (session : ℕ) (a : State) (st : Stands e w) 
   at-rest : (c : SessionCall) (told : Reply) (a' : State) → a.stage ≡ stage.Rest → EndsOnlyDown w.machine session → told ≡ reply.Started → StartsAt c a a' → Begins e w session (session_call_in c) told a'
   at-rest (call.Begin read) told a' rest ends started made =
       start-as (at_stage (stage.Begin read) a) a' (session_call_in (call.Begin read)) told 1 rest started made refl (asked-stands (stage.Begin read) a.name a.key a.value ends)
-  at-rest (call.Get table key) told a' rest ends started made = start-as (asks key_call.Get table key [] a) a' (session_call_in (call.Get table key)) told 7 rest started made refl
+  at-rest (call.Get table key) told a' rest ends started made = start-as (asks key_call.Get table key [] a) a' (session_call_in (call.Get table key)) told find_left rest started made refl
       (asked-stands (stage.Find key_call.Get) table key [] (ends, refl))
-  at-rest (call.Put table key value demand) told a' rest ends started made = start-as (asks (key_call.Put demand) table key value a) a' (session_call_in (call.Put table key value demand)) told 7 rest started made refl
+  at-rest (call.Put table key value demand) told a' rest ends started made = start-as (asks (key_call.Put demand) table key value a) a' (session_call_in (call.Put table key value demand)) told find_left rest started made refl
       (asked-stands (stage.Find (key_call.Put demand)) table key value (ends, tt))
-  at-rest (call.Remove table key) told a' rest ends started made = start-as (asks key_call.Remove table key [] a) a' (session_call_in (call.Remove table key)) told 7 rest started made refl
+  at-rest (call.Remove table key) told a' rest ends started made = start-as (asks key_call.Remove table key [] a) a' (session_call_in (call.Remove table key)) told find_left rest started made refl
       (asked-stands (stage.Find key_call.Remove) table key [] (ends, refl))
-  at-rest (call.Seek cursor table key) told a' rest ends started made = start-as (asks (key_call.Seek cursor) table key [] a) a' (session_call_in (call.Seek cursor table key)) told 7 rest started made refl
+  at-rest (call.Seek cursor table key) told a' rest ends started made = start-as (asks (key_call.Seek cursor) table key [] a) a' (session_call_in (call.Seek cursor table key)) told find_left rest started made refl
       (asked-stands (stage.Find (key_call.Seek cursor)) table key [] (ends, refl))
-  at-rest (call.Step cursor table way) told a' rest ends started made = start-as (asks (key_call.Step cursor way) table [] [] a) a' (session_call_in (call.Step cursor table way)) told 7 rest started made refl
+  at-rest (call.Step cursor table way) told a' rest ends started made = start-as (asks (key_call.Step cursor way) table [] [] a) a' (session_call_in (call.Step cursor table way)) told find_left rest started made refl
       (asked-stands (stage.Find (key_call.Step cursor way)) table [] [] (ends, (refl, refl)))
   at-rest (call.Reset cursor) told a' rest ends started made =
       start-as (at_stage (stage.Reset cursor) a) a' (session_call_in (call.Reset cursor)) told 1 rest started made refl (asked-stands (stage.Reset cursor) a.name a.key a.value ends)

@@ -9,20 +9,19 @@ use Rattle.wt_code.specs.declared.refusals.Invalid.TheVariants.{NoTxn}
 use Rattle.kv_model.specs.Calls.{Rollback}
 use Rattle.kv_model.specs.Decisions.{Outcome, Done, RollbackCall, decision, judged, while_up, invalid, is_on_page, undoes_first, rollback_decision}
 use Rattle.kv_model.specs.Holds.{Member}
-use Rattle.kv_model.specs.History.{Table, Write}
+use Rattle.kv_model.specs.History.{Write}
 use Rattle.kv_model.specs.Machine.{Machine, Transaction, Phase as ModelPhase, Running as ModelRunning, Failed as ModelFailed, Leaving as ModelLeaving, Prepared as ModelPrepared, Resolving as ModelResolving, transaction_of, name_of, with_transaction, in_phase, left as left_in, Event, StartLeaving, after, of_some}
 use Rattle.kv_model.specs.Valid.{Valid}
 use Rattle.kv_model.proofs.EveryEvent.{valid-after}
 use Rattle.kv_model.proofs.Seats.{seat-inside}
+use Rattle.tree_dir.specs.declared.leaf.Leaf.{Leaf}
 use Rattle.txn_table.specs.SessionData.{phase_in}
 use Rattle.txn_table.specs.Stands.{TableStands}
 use Rattle.txn_table.specs.Tabled.{phase_of}
 use Rattle.txn_table.specs.declared.phase.Phase.{Phase}
 use Rattle.txn_table.specs.declared.phase.Phase.TheVariants as phase
 use Rattle.txn_table.proofs.Standing.{calls-stand}
-use Rattle.update_chain.specs.EventLaws.{StandsFor, IsUndone, ChainsGoOn, UndosStand as UndosLaw}
-use Rattle.rows_shown.specs.Shows.{shown_at}
-use Rattle.leaf_chains.specs.Slots.{chain_at}
+use Rattle.update_chain.specs.EventLaws.{IsUndone, ChainsGoOn, UndosStand as UndosLaw}
 use Rattle.call_steps.specs.declared.edit.Edit.TheVariants as edit
 use Rattle.call_steps.specs.declared.frame.FramePiece.{FramePiece}
 use Rattle.call_steps.specs.declared.next.Next.TheVariants as next
@@ -38,12 +37,14 @@ use Rattle.call_steps.specs.Written.{frame_at, leaf_start}
 use Rattle.engine_world.specs.Worlds.{World, Doing, Asked, Ending}
 use Rattle.engine_world.specs.Doings.{doing_in, doing_at, undoing, done_left}
 use Rattle.engine_world.specs.Laws.{Leads, IsViewOf, IsUndo, UndosGo, with_session, with_piece}
-use Rattle.engine_world.specs.Leaves.{AreNoted, EditedDownTo, LeafStands}
+use Rattle.engine_world.specs.Leaves.{AreNoted, EditedDownTo}
 use Rattle.engine_world.specs.Stages.{StageStands, UndoesStand, DoneStands, NoneStands, IsEdited, IsLeft}
 use Rattle.engine_world.specs.Stands.{Engine, Stands, SessionStands}
 use Rattle.engine_world.specs.Steps.{GoesOn, Made, SettledBy, EndsIn}
 use Rattle.engine_world.proofs.Beside.{MachineBeside}
 use Rattle.engine_world.proofs.Events.{event-beside}
+use Rattle.engine_world.proofs.Homes.{LeavesStand}
+use Rattle.engine_world.proofs.HubMoves.{leaves-go-on}
 use Rattle.engine_world.proofs.Moves.{leads}
 use Rattle.engine_world.proofs.OnePiece.{brings-others}
 use Rattle.engine_world.proofs.EditedChains.{undos-edit}
@@ -66,9 +67,9 @@ undoing-over phase.Running left a over = absurd over
 undoing-over phase.Failed left a over = absurd over
 undoing-over (phase.Prepared stamp) left a over = absurd over
 
-undoes-doing : (n session : ℕ) (a : State) → IsOver a.phase → doing_in session (at_stage (undoes n) a) ≡ Ending a.answer (n + done_left a)
-undoes-doing zero session a over = let none : done_left a ≡ zero + done_left a = omega arith in ap (Ending a.answer) none
-undoes-doing (suc n) session a over = undoing-over a.phase (suc n) (at_stage (stage.Undo (suc n)) a) over
+undoes-doing : (leaves : List Leaf) (n session : ℕ) (a : State) → IsOver a.phase → doing_in leaves session (at_stage (undoes n) a) ≡ Ending a.answer (n + done_left a)
+undoes-doing leaves zero session a over = let none : done_left a ≡ zero + done_left a = omega arith in ap (Ending a.answer) none
+undoes-doing leaves (suc n) session a over = undoing-over a.phase (suc n) (at_stage (stage.Undo (suc n)) a) over
 
 -- ---- what stands then
 
@@ -78,24 +79,24 @@ Undone ModelLeaving m t = Unit {0}
 Undone ModelResolving m t = NoneStands m t
 Undone _ m t = ⊥
 
-undo-in : (ph : ModelPhase) (m : Machine) (known : List Table) (pieces : List FramePiece) (t : Transaction) (a : State) (left : ℕ) → Undone ph m t → IsEdited edit.Undo m pieces t a left → UndoesStand ph m known pieces t a left
-undo-in ModelLeaving m known pieces t a left undone done = done
-undo-in ModelResolving m known pieces t a left undone done = (undone, done)
-undo-in ModelRunning m known pieces t a left undone done = absurd undone
-undo-in ModelFailed m known pieces t a left undone done = absurd undone
-undo-in (ModelPrepared stamp) m known pieces t a left undone done = absurd undone
+undo-in : (ph : ModelPhase) (m : Machine) (pieces : List FramePiece) (t : Transaction) (a : State) (left : ℕ) → Undone ph m t → IsEdited edit.Undo m pieces t a left → UndoesStand ph m pieces t a left
+undo-in ModelLeaving m pieces t a left undone done = done
+undo-in ModelResolving m pieces t a left undone done = (undone, done)
+undo-in ModelRunning m pieces t a left undone done = absurd undone
+undo-in ModelFailed m pieces t a left undone done = absurd undone
+undo-in (ModelPrepared stamp) m pieces t a left undone done = absurd undone
 
-done-in : (ph : ModelPhase) (m : Machine) (known : List Table) (pieces : List FramePiece) (t : Transaction) (a : State) → Undone ph m t → IsEdited edit.Undo m pieces t a 0 → DoneStands ph m known pieces t a
-done-in ModelLeaving m known pieces t a undone done = done
-done-in ModelResolving m known pieces t a undone done = inl done
-done-in ModelRunning m known pieces t a undone done = absurd undone
-done-in ModelFailed m known pieces t a undone done = absurd undone
-done-in (ModelPrepared stamp) m known pieces t a undone done = absurd undone
+done-in : (ph : ModelPhase) (m : Machine) (pieces : List FramePiece) (t : Transaction) (a : State) → Undone ph m t → IsEdited edit.Undo m pieces t a 0 → DoneStands ph m pieces t a
+done-in ModelLeaving m pieces t a undone done = done
+done-in ModelResolving m pieces t a undone done = inl done
+done-in ModelRunning m pieces t a undone done = absurd undone
+done-in ModelFailed m pieces t a undone done = absurd undone
+done-in (ModelPrepared stamp) m pieces t a undone done = absurd undone
 
-undoes-stage : (n : ℕ) (m : Machine) (known : List Table) (pieces : List FramePiece) (session : ℕ) (a : State) (t : Transaction) → n ≤ length a.written → transaction_of m session ≡ Some t → Undone t.phase m t
-    → IsEdited edit.Undo m pieces t a n → StageStands (undoes n) m known pieces session (at_stage (undoes n) a)
-undoes-stage zero m known pieces session a t within there undone done = (t, there, done-in t.phase m known pieces t (at_stage stage.Done a) undone done)
-undoes-stage (suc n) m known pieces session a t within there undone done = ((omega arith, within), (t, there, undo-in t.phase m known pieces t (at_stage (stage.Undo (suc n)) a) (suc n) undone done))
+undoes-stage : (n : ℕ) (m : Machine) (leaves : List Leaf) (pieces : List FramePiece) (session : ℕ) (a : State) (t : Transaction) → n ≤ length a.written → transaction_of m session ≡ Some t → Undone t.phase m t
+    → IsEdited edit.Undo m pieces t a n → StageStands (undoes n) m leaves pieces session (at_stage (undoes n) a)
+undoes-stage zero m leaves pieces session a t within there undone done = (t, there, done-in t.phase m pieces t (at_stage stage.Done a) undone done)
+undoes-stage (suc n) m leaves pieces session a t within there undone done = ((omega arith, within), (t, there, undo-in t.phase m pieces t (at_stage (stage.Undo (suc n)) a) (suc n) undone done))
 
 is-undone : (ph : ModelPhase) (m : Machine) (t : Transaction) (w : Write) → t.phase ≡ ph → Undone ph m t → Member w t.writes → IsUndone m t w.table w.key
 is-undone ModelLeaving m t w is undone at = inl is
@@ -125,19 +126,19 @@ over-undone : UndosLaw → (e : Engine) (w : World) (session : ℕ) (a : State) 
     → IsEdited edit.Undo w.machine e.pieces t a left
     → Leads (with_session (with_piece e (frame_at a.written left) (frame_undone w.machine a p left t)) session (at_stage (undoes (starts_at a left)) a)) w session reply.More
 over-undone law e w session a p left t o over undone done = leads e w session a (at_stage (undoes n) a) e.hub later e.hazards w.machine reply.More o.st o.at
-    (subst (λ d. GoesOn d w.machine session (record { told = reply.More; machine = w.machine; doing = doing_in session (at_stage (undoes n) a) }))
-    (sym (ap (λ x. doing_at x session a) o.same ∙ undoing-over a.phase left a over))
-    (ending-on a.answer (left + done_left a) (n + done_left a) w.machine session (doing_in session (at_stage (undoes n) a)) (let low = start-below a.written left o.some.0 in omega (arith, low)) (undoes-doing n session a over)))
+    (subst (λ d. GoesOn d w.machine session (record { told = reply.More; machine = w.machine; doing = doing_in e.hub.dir.leaves session (at_stage (undoes n) a) }))
+    (sym (ap (λ x. doing_at x e.hub.dir.leaves session a) o.same ∙ undoing-over a.phase left a over))
+    (ending-on a.answer (left + done_left a) (n + done_left a) w.machine session (doing_in e.hub.dir.leaves session (at_stage (undoes n) a)) (let low = start-below a.written left o.some.0 in omega (arith, low)) (undoes-doing e.hub.dir.leaves n session a over)))
     (edit-moves e w session (at_stage (undoes n) a) t edit.Undo later a.written n o.st o.there l
     (session-on w.machine e.hub e.pieces later session a (undoes n) l.slots (o.st.sessions session a o.at)
-    (undoes-stage n w.machine e.hub.tables.tables later session a t (let low = start-within a.written (frame_at a.written left) left in let most = o.some.1 in omega (arith, low, most)) o.there undone l.done))) where
+    (undoes-stage n w.machine e.hub.dir.leaves later session a t (let low = start-within a.written (frame_at a.written left) left in let most = o.some.1 in omega (arith, low, most)) o.there undone l.done))) where
       n : ℕ
       n = leaf_start a.written (frame_at a.written left) left
 
       later : List FramePiece
       later = pieces_edited edit.Undo (name_of w.machine t) e.pieces a.written left p
 
-      l : LeafEdited edit.Undo w.machine t e.hub.tables.tables e.pieces (pieces_edited edit.Undo (name_of w.machine t) e.pieces a.written left p) e.states a.written (leaf_start a.written (frame_at a.written left) left)
+      l : LeafEdited edit.Undo w.machine t e.hub.dir e.pieces (pieces_edited edit.Undo (name_of w.machine t) e.pieces a.written left p) e.states a.written (leaf_start a.written (frame_at a.written left) left)
       l = edit-leaf e w session a t edit.Undo left p o.st o.at o.there o.some (undos-edit law w.machine session t o.st.valid o.there (λ x member. is-undone t.phase w.machine t x refl undone member)) done o.piece
 
 -- ---- the first undo of one that is not
@@ -204,7 +205,7 @@ record Leaves (e : Engine) (w : World) (session : ℕ) (t : Transaction) : Type 
   pub valid : Valid (gone w.machine session t)
   pub beside : MachineBeside session w.machine (gone w.machine session t)
   pub txns : TableStands e.hub.txns (gone w.machine session t)
-  pub leaves : (place : ℕ) (x : Table) → slice_get e.hub.tables.tables place ≡ Some x → LeafStands (gone w.machine session t) e.pieces e.states place x
+  pub leaves : LeavesStand (gone w.machine session t) e.hub.dir.leaves e.pieces e.states
 
 leaves-early : ChainsGoOn → (e : Engine) (w : World) (session : ℕ) (t : Transaction) → Stands e w → transaction_of w.machine session ≡ Some t → IsEarly t.phase → phase_of e.hub.txns session ≡ phase.Running → Leaves e w session t
 leaves-early chains-go-on e w session t st there early knows = record {
@@ -212,28 +213,24 @@ leaves-early chains-go-on e w session t st there early knows = record {
   valid = subst Valid is (valid-after w.machine (StartLeaving session) st.valid tt);
   beside = subst (MachineBeside session w.machine) is (event-beside session w.machine (StartLeaving session) st.valid tt refl);
   txns = subst (TableStands e.hub.txns) is ((calls-stand e.hub.txns w.machine st.valid st.txns).lags session (inl knows));
-  leaves = λ place x known. let l = st.leaves place x known in record {
-    frame = l.frame;
-    there = l.there;
-    word = l.word;
-    keys = λ key. subst (λ (z : Machine). StandsFor z x.number key (chain_at key l.frame.leaf.chains) (shown_at key l.frame.leaf.page) []) is (chains-go-on w.machine (StartLeaving session) x.number key (chain_at key l.frame.leaf.chains) (shown_at key l.frame.leaf.page) [] st.valid tt tt (l.keys key));
-  };
+  leaves = subst (λ (z : Machine). LeavesStand z e.hub.dir.leaves e.pieces e.states) is (leaves-go-on chains-go-on w.machine (StartLeaving session) e.hub.dir.leaves e.pieces e.states st.valid tt (λ table key. tt) st.leaves);
 } where
   is : after w.machine (StartLeaving session) ≡ gone w.machine session t
   is = gone-is w.machine session t there early
 
 first-undone : UndosLaw → ChainsGoOn → (e : Engine) (w : World) (session : ℕ) (a : State) (p : FramePiece) (left : ℕ) (t : Transaction) → UndoesAt e w session a p left t → IsEarly t.phase → known_phase a.phase ≡ phase.Running
-    → left ≡ length a.written → doing_in session a ≡ Asked Rollback (left + done_left a)
+    → left ≡ length a.written → doing_in e.hub.dir.leaves session a ≡ Asked Rollback (left + done_left a)
     → Leads (with_session (with_piece e (frame_at a.written left) (frame_undone w.machine a p left t)) session (at_stage (undoes (starts_at a left)) (leaving_state a))) w session reply.More
 first-undone law chains-go-on e w session a p left t o early knows all doing = leads e w session a (at_stage (undoes n) (leaving_state a)) e.hub later e.hazards m reply.More o.st o.at
-    (subst (λ d. GoesOn d w.machine session (record { told = reply.More; machine = m; doing = doing_in session (at_stage (undoes n) (leaving_state a)) })) (sym doing)
-    (settles-early w.machine session (left + done_left a) (n + done_left a) t some.0 some.1 (doing_in session (at_stage (undoes n) (leaving_state a))) o.there v.there early some.2 (let low = start-below a.written left o.some.0 in omega (arith, low))
-    (undoes-doing n session (leaving_state a) tt)))
+    (subst (λ d. GoesOn d w.machine session (record { told = reply.More; machine = m; doing = doing_in e.hub.dir.leaves session (at_stage (undoes n) (leaving_state a)) })) (sym doing)
+    (settles-early w.machine session (left + done_left a) (n + done_left a) t some.0 some.1 (doing_in e.hub.dir.leaves session (at_stage (undoes n) (leaving_state a))) o.there v.there early some.2 (let low = start-below a.written left o.some.0 in omega (arith, low))
+    (undoes-doing e.hub.dir.leaves n session (leaving_state a) tt)))
     (record {
       valid = v.valid;
       beside = record {
         machine = v.beside;
         tables = refl;
+        dir = refl;
         seats = refl;
         phases = λ r other. refl;
         slots = l.slots;
@@ -248,8 +245,8 @@ first-undone law chains-go-on e w session a p left t o early knows all doing = l
         phase = sym (ap (option_map (λ (x : Transaction). x.phase)) v.there);
         seated = record { opened = s.seated.opened; phase = s.seated.phase ∙ knows };
         cursors = s.cursors;
-        noted = subst (λ q. AreNoted e.hub.tables.tables later (of_some [] (λ (x : Transaction). x.writes) q) a.written) (sym v.there) (noted-on e.hub.tables.tables e.pieces later t.writes a.written l.slots noted);
-        stage = undoes-stage n m e.hub.tables.tables later session (leaving_state a) (in_phase ModelLeaving t) (let low = start-within a.written (frame_at a.written left) left in let most = o.some.1 in omega (arith, low, most)) v.there tt l.done;
+        noted = subst (λ q. AreNoted e.hub.dir.leaves later (of_some [] (λ (x : Transaction). x.writes) q) a.written) (sym v.there) (noted-on e.hub.dir.leaves e.pieces later t.writes a.written l.slots noted);
+        stage = undoes-stage n m e.hub.dir.leaves later session (leaving_state a) (in_phase ModelLeaving t) (let low = start-within a.written (frame_at a.written left) left in let most = o.some.1 in omega (arith, low, most)) v.there tt l.done;
       };
     }) where
       s : SessionStands w.machine e.hub e.pieces session a
@@ -261,11 +258,11 @@ first-undone law chains-go-on e w session a p left t o early knows all doing = l
       n : ℕ
       n = leaf_start a.written (frame_at a.written left) left
 
-      noted : AreNoted e.hub.tables.tables e.pieces t.writes a.written
+      noted : AreNoted e.hub.dir.leaves e.pieces t.writes a.written
       noted = noted-of w.machine e.hub e.pieces session a t (o.st.sessions session a o.at) o.there
 
       some : (x : Write) × (more : List Write) × (t.writes ≡ x ∷ more)
-      some = has-written e.hub.tables.tables e.pieces t.writes a.written left (noted-of w.machine e.hub e.pieces session a t (o.st.sessions session a o.at) o.there) o.some.0 o.some.1
+      some = has-written e.hub.dir.leaves e.pieces t.writes a.written left (noted-of w.machine e.hub e.pieces session a t (o.st.sessions session a o.at) o.there) o.some.0 o.some.1
 
       v : Leaves e w session t
       v = leaves-early chains-go-on e w session t o.st o.there early (s.seated.phase ∙ knows)
@@ -276,9 +273,10 @@ first-undone law chains-go-on e w session a p left t o early knows all doing = l
       none : EditedDownTo edit.Undo (name_of w.machine t) e.pieces a.written left
       none i k low at = let inside = slice_get_within a.written i k at in absurd (omega (arith, low, inside, all))
 
-      l : LeafEdited edit.Undo (gone w.machine session t) (in_phase ModelLeaving t) e.hub.tables.tables e.pieces (pieces_edited edit.Undo (name_of w.machine t) e.pieces a.written left p) e.states a.written (leaf_start a.written (frame_at a.written left) left)
-      l = leaf-edited edit.Undo (gone w.machine session t) (in_phase ModelLeaving t) e.hub.tables.tables e.pieces e.states a.written left p (record {
+      l : LeafEdited edit.Undo (gone w.machine session t) (in_phase ModelLeaving t) e.hub.dir e.pieces (pieces_edited edit.Undo (name_of w.machine t) e.pieces a.written left p) e.states a.written (leaf_start a.written (frame_at a.written left) left)
+      l = leaf-edited edit.Undo (gone w.machine session t) (in_phase ModelLeaving t) e.hub.dir e.pieces e.states a.written left p (record {
         edits = undos-edit law (gone w.machine session t) session (in_phase ModelLeaving t) v.valid v.there (λ x member. inl refl);
+        dir = o.st.dir;
         leaves = v.leaves;
         noted = noted;
         some = o.some.0;
@@ -288,32 +286,32 @@ first-undone law chains-go-on e w session a p left t o early knows all doing = l
 
 -- ---- by the phase
 
-undone-in : UndosLaw → ChainsGoOn → (e : Engine) (w : World) (session : ℕ) (a : State) (p : FramePiece) (left : ℕ) (t : Transaction) → UndoesAt e w session a p left t → UndoesStand t.phase w.machine e.hub.tables.tables e.pieces t a left
+undone-in : UndosLaw → ChainsGoOn → (e : Engine) (w : World) (session : ℕ) (a : State) (p : FramePiece) (left : ℕ) (t : Transaction) → UndoesAt e w session a p left t → UndoesStand t.phase w.machine e.pieces t a left
     → (ph : Phase) → a.phase ≡ ph → phase_in ph ≡ Some t.phase
     → Leads (with_session (with_piece e (frame_at a.written left) (frame_undone w.machine a p left t)) session (state_undone a left ph)) w session reply.More
 undone-in law goes e w session a p left t o now phase.Running is known = let running : ModelRunning ≡ t.phase = cc in
-    first-undone law goes e w session a p left t o (subst IsEarly running tt) (ap known_phase is) (subst (λ q. UndoesStand q w.machine e.hub.tables.tables e.pieces t a left) (sym running) now)
-    (ap (λ x. doing_at x session a) o.same ∙ ap (λ x. undoing x left a) is)
+    first-undone law goes e w session a p left t o (subst IsEarly running tt) (ap known_phase is) (subst (λ q. UndoesStand q w.machine e.pieces t a left) (sym running) now)
+    (ap (λ x. doing_at x e.hub.dir.leaves session a) o.same ∙ ap (λ x. undoing x left a) is)
 undone-in law goes e w session a p left t o now phase.Failed is known = let failed : ModelFailed ≡ t.phase = cc in
-    first-undone law goes e w session a p left t o (subst IsEarly failed tt) (ap known_phase is) (subst (λ q. UndoesStand q w.machine e.hub.tables.tables e.pieces t a left) (sym failed) now)
-    (ap (λ x. doing_at x session a) o.same ∙ ap (λ x. undoing x left a) is)
+    first-undone law goes e w session a p left t o (subst IsEarly failed tt) (ap known_phase is) (subst (λ q. UndoesStand q w.machine e.pieces t a left) (sym failed) now)
+    (ap (λ x. doing_at x e.hub.dir.leaves session a) o.same ∙ ap (λ x. undoing x left a) is)
 undone-in law goes e w session a p left t o now phase.Leaving is known = let leaving : ModelLeaving ≡ t.phase = cc in
-    over-undone law e w session a p left t o (subst IsOver (sym is) tt) (subst (λ q. Undone q w.machine t) leaving tt) (subst (λ q. UndoesStand q w.machine e.hub.tables.tables e.pieces t a left) (sym leaving) now)
+    over-undone law e w session a p left t o (subst IsOver (sym is) tt) (subst (λ q. Undone q w.machine t) leaving tt) (subst (λ q. UndoesStand q w.machine e.pieces t a left) (sym leaving) now)
 undone-in law goes e w session a p left t o now phase.Resolving is known = let resolving : ModelResolving ≡ t.phase = cc in
-    let both = subst (λ q. UndoesStand q w.machine e.hub.tables.tables e.pieces t a left) (sym resolving) now in
+    let both = subst (λ q. UndoesStand q w.machine e.pieces t a left) (sym resolving) now in
     over-undone law e w session a p left t o (subst IsOver (sym is) tt) (subst (λ q. Undone q w.machine t) resolving both.0) both.1
 undone-in law goes e w session a p left t o now phase.Idle is known = absurd (cc)
 undone-in law goes e w session a p left t o now (phase.Prepared stamp) is known = let prepared : t.phase ≡ ModelPrepared stamp = cc in
-    absurd (subst (λ q. UndoesStand q w.machine e.hub.tables.tables e.pieces t a left) prepared now)
+    absurd (subst (λ q. UndoesStand q w.machine e.pieces t a left) prepared now)
 
 taken-out : UndosLaw → ChainsGoOn → (e : Engine) (w : World) (session frame : ℕ) (a a' : State) (p p' : FramePiece) (view : View) (left : ℕ) → Stands e w → slice_get e.sessions session ≡ Some a → a.stage ≡ stage.Undo left
     → next.Frame (frame_at a.written left) ≡ next.Frame frame → slice_get e.pieces frame ≡ Some p → IsViewOf e.hub session view → (p' ≡ edits view edit.Undo a left p) × (a' ≡ at_stage (undoes (starts_at a left)) (leaving_in a.phase a))
     → Leads (with_session (with_piece e frame p') session a') w session reply.More
-taken-out law goes e w session frame a a' p p' view left st at same here piece seen made = by-stage (subst (λ s. StageStands s w.machine e.hub.tables.tables e.pieces session a) same (st.sessions session a at).stage) where
+taken-out law goes e w session frame a a' p p' view left st at same here piece seen made = by-stage (subst (λ s. StageStands s w.machine e.hub.dir.leaves e.pieces session a) same (st.sessions session a at).stage) where
   frames : frame_at a.written left ≡ frame
   frames = cc
 
-  by-stage : StageStands (stage.Undo left) w.machine e.hub.tables.tables e.pieces session a → Leads (with_session (with_piece e frame p') session a') w session reply.More
+  by-stage : StageStands (stage.Undo left) w.machine e.hub.dir.leaves e.pieces session a → Leads (with_session (with_piece e frame p') session a') w session reply.More
   by-stage now = at-frame e w session frame (frame_at a.written left) p' (frame_undone w.machine a p left now.1.0) a' (state_undone a left a.phase) frames
       (made.0 ∙ ap (λ x. piece_edited edit.Undo x a.written left p) (own-named e.hub session view w.machine now.1.0 seen st.txns now.1.1)) made.1
       (undone-in law goes e w session a p left now.1.0 (record {

@@ -82,6 +82,10 @@ abbrev pub IsFind : Stage → Type 0
 IsFind (stage.Find call) = Unit {0}
 IsFind _ = ⊥
 
+abbrev pub IsPass : Stage → Type 0
+IsPass (stage.Pass call target) = Unit {0}
+IsPass _ = ⊥
+
 abbrev pub IsHistory : Stage → Type 0
 IsHistory (stage.History call target) = Unit {0}
 IsHistory _ = ⊥
@@ -160,6 +164,9 @@ BeginsGo = HubGoes IsBegin
 
 abbrev pub FindsGo : Type 0
 FindsGo = HubGoes IsFind
+
+abbrev pub PassesGo : Type 0
+PassesGo = HubGoes IsPass
 
 abbrev pub HistoriesGo : Type 0
 HistoriesGo = HubGoes IsHistory

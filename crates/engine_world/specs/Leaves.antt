@@ -1,5 +1,6 @@
 -- The leaves of an engine, and what stands in the slots that a transaction wrote.
-use Rattle.std.specs.Prelude.{◌≡◌, ◌⊎◌, ◌≤◌, ℕ, List, [], Option, Some, option_and_then, slice_get, slice_index_or}
+use Rattle.std.specs.Prelude.{◌≡◌, ◌≢◌, ◌⊎◌, ◌≤◌, ℕ, List, [], Option, Some, None, option_and_then, option_map, slice_get, slice_index_or}
+use Rattle.std.specs.List.{Contains}
 use Rattle.stamp.specs.declared.Name.{Name}
 use Rattle.kv_model.specs.History.{Table, Write, line}
 use Rattle.kv_model.specs.Holds.{Member}
@@ -10,6 +11,9 @@ use Rattle.update_chain.specs.declared.update.Update.{Update}
 use Rattle.update_chain.specs.EventLaws.{StandsFor}
 use Rattle.leaf_chains.specs.declared.slot.KeyChain.{KeyChain}
 use Rattle.leaf_chains.specs.Slots.{chain_at, key_at, slot_of}
+use Rattle.tree_dir.specs.declared.leaf.Framed.{Framed}
+use Rattle.tree_dir.specs.declared.leaf.Leaf.{Leaf}
+use Rattle.tree_dir.specs.Leaves.{leaf_under}
 use Rattle.call_steps.specs.declared.edit.Edit.{Edit}
 use Rattle.call_steps.specs.declared.edit.Edit.TheVariants as edit
 use Rattle.call_steps.specs.declared.frame.Frame.{Frame}
@@ -19,34 +23,58 @@ use Rattle.call_steps.specs.Leaves.{chain_in}
 use Rattle.call_steps.specs.Tables.{first_word}
 
 abbrev pub frame_in : List FramePiece → ℕ → Option Frame
-frame_in pieces place = option_and_then (λ (p : FramePiece). p.frame) (slice_get pieces place)
+frame_in pieces frame = option_and_then (λ (p : FramePiece). p.frame) (slice_get pieces frame)
 
 abbrev pub slots_in : List FramePiece → ℕ → List KeyChain
-slots_in pieces place = of_some [] (λ (f : Frame). f.leaf.chains) (frame_in pieces place)
+slots_in pieces frame = of_some [] (λ (f : Frame). f.leaf.chains) (frame_in pieces frame)
+
+-- the number of the table whose leaf is in the frame
+abbrev pub table_at : List FramePiece → ℕ → ℕ
+table_at pieces frame = of_some 0 (λ (f : Frame). f.table) (frame_in pieces frame)
 
 abbrev pub word_at : List ℕ → ℕ → ℕ
 word_at states frame = slice_index_or states frame 0
 
--- the leaf of the table is in the frame of its place, and its chains and rows stand for the keys of the table
-pub record LeafStands (m : Machine) (pieces : List FramePiece) (states : List ℕ) (place : ℕ) (t : Table) : Type 0 where
+-- the frame that has the leaf of a key
+abbrev pub frame_of : List Leaf → ℕ → List ℕ → Option ℕ
+frame_of leaves table key = option_and_then (λ (l : Leaf). option_map (λ (f : Framed). f.frame) l.frame) (leaf_under table key leaves)
+
+-- the leaf is in its frame, which knows it
+pub record IsLaid (pieces : List FramePiece) (states : List ℕ) (l : Leaf) : Type 0 where
+  pub framed : Framed
+  pub placed : l.frame ≡ Some framed
   pub frame : Frame
-  pub there : frame_in pieces place ≡ Some frame
-  pub word : word_at states place ≡ first_word
-  pub keys : (key : List ℕ) → StandsFor m t.number key (chain_at key frame.leaf.chains) (shown_at key frame.leaf.page) []
+  pub there : frame_in pieces framed.frame ≡ Some frame
+  pub table : frame.table ≡ l.table
+  pub id : frame.id ≡ l.id
+  pub word : word_at states framed.frame ≡ first_word
+
+-- its chains and rows stand for the keys that lie in it, and it has none of others
+pub record LeafStands (m : Machine) (leaves : List Leaf) (pieces : List FramePiece) (states : List ℕ) (l : Leaf) : Type 0 where
+  pub laid : IsLaid pieces states l
+  pub keys : (key : List ℕ) → leaf_under l.table key leaves ≡ Some l → StandsFor m l.table key (chain_at key laid.frame.leaf.chains) (shown_at key laid.frame.leaf.page) []
+  pub bare : (key : List ℕ) → leaf_under l.table key leaves ≢ Some l → (chain_at key laid.frame.leaf.chains ≡ []) × (shown_at key laid.frame.leaf.page ≡ None)
+
+-- each table has a leaf
+abbrev pub TablesBegun : List Table → List Leaf → Type 0
+TablesBegun known leaves = (place : ℕ) (t : Table) → slice_get known place ≡ Some t → (l : Leaf) × Contains leaves l × (l.table ≡ t.number)
+
+-- each leaf is of a table
+abbrev pub LeavesOwned : List Table → List Leaf → Type 0
+LeavesOwned known leaves = (l : Leaf) → Contains leaves l → (place : ℕ) × (t : Table) × (slice_get known place ≡ Some t) × (l.table ≡ t.number)
 
 -- ---- what a transaction wrote
 
--- the key of this table has the slot that was noted
-pub record IsSlotOf (known : List Table) (pieces : List FramePiece) (k : WrittenKey) (table : ℕ) (key : List ℕ) : Type 0 where
-  pub of : Table
-  pub there : slice_get known k.frame ≡ Some of
-  pub number : of.number ≡ table
+-- the key of this table has the slot that was noted, in the frame of its leaf
+pub record IsSlotOf (leaves : List Leaf) (pieces : List FramePiece) (k : WrittenKey) (table : ℕ) (key : List ℕ) : Type 0 where
+  pub home : frame_of leaves table key ≡ Some k.frame
+  pub number : table_at pieces k.frame ≡ table
   pub slot : slot_of key (slots_in pieces k.frame) ≡ Some k.slot
 
 -- the slots that were noted are those of the writes
-pub record AreNoted (known : List Table) (pieces : List FramePiece) (writes : List Write) (keys : List WrittenKey) : Type 0 where
-  pub noted : (w : Write) → Member w writes → (k : WrittenKey) × Member k keys × IsSlotOf known pieces k w.table w.key
-  pub wrote : (k : WrittenKey) → Member k keys → (w : Write) × Member w writes × IsSlotOf known pieces k w.table w.key
+pub record AreNoted (leaves : List Leaf) (pieces : List FramePiece) (writes : List Write) (keys : List WrittenKey) : Type 0 where
+  pub noted : (w : Write) → Member w writes → (k : WrittenKey) × Member k keys × IsSlotOf leaves pieces k w.table w.key
+  pub wrote : (k : WrittenKey) → Member k keys → (w : Write) × Member w writes × IsSlotOf leaves pieces k w.table w.key
 
 -- the update has what was done to it; none is left of those that were taken out
 abbrev pub HasEdit : Edit → Update → Type 0
@@ -63,14 +91,11 @@ abbrev pub EditedDownTo : Edit → Name → List FramePiece → List WrittenKey 
 EditedDownTo e name pieces keys left =
     (i : ℕ) (k : WrittenKey) → left ≤ i → slice_get keys i ≡ Some k → AllHave e name (chain_in (slots_in pieces k.frame) k.slot)
 
-abbrev pub number_at : List Table → ℕ → ℕ
-number_at known place = of_some 0 (λ (t : Table). t.number) (slice_get known place)
-
 -- the durable stamp of the newest version that stands of the key in this slot
-abbrev pub durable_under : Machine → List Table → List FramePiece → WrittenKey → ℕ
-durable_under m known pieces k = newest_durable (line m.history (number_at known k.frame) (key_at (slots_in pieces k.frame) k.slot))
+abbrev pub durable_under : Machine → List FramePiece → WrittenKey → ℕ
+durable_under m pieces k = newest_durable (line m.history (table_at pieces k.frame) (key_at (slots_in pieces k.frame) k.slot))
 
 -- the greatest durable stamp of a version that stands under the writes, but those in the first slots that are left
-pub record OrderedDownTo (m : Machine) (known : List Table) (pieces : List FramePiece) (writes : List Write) (keys : List WrittenKey) (prev left : ℕ) : Type 0 where
-  pub covers : (i : ℕ) (k : WrittenKey) → left ≤ i → slice_get keys i ≡ Some k → durable_under m known pieces k ≤ prev
+pub record OrderedDownTo (m : Machine) (pieces : List FramePiece) (writes : List Write) (keys : List WrittenKey) (prev left : ℕ) : Type 0 where
+  pub covers : (i : ℕ) (k : WrittenKey) → left ≤ i → slice_get keys i ≡ Some k → durable_under m pieces k ≤ prev
   pub least : (prev ≡ 0) ⊎ ((w : Write) × Member w writes × (prev ≡ newest_durable (line m.history w.table w.key)))

@@ -2,6 +2,7 @@ pub mod Worlds
 pub mod Steps
 pub mod Doings
 pub mod Leaves
+pub mod Walks
 pub mod Stages
 pub mod Stands
 pub mod Laws

@@ -1,8 +1,11 @@
 -- When an engine's data stands for a machine with the calls that are under way.
 use Rattle.std.specs.Prelude.{◌≡◌, ℕ, List, [], length, map, reverse, Option, Some, option_map, slice_get}
-use Rattle.kv_model.specs.History.{Table, Write, tables}
+use Rattle.kv_model.specs.History.{Write, tables}
 use Rattle.kv_model.specs.Machine.{Machine, Position as ModelPosition, of_some, transaction_of, cursors_of}
 use Rattle.kv_model.specs.Valid.{Valid}
+use Rattle.std.specs.List.{Contains}
+use Rattle.tree_dir.specs.declared.leaf.Leaf.{Leaf}
+use Rattle.tree_dir.specs.Leaves.{IsDirectory}
 use Rattle.txn_table.specs.SessionData.{phase_in}
 use Rattle.txn_table.specs.Stands.{TableStands}
 use Rattle.catalog.specs.Known.{AreTables}
@@ -16,7 +19,7 @@ use Rattle.call_steps.specs.HubEvents.{IsSeated}
 use Rattle.call_steps.specs.State.{State}
 use Rattle.engine_world.specs.Worlds.{World, doing_of}
 use Rattle.engine_world.specs.Doings.{doing_in}
-use Rattle.engine_world.specs.Leaves.{LeafStands, AreNoted}
+use Rattle.engine_world.specs.Leaves.{LeafStands, AreNoted, TablesBegun, LeavesOwned}
 use Rattle.engine_world.specs.Stages.{StageStands}
 
 -- the data of an engine: what the sessions share, the frames with their state words, and the sessions with their hazard words
@@ -42,8 +45,8 @@ pub record SessionStands (m : Machine) (hub : Hub) (pieces : List FramePiece) (s
   pub phase : phase_in a.phase ≡ option_map (λ t. t.phase) (transaction_of m session)
   pub seated : IsSeated hub session a
   pub cursors : map position_in a.cursors ≡ cursors_of m session
-  pub noted : AreNoted hub.tables.tables pieces (writes_in m session) a.written
-  pub stage : StageStands a.stage m hub.tables.tables pieces session a
+  pub noted : AreNoted hub.dir.leaves pieces (writes_in m session) a.written
+  pub stage : StageStands a.stage m hub.dir.leaves pieces session a
 
 pub record Stands (e : Engine) (w : World) : Type 0 where
   pub valid : Valid w.machine
@@ -52,9 +55,12 @@ pub record Stands (e : Engine) (w : World) : Type 0 where
   pub txns : TableStands e.hub.txns w.machine
   pub catalog : AreTables e.hub.tables
   pub made : reverse e.hub.tables.tables ≡ tables w.machine.history
-  pub leaves : (place : ℕ) (t : Table) → slice_get e.hub.tables.tables place ≡ Some t → LeafStands w.machine e.pieces e.states place t
+  pub dir : IsDirectory e.hub.dir
+  pub begun : TablesBegun e.hub.tables.tables e.hub.dir.leaves
+  pub owned : LeavesOwned e.hub.tables.tables e.hub.dir.leaves
+  pub leaves : (l : Leaf) → Contains e.hub.dir.leaves l → LeafStands w.machine e.hub.dir.leaves e.pieces e.states l
   pub count : length e.sessions ≡ length w.machine.sessions
   pub doings : length w.sessions ≡ length e.sessions
-  pub doing : (session : ℕ) (a : State) → slice_get e.sessions session ≡ Some a → doing_of w session ≡ doing_in session a
+  pub doing : (session : ℕ) (a : State) → slice_get e.sessions session ≡ Some a → doing_of w session ≡ doing_in e.hub.dir.leaves session a
   pub sessions : (session : ℕ) (a : State) → slice_get e.sessions session ≡ Some a → SessionStands w.machine e.hub e.pieces session a
   pub systems : map (option_map system_call_in) e.systems ≡ w.systems

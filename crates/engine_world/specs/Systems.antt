@@ -1,5 +1,6 @@
 -- What the opening of a session, a create, a set, a checkpoint in one go and a failed write of the device leave of an engine that stands for a world, and with what an engine starts.
-use Rattle.std.specs.Prelude.{◌≡◌, ◌<◌, ◌+◌, ℕ, List, [], ◌∷◌, ◌++◌, length, map, reverse, Option, None, Some, Ok, slice_get, slice_set}
+use Rattle.std.specs.Prelude.{◌≡◌, ◌≢◌, ◌<◌, ◌+◌, ℕ, List, [], ◌∷◌, ◌++◌, length, map, reverse, Option, None, Some, Ok, slice_set}
+use Rattle.std.specs.List.{Contains}
 use Rattle.std.specs.Option.{option_to_list}
 use Rattle.failure.specs.declared.Fault.{Fault}
 use Rattle.item.specs.declared.Change.{Change}
@@ -10,6 +11,10 @@ use Rattle.kv_model.specs.History.{Table, line}
 use Rattle.kv_model.specs.Machine.{Machine, OpenSession, CreateTable, SetStamps, CheckpointStart, CheckpointFinish, GoDown, after}
 use Rattle.kv_model.specs.Refusals.{set_rules, stamp_of}
 use Rattle.kv_model.specs.Regular.{IsRegular}
+use Rattle.stored.specs.Links.{nowhere}
+use Rattle.stored.specs.TableTree.{Entry}
+use Rattle.tree_dir.specs.declared.leaf.Leaf.{Leaf}
+use Rattle.tree_dir.specs.Leaves.{Directory, HasTable, IsDirectory, changed, in_frame, leaf_under}
 use Rattle.rows_shown.specs.Shows.{shown_at}
 use Rattle.update_chain.specs.declared.update.Update.{Update}
 use Rattle.update_chain.specs.Updates.{unmarked_update}
@@ -20,11 +25,10 @@ use Rattle.txn_table.specs.Tabled.{fresh, one_more}
 use Rattle.catalog.specs.Known.{Known, AreTables}
 use Rattle.catalog.specs.Creates.{IsCreated, asked}
 use Rattle.catalog.specs.declared.created.Created.TheVariants.{New}
-use Rattle.call_steps.specs.declared.frame.Frame.{Frame}
 use Rattle.call_steps.specs.declared.frame.FramePiece.{FramePiece}
 use Rattle.call_steps.specs.State.{opened}
 use Rattle.call_steps.specs.Tables.{first_word}
-use Rattle.engine_world.specs.Leaves.{frame_in, word_at}
+use Rattle.engine_world.specs.Leaves.{IsLaid, LeavesOwned, TablesBegun, frame_in}
 use Rattle.engine_world.specs.Stands.{Engine, Stands}
 use Rattle.engine_world.specs.Worlds.{World, Resting}
 
@@ -40,18 +44,31 @@ abbrev pub SetsGo : Type 0
 SetsGo = (e : Engine) (w : World) (oldest stable : Option ℕ) → Stands e w → answer_by (set_rules e.hub.stamps.oldest e.hub.stamps.stable oldest stable) ≡ Ok tt
     → Stands (record e { hub = record e.hub { stamps = raised e.hub.stamps oldest stable } }) (record w { machine = after w.machine (SetStamps (stamp_of oldest) (stamp_of stable)) })
 
--- the piece of a table that has just been made
-abbrev pub first_piece : Table → FramePiece
-first_piece t = record { generation = 0; frame = Some (record { table = t.number; leaf = record { page = []; chains = [] } }) }
+-- the entry of the only leaf of a table that has just been made: it has all keys, and no block
+abbrev pub first_entry : Entry
+first_entry = record { key = []; link = nowhere }
 
--- a table more, whose leaf is empty, in the frame of its place
-abbrev pub with_table : Engine → Known → Table → ℕ → Engine
-with_table e known t place = record e { hub = record e.hub { tables = known }; pieces = slice_set e.pieces place (first_piece t); states = slice_set e.states place first_word }
+-- the table is in the directory, with a leaf of this id, which is in this frame
+pub record HasFirstLeaf (old new : Directory) (table id frame : ℕ) : Type 0 where
+  pub between : Directory
+  pub added : HasTable old between table (first_entry ∷ []) (id ∷ [])
+  pub placed : new ≡ record between { leaves = changed id (in_frame (Some (record { frame = frame; generation = 0 }))) between.leaves }
+
+-- the piece of that leaf
+abbrev pub first_piece : Table → ℕ → FramePiece
+first_piece t id = record { generation = 0; frame = Some (record { table = t.number; id = id; leaf = record { page = []; chains = [] } }) }
+
+-- a table more, with one leaf, which is empty, in a frame that had none
+abbrev pub with_table : Engine → Known → Directory → Table → ℕ → ℕ → Engine
+with_table e known dir t id frame =
+    record e { hub = record e.hub { tables = known; dir = dir }; pieces = slice_set e.pieces frame (first_piece t id); states = slice_set e.states frame first_word }
 
 abbrev pub CreatesGo : Type 0
-CreatesGo = (e : Engine) (w : World) (name : List ℕ) (formats : Formats) (known : Known) (place : ℕ) → Stands e w → IsCreated e.hub.tables (asked e.hub.tables name formats) known (New place)
-    → AreTables known → place < length e.pieces → place < length e.states
-    → Stands (with_table e known (asked e.hub.tables name formats) place) (record w { machine = after w.machine (CreateTable (asked e.hub.tables name formats)) })
+CreatesGo = (e : Engine) (w : World) (name : List ℕ) (formats : Formats) (known : Known) (dir : Directory) (place id frame : ℕ) → Stands e w
+    → IsCreated e.hub.tables (asked e.hub.tables name formats) known (New place) → AreTables known
+    → HasFirstLeaf e.hub.dir dir (asked e.hub.tables name formats).number id frame → IsDirectory dir
+    → frame_in e.pieces frame ≡ None → frame < length e.pieces → frame < length e.states
+    → Stands (with_table e known dir (asked e.hub.tables name formats) id frame) (record w { machine = after w.machine (CreateTable (asked e.hub.tables name formats)) })
 
 -- a checkpoint starts and finishes, with nobody between
 abbrev pub checkpointed : Machine → Machine
@@ -76,12 +93,11 @@ pub record IsFirstOf (versions : List (Version Change)) (chain : List Update) (r
   pub chain_is : chain ≡ map unmarked_update above
   pub all : versions ≡ above ++ option_to_list row
 
--- the leaf of the table is in the frame of its place, with the versions that the content keeps
-pub record LeafStarts (c : Content) (pieces : List FramePiece) (states : List ℕ) (place : ℕ) (t : Table) : Type 0 where
-  pub frame : Frame
-  pub there : frame_in pieces place ≡ Some frame
-  pub word : word_at states place ≡ first_word
-  pub keys : (key : List ℕ) → IsFirstOf (line (base c) t.number key) (chain_at key frame.leaf.chains) (shown_at key frame.leaf.page)
+-- the leaf is in its frame, with the versions that the content keeps of the keys that lie in it, and none of others
+pub record LeafStarts (c : Content) (leaves : List Leaf) (pieces : List FramePiece) (states : List ℕ) (l : Leaf) : Type 0 where
+  pub laid : IsLaid pieces states l
+  pub keys : (key : List ℕ) → leaf_under l.table key leaves ≡ Some l → IsFirstOf (line (base c) l.table key) (chain_at key laid.frame.leaf.chains) (shown_at key laid.frame.leaf.page)
+  pub bare : (key : List ℕ) → leaf_under l.table key leaves ≢ Some l → (chain_at key laid.frame.leaf.chains ≡ []) × (shown_at key laid.frame.leaf.page ≡ None)
 
 -- an engine that begins on this content, without a session
 pub record Begins (c : Content) (e : Engine) : Type 0 where
@@ -90,7 +106,10 @@ pub record Begins (c : Content) (e : Engine) : Type 0 where
   pub txns : e.hub.txns ≡ fresh (c.run + 1) 0
   pub catalog : AreTables e.hub.tables
   pub tables : reverse e.hub.tables.tables ≡ descending table_lt c.tables
-  pub leaves : (place : ℕ) (t : Table) → slice_get e.hub.tables.tables place ≡ Some t → LeafStarts c e.pieces e.states place t
+  pub dir : IsDirectory e.hub.dir
+  pub begun : TablesBegun e.hub.tables.tables e.hub.dir.leaves
+  pub owned : LeavesOwned e.hub.tables.tables e.hub.dir.leaves
+  pub leaves : (l : Leaf) → Contains e.hub.dir.leaves l → LeafStarts c e.hub.dir.leaves e.pieces e.states l
   pub sessions : e.sessions ≡ []
   pub systems : map (λ x. None) e.systems ≡ e.systems
 

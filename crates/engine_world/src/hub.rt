@@ -1,7 +1,7 @@
 //! Laws of the events on the hub. A law calls those of lower crates
 //! that its proof rests on.
 
-ghost use Rattle.engine_world.specs.Laws.{BeginsGo, DecidesGo, EndsGo, FindsGo, HistoriesGo, ReleasesGo, ResolvesGo};
+ghost use Rattle.engine_world.specs.Laws.{BeginsGo, DecidesGo, EndsGo, FindsGo, HistoriesGo, PassesGo, ReleasesGo, ResolvesGo};
 
 use update_chain::{chains_go_on, commits_stand, ends_stand, prepares_stand, resolves_stand};
 
@@ -18,6 +18,11 @@ pub fn finds_go()
 {
     chains_go_on();
 }
+
+/// The event that goes on to the next leaf on the way.
+pub fn passes_go()
+    ensures { PassesGo }
+{}
 
 /// The look in the history, after a leaf that held nothing which is admitted.
 pub fn histories_go()

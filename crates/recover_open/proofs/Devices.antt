@@ -2,12 +2,11 @@
 use Rattle.std.specs.Prelude.{◌≡◌, ℕ, zero, suc, ◌<◌, List, [], ◌∷◌, ◌++◌, length, slice_index_or, Some, false, refl}
 use Rattle.std.specs.List.{AllByRecursion}
 use Rattle.std.proofs.Common.{inl, inr, sym, ◌∙◌, ap, subst, arith}
-use Rattle.std.proofs.lemmas.List.{append-nil, map-append}
+use Rattle.std.proofs.lemmas.List.{append-nil}
 use Rattle.block_sum.specs.Sum.{sum_of}
 use Rattle.disk_model.specs.Ranges.{range}
 use Rattle.device_layout.specs.declared.slot.Slot.{Slot}
 use Rattle.le_codec.specs.Images.{padded, block_size, block_of}
-use Rattle.device_layout.specs.declared.addr.Addr.{Addr}
 use Rattle.block_mgr.specs.declared.found.Found.{Found}
 use Rattle.block_mgr.specs.Open.{AreStored}
 use Rattle.kv_model.specs.Content.{Content}
@@ -23,16 +22,17 @@ use Rattle.stored.proofs.OneTree.{holds_front, holds_back}
 use Rattle.checkpoint_core.specs.Stands.{AreInUse}
 use Rattle.checkpoint_core.specs.Room.{IsSpaceOf}
 use Rattle.device_leaf.specs.declared.place.Place.{Place}
-use Rattle.device_leaf.specs.Damage.{IsChosen, record_found}
+use Rattle.device_leaf.specs.Damage.{IsChosen}
 use Rattle.device_leaf.specs.Openings.{Serves, HasBooks}
 use Rattle.device_leaf.proofs.Leaves.{length_block}
 use Rattle.device_leaf.proofs.Shapes.{all_front, all_join}
 use Rattle.device_leaf.proofs.Opens.{slot_is, no_blank, spoilt_no_content, corrupt_no_content, record_bytes, range_length}
-use Rattle.tree_open.specs.Trees.{HasTree, places}
+use Rattle.tree_open.specs.Trees.{HasTree}
 use Rattle.recover_open.specs.Bare.{IsBare, HaveTrees, bare_stored}
-use Rattle.recover_open.specs.Damage.{Names, HasNoRecord, IsAmong, IsDamage, TablesSpoil, BlocksMeet, blocks_found}
-use Rattle.recover_open.proofs.TreeLeaves.{same_places, spoilt_no_tree}
-use Rattle.recover_open.proofs.Places.{Matches, found_of, blocks_match, same_found, tables_long, found_last, stored_of, apart_of, told_of}
+use Rattle.recover_open.specs.Damage.{Names, HasNoRecord, IsAmong, IsDamage, TablesSpoil, BlocksMeet, blocks_found, uppers_found}
+use Rattle.recover_open.proofs.TreeLeaves.{spoilt_no_tree}
+use Rattle.recover_open.proofs.Places.{Matches, blocks_match, tables_long, found_last, stored_of, apart_of, told_of}
+use Rattle.recover_open.proofs.UpperPlaces.{uppers_are}
 
 -- ---- the record
 
@@ -82,19 +82,6 @@ trees_on bytes s on =
     let history : List Block = history_blocks s.kept s.history in
     have_trees bytes s.kept.tables s.trees on.whole.trees (all_front (λ (b : Block). IsAddressed b) tables history on.whole.addressed.1) (holds_front bytes tables history on.holds.1)
 
--- trees of the same roots stand in the same places
-same_tables : (bytes : List ℕ) (tables : List TableRoot) (trees others : List TableTree) → HaveTrees bytes tables trees → HaveTrees bytes tables others → places (tables_blocks tables trees) ≡ places (tables_blocks tables others)
-same_tables bytes [] trees others have also = refl
-same_tables bytes (t ∷ tables) [] others have also = absurd have
-same_tables bytes (t ∷ tables) (tree ∷ trees) [] have also = absurd also
-same_tables bytes (t ∷ tables) (tree ∷ trees) (other ∷ others) have also =
-    let mine : List Block = tree_blocks table_kind (root_entry t.root.link) tree in
-    let its : List Block = tree_blocks table_kind (root_entry t.root.link) other in
-    map-append {A = Block} (λ b. b.place) mine (tables_blocks tables trees)
-    ∙ ap (λ (l : List Addr). l ++ places (tables_blocks tables trees)) (same_places bytes t.root tree other have.0 also.0)
-    ∙ ap (λ (l : List Addr). places its ++ l) (same_tables bytes tables trees others have.1 also.1)
-    ∙ sym (map-append {A = Block} (λ b. b.place) its (tables_blocks tables others))
-
 -- its blocks can all be in use
 stored_on : (bytes : List ℕ) (slot : Slot) (s : Stored) → IsChosen bytes slot → IsOn bytes s → AreStored (blocks_found slot s.kept.tables s.trees) (length bytes)
 stored_on bytes slot s chosen on =
@@ -126,9 +113,7 @@ meet_no_content bytes at want found meet content (inr (s, on, same)) =
     let tables : List TableRoot = meet.names.tables in
     let there : HaveTrees bytes tables s.trees = subst (λ (r : Record). HaveTrees bytes r.tables s.trees) kept (trees_on bytes s on) in
     let stored : AreStored (blocks_found meet.slot tables s.trees) (length bytes) = subst (λ (r : Record). AreStored (blocks_found meet.slot r.tables s.trees) (length bytes)) kept (stored_on bytes meet.slot s meet.there.chosen on) in
-    let one : found_of (tables_blocks tables s.trees) ≡ found_of (tables_blocks tables meet.trees) =
-    same_found (tables_blocks tables s.trees) (tables_blocks tables meet.trees) (same_tables bytes tables s.trees meet.trees there meet.have) in
-    let are : AreStored (blocks_found meet.slot tables meet.trees) (length bytes) = subst (λ (l : List Found). AreStored (record_found meet.slot ∷ l) (length bytes)) one stored in
+    let are : AreStored (uppers_found meet.slot meet.uppers) (length bytes) = subst (λ (l : List Found). AreStored l (length bytes)) (sym (uppers_are bytes meet.slot tables meet.uppers s.trees meet.have there)) stored in
     elim meet.why [ inl none ↦ none (are.fit meet.index meet.within) | inr (j, lt, none) ↦ none (are.agree j meet.index lt meet.within) ]
 
 pub damage_no_content : (bytes : List ℕ) (at want found : ℕ) (content : Content) → IsDamage bytes at want found → Reads bytes content → ⊥
@@ -211,7 +196,7 @@ module _ (bytes : List ℕ) (slot : Slot) (r : Record) (trees : List TableTree) 
     apart = subst (λ (l : List Block). Apart l) (sym blocks_are) (apart_of (blocks_found slot r.tables trees) (record_block made ∷ tables) (length bytes) matches (found_last slot r.tables trees) stored);
   }
 
-  made_on : IsOn bytes made
+  pub made_on : IsOn bytes made
   made_on = record {
     whole = whole;
     long = names.chosen.long;

@@ -1,9 +1,8 @@
 -- Blocks that were found, and the blocks that stand there.
-use Rattle.std.specs.Prelude.{◌≡◌, ℕ, zero, suc, ◌+◌, ◌<◌, ◌≤◌, ◌==◌, max, true, List, [], ◌∷◌, ◌++◌, length, map, refl}
-use Rattle.std.specs.List.{AllByRecursion, flat_map, fold}
+use Rattle.std.specs.Prelude.{◌≡◌, ℕ, zero, suc, ◌+◌, ◌<◌, ◌≤◌, ◌==◌, max, true, List, [], ◌∷◌, length, map, refl}
+use Rattle.std.specs.List.{AllByRecursion, fold}
 use Rattle.std.proofs.Common.{inl, inr, sym, ◌∙◌, ap, subst, arith}
 use Rattle.std.proofs.lemmas.Bool.{cases_Bool, false≢true}
-use Rattle.std.proofs.lemmas.List.{map-append}
 use Rattle.extent_list.proofs.SpaceLemmas.{free_before_end}
 use Rattle.device_layout.specs.declared.addr.Addr.{Addr}
 use Rattle.device_layout.specs.declared.slot.Slot.{Slot}
@@ -17,18 +16,16 @@ use Rattle.row_page.specs.Rows.{Row}
 use Rattle.stored.specs.Blocks.{Block, IsAddressed, Holds, Apart, AreApart}
 use Rattle.stored.specs.Tree.{Layer, join, bottom, page_blocks, inner_blocks, leaf_blocks, tree_blocks}
 use Rattle.stored.specs.TableTree.{Entry, TableTree, table_kind, root_entry}
-use Rattle.stored.specs.Records.{Root, TableRoot}
+use Rattle.stored.specs.Records.{TableRoot}
 use Rattle.stored.specs.Stored.{tables_blocks}
 use Rattle.checkpoint_core.specs.Stands.{AreInUse}
 use Rattle.checkpoint_core.specs.Room.{InBlocks, end_of}
 use Rattle.device_leaf.specs.Openings.{HasBooks}
 use Rattle.device_leaf.proofs.Leaves.{place_is, leaf_bytes}
-use Rattle.tree_open.specs.declared.place.TreePlace.{TreePlace}
 use Rattle.tree_open.specs.Trees.{places}
 use Rattle.tree_open.proofs.OnePage.{image_bytes}
 use Rattle.device_leaf.proofs.Shapes.{all_join}
 use Rattle.device_leaf.proofs.Books.{ends, Inside, Told, found_used, not_free, free_or_found}
-use Rattle.recover_open.specs.Bare.{ArePlaces}
 use Rattle.recover_open.specs.Damage.{found_there, blocks_found}
 
 -- each was found where a block stands, one by one
@@ -48,26 +45,9 @@ blocks_match (b ∷ blocks) = (refl, blocks_match blocks)
 
 -- ---- the same by their places
 
-found_places : (blocks : List Block) → found_of blocks ≡ map found_there (places blocks)
+pub found_places : (blocks : List Block) → found_of blocks ≡ map found_there (places blocks)
 found_places [] = refl
 found_places (b ∷ blocks) = ap (λ (l : List Found). found_there b.place ∷ l) (found_places blocks)
-
-pub same_found : (xs ys : List Block) → places xs ≡ places ys → found_of xs ≡ found_of ys
-same_found xs ys same = found_places xs ∙ ap (λ (l : List Addr). map found_there l) same ∙ sym (found_places ys)
-
-pub placed_found : (ps : List TreePlace) (tables : List TableRoot) (trees : List TableTree) → ArePlaces ps tables trees → flat_map (λ (p : TreePlace). map found_there p.addrs.items) ps ≡ found_of (tables_blocks tables trees)
-placed_found [] [] [] are = refl
-placed_found [] [] (tree ∷ trees) are = absurd are
-placed_found [] (t ∷ tables) trees are = absurd are
-placed_found (p ∷ ps) [] trees are = absurd are
-placed_found (p ∷ ps) (t ∷ tables) [] are = absurd are
-placed_found (p ∷ ps) (t ∷ tables) (tree ∷ trees) are =
-    let own : List Block = tree_blocks table_kind (root_entry t.root.link) tree in
-    let here : map found_there p.addrs.items ≡ found_of own =
-    ap (λ (l : List Addr). map found_there l) (are.1.addrs ∙ ap (λ (r : Root). places (tree_blocks table_kind (root_entry r.link) tree)) are.0) ∙ sym (found_places own) in
-    ap (λ (l : List Found). l ++ flat_map (λ (q : TreePlace). map found_there q.addrs.items) ps) here
-    ∙ ap (λ (l : List Found). found_of own ++ l) (placed_found ps tables trees are.2)
-    ∙ sym (map-append {A = Block} (λ b. found_there b.place) own (tables_blocks tables trees))
 
 -- ---- images of at least a header
 

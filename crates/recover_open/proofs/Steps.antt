@@ -19,20 +19,27 @@ use Rattle.stored.specs.TableTree.{Entry, TableTree}
 use Rattle.wt_code.specs.declared.refusals.Refusal.{Refusal}
 use Rattle.wt_code.specs.declared.refusals.Refusal.TheVariants.{DiskFault, Corrupt}
 use Rattle.checkpoint_record.proofs.Lists.{take_step}
-use Rattle.device_leaf.specs.Damage.{IsChosen, record_found}
+use Rattle.device_leaf.specs.Damage.{IsChosen}
 use Rattle.device_leaf.specs.Openings.{Serves, last_number}
 use Rattle.device_leaf.proofs.Opens.{IsRecordBlock, no_blank}
 use Rattle.recover_open.specs.declared.opening.Kept.{Kept}
 use Rattle.recover_open.specs.declared.opening.Recovered.{Recovered}
 use Rattle.tree_open.specs.declared.place.TreePlace.{TreePlace}
+use Rattle.tree_open.specs.declared.place.Upper.{Upper}
+use Rattle.device_leaf.specs.declared.place.Place.{Place}
+use Rattle.wt_code.specs.declared.refusals.Refusal.TheVariants.{Limit as Refusal_Limit}
+use Rattle.wt_code.specs.declared.refusals.Limit.TheVariants.{Checkpoints}
 use Rattle.tree_open.specs.Trees.{InnerIs, HasTree, IsPlaceOf}
 use Rattle.tree_open.specs.Damage.{Refused, InnerSpoils}
 use Rattle.tree_open.proofs.Steps.{refused_more}
-use Rattle.recover_open.specs.Bare.{IsBare, HaveTrees, ArePlaces, bare_stored, kept_of, tree_rows}
+use Rattle.recover_open.specs.declared.surveying.Above.{Above}
+use Rattle.recover_open.specs.declared.surveying.Surveyed.{Surveyed}
+use Rattle.recover_open.specs.Bare.{IsBare, HaveTrees, HaveUppers, AllClimb, ArePlaces, bare_stored, kept_of, tree_rows}
 use Rattle.recover_open.specs.Leaves.{TreeIs}
-use Rattle.recover_open.specs.Damage.{Names, HasNoRecord, IsAmong, CannotStand, IsDamage, RecordSpoils, LeavesSpoil, TreeSpoils, blocks_found, places_found}
-use Rattle.recover_open.specs.Recoveries.{Counts, KeepsOr, IsRecovered, InForm, RecoveryRefused, IsSound, IsRecordOf, RefusesRecord, RecordRefused, TreesAre, TreesRefused, RefusesBlocks, IsAssembled, IsNothing, placed_roots, table_roots}
-use Rattle.recover_open.proofs.Places.{placed_found}
+use Rattle.recover_open.specs.Damage.{Names, HasNoRecord, IsAmong, CannotStand, IsDamage, RecordSpoils, LeavesSpoil, TreeSpoils, blocks_found, uppers_found}
+use Rattle.recover_open.specs.Recoveries.{Counts, KeepsOr, IsRecovered, InForm, RecoveryRefused, TreesAre, TreesRefused, IsAssembled, placed_roots, table_roots}
+use Rattle.recover_open.specs.Surveys.{Surveys, SurveysOr, IsSurveyed, AboveInForm, InFormAbove, SurveyRefused, IsSound, IsRecordOf, RefusesRecord, RecordRefused, RefusesBlocks, IsPutTogether, IsBlankSurvey}
+use Rattle.recover_open.proofs.UpperPlaces.{uppers_are}
 use Rattle.recover_open.proofs.Devices.{same_record, run_read, not_bare, serves}
 
 -- ---- the record
@@ -46,26 +53,33 @@ other_sequence slot block r is spelled other q also same too = other (ap (λ (x 
 
 pub why_refused : (slot : Slot) (block : List ℕ) (r : Record) (e : Refusal) → IsRecord r → block ≡ block_of (record_image r) → RefusesRecord slot r e → RecordRefused slot block e
 why_refused slot block r e is spelled (inl (told, other)) = inr (inl (told, other_sequence slot block r is spelled other))
-why_refused slot block r e is spelled (inr (inl (told, last))) = inr (inr (inl (told, (r, is, spelled, last))))
-why_refused slot block r e is spelled (inr (inr (told, none))) = inr (inr (inr (told, (r, is, spelled, none))))
+why_refused slot block r e is spelled (inr (told, none)) = inr (inr (told, (r, is, spelled, none)))
 
-most_run : (q : Record) → IsRecord q → last_number ≤ q.run → q.run ≡ last_number
-most_run q is last = omega (arith, last, is.run.1, is.sequence)
-
-pub record_refused : (fault known : Type 0) (bytes block : List ℕ) (slot : Slot) (r : Refusal) → RecordRefused slot block r → (known → IsRecordBlock bytes slot block) → RecoveryRefused fault known bytes r
+pub record_refused : (fault known : Type 0) (bytes block : List ℕ) (slot : Slot) (r : Refusal) → RecordRefused slot block r → (known → IsRecordBlock bytes slot block) → SurveyRefused fault known bytes r
 record_refused fault known bytes block slot r (inl none) there = inr (inl none)
 record_refused fault known bytes block slot r (inr (inl (is, none))) there =
-    inr (inr (inr (inr (
+    inr (inr (inr (
       slot.offset,
       slot.sum,
       slot.sum,
       is,
       λ k. inr (inl (record { slot = slot; chosen = (there k).chosen; place = refl; sum = refl; why = inr (refl, subst (λ (l : List ℕ). HasNoRecord slot l) (there k).is none) })),
-    ))))
-record_refused fault known bytes block slot r (inr (inr (inl (is, (q, good, spelled, last))))) there =
-    inr (inr (inl (is, λ k content reads. run_read bytes slot q (there k).chosen good (sym (there k).is ∙ spelled) content reads ∙ most_run q good last)))
-record_refused fault known bytes block slot r (inr (inr (inr (is, (q, good, spelled, none))))) there =
-    inr (inr (inr (inl (is, (λ k s on bare. not_bare bytes slot q (there k).chosen good (sym (there k).is ∙ spelled) none s on bare), λ k blank. no_blank bytes slot (there k).chosen blank))))
+    )))
+record_refused fault known bytes block slot r (inr (inr (is, (q, good, spelled, none)))) there =
+    inr (inr (inl (is, (λ k s on bare. not_bare bytes slot q (there k).chosen good (sym (there k).is ∙ spelled) none s on bare), λ k blank. no_blank bytes slot (there k).chosen blank)))
+
+-- ---- no run may follow
+
+most_run : (q : Record) → IsRecord q → last_number ≤ q.run → q.run ≡ last_number
+most_run q is last = omega (arith, last, is.run.1, is.sequence)
+
+pub last_run : (fault known : Type 0) (bytes : List ℕ) (place : Place) (a : Above) → (known → Surveys bytes place a) → last_number ≤ a.record.run → (r : Refusal) → r ≡ Refusal_Limit Checkpoints → RecoveryRefused fault known bytes r
+last_run fault known bytes place a surveyed last r is = inr (inr (inl (
+  is,
+  λ k content reads.
+      let names = (surveyed k).names in
+      run_read bytes (surveyed k).slot a.record names.chosen names.is_record names.is content reads ∙ most_run a.record names.is_record last,
+)))
 
 pub record_spoilt : (bytes : List ℕ) (slot : Slot) (a : Addr) (found : ℕ) → a ≡ addr_in slot → IsChosen bytes slot → Spoils bytes a found → RecordSpoils bytes a.offset a.sum found
 record_spoilt bytes slot a found is chosen spoils = record {
@@ -132,12 +146,25 @@ tree_later fault later known still bytes now tables t root r among is refused mo
     )
 
 pub trees_refused : (fault later known still : Type 0) (bytes now : List ℕ) (tables : List TableRoot) (r : Refusal) → TreesRefused later still now tables r → (later → fault) → (known → still) → now ≡ bytes
-    → (known → (t : TableRoot) → IsAmong tables t → (at want found : ℕ) → TreeSpoils bytes t.root at want found → IsDamage bytes at want found) → RecoveryRefused fault known bytes r
+    → (known → (t : TableRoot) → IsAmong tables t → (at want found : ℕ) → TreeSpoils bytes t.root at want found → IsDamage bytes at want found) → SurveyRefused fault known bytes r
 trees_refused fault later known still bytes now tables r (inl none) more k same bad = inr (inl none)
 trees_refused fault later known still bytes now tables r (inr (t, among, inl failed)) more k same bad = inl (failed.0, more failed.1)
 trees_refused fault later known still bytes now tables r (inr (t, among, inr (inl none))) more k same bad = inr (inl none)
 trees_refused fault later known still bytes now tables r (inr (t, among, inr (inr (at, want, found, is, spoils)))) more k same bad =
-    inr (inr (inr (inr (at, want, found, is, λ h. bad h t among at want found (subst (λ (l : List ℕ). TreeSpoils l t.root at want found) same (spoils (k h)))))))
+    inr (inr (inr (at, want, found, is, λ h. bad h t among at want found (subst (λ (l : List ℕ). TreeSpoils l t.root at want found) same (spoils (k h))))))
+
+-- a recovery is refused for what a survey is
+pub survey_refused : (fault known : Type 0) (bytes : List ℕ) (r : Refusal) → SurveyRefused fault known bytes r → RecoveryRefused fault known bytes r
+survey_refused fault known bytes r (inl failed) = inl failed
+survey_refused fault known bytes r (inr (inl none)) = inr (inl none)
+survey_refused fault known bytes r (inr (inr (inl wide))) = inr (inr (inr (inl wide)))
+survey_refused fault known bytes r (inr (inr (inr damage))) = inr (inr (inr (inr damage)))
+
+pub survey_further : (fault later : Type 0) (h k : Type 0) (bytes : List ℕ) (r : Refusal) → SurveyRefused later k bytes r → (later → fault) → (h → k) → SurveyRefused fault h bytes r
+survey_further fault later h k bytes r (inl failed) more known = inl (failed.0, more failed.1)
+survey_further fault later h k bytes r (inr (inl none)) more known = inr (inl none)
+survey_further fault later h k bytes r (inr (inr (inl (is, why, shut)))) more known = inr (inr (inl (is, (λ x. why (known x)), λ x. shut (known x))))
+survey_further fault later h k bytes r (inr (inr (inr (at, want, found, is, why)))) more known = inr (inr (inr (at, want, found, is, λ x. why (known x))))
 
 -- ---- one tree
 
@@ -157,37 +184,31 @@ leaves_refused fault later known still bytes now root es read addrs r refused mo
 
 -- ---- the books
 
--- the blocks of trees at these places are theirs
-pub found_is : (bytes : List ℕ) (slot : Slot) (tables : List TableRoot) (ps : List TreePlace) (leaves : List (List Row)) → (are : TreesAre bytes tables ps leaves) → places_found slot ps ≡ blocks_found slot tables are.trees
-found_is bytes slot tables ps leaves are = ap (λ (l : List Found). record_found slot ∷ l) (placed_found ps tables are.trees are.stand)
-
-pub blocks_refused : (fault known : Type 0) (bytes : List ℕ) (slot : Slot) (names : Record) (ps : List TreePlace) (leaves : List (List Row)) (len : ℕ) (r : Refusal) → RefusesBlocks (places_found slot ps) len r → (known → len ≡ length bytes) → (known → Names bytes slot names) → IsBare names
-    → (known → TreesAre bytes names.tables ps leaves) → RecoveryRefused fault known bytes r
-blocks_refused fault known bytes slot names ps leaves len r (inl none) long there bare are = inr (inl none)
-blocks_refused fault known bytes slot names ps leaves len r (inr (i, within, is, why)) long there bare are =
-    let f = found_at (places_found slot ps) i in
-    inr (inr (inr (inr (
+pub blocks_refused : (fault known : Type 0) (bytes : List ℕ) (slot : Slot) (names : Record) (uppers : List Upper) (len : ℕ) (r : Refusal) → RefusesBlocks (uppers_found slot uppers) len r → (known → len ≡ length bytes) → (known → Names bytes slot names) → IsBare names
+    → (known → HaveUppers bytes names.tables uppers) → SurveyRefused fault known bytes r
+blocks_refused fault known bytes slot names uppers len r (inl none) long there bare have = inr (inl none)
+blocks_refused fault known bytes slot names uppers len r (inr (i, within, is, why)) long there bare have =
+    let f = found_at (uppers_found slot uppers) i in
+    inr (inr (inr (
       f.addr.offset,
       f.addr.sum,
       f.addr.sum,
       is,
-      λ k.
-          let same : places_found slot ps ≡ blocks_found slot names.tables (are k).trees = found_is bytes slot names.tables ps leaves (are k) in
-          inr (inr (inr (record {
-            slot = slot;
-            names = names;
-            there = there k;
-            bare = bare;
-            trees = (are k).trees;
-            have = (are k).have;
-            index = i;
-            within = subst (λ (l : List Found). i < length l) same within;
-            place = ap (λ (l : List Found). (found_at l i).addr.offset) same;
-            sum = ap (λ (l : List Found). (found_at l i).addr.sum) same;
-            same = refl;
-            why = subst (λ (l : List Found). CannotStand l (length bytes) i) same (subst (λ n. CannotStand (places_found slot ps) n i) (long k) why);
-          }))),
-    ))))
+      λ k. inr (inr (inr (record {
+        slot = slot;
+        names = names;
+        there = there k;
+        bare = bare;
+        uppers = uppers;
+        have = have k;
+        index = i;
+        within = within;
+        place = refl;
+        sum = refl;
+        same = refl;
+        why = subst (λ n. CannotStand (uppers_found slot uppers) n i) (long k) why;
+      }))),
+    )))
 
 -- ---- what was recovered
 
@@ -196,49 +217,76 @@ kept_rows : (r : Record) (trees : List TableTree) → map (kept_of r) (map tree_
 kept_rows r [] = refl
 kept_rows r (t ∷ trees) = ap (λ (l : List (List Row)). kept_of r (tree_rows t) ∷ l) (kept_rows r trees)
 
-pub recovered_is : (bytes : List ℕ) (slot : Slot) (r : Record) (ps : List TreePlace) (leaves : List (List Row)) (books : Books) (o : Recovered) → Names bytes slot r → IsSound slot r → TreesAre bytes r.tables ps leaves → AreStored (places_found slot ps) (length bytes)
-    → books.is_synced ≡ false → Counts (places_found slot ps) books → IsAssembled slot r ps leaves books o → IsRecovered bytes o
-recovered_is bytes slot r ps leaves books o names sound are stored fresh counts made = subst (λ (k : Option Kept). KeepsOr bytes o.place k) (sym made.is) (record {
+pub recovered_is : (bytes : List ℕ) (place : Place) (a : Above) (ps : List TreePlace) (leaves : List (List Row)) (o : Recovered) → Surveys bytes place a → a.record.run < last_number → TreesAre bytes a.record.tables ps leaves → IsAssembled place a.record ps leaves o → IsRecovered bytes o
+recovered_is bytes place a ps leaves o surveyed run are made = subst (λ (k : Option Kept). KeepsOr bytes o.place k) (sym made.is) (record {
   slot = slot;
   trees = trees;
-  serves = subst (λ (q : Record). Serves bytes o.place (Some (bare_stored slot q trees))) (sym made.names) there;
-  books = subst (λ (q : Record). Counts (blocks_found slot q.tables trees) o.place.blocks) (sym made.names) counted;
+  serves = subst (λ (q : Record). Serves bytes o.place (Some (bare_stored slot q trees))) (sym made.names) (subst (λ (p : Place). Serves bytes p (Some (bare_stored slot r trees))) (sym made.place) there);
+  books = subst (λ (q : Record). Counts (blocks_found slot q.tables trees) o.place.blocks) (sym made.names) (subst (λ (p : Place). Counts (blocks_found slot r.tables trees) p.blocks) (sym made.place) counted);
   kept = made.rows_are ∙ ap (λ (l : List (List Row)). map (kept_of r) l) are.rows_are ∙ kept_rows r trees ∙ ap (λ (q : Record). map {A = TableTree} (λ t. kept_of q (tree_rows t)) trees) (sym made.names);
   places = subst (λ (l : List TreePlace). ArePlaces l made.kept.record.tables trees) (sym made.places) (subst (λ (q : Record). ArePlaces ps q.tables trees) (sym made.names) are.stand);
-  bare = subst (λ (q : Record). IsBare q) (sym made.names) sound.bare;
-  run = subst (λ (q : Record). q.run < last_number) (sym made.names) sound.run;
-  sequence = ap (λ (q : Record). q.sequence) made.names ∙ sound.sequence;
+  bare = subst (λ (q : Record). IsBare q) (sym made.names) surveyed.bare;
+  run = subst (λ (q : Record). q.run < last_number) (sym made.names) run;
+  sequence = ap (λ (q : Record). q.sequence) made.names ∙ surveyed.names.sequence;
 })
   where
+    slot : Slot
+    slot = surveyed.slot
+
+    r : Record
+    r = a.record
+
     trees : List TableTree
     trees = are.trees
 
-    same : places_found slot ps ≡ blocks_found slot r.tables trees
-    same = found_is bytes slot r.tables ps leaves are
+    same : uppers_found slot a.uppers.items ≡ blocks_found slot r.tables trees
+    same = uppers_are bytes slot r.tables a.uppers.items trees surveyed.have are.have
 
-    counted : Counts (blocks_found slot r.tables trees) o.place.blocks
-    counted = subst (λ (b : Books). Counts (blocks_found slot r.tables trees) b) (sym made.place.1) (subst (λ (l : List Found). Counts l books) same counts)
+    counted : Counts (blocks_found slot r.tables trees) place.blocks
+    counted = subst (λ (l : List Found). Counts l place.blocks) same surveyed.books
 
-    there : Serves bytes o.place (Some (bare_stored slot r trees))
-    there =
-        serves bytes slot r trees names sound.bare are.have (subst (λ (l : List Found). AreStored l (length bytes)) same stored) o.place made.place.0 (ap (λ (b : Books). b.is_synced) made.place.1 ∙ fresh) counted.has
+    there : Serves bytes place (Some (bare_stored slot r trees))
+    there = serves bytes slot r trees surveyed.names surveyed.bare are.have (subst (λ (l : List Found). AreStored l (length bytes)) same surveyed.stored) place surveyed.stands surveyed.unsynced counted.has
 
-pub kept_in_form : (slot : Slot) (r : Record) (ps : List TreePlace) (leaves : List (List Row)) (books : Books) (o : Recovered) → IsSound slot r → length leaves ≡ length r.tables → placed_roots ps ≡ table_roots r.tables → IsAssembled slot r ps leaves books o → InForm o.kept
-kept_in_form slot r ps leaves books o sound count roots made = subst (λ (k : Option Kept). InForm k) (sym made.is) (record {
-  is_record = subst (λ (q : Record). IsRecord q) (sym made.names) sound.is_record;
-  bare = subst (λ (q : Record). IsBare q) (sym made.names) sound.bare;
-  run = subst (λ (q : Record). q.run < last_number) (sym made.names) sound.run;
+pub kept_in_form : (place : Place) (a : Above) (ps : List TreePlace) (leaves : List (List Row)) (o : Recovered) → AboveInForm a → a.record.run < last_number → length leaves ≡ length a.record.tables → placed_roots ps ≡ table_roots a.record.tables → IsAssembled place a.record ps leaves o → InForm o.kept
+kept_in_form place a ps leaves o form run count roots made = subst (λ (k : Option Kept). InForm k) (sym made.is) (record {
+  is_record = subst (λ (q : Record). IsRecord q) (sym made.names) form.is_record;
+  bare = subst (λ (q : Record). IsBare q) (sym made.names) form.bare;
+  run = subst (λ (q : Record). q.run < last_number) (sym made.names) run;
   roots = ap placed_roots made.places ∙ roots ∙ ap (λ (q : Record). table_roots q.tables) (sym made.names);
-  count = ap length made.rows_are ∙ length-map leaves (kept_of r) ∙ count ∙ ap (λ (q : Record). length q.tables) (sym made.names);
+  count = ap length made.rows_are ∙ length-map leaves (kept_of a.record) ∙ count ∙ ap (λ (q : Record). length q.tables) (sym made.names);
   leaves = leaves;
   kept = made.rows_are ∙ ap (λ (q : Record). map (kept_of q) leaves) (sym made.names);
 })
 
-pub none_in_form : (o : Recovered) → IsNothing o → InForm o.kept
-none_in_form o none = subst (λ (k : Option Kept). InForm k) (sym none.none) tt
+-- ---- what was surveyed
 
-pub nothing_is : (bytes : List ℕ) (o : Recovered) → IsNothing o → 8192 ≤ length bytes → Chooses bytes None → IsRecovered bytes o
-nothing_is bytes o none long shut = subst (λ (k : Option Kept). KeepsOr bytes o.place k) (sym none.none) (record {
+pub surveyed_is : (bytes : List ℕ) (slot : Slot) (r : Record) (uppers : List Upper) (books : Books) (o : Surveyed) → Names bytes slot r → IsSound slot r → HaveUppers bytes r.tables uppers → AreStored (uppers_found slot uppers) (length bytes) → books.is_synced ≡ false → Counts (uppers_found slot uppers) books
+    → IsPutTogether slot r uppers books o → IsSurveyed bytes o
+surveyed_is bytes slot r uppers books o names sound have stored fresh counts made = subst (λ (k : Option Above). SurveysOr bytes o.place k) (sym made.is) (record {
+  slot = slot;
+  stands = made.slot_is;
+  names = subst (λ (q : Record). Names bytes slot q) (sym made.names) names;
+  bare = subst (λ (q : Record). IsBare q) (sym made.names) sound.bare;
+  have = subst (λ (l : List Upper). HaveUppers bytes made.above.record.tables l) (sym made.uppers_are) (subst (λ (q : Record). HaveUppers bytes q.tables uppers) (sym made.names) have);
+  stored = subst (λ (l : List Upper). AreStored (uppers_found slot l) (length bytes)) (sym made.uppers_are) stored;
+  books = subst (λ (l : List Upper). Counts (uppers_found slot l) o.place.blocks) (sym made.uppers_are) (subst (λ (b : Books). Counts (uppers_found slot uppers) b) (sym made.blocks_are) counts);
+  unsynced = ap (λ (b : Books). b.is_synced) made.blocks_are ∙ fresh;
+})
+
+pub above_in_form : (slot : Slot) (r : Record) (uppers : List Upper) (books : Books) (o : Surveyed) → IsSound slot r → AllClimb uppers → length uppers ≡ length r.tables → IsPutTogether slot r uppers books o → InFormAbove o.above
+above_in_form slot r uppers books o sound climb count made = subst (λ (k : Option Above). InFormAbove k) (sym made.is) (record {
+  is_record = subst (λ (q : Record). IsRecord q) (sym made.names) sound.is_record;
+  bare = subst (λ (q : Record). IsBare q) (sym made.names) sound.bare;
+  climb = subst (λ (l : List Upper). AllClimb l) (sym made.uppers_are) climb;
+  count = ap (λ (l : List Upper). length l) made.uppers_are ∙ count ∙ ap (λ (q : Record). length q.tables) (sym made.names);
+})
+
+pub blank_in_form : (o : Surveyed) → IsBlankSurvey o → InFormAbove o.above
+blank_in_form o none = subst (λ (k : Option Above). InFormAbove k) (sym none.none) tt
+
+pub nothing_is : (bytes : List ℕ) (o : Surveyed) → IsBlankSurvey o → 8192 ≤ length bytes → Chooses bytes None → IsSurveyed bytes o
+nothing_is bytes o none long shut = subst (λ (k : Option Above). SurveysOr bytes o.place k) (sym none.none) (record {
   serves = record {
     still = record { long = long; shut = shut };
     slot = none.slot;
@@ -255,9 +303,9 @@ nothing_is bytes o none long shut = subst (λ (k : Option Kept). KeepsOr bytes o
 })
 
 -- a slot at fault
-pub slot_refused : (fault known : Type 0) (bytes : List ℕ) (r : Refusal) → ((r ≡ DiskFault) × fault) ⊎ ((at : ℕ) × (r ≡ Corrupt at 0 0)) → (known → (r ≡ DiskFault) ⊎ ((at : ℕ) × IsCorruptAt bytes at × (r ≡ Corrupt at 0 0))) → RecoveryRefused fault known bytes r
+pub slot_refused : (fault known : Type 0) (bytes : List ℕ) (r : Refusal) → ((r ≡ DiskFault) × fault) ⊎ ((at : ℕ) × (r ≡ Corrupt at 0 0)) → (known → (r ≡ DiskFault) ⊎ ((at : ℕ) × IsCorruptAt bytes at × (r ≡ Corrupt at 0 0))) → SurveyRefused fault known bytes r
 slot_refused fault known bytes r (inl failed) why = inl failed
-slot_refused fault known bytes r (inr (at, is)) why = inr (inr (inr (inr (
+slot_refused fault known bytes r (inr (at, is)) why = inr (inr (inr (
   at,
   0,
   0,
@@ -266,7 +314,7 @@ slot_refused fault known bytes r (inr (at, is)) why = inr (inr (inr (inr (
     | inl failed ↦ absurd (no_fault (sym failed ∙ is))
     | inr (place, corrupt, same) ↦ inl (record { corrupt = subst (λ (m : ℕ). IsCorruptAt bytes m) (one_place place at (sym same ∙ is)) corrupt; sums = (refl, refl) })
   ],
-))))
+)))
   where
     one_place : (x y : ℕ) → Corrupt x 0 0 ≡ Corrupt y 0 0 → x ≡ y
     one_place x y same = cc

@@ -3,7 +3,7 @@ use Rattle.std.proofs.Common.{◌≡◌, ℕ, ◌+◌, ◌<◌, ◌≤◌, List,
 use Rattle.std.specs.Prelude.{map, ◌==◌, if◌then◌else◌}
 use Rattle.std.specs.List.{AllByRecursion}
 use Rattle.std.proofs.lemmas.Bool.{cases_Bool}
-use Rattle.std.proofs.lemmas.List.{append-nil, map-append, take-append-drop, take_all, drop_all}
+use Rattle.std.proofs.lemmas.List.{append-nil, map-append, take-append-drop, take_all, drop_all, length-append}
 use Rattle.std.proofs.lemmas.List.Concat.{flat_map-append}
 use Rattle.checkpoint_record.proofs.Lists.{take_step}
 use Rattle.device_layout.specs.declared.addr.Addr.{Addr}
@@ -16,14 +16,23 @@ use Rattle.stored.specs.Records.{Root}
 use Rattle.device_leaf.specs.Leaves.{blocks_at}
 use Rattle.device_leaf.proofs.Shapes.{all_front, all_join}
 use Rattle.tree_open.specs.declared.place.TreePlace.{TreePlace}
-use Rattle.tree_open.specs.Trees.{InnerIs, HasTree, places, leaf_addrs, root_own}
+use Rattle.tree_open.specs.Trees.{InnerIs, HasTree, places, leaf_addr, leaf_addrs, root_own}
 use Rattle.tree_open.proofs.OneLayer.{AllAddressed, key_push, key_none}
-use Rattle.tree_open.proofs.Descent.{tree_read, one_inner}
+use Rattle.tree_open.proofs.Descent.{tree_read, one_inner, leaf_more}
 use Rattle.recover_open.specs.Leaves.{AreUnder, IsUnder, NoneUnder, AreLeaves, RowsAre, TreeIs}
+use Rattle.recover_open.specs.declared.check.Tally.{Tally}
+use Rattle.recover_open.specs.Tallies.{IsTallied}
 use Rattle.recover_open.proofs.Keys.{from_here}
 use Rattle.recover_open.specs.Damage.{EntrySpoils, LeavesSpoil, TreeSpoils}
 
 -- ---- one leaf more
+
+-- so many of the leaves of the first i entries are stored, and they have so many rows
+pub record AreTallied (bytes : List ℕ) (own : List Entry) (i kept cells : ℕ) : Type 0 where
+  pub leaves : List (List Row)
+  pub are : AreLeaves bytes (take i own) (first_key (drop i own)) leaves
+  pub stored : kept ≡ length (leaf_addrs (take i own))
+  pub versions : cells ≡ length (join leaves)
 
 leaves_push : (bytes : List ℕ) (front : List Entry) (e : Entry) (next : Option (List ℕ)) (leaves : List (List Row)) (rows : List Row) → AreLeaves bytes front (Some e.key) leaves → IsUnder bytes e next rows → AreLeaves bytes (front ++ e ∷ []) next (leaves ++ rows ∷ [])
 leaves_push bytes [] e next [] rows are is = (is, tt)
@@ -60,12 +69,11 @@ leaves_spoilt bytes own i e leaves at want found lt is are spoils =
       leaf = spoils;
     }
 
+are_whole : (bytes : List ℕ) (es : List Entry) (i : ℕ) (leaves : List (List Row)) → length es ≤ i → AreLeaves bytes (take i es) (first_key (drop i es)) leaves → AreLeaves bytes es None leaves
+are_whole bytes es i leaves le are = subst (λ (l : List Entry). AreLeaves bytes l None leaves) (take_all i es le) (subst (λ (l : List Entry). AreLeaves bytes (take i es) (first_key l) leaves) (drop_all i es le) are)
+
 pub leaves_whole : (bytes : List ℕ) (own : List Entry) (i : ℕ) (leaves : List (List Row)) (rows : List Row) → length own ≤ i → AreLeaves bytes (take i own) (first_key (drop i own)) leaves → rows ≡ join leaves → RowsAre bytes own rows
-leaves_whole bytes own i leaves rows le are is = record {
-  leaves = leaves;
-  are = subst (λ (l : List Entry). AreLeaves bytes l None leaves) (take_all i own le) (subst (λ (l : List Entry). AreLeaves bytes (take i own) (first_key l) leaves) (drop_all i own le) are);
-  joined = is;
-}
+leaves_whole bytes own i leaves rows le are is = record { leaves = leaves; are = are_whole bytes own i leaves le are; joined = is }
 
 -- ---- no leaves where one is not there
 
@@ -130,7 +138,7 @@ tree_leaves bytes root t has =
 
 -- ---- where the leaves stand
 
-leaf_places : (bytes : List ℕ) (es : List Entry) (next : Option (List ℕ)) (leaves : List (List Row)) → AreLeaves bytes es next leaves → places (leaf_blocks table_kind es leaves) ≡ leaf_addrs es
+pub leaf_places : (bytes : List ℕ) (es : List Entry) (next : Option (List ℕ)) (leaves : List (List Row)) → AreLeaves bytes es next leaves → places (leaf_blocks table_kind es leaves) ≡ leaf_addrs es
 leaf_places bytes [] next [] are = refl
 leaf_places bytes [] next (rows ∷ leaves) are = absurd are
 leaf_places bytes (e ∷ es) next [] are = absurd are
@@ -144,15 +152,6 @@ tree_places bytes root t has =
     let upper : List Block = inner_blocks table_kind (root_own root) t.layers in
     map-append {A = Block} (λ b. b.place) upper (leaf_blocks table_kind (bottom (root_own root) t.layers) t.leaves)
     ∙ ap (λ (l : List Addr). places upper ++ l) (leaf_places bytes (bottom (root_own root) t.layers) None t.leaves (tree_leaves bytes root t has))
-
--- two trees of one root stand in one place
-pub same_places : (bytes : List ℕ) (root : Root) (t u : TableTree) → HasTree bytes root t → HasTree bytes root u → places (tree_blocks table_kind (root_entry root.link) t) ≡ places (tree_blocks table_kind (root_entry root.link) u)
-same_places bytes root t u has other =
-    let one = one_inner bytes root (bottom (root_own root) t.layers) (bottom (root_own root) u.layers) (places (inner_blocks table_kind (root_own root) t.layers)) (places (inner_blocks table_kind (root_own root) u.layers)) (tree_read bytes root t has) (tree_read bytes root u other) in
-    tree_places bytes root t has
-    ∙ ap (λ (l : List Addr). l ++ leaf_addrs (bottom (root_own root) t.layers)) one.1
-    ∙ ap (λ (es : List Entry). places (inner_blocks table_kind (root_own root) u.layers) ++ leaf_addrs es) one.0
-    ∙ sym (tree_places bytes root u other)
 
 -- ---- the tree
 
@@ -200,3 +199,29 @@ spoilt_no_tree bytes root at want found t (inr leaf) has =
     let one = one_inner bytes root own leaf.es (places (inner_blocks table_kind (root_own root) t.layers)) leaf.addrs (tree_read bytes root t has) leaf.inner in
     let are : AreLeaves bytes leaf.es None t.leaves = subst (λ (l : List Entry). AreLeaves bytes l None t.leaves) one.0 (tree_leaves bytes root t has) in
     no_leaves bytes leaf.leaves.front leaf.leaves.entry leaf.leaves.others t.leaves leaf.leaves.leaf.none (subst (λ (l : List Entry). AreLeaves bytes l None t.leaves) leaf.leaves.is are)
+
+-- ---- what is counted of the leaves
+
+pub none_tallied : (bytes : List ℕ) (es : List Entry) → AreTallied bytes es 0 0 0
+none_tallied bytes es = record { leaves = []; are = tt; stored = refl; versions = refl }
+
+module _ (bytes : List ℕ) (es : List Entry) (i : ℕ) (e : Entry) (rows : List Row) (lt : i < length es) (is : e ≡ get_or es i e) (leaf : IsUnder bytes e (first_key (drop (i + 1) es)) rows) where
+  stored_more : length (leaf_addrs (take (i + 1) es)) ≡ length (leaf_addrs (take i es)) + length (leaf_addr e.link.addr)
+  stored_more =
+      ap (λ (l : List Addr). length l) (sym (leaf_more es i e e.link.addr [] (leaf_addrs (take i es)) (leaf_addrs (take i es) ++ leaf_addr e.link.addr) lt is refl refl refl)) ∙ length-append (leaf_addrs (take i es)) (leaf_addr e.link.addr)
+
+  pub tallied_more : (stored versions more total : ℕ) → AreTallied bytes es i stored versions → more ≡ stored + length (leaf_addr e.link.addr) → total ≡ versions + length rows → AreTallied bytes es (i + 1) more total
+  tallied_more stored versions more total was added also = record {
+    leaves = was.leaves ++ rows ∷ [];
+    are = leaves_more bytes es i e was.leaves rows lt is was.are leaf;
+    stored = added ∙ ap (λ n. n + length (leaf_addr e.link.addr)) was.stored ∙ sym stored_more;
+    versions = also ∙ ap (λ n. n + length rows) was.versions ∙ sym (length-append (join was.leaves) rows) ∙ ap (λ (l : List Row). length l) (sym (rows_push was.leaves rows));
+  }
+
+pub tallied_whole : (bytes : List ℕ) (es : List Entry) (i : ℕ) (t : Tally) → length es ≤ i → AreTallied bytes es i t.leaves t.versions → IsTallied bytes es t
+tallied_whole bytes es i t le was = record {
+  leaves = was.leaves;
+  are = are_whole bytes es i was.leaves le was.are;
+  stored = was.stored ∙ ap (λ (l : List Entry). length (leaf_addrs l)) (take_all i es le);
+  versions = was.versions;
+}

@@ -1,16 +1,18 @@
 -- Checkpoints without a history, and the trees of their tables.
 use Rattle.std.specs.Prelude.{◌≡◌, ℕ, List, [], ◌∷◌}
+use Rattle.std.specs.List.{AllByRecursion}
 use Rattle.device_layout.specs.declared.slot.Slot.{Slot}
 use Rattle.row_page.specs.Rows.{Row}
 use Rattle.leaf_rows.specs.declared.marks.Marks.{Marks}
 use Rattle.leaf_rows.specs.Contents.{seen_rows}
 use Rattle.stored.specs.Records.{TableRoot, Record}
 use Rattle.stored.specs.Tree.{join}
-use Rattle.stored.specs.TableTree.{TableTree}
+use Rattle.stored.specs.TableTree.{TableTree, Climbs}
 use Rattle.stored.specs.Stored.{Stored}
 use Rattle.device_leaf.specs.NoHistory.{no_root}
 use Rattle.tree_open.specs.declared.place.TreePlace.{TreePlace}
-use Rattle.tree_open.specs.Trees.{HasTree, IsPlaceOf}
+use Rattle.tree_open.specs.declared.place.Upper.{Upper}
+use Rattle.tree_open.specs.Trees.{InnerIs, HasTree, IsPlaceOf}
 
 -- the history has no records
 abbrev pub IsBare : Record → Type 0
@@ -42,6 +44,17 @@ HaveTrees bytes [] [] = Unit {0}
 HaveTrees bytes [] (tree ∷ trees) = ⊥
 HaveTrees bytes (t ∷ tables) [] = ⊥
 HaveTrees bytes (t ∷ tables) (tree ∷ trees) = HasTree bytes t.root tree × HaveTrees bytes tables trees
+
+-- the device has, for each table, what its tree has above its leaves
+abbrev pub HaveUppers : List ℕ → List TableRoot → List Upper → Type 0
+HaveUppers bytes [] [] = Unit {0}
+HaveUppers bytes [] (u ∷ uppers) = ⊥
+HaveUppers bytes (t ∷ tables) [] = ⊥
+HaveUppers bytes (t ∷ tables) (u ∷ uppers) = InnerIs bytes t.root u.entries.items u.addrs.items × HaveUppers bytes tables uppers
+
+-- the keys of each tree's entries ascend
+abbrev pub AllClimb : List Upper → Type 0
+AllClimb uppers = AllByRecursion (λ (u : Upper). Climbs u.entries.items) uppers
 
 -- each place is that of a table's tree
 abbrev pub ArePlaces : List TreePlace → List TableRoot → List TableTree → Type 0

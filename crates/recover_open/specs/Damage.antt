@@ -17,10 +17,10 @@ use Rattle.stored.specs.TableTree.{Entry, TableTree, table_kind, first_key, root
 use Rattle.stored.specs.Records.{Root, TableRoot, Record, record_image, IsRecord}
 use Rattle.stored.specs.Stored.{tables_blocks}
 use Rattle.device_leaf.specs.Damage.{IsChosen, SlotSpoils, record_found}
-use Rattle.tree_open.specs.declared.place.TreePlace.{TreePlace}
-use Rattle.tree_open.specs.Trees.{InnerIs}
+use Rattle.tree_open.specs.declared.place.Upper.{Upper}
+use Rattle.tree_open.specs.Trees.{InnerIs, leaf_addrs}
 use Rattle.tree_open.specs.Damage.{InnerSpoils}
-use Rattle.recover_open.specs.Bare.{IsBare, HaveTrees}
+use Rattle.recover_open.specs.Bare.{IsBare, HaveUppers}
 use Rattle.recover_open.specs.Leaves.{AreLeaves, NoneUnder}
 
 -- ---- the blocks in use
@@ -37,9 +37,12 @@ tree_found root t = map {A = Block} (λ b. found_there b.place) (tree_blocks tab
 abbrev pub blocks_found : Slot → List TableRoot → List TableTree → List Found
 blocks_found slot tables trees = record_found slot ∷ map {A = Block} (λ b. found_there b.place) (tables_blocks tables trees)
 
--- the same of trees that stand at these places
-abbrev pub places_found : Slot → List TreePlace → List Found
-places_found slot places = record_found slot ∷ flat_map (λ (p : TreePlace). map found_there p.addrs.items) places
+-- the same of a tree that has this above its leaves: its inner pages, and the leaves that stand somewhere
+abbrev pub upper_found : Upper → List Found
+upper_found u = map found_there u.addrs.items ++ map found_there (leaf_addrs u.entries.items)
+
+abbrev pub uppers_found : Slot → List Upper → List Found
+uppers_found slot uppers = record_found slot ∷ flat_map upper_found uppers
 
 -- ---- the record
 
@@ -111,20 +114,20 @@ pub record TablesSpoil (bytes : List ℕ) (at want found : ℕ) : Type 0 where
   pub among : IsAmong names.tables table
   pub tree : TreeSpoils bytes table.root at want found
 
--- blocks that cannot all be in use, told of the first that cannot stand beside those before it, with its sum twice
+-- Blocks that cannot all be in use, told of the first that cannot stand beside those before it, with its sum twice: the inner pages are there, and say where the leaves are to stand.
 pub record BlocksMeet (bytes : List ℕ) (at want found : ℕ) : Type 0 where
   pub slot : Slot
   pub names : Record
   pub there : Names bytes slot names
   pub bare : IsBare names
-  pub trees : List TableTree
-  pub have : HaveTrees bytes names.tables trees
+  pub uppers : List Upper
+  pub have : HaveUppers bytes names.tables uppers
   pub index : ℕ
-  pub within : index < length (blocks_found slot names.tables trees)
-  pub place : at ≡ (found_at (blocks_found slot names.tables trees) index).addr.offset
-  pub sum : want ≡ (found_at (blocks_found slot names.tables trees) index).addr.sum
+  pub within : index < length (uppers_found slot uppers)
+  pub place : at ≡ (found_at (uppers_found slot uppers) index).addr.offset
+  pub sum : want ≡ (found_at (uppers_found slot uppers) index).addr.sum
   pub same : found ≡ want
-  pub why : CannotStand (blocks_found slot names.tables trees) (length bytes) index
+  pub why : CannotStand (uppers_found slot uppers) (length bytes) index
 
 -- The device is damaged at an offset: one sum is wanted there, and the other found. The two are the same where the sum is not at fault.
 abbrev pub IsDamage : List ℕ → (at want found : ℕ) → Type 0

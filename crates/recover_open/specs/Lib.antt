@@ -2,3 +2,5 @@ pub mod Bare
 pub mod Leaves
 pub mod Damage
 pub mod Recoveries
+pub mod Surveys
+pub mod Tallies

@@ -1,19 +1,16 @@
 -- What a recovery finds, and why it finds nothing.
-use Rattle.std.specs.Prelude.{◌≡◌, ◌≢◌, ◌⊎◌, ℕ, ◌<◌, ◌≤◌, false, List, [], length, map, Option, Some, None}
+use Rattle.std.specs.Prelude.{◌≡◌, ◌⊎◌, ℕ, ◌<◌, false, List, [], length, map, Option, Some, None}
 use Rattle.failure.specs.Counts.{Rose}
 use Rattle.disk_model.specs.declared.disk.Disk.{Ghosts}
-use Rattle.extent_list.specs.Space.{space_of}
 use Rattle.block_mgr.specs.declared.found.Found.{Found}
 use Rattle.block_mgr.specs.Blocks.{Books}
-use Rattle.block_mgr.specs.Open.{found_at}
 use Rattle.device_layout.specs.declared.slot.Slot.{Slot}
-use Rattle.le_codec.specs.Images.{block_of}
 use Rattle.wt_code.specs.declared.refusals.Refusal.{Refusal}
 use Rattle.wt_code.specs.declared.refusals.Refusal.TheVariants.{Corrupt, DiskFault, NoMemory, Limit as Refusal_Limit}
 use Rattle.wt_code.specs.declared.refusals.Limit.TheVariants.{Checkpoints, Image}
 use Rattle.kv_model.specs.Content.{Content}
 use Rattle.row_page.specs.Rows.{Row}
-use Rattle.stored.specs.Records.{Root, TableRoot, Record, record_image, IsRecord}
+use Rattle.stored.specs.Records.{Root, TableRoot, Record, IsRecord}
 use Rattle.stored.specs.TableTree.{TableTree}
 use Rattle.stored.specs.Stored.{Stored, Reads, IsOn, IsBlank}
 use Rattle.device_leaf.specs.declared.place.Place.{Place}
@@ -23,7 +20,7 @@ use Rattle.tree_open.specs.Damage.{Refused}
 use Rattle.recover_open.specs.declared.opening.Kept.{Kept}
 use Rattle.recover_open.specs.declared.opening.Recovered.{Recovered}
 use Rattle.recover_open.specs.Bare.{IsBare, HaveTrees, ArePlaces, bare_stored, kept_of, tree_rows}
-use Rattle.recover_open.specs.Damage.{IsAmong, CannotStand, HasNoRecord, TreeSpoils, IsDamage, blocks_found}
+use Rattle.recover_open.specs.Damage.{IsAmong, TreeSpoils, IsDamage, blocks_found}
 
 -- the books have these blocks and no others in use, and no checkpoint runs
 pub record Counts (found : List Found) (books : Books) : Type 0 where
@@ -90,36 +87,6 @@ RefusesRecovery g known old new r = RecoveryRefused (Rose (g.faults old) (g.faul
 
 -- ---- the steps of a recovery
 
--- of the slot's sequence, bare, and another run may follow
-pub record IsSound (slot : Slot) (r : Record) : Type 0 where
-  pub is_record : IsRecord r
-  pub sequence : r.sequence ≡ slot.sequence
-  pub run : r.run < last_number
-  pub bare : IsBare r
-
--- the record of a block, which is sound
-pub record IsRecordOf (slot : Slot) (block : List ℕ) (r : Record) : Type 0 where
-  pub sound : IsSound slot r
-  pub is : block ≡ block_of (record_image r)
-
--- why a record is refused: it is not the slot's, no run may follow, or it is not bare
-abbrev pub RefusesRecord : Slot → Record → Refusal → Type 0
-RefusesRecord slot q r =
-    ((r ≡ Corrupt slot.offset slot.sum slot.sum) × (q.sequence ≢ slot.sequence))
-    ⊎ (((r ≡ Refusal_Limit Checkpoints) × (last_number ≤ q.run)) ⊎ ((r ≡ Refusal_Limit Image) × (IsBare q → ⊥)))
-
--- the block is that of a record with this
-abbrev pub IsBlockWith : List ℕ → (Record → Type 0) → Type 0
-IsBlockWith block P = (r : Record) × IsRecord r × (block ≡ block_of (record_image r)) × P r
-
--- why the record of a slot is not read
-abbrev pub RecordRefused : Slot → List ℕ → Refusal → Type 0
-RecordRefused slot block r =
-    (r ≡ NoMemory)
-    ⊎ (((r ≡ Corrupt slot.offset slot.sum slot.sum) × HasNoRecord slot block)
-    ⊎ (((r ≡ Refusal_Limit Checkpoints) × IsBlockWith block (λ q. last_number ≤ q.run))
-    ⊎ ((r ≡ Refusal_Limit Image) × IsBlockWith block (λ q. IsBare q → ⊥))))
-
 -- The device has a tree for each table: these are their places, and their rows.
 pub record TreesAre (bytes : List ℕ) (tables : List TableRoot) (places : List TreePlace) (leaves : List (List Row)) : Type 0 where
   pub trees : List TableTree
@@ -131,25 +98,11 @@ pub record TreesAre (bytes : List ℕ) (tables : List TableRoot) (places : List 
 abbrev pub TreesRefused : (fault known : Type 0) → List ℕ → List TableRoot → Refusal → Type 0
 TreesRefused fault known bytes tables r = (r ≡ NoMemory) ⊎ ((t : TableRoot) × IsAmong tables t × Refused fault known (TreeSpoils bytes t.root) r)
 
--- why the books of these blocks are not made: one cannot be in use beside those before it, on a device of this length
-abbrev pub RefusesBlocks : List Found → ℕ → Refusal → Type 0
-RefusesBlocks found len r =
-    (r ≡ NoMemory)
-    ⊎ ((i : ℕ) × (i < length found) × (r ≡ Corrupt (found_at found i).addr.offset (found_at found i).addr.sum (found_at found i).addr.sum) × CannotStand found len i)
-
--- what is put together of a record, the places and the rows of its trees, and the books
-pub record IsAssembled (slot : Slot) (r : Record) (trees : List TreePlace) (leaves : List (List Row)) (books : Books) (o : Recovered) : Type 0 where
-  pub place : (o.place.slot ≡ Some slot) × (o.place.blocks ≡ books)
+-- what is put together of a place, a record, and the places and the rows of its trees
+pub record IsAssembled (at : Place) (r : Record) (trees : List TreePlace) (leaves : List (List Row)) (o : Recovered) : Type 0 where
+  pub place : o.place ≡ at
   pub kept : Kept
   pub is : o.kept ≡ Some kept
   pub names : kept.record ≡ r
   pub places : kept.trees.items ≡ trees
   pub rows_are : kept.leaves.items ≡ map (kept_of r) leaves
-
--- what is found where no checkpoint was completed
-pub record IsNothing (o : Recovered) : Type 0 where
-  pub none : o.kept ≡ None
-  pub slot : o.place.slot ≡ None
-  pub space : o.place.blocks.space ≡ space_of []
-  pub unsynced : o.place.blocks.is_synced ≡ false
-  pub books : Counts [] o.place.blocks

@@ -2,14 +2,16 @@
 ghost use Rattle.std.specs.Prelude.{◌≡◌, ◌++◌, [], ◌∷◌, false, map, IfOk, IfErr, OnOk};
 ghost use Rattle.block_mgr.specs.Open.{AreStored};
 ghost use Rattle.device_leaf.specs.Openings.{HasBooks};
-ghost use Rattle.recover_open.specs.Damage.{found_there, places_found};
-ghost use Rattle.recover_open.specs.Recoveries.{RefusesBlocks};
+ghost use Rattle.tree_open.specs.Trees.{leaf_addr, leaf_addrs};
+ghost use Rattle.recover_open.specs.Damage.{found_there, upper_found, uppers_found};
+ghost use Rattle.recover_open.specs.Surveys.{RefusesBlocks};
 
 use crate::record::spoilt;
 use block_mgr::{Addr, Blocks, Found, Holder, OpenError};
 use failure::NoMemory;
+use inner_page::Entry;
 use std::alloc::Global;
-use tree_open::TreePlace;
+use tree_open::Upper;
 use turtle::Slot;
 use wt_code::Refusal;
 
@@ -21,16 +23,16 @@ const FOUND_MAX: usize = 0xffff_ffff;
 pub(crate) fn books(
     alloc: Global,
     slot: Slot,
-    trees: &[TreePlace],
+    uppers: &[Upper],
     len: u64,
 ) -> Result<Blocks, Refusal>
-    ensures books { IfOk result (HasBooks (places_found slot trees.now)) }
+    ensures books { IfOk result (HasBooks (uppers_found slot uppers.now)) }
     ensures fresh { IfOk result (λ s. s.is_synced ≡ false) }
     ensures idle { IfOk result (λ s. s.is_held ≡ false) }
-    ensures stored { OnOk result (AreStored (places_found slot trees.now) len) }
-    ensures err { IfErr result (RefusesBlocks (places_found slot trees.now) len) }
+    ensures stored { OnOk result (AreStored (uppers_found slot uppers.now) len) }
+    ensures err { IfErr result (RefusesBlocks (uppers_found slot uppers.now) len) }
 {
-    match found_of(alloc, slot, trees) {
+    match found_of(alloc, slot, uppers) {
         Err(NoMemory) => Err(Refusal::NoMemory),
         Ok(found) => books_of(alloc, &found, len),
     }
@@ -55,8 +57,8 @@ fn books_of(alloc: Global, found: &[Found], len: u64) -> Result<Blocks, Refusal>
 }
 
 // The blocks that are found: the record's first.
-fn found_of(alloc: Global, slot: Slot, trees: &[TreePlace]) -> Result<Vec<Found>, NoMemory>
-    ensures { IfOk result (λ v. v.items ≡ places_found slot trees.now) }
+fn found_of(alloc: Global, slot: Slot, uppers: &[Upper]) -> Result<Vec<Found>, NoMemory>
+    ensures { IfOk result (λ v. v.items ≡ uppers_found slot uppers.now) }
 {
     let mut found = Vec::new(alloc);
     let record = Found {
@@ -64,24 +66,57 @@ fn found_of(alloc: Global, slot: Slot, trees: &[TreePlace]) -> Result<Vec<Found>
         holder: Holder::Last,
     };
     push(&mut found, record)?;
-    for tree in trees {
-        put_tree(&mut found, &tree.addrs)?;
+    for upper in uppers {
+        put_tree(&mut found, upper)?;
     }
     Ok(found)
 }
 
-// The blocks of a tree.
-fn put_tree(found: &mut Vec<Found>, addrs: &[Addr]) -> Result<(), NoMemory>
+// The blocks of a tree: its inner pages, and its leaves that stand somewhere.
+fn put_tree(found: &mut Vec<Found>, upper: &Upper) -> Result<(), NoMemory>
+    ensures { OnOk result (found.new.items ≡ found.old.items ++ upper_found upper.now) }
+{
+    put_pages(found, &upper.addrs)?;
+    put_leaves(found, &upper.entries)
+}
+
+fn put_pages(found: &mut Vec<Found>, addrs: &[Addr]) -> Result<(), NoMemory>
     ensures { OnOk result (found.new.items ≡ found.old.items ++ map found_there addrs.now) }
 {
     for addr in addrs {
-        let block = Found {
-            addr: *addr,
-            holder: Holder::Tree,
-        };
-        push(found, block)?;
+        put_block(found, *addr)?;
     }
     Ok(())
+}
+
+fn put_leaves(found: &mut Vec<Found>, entries: &[Entry]) -> Result<(), NoMemory>
+    ensures { OnOk result (found.new.items ≡ found.old.items ++ map found_there (leaf_addrs entries.now)) }
+{
+    for entry in entries {
+        put_leaf(found, entry.link.addr)?;
+    }
+    Ok(())
+}
+
+// The block of a leaf, where it stands somewhere.
+fn put_leaf(found: &mut Vec<Found>, addr: Addr) -> Result<(), NoMemory>
+    ensures { OnOk result (found.new.items ≡ found.old.items ++ map found_there (leaf_addr addr)) }
+{
+    if addr.offset == 0 {
+        Ok(())
+    } else {
+        put_block(found, addr)
+    }
+}
+
+fn put_block(found: &mut Vec<Found>, addr: Addr) -> Result<(), NoMemory>
+    ensures { OnOk result (found.new.items ≡ found.old.items ++ found_there addr ∷ []) }
+{
+    let block = Found {
+        addr,
+        holder: Holder::Tree,
+    };
+    push(found, block)
 }
 
 fn push(found: &mut Vec<Found>, block: Found) -> Result<(), NoMemory>

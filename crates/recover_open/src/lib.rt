@@ -1,19 +1,24 @@
 //! The last completed checkpoint of a device: how it is found again.
 //!
-//! Promises that a recovery finds exactly what the device holds: the record of the checkpoint, of
-//! each table where its tree stands and the rows that an opening keeps, and the books of its blocks;
-//! and that a device which is refused as damaged reads as no content. A checkpoint with a history is
-//! refused as `75 limit image`. Leaves to the caller what the rows mean.
+//! Promises that a survey finds exactly what the device holds but for the leaves: the record of the
+//! checkpoint, of each table the entries of its leaves and where its inner pages stand, and the books
+//! of all blocks; that leaves are checked against their entries, and counted, without keeping a row;
+//! that a recovery finds all of it: of each table where its tree stands and the rows that an opening
+//! keeps; and that a device which is refused as damaged reads as no content. A checkpoint with a
+//! history is refused as `75 limit image`. Leaves to the caller what the rows mean.
 #![tactic(auto)]
 
 mod books;
+mod check;
 mod law;
 mod leaves;
 mod opening;
 mod record;
-#[cfg(test)]
-mod tests;
+mod surveying;
 mod trees;
+mod uppers;
 
+pub use check::{Tally, check_leaves};
 pub use law::a_damaged_device_reads_as_nothing;
 pub use opening::{Kept, Recovered, recover};
+pub use surveying::{Above, Surveyed, survey};

@@ -6,23 +6,22 @@ ghost use Rattle.device_leaf.specs.Damage.{IsChosen};
 ghost use Rattle.device_leaf.specs.NoHistory.{no_root};
 ghost use Rattle.recover_open.specs.Bare.{IsBare};
 ghost use Rattle.recover_open.specs.Damage.{Names};
-ghost use Rattle.recover_open.specs.Recoveries.{RefusesRecovery, IsSound, IsRecordOf, RecordRefused, RefusesRecord};
+ghost use Rattle.recover_open.specs.Surveys.{RefusesSurvey, IsSound, IsRecordOf, RecordRefused, RefusesRecord};
 
 use block_mgr::read_block;
 use checkpoint_record::{Record, Root, TableRoot, decode};
 use device_layout::Addr;
 use device_leaf::is_nowhere;
 use disk_model::Disk;
-use limits::NUMBER_MAX;
 use std::alloc::Global;
 use turtle::Slot;
 use wt_code::{Limit, Refusal};
 
-// The record that a slot names, of a bare checkpoint that another run may follow.
+// The record that a slot names, of a bare checkpoint.
 pub(crate) fn record_at<D: Disk>(alloc: Global, disk: &mut D, slot: Slot) -> Result<Record, Refusal>
     ensures ok { IsTrue (D.honest disk.old) → IsChosen (D.seen disk.old) slot → IfOk result (Names (D.seen disk.old) slot) }
     ensures sound { IfOk result (IsSound slot) }
-    ensures err { IfErr result (RefusesRecovery D.Disk (IsTrue (D.honest disk.old) × IsChosen (D.seen disk.old) slot) disk.old disk.new) }
+    ensures err { IfErr result (RefusesSurvey D.Disk (IsTrue (D.honest disk.old) × IsChosen (D.seen disk.old) slot) disk.old disk.new) }
     ensures looked { Looked D.Disk disk.old disk.new }
     ensures home { D.home disk.new ≡ D.home disk.old }
 {
@@ -55,7 +54,7 @@ fn suited(slot: Slot, found: Record) -> Result<Record, Refusal>
     }
 }
 
-// Why a record does not suit its slot, or is not one that is recovered.
+// Why a record does not suit its slot, or is not one that is surveyed.
 fn why_not(slot: Slot, found: &Record) -> Option<Refusal>
     requires { IsRecord found.now }
     ensures none { IfNone result (IsSound slot found.now) }
@@ -63,8 +62,6 @@ fn why_not(slot: Slot, found: &Record) -> Option<Refusal>
 {
     if found.sequence != slot.sequence {
         Some(no_record(slot))
-    } else if found.run >= NUMBER_MAX {
-        Some(Refusal::Limit(Limit::Checkpoints))
     } else if !is_bare(found) {
         Some(Refusal::Limit(Limit::Image))
     } else {

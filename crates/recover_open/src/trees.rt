@@ -2,9 +2,11 @@
 ghost use Rattle.std.specs.Prelude.{◌≡◌, ◌++◌, [], ◌∷◌, length, map, IfOk, IfErr, OnOk, IsTrue};
 ghost use Rattle.failure.specs.Counts.{Rose};
 ghost use Rattle.disk_model.specs.Crash.{Looked};
+ghost use Rattle.stored.specs.TableTree.{Climbs};
+ghost use Rattle.tree_open.specs.Trees.{InnerIs};
 ghost use Rattle.tree_open.specs.Damage.{Refused};
-ghost use Rattle.recover_open.specs.Bare.{kept_of, marks_of};
 ghost use Rattle.recover_open.specs.Leaves.{TreeIs};
+ghost use Rattle.recover_open.specs.Bare.{HaveUppers, AllClimb, kept_of, marks_of};
 ghost use Rattle.recover_open.specs.Damage.{TreeSpoils};
 ghost use Rattle.recover_open.specs.Recoveries.{TreesAre, TreesRefused, placed_roots, table_roots};
 
@@ -14,7 +16,7 @@ use disk_model::Disk;
 use failure::NoMemory;
 use leaf_rows::{Marks, Rows};
 use std::alloc::Global;
-use tree_open::{TreePlace, place_of, read_tree};
+use tree_open::{TreePlace, Upper, place_of};
 use wt_code::Refusal;
 
 // Where a tree stands, and its rows.
@@ -31,23 +33,28 @@ pub(crate) struct AllTrees {
     pub(crate) leaves: Vec<Rows>,
 }
 
-// The trees of the tables. `O(bytes)`, each block read once.
+// The trees of the tables, which have this above their leaves. `O(bytes)` of the leaves, each read
+// once.
 pub(crate) fn read_all<D: Disk>(
     alloc: Global,
     disk: &mut D,
     tables: &[TableRoot],
+    uppers: Vec<Upper>,
 ) -> Result<AllTrees, Refusal>
-    ensures ok { IsTrue (D.honest disk.old) → IfOk result (λ t. TreesAre (D.seen disk.old) tables.now t.places.items t.leaves.items) }
+    requires climb { AllClimb uppers.items }
+    requires count { length uppers.items ≡ length tables.now }
+    ensures ok { IsTrue (D.honest disk.old) → HaveUppers (D.seen disk.old) tables.now uppers.items → IfOk result (λ t. TreesAre (D.seen disk.old) tables.now t.places.items t.leaves.items) }
     ensures count { IfOk result (λ t. length t.leaves.items ≡ length tables.now) }
     ensures roots { IfOk result (λ t. placed_roots t.places.items ≡ table_roots tables.now) }
-    ensures err { IfErr result (TreesRefused (Rose (D.faults disk.old) (D.faults disk.new)) (IsTrue (D.honest disk.old)) (D.seen disk.old) tables.now) }
+    ensures err { IfErr result (TreesRefused (Rose (D.faults disk.old) (D.faults disk.new)) (IsTrue (D.honest disk.old) × HaveUppers (D.seen disk.old) tables.now uppers.items) (D.seen disk.old) tables.now) }
     ensures looked { Looked D.Disk disk.old disk.new }
     ensures home { D.home disk.new ≡ D.home disk.old }
 {
     let mut places = Vec::new(alloc);
     let mut leaves = Vec::new(alloc);
-    for table in tables {
-        let tree = match read_one(alloc, disk, root_of(table)) {
+    let mut i = 0;
+    for upper in uppers {
+        let tree = match read_one(alloc, disk, root_of(&tables[i]), upper) {
             Ok(tree) => tree,
             Err(refusal) => return Err(refusal),
         };
@@ -55,11 +62,12 @@ pub(crate) fn read_all<D: Disk>(
             Ok(()) => {}
             Err(NoMemory) => return Err(Refusal::NoMemory),
         }
+        i += 1;
     }
     Ok(AllTrees { places, leaves })
 }
 
-fn root_of(table: &TableRoot) -> Root
+pub(crate) fn root_of(table: &TableRoot) -> Root
     ensures { result ≡ table.now.root }
 {
     table.root
@@ -80,18 +88,20 @@ fn put_tree(
     Ok(())
 }
 
-// The tree of a root.
-fn read_one<D: Disk>(alloc: Global, disk: &mut D, root: Root) -> Result<OneTree, Refusal>
-    ensures ok { IsTrue (D.honest disk.old) → IfOk result (λ t. TreeIs (D.seen disk.old) root t.place t.rows) }
+// The tree of a root, which has this above its leaves.
+fn read_one<D: Disk>(
+    alloc: Global,
+    disk: &mut D,
+    root: Root,
+    upper: Upper,
+) -> Result<OneTree, Refusal>
+    requires { Climbs upper.entries.items }
+    ensures ok { IsTrue (D.honest disk.old) → InnerIs (D.seen disk.old) root upper.entries.items upper.addrs.items → IfOk result (λ t. TreeIs (D.seen disk.old) root t.place t.rows) }
     ensures root { IfOk result (λ t. t.place.root ≡ root) }
-    ensures err { IfErr result (Refused (Rose (D.faults disk.old) (D.faults disk.new)) (IsTrue (D.honest disk.old)) (TreeSpoils (D.seen disk.old) root)) }
+    ensures err { IfErr result (Refused (Rose (D.faults disk.old) (D.faults disk.new)) (IsTrue (D.honest disk.old) × InnerIs (D.seen disk.old) root upper.entries.items upper.addrs.items) (TreeSpoils (D.seen disk.old) root)) }
     ensures looked { Looked D.Disk disk.old disk.new }
     ensures home { D.home disk.new ≡ D.home disk.old }
 {
-    let upper = match read_tree(alloc, disk, root) {
-        Ok(upper) => upper,
-        Err(refusal) => return Err(refusal),
-    };
     let rows = match load_leaves(alloc, disk, &upper.entries) {
         Ok(rows) => rows,
         Err(refusal) => return Err(refusal),

@@ -4,6 +4,7 @@ pub mod SlotLemmas
 pub mod KeyOrder
 pub mod Looking
 pub mod ViewLemmas
+pub mod LastLeaves
 pub mod Standing
 pub mod SlotIds
 pub mod NewLeaves

@@ -2,7 +2,7 @@
 use Rattle.std.proofs.Common.{◌≡◌, ℕ, zero, suc, ◌<◌, true, false, List, [], ◌∷◌, length, get_or, Some, None, refl, arith}
 use Rattle.std.proofs.lemmas.Bool.{eq-eqb, ne_eqb}
 use Rattle.tree_dir.specs.declared.leaf.Leaf.{Leaf}
-use Rattle.tree_dir.specs.Leaves.{begins_by, leaf_ahead, leaf_behind, leaf_named, leaf_under, of_table}
+use Rattle.tree_dir.specs.Leaves.{begins_by, leaf_ahead, leaf_behind, leaf_last, leaf_named, leaf_under, of_table}
 
 -- ---- by id
 
@@ -25,6 +25,17 @@ pub under-at : (table : ℕ) (key : List ℕ) (leaves : List Leaf) (r : ℕ) (d 
 under-at table key [] r d lt here none = absurd (omega arith)
 under-at table key (x ∷ leaves) zero d lt here none = rw (under-none table key leaves d (λ k l. none (suc k) (omega arith) (omega arith)), here) refl
 under-at table key (x ∷ leaves) (suc r) d lt here none = rw (under-at table key leaves r d (omega arith) here (λ k l m. none (suc k) (omega arith) (omega arith))) refl
+
+-- ---- the last one
+
+pub last-none : (table : ℕ) (leaves : List Leaf) (d : Leaf) → ((k : ℕ) → k < length leaves → (get_or leaves k d).table ≡ table → ⊥) → leaf_last table leaves ≡ None
+last-none table [] d none = refl
+last-none table (x ∷ leaves) d none = rw (last-none table leaves d (λ k l. none (suc k) (omega arith)), ne_eqb x.table table (none 0 (omega arith))) refl
+
+pub last-at : (table : ℕ) (leaves : List Leaf) (r : ℕ) (d : Leaf) → r < length leaves → (get_or leaves r d).table ≡ table → ((k : ℕ) → r < k → k < length leaves → (get_or leaves k d).table ≡ table → ⊥) → leaf_last table leaves ≡ Some (get_or leaves r d)
+last-at table [] r d lt here none = absurd (omega arith)
+last-at table (x ∷ leaves) zero d lt here none = rw (last-none table leaves d (λ k l. none (suc k) (omega arith) (omega arith)), eq-eqb x.table table here) refl
+last-at table (x ∷ leaves) (suc r) d lt here none = rw (last-at table leaves r d (omega arith) here (λ k l m. none (suc k) (omega arith) (omega arith))) refl
 
 -- ---- beside another
 

@@ -8,14 +8,16 @@ use Rattle.std.proofs.lemmas.Bool.{and_from, and_parts, both_ways, cases_Bool, c
 use Rattle.std.proofs.lemmas.Cmp.{nat_list_cmp_total, tied_itself}
 use Rattle.std.proofs.lemmas.Option.{same_Some}
 use Rattle.std.proofs.lemmas.List.{get_or_default}
+use Rattle.std.specs.List.{Contains}
 use Rattle.row_page.specs.Rows.{is_below}
 use Rattle.stored.specs.TableTree.{ends_below}
 use Rattle.tree_dir.specs.declared.leaf.Leaf.{Leaf}
-use Rattle.tree_dir.specs.Leaves.{Directory, IsDirectory, begins_by, is_before, leaf_ahead, leaf_behind, leaf_under, of_table, place_key}
-use Rattle.tree_dir.specs.Ranges.{HasKey, HasUnder, KeysHaveLeaves, NextGoesOn, NextTurns, UnderHas, low_key}
+use Rattle.tree_dir.specs.Leaves.{Directory, IsDirectory, begins_by, is_before, is_first_of, leaf_ahead, leaf_behind, leaf_last, leaf_under, of_table, place_key}
+use Rattle.tree_dir.specs.Ranges.{FirstBegins, HasKey, HasUnder, IdsName, KeysHaveLeaves, LastEnds, NextGoesOn, NextTurns, PrevTurns, TablesEnd, UnderHas, low_key}
 use Rattle.tree_dir.specs.Slots.{no_leaf}
 use Rattle.tree_dir.proofs.KeyOrder.{begins-table, less-from, place-same, tables-less}
-use Rattle.tree_dir.proofs.Looking.{ahead-at, behind-at, behind-none, under-at}
+use Rattle.tree_dir.proofs.Looking.{ahead-at, ahead-none, behind-at, behind-none, named-at, under-at}
+use Rattle.tree_dir.proofs.Members.{split}
 
 -- the leaf at a place of the list
 abbrev at : Directory → ℕ → Leaf
@@ -227,3 +229,135 @@ next-turns d s l n c e =
     ahead-at (at d (suc r)).id d.leaves r no_leaf x.within (λ k lt same. s.once (suc k) (suc r) no_leaf (omega (arith, lt)) x.within same) refl
     ∙ rw (eq-eqb (at d r).table (at d (suc r)).table (sym x.same)) refl in
     sym (ap (λ (m : Leaf). leaf_ahead m.id d.leaves) x.is) ∙ (back ∙ ap (λ (m : Leaf). Some m) is)
+
+-- ---- the leaf before
+
+ahead-of : (d : Directory) (r : ℕ) → IsDirectory d → suc r < length d.leaves → leaf_ahead (at d (suc r)).id d.leaves ≡ of_table (at d (suc r)).table (at d r)
+ahead-of d r s lt = ahead-at (at d (suc r)).id d.leaves r no_leaf lt (λ k l same. s.once (suc k) (suc r) no_leaf (omega (arith, l)) lt same) refl
+
+ahead-start : (d : Directory) → IsDirectory d → leaf_ahead (at d 0).id d.leaves ≡ None
+ahead-start d s = ahead-none (at d 0).id d.leaves no_leaf (λ k lt e. s.once 0 (suc k) no_leaf (omega arith) lt (sym e))
+
+pub prev-turns : PrevTurns
+prev-turns d s l a c e = by c.0 c.1 (get_or_default d.leaves c.0 no_leaf l c.1 ∙ c.2) where
+  by : (r : ℕ) → r < length d.leaves → at d r ≡ l → Contains d.leaves a × (a.table ≡ l.table) × (leaf_behind a.id d.leaves ≡ Some l)
+  by zero lt is = let clash = sym (ahead-start d s) ∙ (ap (λ (m : Leaf). leaf_ahead m.id d.leaves) is ∙ e) in absurd cc
+  by (suc r) lt is =
+      let own = sym (ahead-of d r s lt) ∙ (ap (λ (m : Leaf). leaf_ahead m.id d.leaves) is ∙ e) in
+      elim (cases_eq (at d r).table (at d (suc r)).table) [
+        | inr other ↦ let clash = rw (ne_eqb (at d r).table (at d (suc r)).table other) at own in absurd cc
+        | inl same ↦
+            let it = same_Some (at d r) a (rw (eq-eqb (at d r).table (at d (suc r)).table same) at own) in
+            let next : leaf_behind (at d r).id d.leaves ≡ Some (at d (suc r)) = behind-next d r s lt ∙ rw (eq-eqb (at d (suc r)).table (at d r).table (sym same)) refl in (
+              (r, omega (arith, lt), get_or_default d.leaves r a no_leaf (omega (arith, lt)) ∙ it),
+              sym (ap (λ (m : Leaf). m.table) it) ∙ (same ∙ ap (λ (m : Leaf). m.table) is),
+              ap (λ (m : Leaf). leaf_behind m.id d.leaves) (sym it) ∙ (next ∙ ap (λ (m : Leaf). Some m) is),
+            )
+      ]
+
+pub first-begins : FirstBegins
+first-begins d s l c e = by c.0 c.1 (get_or_default d.leaves c.0 no_leaf l c.1 ∙ c.2) where
+  f : (first : Leaf) × Contains d.leaves first × is_first_of l.table first
+  f = s.begins l c
+
+  there : at d f.1.0 ≡ f.0
+  there = get_or_default d.leaves f.1.0 no_leaf f.0 f.1.1 ∙ f.1.2
+
+  by : (r : ℕ) → r < length d.leaves → at d r ≡ l → l.entry.key ≡ []
+  by r lt is = elim (cases_lt r f.1.0) [
+    | inl low ↦
+        let rise = low-up (at d r) (at d f.1.0) (ap (λ (m : Leaf). m.table) is ∙ (sym f.2.0 ∙ ap (λ (m : Leaf). m.table) (sym there))) (before d r f.1.0 s low f.1.1) in
+        let onto : is_below (at d r).entry.key [] ≡ true = subst (λ (k : List ℕ). is_below (at d r).entry.key k ≡ true) (ap (λ (m : Leaf). m.entry.key) there ∙ f.2.1) rise in
+        absurd (both_ways (is_below (at d r).entry.key []) (never-empty (at d r).entry.key) onto)
+    | inr ge ↦ elim (cases_eq r f.1.0) [
+      | inl same ↦ ap (λ (m : Leaf). m.entry.key) (sym is ∙ (ap (at d) same ∙ there)) ∙ f.2.1
+      | inr apart ↦ absurd (behind r lt is (omega (arith, ge, apart)))
+    ]
+  ] where
+    behind : (r : ℕ) → r < length d.leaves → at d r ≡ l → f.1.0 < r → ⊥
+    behind zero lt is low = omega (arith, low)
+    behind (suc r) lt is low =
+        let own = sym (ahead-of d r s lt) ∙ (ap (λ (m : Leaf). leaf_ahead m.id d.leaves) is ∙ e) in
+        let high = up d r (suc r) s (omega arith) lt in
+        let its = ap (λ (m : Leaf). m.table) is in
+        let first = ap (λ (m : Leaf). m.table) there ∙ f.2.0 in
+        let least : (at d f.1.0).table ≤ (at d r).table = elim (cases_lt f.1.0 r) [
+          | inl far ↦ up d f.1.0 r s far (omega (arith, lt))
+          | inr near ↦ let one : f.1.0 ≡ r = omega (arith, near, low) in let same = ap (λ (k : ℕ). (at d k).table) one in omega (arith, same)
+        ] in
+        let same : (at d r).table ≡ (at d (suc r)).table = omega (arith, high, its, first, least) in
+        let clash = rw (eq-eqb (at d r).table (at d (suc r)).table same) at own in absurd cc
+
+-- ---- the last leaf
+
+pub record IsEnd (table : ℕ) (leaves : List Leaf) (l : Leaf) : Type 0 where
+  pub r : ℕ
+  pub within : r < length leaves
+  pub is : get_or leaves r no_leaf ≡ l
+  pub own : l.table ≡ table
+  pub later : (k : ℕ) → r < k → k < length leaves → (get_or leaves k no_leaf).table ≡ table → ⊥
+
+none-of : (table : ℕ) (leaves : List Leaf) → leaf_last table leaves ≡ None → (k : ℕ) → k < length leaves → (get_or leaves k no_leaf).table ≡ table → ⊥
+none-of table [] e k lt same = omega (arith, lt)
+none-of table (x ∷ leaves) e k lt same = go (leaf_last table leaves) refl (none-of table leaves) k lt same where
+  go : (o : Option Leaf) → leaf_last table leaves ≡ o → (leaf_last table leaves ≡ None → (k : ℕ) → k < length leaves → (get_or leaves k no_leaf).table ≡ table → ⊥) → (k : ℕ) → k < suc (length leaves) → (get_or (x ∷ leaves) k no_leaf).table ≡ table → ⊥
+  go (Some m) h rest k lt same = let clash = sym (ap (λ (o : Option Leaf). option_or o (of_table table x)) h) ∙ e in absurd cc
+  go None h rest zero lt same =
+      let here = sym (ap (λ (o : Option Leaf). option_or o (of_table table x)) h) ∙ e in
+      let clash = rw (eq-eqb x.table table same) at here in absurd cc
+  go None h rest (suc k) lt same = rest h k (omega (arith, lt)) same
+
+end-is : (table : ℕ) (leaves : List Leaf) (l : Leaf) → leaf_last table leaves ≡ Some l → IsEnd table leaves l
+end-is table [] l e = absurd cc
+end-is table (x ∷ leaves) l e = go (leaf_last table leaves) refl (end-is table leaves l) where
+  go : (o : Option Leaf) → leaf_last table leaves ≡ o → (leaf_last table leaves ≡ Some l → IsEnd table leaves l) → IsEnd table (x ∷ leaves) l
+  go (Some m) h rest =
+      let same = same_Some m l (sym (ap (λ (o : Option Leaf). option_or o (of_table table x)) h) ∙ e) in
+      let more = rest (h ∙ ap (λ (y : Leaf). Some y) same) in
+      record {
+        r = suc more.r;
+        within = omega (arith, more.within);
+        is = more.is;
+        own = more.own;
+        later = λ k lt w its. let back : k ≡ suc (k - 1) = omega (arith, lt) in more.later (k - 1) (omega (arith, lt)) (omega (arith, w, back)) (subst (λ (j : ℕ). (get_or (x ∷ leaves) j no_leaf).table ≡ table) back its);
+      }
+  go None h rest =
+      let here = sym (ap (λ (o : Option Leaf). option_or o (of_table table x)) h) ∙ e in
+      elim (cases_eq x.table table) [
+        | inl t ↦
+            let same = same_Some x l (rw (eq-eqb x.table table t) at here) in
+            record {
+              r = 0;
+              within = omega arith;
+              is = same;
+              own = ap (λ (m : Leaf). m.table) (sym same) ∙ t;
+              later = λ k lt w its. let back : k ≡ suc (k - 1) = omega (arith, lt) in none-of table leaves h (k - 1) (omega (arith, w, back)) (subst (λ (j : ℕ). (get_or (x ∷ leaves) j no_leaf).table ≡ table) back its);
+            }
+        | inr f ↦ let clash = rw (ne_eqb x.table table f) at here in absurd cc
+      ]
+
+pub last-ends : LastEnds
+last-ends d s table l e =
+    let p = end-is table d.leaves l e in
+    let own = ap (λ (m : Leaf). m.table) p.is ∙ p.own in
+    let none : leaf_behind (at d p.r).id d.leaves ≡ None = elim (cases_lt (suc p.r) (length d.leaves)) [
+      | inr end ↦ behind-end d p.r s p.within end
+      | inl more ↦ behind-next d p.r s more ∙ rw (ne_eqb (at d (suc p.r)).table (at d p.r).table (λ same. p.later (suc p.r) (omega arith) more (same ∙ own))) refl
+    ] in
+    ((p.r, p.within, get_or_default d.leaves p.r l no_leaf p.within ∙ p.is), p.own, ap (λ (m : Leaf). leaf_behind m.id d.leaves) (sym p.is) ∙ none)
+
+pub tables-end : TablesEnd
+tables-end [] m c = absurd (omega (arith, c.1))
+tables-end (x ∷ leaves) m c = elim (split x m leaves c) [
+  | inr later ↦ let f = tables-end leaves m later in (f.0, ap (λ (o : Option Leaf). option_or o (of_table m.table x)) f.1)
+  | inl same ↦ go same (leaf_last m.table leaves) refl
+] where
+  go : x ≡ m → (o : Option Leaf) → leaf_last m.table leaves ≡ o → (l : Leaf) × (leaf_last m.table (x ∷ leaves) ≡ Some l)
+  go same (Some l) h = (l, ap (λ (o : Option Leaf). option_or o (of_table m.table x)) h)
+  go same None h = (x, ap (λ (o : Option Leaf). option_or o (of_table m.table x)) h ∙ rw (eq-eqb x.table m.table (ap (λ (y : Leaf). y.table) same)) refl)
+
+pub ids-name : IdsName
+ids-name d s l c =
+    let is = get_or_default d.leaves c.0 no_leaf l c.1 ∙ c.2 in
+    named-at l.id d.leaves c.0 no_leaf c.1 (λ k lt e. s.once k c.0 no_leaf lt c.1 (e ∙ sym (ap (λ (m : Leaf). m.id) is))) (ap (λ (m : Leaf). m.id) is)
+    ∙ ap (λ (m : Leaf). Some m) is

@@ -6,6 +6,7 @@ use Rattle.tree_dir.specs.Leaves.{Directory, IsDirectory, is_before}
 use Rattle.tree_dir.specs.Slots.{leaves_at}
 use Rattle.tree_dir.specs.Sound.{IsSound}
 use Rattle.tree_dir.proofs.SlotLemmas.{view-at, view-long, view-slot}
+use Rattle.tree_dir.proofs.LastLeaves.{order-few}
 use Rattle.tree_dir.proofs.ViewLemmas.{ids-once, nth, places-rise}
 
 abbrev pub shown : ℕ → List Leaf → List ℕ → Directory
@@ -27,4 +28,5 @@ stands serial slots order s =
           ap (λ (l : Leaf). is_before l (get_or (leaves_at slots order) j d)) (view-at slots order i d (omega (arith, lt, within)))
           ∙ (ap (is_before (nth slots order i)) (view-at slots order j d within) ∙ ap is_lt (places-rise slots order i j s.way lt within));
       begins = s.begins;
+      few = let most = order-few slots order s.way in omega (arith, long, most, s.few);
     }

@@ -1,5 +1,5 @@
 -- The leaves of all tables, in the order of their tables, and those of a table in that of their low keys; what is asked of them, and what calls make of them.
-use Rattle.std.specs.Prelude.{◌≡◌, ◌≢◌, ℕ, ◌<◌, Bool, true, ◌&&◌, ◌==◌, not, nat_lt, List, [], ◌∷◌, ◌++◌, length, map, find, filter, Option, Some, None, option_map, if◌then◌else◌}
+use Rattle.std.specs.Prelude.{◌≡◌, ◌≢◌, ℕ, ◌<◌, ◌≤◌, ◌^◌, Bool, true, ◌&&◌, ◌==◌, not, nat_lt, List, [], ◌∷◌, ◌++◌, length, map, find, filter, Option, Some, None, option_map, if◌then◌else◌}
 use Rattle.std.specs.Option.{option_or, option_to_list}
 use Rattle.std.specs.List.{All, AllPairs, Contains}
 use Rattle.row_page.specs.Rows.{is_below}
@@ -38,6 +38,7 @@ pub record IsDirectory (d : Directory) : Type 0 where
   pub once : AllPairs (λ a b. a.id ≢ b.id) d.leaves
   pub ascends : AllPairs (λ a b. is_before a b ≡ true) d.leaves
   pub begins : TablesBegin d.leaves
+  pub few : length d.leaves ≤ 2 ^ 28
 
 -- ---- what is asked
 
@@ -56,6 +57,11 @@ begins_by table key l = (l.table == table) && not (is_below key l.entry.key)
 abbrev pub leaf_under : ℕ → List ℕ → List Leaf → Option Leaf
 leaf_under table key [] = None
 leaf_under table key (l ∷ leaves) = option_or (leaf_under table key leaves) (if begins_by table key l then Some l else None)
+
+-- the last leaf of the table
+abbrev pub leaf_last : ℕ → List Leaf → Option Leaf
+leaf_last table [] = None
+leaf_last table (l ∷ leaves) = option_or (leaf_last table leaves) (of_table table l)
 
 -- the next leaf of the table of the leaf of this id
 abbrev pub leaf_behind : ℕ → List Leaf → Option Leaf

@@ -1,5 +1,5 @@
 -- The slots in the order of their tables, and in a table in that of their low keys.
-use Rattle.std.specs.Prelude.{◌≡◌, ℕ, ◌<◌, List, [], ◌∷◌, length, slice_get, Option, Some, None, if◌then◌else◌}
+use Rattle.std.specs.Prelude.{◌≡◌, ℕ, ◌<◌, nat_lt, List, [], ◌∷◌, length, slice_get, Option, Some, None, if◌then◌else◌}
 use Rattle.std.specs.List.{All, AllPairs, Contains}
 use Rattle.std.specs.Ordering.{nat_cmp}
 use Rattle.std.specs.Cmp.Lexicographic.{slice_cmp}
@@ -35,6 +35,11 @@ abbrev pub not_above : Ordering → Ordering
 not_above Less = Less
 not_above Equal = Less
 not_above Greater = Greater
+
+-- how the table of a leaf compares with this one; an equal one counts as below
+abbrev pub table_order : ℕ → Option Leaf → Ordering
+table_order table None = Less
+table_order table (Some l) = if nat_lt table l.table then Greater else Less
 
 -- leaves in their order, with one more
 abbrev pub with_leaf : Leaf → List Leaf → List Leaf

@@ -1,10 +1,10 @@
 -- The keys of a leaf, and how the leaves of a table part its keys.
-use Rattle.std.specs.Prelude.{◌≡◌, ℕ, true, List, Option, Some, None, IsTrue, not}
+use Rattle.std.specs.Prelude.{◌≡◌, ℕ, true, List, [], Option, Some, None, IsTrue, not}
 use Rattle.std.specs.List.{Contains}
 use Rattle.row_page.specs.Rows.{is_below}
 use Rattle.stored.specs.TableTree.{ends_below}
 use Rattle.tree_dir.specs.declared.leaf.Leaf.{Leaf}
-use Rattle.tree_dir.specs.Leaves.{Directory, IsDirectory, leaf_under, leaf_behind, leaf_ahead}
+use Rattle.tree_dir.specs.Leaves.{Directory, IsDirectory, leaf_named, leaf_under, leaf_last, leaf_behind, leaf_ahead}
 
 abbrev pub low_key : Option Leaf → Option (List ℕ)
 low_key None = None
@@ -35,3 +35,23 @@ NextGoesOn = (d : Directory) → IsDirectory d → (table : ℕ) (key : List ℕ
 -- the leaf before the next is the leaf
 abbrev pub NextTurns : Type 0
 NextTurns = (d : Directory) → IsDirectory d → (l n : Leaf) → Contains d.leaves l → leaf_behind l.id d.leaves ≡ Some n → leaf_ahead n.id d.leaves ≡ Some l
+
+-- the leaf behind the one before a leaf is that leaf
+abbrev pub PrevTurns : Type 0
+PrevTurns = (d : Directory) → IsDirectory d → (l a : Leaf) → Contains d.leaves l → leaf_ahead l.id d.leaves ≡ Some a → Contains d.leaves a × (a.table ≡ l.table) × (leaf_behind a.id d.leaves ≡ Some l)
+
+-- a leaf with none before it has the keys from the empty one on
+abbrev pub FirstBegins : Type 0
+FirstBegins = (d : Directory) → IsDirectory d → (l : Leaf) → Contains d.leaves l → leaf_ahead l.id d.leaves ≡ None → l.entry.key ≡ []
+
+-- the last leaf of a table is one of its leaves, and none of them is behind it
+abbrev pub LastEnds : Type 0
+LastEnds = (d : Directory) → IsDirectory d → (table : ℕ) (l : Leaf) → leaf_last table d.leaves ≡ Some l → Contains d.leaves l × (l.table ≡ table) × (leaf_behind l.id d.leaves ≡ None)
+
+-- a table that has a leaf has a last one
+abbrev pub TablesEnd : Type 0
+TablesEnd = (leaves : List Leaf) (m : Leaf) → Contains leaves m → (l : Leaf) × (leaf_last m.table leaves ≡ Some l)
+
+-- a leaf is found by its id
+abbrev pub IdsName : Type 0
+IdsName = (d : Directory) → IsDirectory d → (l : Leaf) → Contains d.leaves l → leaf_named l.id d.leaves ≡ Some l

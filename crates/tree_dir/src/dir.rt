@@ -3,11 +3,11 @@
 ghost use Rattle.std.specs.Prelude.{◌≡◌, ◌≢◌, ℕ, List, option_copied, option_map, OnOk, OnErr};
 ghost use Rattle.std.specs.Option.{option_and_then};
 ghost use Rattle.std.specs.List.{All};
-ghost use Rattle.tree_dir.specs.Leaves.{changed, in_frame, leaf_ahead, leaf_behind, leaf_named, leaf_under, led_to, no_leaves, AreTable, GaveWay, HasTable, IsDirectory, TakePlace};
+ghost use Rattle.tree_dir.specs.Leaves.{changed, in_frame, leaf_ahead, leaf_behind, leaf_last, leaf_named, leaf_under, led_to, no_leaves, AreTable, GaveWay, HasTable, IsDirectory, TakePlace};
 
 use crate::adding::add_leaves;
 use crate::leaf::{Framed, Leaf};
-use crate::neighbours::{id_ahead, id_behind, id_under};
+use crate::neighbours::{id_ahead, id_behind, id_last, id_under};
 use crate::replacing::replace_in;
 use crate::slots::{leaf_by_id, set_frame_in, set_link_in, slot_of};
 use device_layout::Link;
@@ -59,8 +59,8 @@ impl Dir {
         }
     }
 
-    /// Its ids are below the next one and no two are the same, its leaves ascend, and each table
-    /// has a leaf from the empty key on. For proofs: does nothing.
+    /// Its ids are below the next one and no two are the same, its leaves ascend, each table has a
+    /// leaf from the empty key on, and there are at most 2^28. For proofs: does nothing.
     pub fn stands(&self)
         ensures { IsDirectory self.now }
     {
@@ -96,6 +96,14 @@ impl Dir {
         ensures { result ≡ option_map (λ l. l.id) (leaf_under table key.now self.now.leaves) }
     {
         id_under(&self.slots, &self.order, table, key)
+    }
+
+    /// The last leaf of a table, none where there is no such table. `O(log n)` comparisons with n
+    /// leaves.
+    pub fn last_leaf(&self, table: u32) -> Option<u64>
+        ensures { result ≡ option_map (λ l. l.id) (leaf_last table self.now.leaves) }
+    {
+        id_last(&self.slots, &self.order, table)
     }
 
     /// The next leaf of a leaf's table, none where it is the last or there is no such leaf. `O(log n)`

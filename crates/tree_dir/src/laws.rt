@@ -1,6 +1,6 @@
 //! How the leaves of a table part its keys.
 
-ghost use Rattle.tree_dir.specs.Ranges.{HasUnder, KeysHaveLeaves, NextGoesOn, NextTurns, UnderHas};
+ghost use Rattle.tree_dir.specs.Ranges.{FirstBegins, HasUnder, IdsName, KeysHaveLeaves, LastEnds, NextGoesOn, NextTurns, PrevTurns, TablesEnd, UnderHas};
 
 /// The leaf under a key has it.
 pub fn under_has()
@@ -25,4 +25,29 @@ pub fn next_goes_on()
 /// The leaf before the next one is the leaf itself.
 pub fn next_turns()
     ensures { NextTurns }
+{}
+
+/// The leaf behind the one before a leaf is the leaf itself.
+pub fn prev_turns()
+    ensures { PrevTurns }
+{}
+
+/// The first leaf of a table begins at the empty key.
+pub fn first_begins()
+    ensures { FirstBegins }
+{}
+
+/// No leaf of a table is behind its last one.
+pub fn last_ends()
+    ensures { LastEnds }
+{}
+
+/// A table that is there has a last leaf.
+pub fn tables_end()
+    ensures { TablesEnd }
+{}
+
+/// A leaf is found by its id.
+pub fn ids_name()
+    ensures { IdsName }
 {}

@@ -3,7 +3,7 @@
 //! Stands for the list of the leaves in the order of their tables, and of each table in that of
 //! their low keys. They part the keys of a table: a leaf has the keys from its low key up to that of
 //! the next leaf, and the first begins at the empty key. Promises that a search gives the leaf that
-//! has a key, that the leaves beside a leaf are found, and that a table's leaves come, and a leaf
+//! has a key, that the last leaf of a table and the leaves beside a leaf are found, and that a table's leaves come, and a leaf
 //! gives way to others, whole or not at all. A leaf is named by an id that is never given again:
 //! where it gives way, each leaf in its place has a new one, so that whoever kept the old id, as a
 //! session its position, is told that the leaf is gone and finds its key again, in place of looking
@@ -31,6 +31,9 @@ pub use dir::Dir;
 pub use draft::PageDraft;
 pub use failure::NoMemory;
 pub use inner_page::Entry;
-pub use laws::{has_is_under, keys_have_leaves, next_goes_on, next_turns, under_has};
+pub use laws::{
+    first_begins, has_is_under, ids_name, keys_have_leaves, last_ends, next_goes_on, next_turns,
+    prev_turns, tables_end, under_has,
+};
 pub use leaf::{Framed, Leaf};
 pub use levels::{cut_level, levels_shrink};

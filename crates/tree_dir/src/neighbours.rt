@@ -1,14 +1,14 @@
-// The leaf under a key, and the leaves beside a leaf.
+// The leaf under a key, the last leaf of a table, and the leaves beside a leaf.
 
 ghost use Rattle.std.specs.Prelude.{◌≡◌, ◌<◌, length, option_map, slice_get};
 ghost use Rattle.ordered_groups.specs.Groups.{entries};
-ghost use Rattle.tree_dir.specs.Leaves.{leaf_ahead, leaf_behind, leaf_under};
+ghost use Rattle.tree_dir.specs.Leaves.{leaf_ahead, leaf_behind, leaf_last, leaf_under};
 ghost use Rattle.tree_dir.specs.Order.{IsWay};
 ghost use Rattle.tree_dir.specs.Slots.{if_of_table, leaf_at, leaves_at};
 ghost use Rattle.tree_dir.specs.Sound.{AreHome};
 
 use crate::leaf::Leaf;
-use crate::places::{gap_above, place_in, table_in};
+use crate::places::{gap_above, gap_behind, place_in, table_in};
 use ordered_groups::OrderedGroups;
 
 // The id of the leaf in a slot, where it is of this table.
@@ -33,6 +33,15 @@ pub(crate) fn id_under(
     ensures { result ≡ option_map (λ l. l.id) (leaf_under table key.now (leaves_at slots.now (entries order.now))) }
 {
     let gap = gap_above(slots, order, table, key);
+    let place = order.before_gap(gap)?;
+    id_in(slots, order.get(place), table)
+}
+
+pub(crate) fn id_last(slots: &[Leaf], order: &OrderedGroups<u32>, table: u32) -> Option<u64>
+    requires { IsWay slots.now (entries order.now) }
+    ensures { result ≡ option_map (λ l. l.id) (leaf_last table (leaves_at slots.now (entries order.now))) }
+{
+    let gap = gap_behind(slots, order, table);
     let place = order.before_gap(gap)?;
     id_in(slots, order.get(place), table)
 }

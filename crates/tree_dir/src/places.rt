@@ -1,13 +1,13 @@
 // Where leaves stand in the order of the slots.
 
-ghost use Rattle.std.specs.Prelude.{◌≡◌, ◌<◌, ◌∷◌, length, slice_index, IsSomeAnd, MatchResult};
+ghost use Rattle.std.specs.Prelude.{◌≡◌, ◌<◌, ◌∷◌, length, slice_get, slice_index, IsSomeAnd, MatchResult};
 ghost use Rattle.std.specs.Cmp.Lexicographic.{slice_cmp};
 ghost use Rattle.std.specs.Ordering.{nat_cmp};
 ghost use Rattle.ordered_groups.specs.Groups.{entries};
 ghost use Rattle.ordered_groups.specs.Places.{rank, Finds, IsGap, IsPlace, PartsAt};
 ghost use Rattle.tree_dir.specs.Leaves.{place_key};
 ghost use Rattle.tree_dir.specs.Slots.{leaf_at};
-ghost use Rattle.tree_dir.specs.Order.{not_above, rank_order, IsWay};
+ghost use Rattle.tree_dir.specs.Order.{not_above, rank_order, table_order, IsWay};
 
 use crate::leaf::Leaf;
 use ordered_groups::{OrderedGroups, Place};
@@ -60,6 +60,33 @@ pub(crate) fn gap_above(slots: &[Leaf], order: &OrderedGroups<u32>, table: u32, 
     ensures parts { PartsAt (λ i. not_above (rank_order slots.now (table ∷ key.now) i)) (entries order.now) (rank order.now result) }
 {
     match order.find(|slot: u32| not_above(compare(slots, slot, table, key))) {
+        Ok(place) => place,
+        Err(gap) => gap,
+    }
+}
+
+// An equal table counts as below.
+fn compare_tables(slots: &[Leaf], slot: u32, table: u32) -> Ordering
+    ensures { result ≡ table_order table (slice_get slots.now slot) }
+{
+    match slots.get(slot as usize) {
+        None => Ordering::Less,
+        Some(there) => {
+            if table < there.table {
+                Ordering::Greater
+            } else {
+                Ordering::Less
+            }
+        }
+    }
+}
+
+// The gap behind the slots whose tables are not above this one.
+pub(crate) fn gap_behind(slots: &[Leaf], order: &OrderedGroups<u32>, table: u32) -> Place
+    ensures gap { IsGap order.now result }
+    ensures parts { PartsAt (λ i. table_order table (slice_get slots.now i)) (entries order.now) (rank order.now result) }
+{
+    match order.find(|slot: u32| compare_tables(slots, slot, table)) {
         Ok(place) => place,
         Err(gap) => gap,
     }

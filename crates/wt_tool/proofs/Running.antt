@@ -25,12 +25,12 @@ use Rattle.ckpt_step.specs.Grounds.{AreRoots}
 use Rattle.engine_store.specs.declared.store.Store.{Store}
 use Rattle.engine_store.specs.Opened.{HasNumbers, IsOpened, OpenRefused}
 use Rattle.stored.proofs.Device.{one_content, one_stored}
-use Rattle.wt_line.specs.Line.{Asked, load, script}
+use Rattle.wt_line.specs.Line.{Asked, create, write, read, list, verify, script, dump, load}
 use Rattle.script_run.specs.Scripts.{Outside, counts}
 use Rattle.wt_tool.specs.Points.{Point, Ran, point_of, stops}
 use Rattle.engine_store.specs.Devices.{Installed, device_of, last_number, IsWide}
-use Rattle.wt_tool.specs.Openings.{RefusesOpening, MayOpen, Opens}
-use Rattle.wt_tool.specs.Commands.{Runs, RunsOpened}
+use Rattle.wt_tool.specs.Openings.{RefusesOpening, MayOpen, Opens, Opened}
+use Rattle.wt_tool.specs.Commands.{Runs, IsOnEngine}
 use Rattle.wt_tool.specs.Parts.{NoDamage, IsOpenedOn, Starts, Leaves, Loading, Reading, Scripting, met_of, end_of, silent_run}
 use Rattle.wt_tool.specs.Loads.{RunsLoad}
 use Rattle.wt_tool.specs.Top.{Went, Telling, IsSo, IsStatus, Tells, IsTold, IsCut, IsOpenable, Streams, Errors, lines, last_line, status_of, first_status, status_at}
@@ -90,7 +90,7 @@ open_further fault later h k bytes r (inl why) more known = inl (refused_further
 open_further fault later h k bytes r (inr (is, why)) more known = inr (is, λ x. why (known x))
 
 -- a device that reads as something is blank or has a checkpoint
-wide_of : (bytes : List ℕ) (content : Content) → Reads bytes content → ((s : Stored) → IsOn bytes s → IsBare s.kept → ⊥) → (IsBlank bytes → ⊥) → IsWide bytes
+pub wide_of : (bytes : List ℕ) (content : Content) → Reads bytes content → ((s : Stored) → IsOn bytes s → IsBare s.kept → ⊥) → (IsBlank bytes → ⊥) → IsWide bytes
 wide_of bytes content (inl (blank, is)) none shut = absurd (shut blank)
 wide_of bytes content (inr (s, on, is)) none shut = (s, on, none s on)
 
@@ -110,6 +110,28 @@ opens_of g m old mid looked = record { later = record { faults = looked.count; m
 
 pub opens_same : {D : Type 0} (g : Ghosts D) (m : Machine) (disk : D) → Opens (point_of g m disk) (point_of g m disk)
 opens_same g m disk = record { later = record { faults = omega arith; moment = omega arith }; machine = refl; seen = refl; capacity = refl }
+
+-- a command on an engine, where its opening is refused
+pub not_opened : (o : Outside) (asked : Asked) (p : Point) (ran : Ran) → IsOnEngine asked → (r : Refusal) × (q : Point) × Opens p q × RefusesOpening p q.device r × (ran ≡ stops r q) → Runs o asked p ran
+not_opened o (create config uri) p ran on why = inl why
+not_opened o (write overwrite uri pairs) p ran on why = inl why
+not_opened o (read uri keys) p ran on why = inl why
+not_opened o list p ran on why = inl why
+not_opened o (verify uri) p ran on why = absurd on
+not_opened o script p ran on why = inl why
+not_opened o (dump hex reverse uri) p ran on why = inl why
+not_opened o (load no_overwrite name) p ran on why = inl why
+
+-- any command, where memory is too short to begin
+pub not_begun : (o : Outside) (asked : Asked) (p : Point) → Opens p p → Runs o asked p (stops NoMemory p)
+not_begun o (create config uri) p same = inl (NoMemory, p, same, inr (inl refl), refl)
+not_begun o (write overwrite uri pairs) p same = inl (NoMemory, p, same, inr (inl refl), refl)
+not_begun o (read uri keys) p same = inl (NoMemory, p, same, inr (inl refl), refl)
+not_begun o list p same = inl (NoMemory, p, same, inr (inl refl), refl)
+not_begun o (verify uri) p same = inl (NoMemory, p, same, inr (inl refl), refl)
+not_begun o script p same = inl (NoMemory, p, same, inr (inl refl), refl)
+not_begun o (dump hex reverse uri) p same = inl (NoMemory, p, same, inr (inl refl), refl)
+not_begun o (load no_overwrite name) p same = inl (NoMemory, p, same, inr (inl refl), refl)
 
 -- ---- what is told
 
@@ -201,13 +223,28 @@ module _ {D : Type 0} (g : Ghosts D) (old new : D) (content : Content) (layered 
     stays = tt;
   }
 
+  -- a run that reads and prints nothing, and only looks at the disk
+  pub looked_went : (result : Result (Unit {0}) Refusal) (status : ℕ) → Runs o asked (point_of g (start content) old) (silent_run result [] (point_of g (start content) new)) → ((c : List ℕ) → g.may_leave new c → Reads c content) → ((c : List ℕ) → g.left_since new (g.moment old) c → Reads c content)
+      → Took w.out_before w.out_now [] → Tells w.errors (lines (met_of result)) (first_status (met_of result)) status → Ends status
+  looked_went result status run images since out told = record {
+    ran = silent_run result [] (point_of g (start content) new);
+    run = run;
+    there = refl;
+    taken = taken;
+    printed = inl out;
+    told = result_told w.errors result status told;
+    opens = inl (content, ((λ c left. images c left), layered), start_opens content layered);
+    ever = λ c left. inl (content, since c left, start_opens content layered);
+    stays = tt;
+  }
+
   -- a run of calls that read and print nothing, on a disk that was looked at before
   pub left_by_calls : (mid : D) (Allowed : Point → Ran → Type 0) (result : Result (Unit {0}) Refusal) (status : ℕ) → Opens (point_of g (start content) old) (point_of g (start content) mid) → MayOpen (point_of g (start content) old) → LeavesOnly g old mid (λ c. Reads c content)
-      → ((ran : Ran) → Allowed (point_of g (start content) mid) ran → RunsOpened o asked (point_of g (start content) mid) ran) → Leaves g Allowed content mid new result
+      → ((ran : Ran) → Opened Allowed (point_of g (start content) old) ran → Runs o asked (point_of g (start content) old) ran) → Leaves g Allowed content mid new result
       → Took w.out_before w.out_now [] → Tells w.errors (lines (met_of result)) (first_status (met_of result)) status → Ends status
   left_by_calls mid Allowed result status opened may first as_command left out told = record {
     ran = silent_run result left.made (point_of g left.next new);
-    run = inr (point_of g (start content) mid, opened, may, as_command (silent_run result left.made (point_of g left.next new)) left.run);
+    run = as_command (silent_run result left.made (point_of g left.next new)) (inr (point_of g (start content) mid, opened, may, left.run));
     there = refl;
     taken = taken;
     printed = inl out;
@@ -219,12 +256,12 @@ module _ {D : Type 0} (g : Ghosts D) (old new : D) (content : Content) (layered 
 
   -- a run of `read`
   pub reading_went : (Allowed : Point → Ran → Type 0) (status : ℕ) → Opens (point_of g (start content) old) (point_of g (start content) new) → MayOpen (point_of g (start content) old)
-      → ((ran : Ran) → Allowed (point_of g (start content) new) ran → RunsOpened o asked (point_of g (start content) new) ran)
+      → ((ran : Ran) → Opened Allowed (point_of g (start content) old) ran → Runs o asked (point_of g (start content) old) ran)
       → ((c : List ℕ) → g.may_leave new c → Reads c content) → ((c : List ℕ) → g.left_since new (g.moment old) c → Reads c content)
       → Reading Allowed (point_of g (start content) new) w.out_before w.out_now w.errors status → Ends status
   reading_went Allowed status opened may as_command images since went = record {
     ran = went.ran;
-    run = inr (point_of g (start content) new, opened, may, as_command went.ran went.run);
+    run = as_command went.ran (inr (point_of g (start content) new, opened, may, went.run));
     there = went.there;
     taken = subst (λ (l : List ℕ). Gave w.in_before w.in_now l) (sym went.silent) taken;
     printed = went.printed;

@@ -13,17 +13,18 @@ use Rattle.wt_tool.specs.Scripts.{RunsScript}
 use Rattle.wt_tool.specs.Dumps.{RunsDump}
 use Rattle.wt_tool.specs.Loads.{RunsLoad}
 
--- on the machine that the device opened to
-abbrev pub RunsOpened : Outside → Asked → Point → Ran → Type 0
-RunsOpened o (create config uri) p ran = RunsCreate config uri p ran
-RunsOpened o (write overwrite uri pairs) p ran = RunsWrite overwrite uri pairs p ran
-RunsOpened o (read uri keys) p ran = RunsRead o.output_failed uri keys p ran
-RunsOpened o list p ran = RunsList o.output_failed p ran
-RunsOpened o (verify uri) p ran = RunsVerify uri p ran
-RunsOpened o script p ran = RunsScript o p ran
-RunsOpened o (dump hex reverse uri) p ran = RunsDump o.output_failed hex reverse uri p ran
-RunsOpened o (load no_overwrite name) p ran = RunsLoad o.input_failed o.input_ended (not no_overwrite) name p ran
-
--- what a run of a command may give, from the point at which its device was handed in
+-- what a run of a command may give, from the point at which its device was handed in: on the machine that the device opens to, or, of `verify`, on the device itself
 abbrev pub Runs : Outside → Asked → Point → Ran → Type 0
-Runs o asked p ran = Opened (RunsOpened o asked) p ran
+Runs o (create config uri) p ran = Opened (RunsCreate config uri) p ran
+Runs o (write overwrite uri pairs) p ran = Opened (RunsWrite overwrite uri pairs) p ran
+Runs o (read uri keys) p ran = Opened (RunsRead o.output_failed uri keys) p ran
+Runs o list p ran = Opened (RunsList o.output_failed) p ran
+Runs o (verify uri) p ran = RunsVerify uri p ran
+Runs o script p ran = Opened (RunsScript o) p ran
+Runs o (dump hex reverse uri) p ran = Opened (RunsDump o.output_failed hex reverse uri) p ran
+Runs o (load no_overwrite name) p ran = Opened (RunsLoad o.input_failed o.input_ended (not no_overwrite) name) p ran
+
+-- the command runs on an engine
+abbrev pub IsOnEngine : Asked → Type 0
+IsOnEngine (verify uri) = ⊥
+IsOnEngine _ = Unit {0}

@@ -1,4 +1,4 @@
--- The commands that are still to come, as far as they can be said before their crates. No contract cites this file: with its code a command takes its part into a file of its own, its constructor into `Asked` and its case into `RunsOpened`, and nothing else of the contract changes.
+-- The commands that are still to come, as far as they can be said before their crates. No contract cites this file: with its code a command takes its part into a file of its own, its constructor into `Asked` and its case into `Runs`, and nothing else of the contract changes.
 use Rattle.std.specs.Prelude.{◌≡◌, ◌⊎◌, ℕ, ◌+◌, ◌*◌, ◌%◌, ◌/◌, ◌^◌, zero, suc, List, [], ◌∷◌, ◌++◌}
 use Rattle.item.specs.declared.formats.Formats.{Formats}
 use Rattle.wt_code.specs.declared.answers.Answer.{Answer}

@@ -4,6 +4,7 @@ ghost use Rattle.std.specs.String.{string_bytes};
 ghost use Rattle.failure.specs.Counts.{Rose};
 ghost use Rattle.wt_io.specs.Streams.{Took};
 ghost use Rattle.wt_line.specs.Line.{command_of, meaning};
+ghost use Rattle.wt_tool.specs.Commands.{IsOnEngine};
 ghost use Rattle.wt_tool.specs.Parts.{WentFrom, met_of};
 ghost use Rattle.wt_tool.specs.Top.{Promise, Tells, Telling, IsSo, IsAt, IsOpenable, IsStatus, errors_of, lines, first_status};
 
@@ -87,6 +88,37 @@ fn run<S: Source, K: Sink, E: Sink, D: Home>(
     ensures output_fault { result ≡ 6 → Rose (K.fault_count out.old) (K.fault_count out.new) }
     ensures honest { D.honest disk.new ≡ D.honest disk.old }
 {
+    match command {
+        Command::Verify { uri } => {
+            let result = verify(alloc, disk, home, *uri);
+            told(alloc, err, &result)
+        }
+        _ => run_opened(alloc, command, home, input, out, err, disk),
+    }
+}
+
+// A run of a command on an engine that starts on what the device holds.
+fn run_opened<S: Source, K: Sink, E: Sink, D: Home>(
+    alloc: Global,
+    command: &Command<'_>,
+    home: &str,
+    input: &mut S,
+    out: &mut K,
+    err: &mut E,
+    disk: &mut D,
+) -> u8
+    requires { IsOnEngine (meaning command.now) }
+    ensures run { WentFrom D.Disk S.Source K.Sink E.Sink (meaning command.now) input.old input.new out.old out.new err.old err.new disk.old disk.new result }
+    ensures told { Telling (IsSo (IsTrue (D.honest disk.old)) (D.seen disk.old) (D.seen disk.new)) (errors_of E.Sink err.old err.new) result }
+    ensures opened { IsTrue (D.honest disk.old) → result ≡ 0 → IsOpenable (D.seen disk.old) }
+    ensures silent { IsTrue (D.honest disk.old) → Took (K.written out.old) (K.written out.new) [] ⊎ IsOpenable (D.seen disk.old) }
+    ensures home { IsAt D.Disk home.now disk.old disk.new result }
+    ensures statuses { IsStatus result }
+    ensures disk_fault { result ≡ 4 → Rose (D.faults disk.old) (D.faults disk.new) }
+    ensures input_fault { result ≡ 5 → Rose (S.fault_count input.old) (S.fault_count input.new) }
+    ensures output_fault { result ≡ 6 → Rose (K.fault_count out.old) (K.fault_count out.new) }
+    ensures honest { D.honest disk.new ≡ D.honest disk.old }
+{
     let store = match reach(alloc, disk, home) {
         Ok(store) => store,
         Err(refusal) => return report(alloc, err, &refusal),
@@ -106,7 +138,7 @@ fn run<S: Source, K: Sink, E: Sink, D: Home>(
         }
         Command::Read { uri, keys } => read(alloc, out, err, store.engine, uri, keys),
         Command::List => list(alloc, out, err, store.engine),
-        Command::Verify { uri } => verify(alloc, err, store.engine, *uri),
+        Command::Verify { .. } => unreachable!(),
         Command::Script => script(alloc, disk, store, input, out, err),
         Command::Dump { hex, reverse, uri } => {
             dump(alloc, out, err, store.engine, *hex, *reverse, uri)

@@ -3,7 +3,7 @@ use Rattle.block_mgr.specs.declared.found.Found.{Found}
 use Rattle.block_mgr.specs.Open.{AreStored}
 use Rattle.device_leaf.specs.Openings.{HasBooks}
 use Rattle.device_leaf.proofs.Opens.{ok_map, err_map}
-use Rattle.recover_open.specs.Recoveries.{RefusesBlocks}
+use Rattle.recover_open.specs.Surveys.{RefusesBlocks}
 use Rattle.recover_open.proofs.books.books.Goals as goal
 
 pub returns-in-Ok-clause-books : goal.returns-in-Ok-clause-books

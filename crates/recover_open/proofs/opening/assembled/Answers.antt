@@ -7,7 +7,7 @@ use Rattle.recover_open.proofs.opening.assembled.Goals as goal
 
 pub returns : goal.returns
 returns c = record {
-  place = (refl, refl);
+  place = refl;
   kept = record { «record» = c.args.found; trees = c.args.trees.places; leaves = with_items c.args.trees.leaves c.keep_all.new.leaves };
   is = refl;
   names = refl;

@@ -10,7 +10,7 @@ returns-in-Err-clause-err g c =
       | inl none ↦ inr (inl none)
       | inr rest ↦ elim rest [
         | inl fault ↦ inl fault
-        | inr (found, is) ↦ inr (inr (inr (inr (c.addr.result.offset, c.addr.result.sum, found, is, λ h. inr (inl (record_spoilt (D.seen c.args.disk.now) c.args.slot c.addr.result found c.addr.ensures h.1 (c.in-Err.ensures.corrupt h.0 _ _ found is).2))))))
+        | inr (found, is) ↦ inr (inr (inr (c.addr.result.offset, c.addr.result.sum, found, is, λ h. inr (inl (record_spoilt (D.seen c.args.disk.now) c.args.slot c.addr.result found c.addr.ensures h.1 (c.in-Err.ensures.corrupt h.0 _ _ found is).2)))))
       ]
     ]
 

@@ -7,7 +7,7 @@ use Rattle.script_run.specs.declared.script.End.TheVariants.{Stopped}
 use Rattle.script_run.specs.Scripts.{outside}
 use Rattle.wt_tool.specs.Points.{point_of}
 use Rattle.wt_tool.specs.Top.{Errors, IsAt, Went, errors_of, streams_of, usage, lines}
-use Rattle.wt_tool.proofs.Running.{opens_same, gave_none, cut_all, told_all, stopped}
+use Rattle.wt_tool.proofs.Running.{opens_same, not_begun, gave_none, cut_all, told_all, stopped}
 use Rattle.wt_tool.proofs.top.wt_plain.Goals as goal
 
 none_some : (a : Option Asked) (asked : Asked) → a ≡ None → a ≡ Some asked → ⊥
@@ -40,7 +40,7 @@ returns-in-Err-NoMemory g c =
       run = λ h content each asked is.
           stopped D c.args.disk c.args.disk content each.1 (outside g.S.Source g.K.Sink c.args.input.now c.args.input.now c.args.out.now c.args.out.now) asked
           (streams_of g.S.Source g.K.Sink g.E.Sink c.args.input.now c.args.input.now c.args.out.now c.args.out.now c.args.err.now c.args.err.now) (gave_none _) NoMemory 12
-          (inl (NoMemory, point_of D (start content) c.args.disk, opens_same D (start content) c.args.disk, inr (inl refl), refl))
+          (not_begun (outside g.S.Source g.K.Sink c.args.input.now c.args.input.now c.args.out.now c.args.out.now) asked (point_of D (start content) c.args.disk) (opens_same D (start content) c.args.disk))
           (λ d left. each.0 d left) (λ d left. each.0 d (g.met.D.Disk.only_now c.args.disk d left)) (took_none _) (inr (cut_all e (lines (NoMemory ∷ [])) (omega arith) (took_none _), refl));
       usage_told = λ none. (inr (cut_all e usage (omega arith) (took_none _), refl), took_none _, refl, refl);
       told = λ asked is. record { refusals = NoMemory ∷ []; each = (tt, tt); replies = []; end = Stopped NoMemory; told = inr (cut_all e _ (omega arith) (took_none _), refl) };

@@ -13,6 +13,8 @@ use Rattle.call_steps.specs.declared.reply.Reply.TheVariants as reply
 use Rattle.call_steps.specs.declared.frame.FramePiece.{FramePiece}
 use Rattle.call_steps.specs.State.{opened}
 use Rattle.engine_world.specs.Laws.{IsViewOf, Leads}
+use Rattle.engine_world.specs.Leaves.{frame_in}
+use Rattle.engine.proofs.FreeFrames.{event-free}
 use Rattle.engine.proofs.Ending.{keeps-from}
 use Rattle.engine.specs.Events.{HasWorld, IsFrameEvent}
 use Rattle.engine.proofs.Driving.{frame-step}
@@ -78,6 +80,8 @@ returns-in-Some c = record {
     pieces = ap length pieces-are ∙ (c.frame_step.auto.pieces ∙ ap length c.as_mut_slice.ensures.value);
     states = refl;
     tables = refl;
+    dir = refl;
+    free = λ frame none. ap (λ (ps : List FramePiece). frame_in ps frame) pieces-are ∙ event-free c.in-Some.view c.args.session c.args.frame e.pieces c.frame_step.new.pieces e.sessions c.frame_step.new.sessions made frame none;
     sizes = λ fit.
         subst (λ ps. SizesFit (record e { pieces = ps; sessions = (with_items c.self.inside.sessions c.frame_step.new.sessions).items })) (sym pieces-are)
         (subst (λ ss. SizesFit (record e { pieces = c.frame_step.new.pieces; sessions = ss })) (sym sessions-are)

@@ -26,7 +26,7 @@ hub_event-requires c = seated-at e c.args.session c.index_mut.result.now (subst 
 pub returns : goal.returns
 returns c = record {
   step = λ w st. hub-step laws e c.args.session c.index_mut.result.now c.hub_event.new.state c.hub_event.new.hub c.hub_event.result at on c.hub_event.ensures w (subst (λ (x : Engine). Stands x w) (sym c.self.view_is) st);
-  kept = keeps-from e c.args.self.now c.self.view_is (record { systems = refl; pieces = refl; states = refl; tables = ap (λ (m : Made). m.1.0.tables) c.hub_event.ensures ∙ hub-keeps e.hub c.args.session c.index_mut.result.now; sizes = hub-sizes e c.args.session c.index_mut.result.now c.hub_event.new.state c.hub_event.new.hub c.hub_event.result at c.hub_event.ensures });
+  kept = keeps-from e c.args.self.now c.self.view_is (record { systems = refl; pieces = refl; states = refl; tables = ap (λ (m : Made). m.1.0.tables) c.hub_event.ensures ∙ (hub-keeps e.hub c.args.session c.index_mut.result.now).0; dir = ap (λ (m : Made). m.1.0.dir) c.hub_event.ensures ∙ (hub-keeps e.hub c.args.session c.index_mut.result.now).1; free = λ frame none. none; sizes = hub-sizes e c.args.session c.index_mut.result.now c.hub_event.new.state c.hub_event.new.hub c.hub_event.result at c.hub_event.ensures });
 } where
   e : Engine
   e = record { hub = c.self.inside.hub; pieces = c.self.inside.pieces.items; states = c.self.inside.states.items; hazards = c.self.inside.hazards.items; sessions = c.self.inside.sessions.items; systems = c.self.inside.systems.items }
@@ -44,6 +44,7 @@ returns c = record {
   laws = record {
     begins = c.begins_go.ensures;
     finds = c.finds_go.ensures;
+    passes = c.passes_go.ensures;
     histories = c.histories_go.ensures;
     releases = c.releases_go.ensures;
     decides = c.decides_go.ensures;

@@ -12,7 +12,7 @@ use Rattle.engine.proofs.parts.Parts.load.Goals as goal
 pub returns : goal.returns
 returns c = record {
   step = λ w st. load-step c.loads_go.ensures e c.args.session c.args.frame c.word_at-seen.result c.index_mut.result.now c.loaded.new.self at on seen c.loaded.ensures w (subst (λ (x : Engine). Stands x w) (sym c.self.view_is) st);
-  kept = keeps-from e c.args.self.now c.self.view_is (record { systems = refl; pieces = refl; states = refl; tables = refl; sizes = load-sizes e c.args.session c.word_at-seen.result c.index_mut.result.now c.loaded.new.self at c.loaded.ensures });
+  kept = keeps-from e c.args.self.now c.self.view_is (record { systems = refl; pieces = refl; states = refl; tables = refl; dir = refl; free = λ frame none. none; sizes = load-sizes e c.args.session c.word_at-seen.result c.index_mut.result.now c.loaded.new.self at c.loaded.ensures });
 } where
   e : Engine
   e = record { hub = c.self.inside.hub; pieces = c.self.inside.pieces.items; states = c.self.inside.states.items; hazards = c.self.inside.hazards.items; sessions = c.self.inside.sessions.items; systems = c.self.inside.systems.items }

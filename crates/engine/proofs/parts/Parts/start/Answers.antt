@@ -9,7 +9,7 @@ use Rattle.engine.proofs.parts.Parts.start.Goals as goal
 pub returns : goal.returns
 returns c = record {
   begun = λ w st. start-step c.starts_go.ensures e c.args.session c.index_mut.result.now c.start.new.self c.args.call c.start.result at c.start.ensures w (subst (λ (x : Engine). Stands x w) (sym c.self.view_is) st);
-  kept = keeps-from e c.args.self.now c.self.view_is (record { systems = refl; pieces = refl; states = refl; tables = refl; sizes = start-sizes e c.args.session c.index_mut.result.now c.start.new.self c.args.call c.start.result at c.start.ensures });
+  kept = keeps-from e c.args.self.now c.self.view_is (record { systems = refl; pieces = refl; states = refl; tables = refl; dir = refl; free = λ frame none. none; sizes = start-sizes e c.args.session c.index_mut.result.now c.start.new.self c.args.call c.start.result at c.start.ensures });
 } where
   e : Engine
   e = record { hub = c.self.inside.hub; pieces = c.self.inside.pieces.items; states = c.self.inside.states.items; hazards = c.self.inside.hazards.items; sessions = c.self.inside.sessions.items; systems = c.self.inside.systems.items }

@@ -19,7 +19,7 @@ returns c = record {
       (lent-begins c.starts_go.ensures e c.args.session a a' call c.start_put.result at starts);
   rests = subst (λ (x : Engine). OnErr c.start_put.result ((w : World) → Stands x w → (doing_of w c.args.session ≡ Resting) × Stands new w)) c.self.view_is
       (lent-rests e c.args.session a a' call c.start_put.result at starts);
-  kept = keeps-from e c.args.self.now c.self.view_is (record { systems = refl; pieces = refl; states = refl; tables = refl; sizes = lent-sizes e c.args.session a a' call c.start_put.result at starts });
+  kept = keeps-from e c.args.self.now c.self.view_is (record { systems = refl; pieces = refl; states = refl; tables = refl; dir = refl; free = λ frame none. none; sizes = lent-sizes e c.args.session a a' call c.start_put.result at starts });
 } where
   e : Engine
   e = record { hub = c.self.inside.hub; pieces = c.self.inside.pieces.items; states = c.self.inside.states.items; hazards = c.self.inside.hazards.items; sessions = c.self.inside.sessions.items; systems = c.self.inside.systems.items }

@@ -17,7 +17,7 @@ pub returns : goal.returns
 returns c = record {
   step = λ w st. subst (λ hs. Leads (with_session (record e { hazards = hs }) c.args.session c.stored.new.self) w c.args.session c.stored.result) (sym hazards-are) (store-step laws e c.args.session c.args.word c.args.value (c.args.session * 5 + c.args.word) c.index_mut.result.now c.stored.new.self c.stored.result c.set_word.new.words at on words c.stored.ensures w
       (subst (λ (x : Engine). Stands x w) (sym c.self.view_is) st));
-  kept = keeps-from e c.args.self.now c.self.view_is (record { systems = refl; pieces = refl; states = refl; tables = refl; sizes = store-sizes e c.args.session c.index_mut.result.now c.stored.new.self c.stored.result _ at c.stored.ensures });
+  kept = keeps-from e c.args.self.now c.self.view_is (record { systems = refl; pieces = refl; states = refl; tables = refl; dir = refl; free = λ frame none. none; sizes = store-sizes e c.args.session c.index_mut.result.now c.stored.new.self c.stored.result _ at c.stored.ensures });
 } where
   hazards-are : (with_items c.self.inside.hazards c.set_word.new.words).items ≡ c.set_word.new.words
   hazards-are = with_items_is c.self.inside.hazards c.set_word.new.words (c.set_word.auto.words ∙ c.as_mut_slice.ensures.len)

@@ -1,11 +1,9 @@
-// What a recovery answers on devices in memory.
-use crate::{Kept, Recovered, recover};
+// What is told of devices in memory.
 use block_sum::sum;
 use disk_model::MemDisk;
-use item::Item;
-use leaf_rows::Rows;
 use std::alloc::Global;
 use std::process::Abort;
+use verify_dev::{Report, verify};
 use wt_code::{Limit, Refusal};
 
 // Sequence 3 by run 2, whose ids below 9 had ended but 5; the record's sum stands at 32.
@@ -65,63 +63,36 @@ const FIRST: [u8; 59] = [
     1, 0, 0, 0, 0, 0, 0, 0, 0, 0, 0, 0, 0, 0, 0, 0, 0, 0, 0, 0, 0, 0, 0, 0, b'a', 0, b'1', 0,
 ];
 
-// One row: key b, value 2, run 2, id 5.
-const SECOND: [u8; 59] = [
-    1, 1, 1, 0, 59, 0, 0, 0, 0, 0, 0, 0, 0, 0, 0, 0, 2, 0, 1, 2, 0, 0, 0, 2, 0, 0, 0, 0, 0, 0, 0,
-    5, 0, 0, 0, 0, 0, 0, 0, 0, 0, 0, 0, 0, 0, 0, 0, 0, 0, 0, 0, 0, 0, 0, 0, b'b', 0, b'2', 0,
+// Two rows: key b, value 2, run 2, id 5, and key c, value 3, run 2, id 1.
+const SECOND: [u8; 102] = [
+    1, 1, 2, 0, 102, 0, 0, 0, 0, 0, 0, 0, 0, 0, 0, 0, 2, 0, 1, 2, 0, 0, 0, 2, 0, 0, 0, 0, 0, 0, 0,
+    5, 0, 0, 0, 0, 0, 0, 0, 0, 0, 0, 0, 0, 0, 0, 0, 0, 0, 0, 0, 0, 0, 0, 0, b'b', 0, b'2', 0, 2, 0,
+    1, 2, 0, 0, 0, 2, 0, 0, 0, 0, 0, 0, 0, 1, 0, 0, 0, 0, 0, 0, 0, 0, 0, 0, 0, 0, 0, 0, 0, 0, 0, 0,
+    0, 0, 0, 0, 0, b'c', 0, b'3', 0,
 ];
 
 #[derive(Clone, Copy, Debug, PartialEq, Eq)]
 enum Told {
-    Nothing,
-    // whether the key of each leaf is there, and with what the keys of the tree begin
-    Rows(bool, bool, [u8; 2]),
-    // where, and whether the sum that is there is the one that should be
-    Corrupt(u64, bool),
+    // tables, leaves, versions
+    Counts(u32, u64, u64),
+    // the offset, and the sum that is wanted and that is found
+    Corrupt(u64, u32, u32),
     Refused(Refusal),
 }
 
-// What is changed before the sums are made, and behind that, and what is told.
-const CASES: [(&[(usize, u8)], &[(usize, u8)], Told); 20] = [
-    (&[], &[], Told::Rows(true, false, [b'c', b'e'])),
-    // an id that had ended
+// What is changed before the sums are made, and behind that, and what is told. A sum is each byte
+// times its place, from 1 on.
+const CASES: [(&[(usize, u8)], &[(usize, u8)], Told); 24] = [
+    // one leaf, one leaf of two rows, and two leaves below an inner page
+    (&[], &[], Told::Counts(3, 4, 5)),
+    // the first table is empty, and its leaf stands nowhere
     (
-        &[(16_415, 6), (8_392, 6)],
+        &[(8_320, 0), (8_328, 0), (8_335, 0), (8_343, 0)],
         &[],
-        Told::Rows(true, true, [b'c', b'e']),
+        Told::Counts(3, 3, 4),
     ),
-    // both gates are shut
-    (&[(0, 0)], &[], Told::Nothing),
-    // the slot is out of form
-    (&[(1, 0)], &[], Told::Corrupt(0, true)),
-    // the record has another sum
-    (&[], &[(8_200, 1)], Told::Corrupt(8_192, false)),
-    // no record: table 2 has the number 0
-    (&[(8_360, 0)], &[], Told::Corrupt(8_192, true)),
-    // a record of sequence 4
-    (&[(8_208, 4)], &[], Told::Corrupt(8_192, true)),
-    // table 2 has a tree of level 1, whose root is a leaf
-    (&[(8_366, 1)], &[], Told::Corrupt(16_384, true)),
-    // the history has level 1
-    (
-        &[(8_270, 1)],
-        &[],
-        Told::Refused(Refusal::Limit(Limit::Image)),
-    ),
-    // the first leaf has another sum
-    (&[], &[(12_288, 2)], Told::Corrupt(12_288, false)),
-    // no leaf
-    (&[(16_384, 2)], &[], Told::Corrupt(16_384, true)),
-    // the link to the second says the id 4
-    (&[(8_392, 4)], &[], Told::Corrupt(16_384, true)),
-    // no block stands at 16,385
-    (&[(8_368, 1)], &[], Told::Corrupt(16_385, true)),
-    // both links lead to the first leaf
-    (
-        &[(8_369, 0x30), (8_392, 1)],
-        &[],
-        Told::Corrupt(12_288, true),
-    ),
+    // no checkpoint: both gates are shut
+    (&[(0, 0)], &[], Told::Counts(0, 0, 0)),
     // the last run
     (
         &[
@@ -151,20 +122,63 @@ const CASES: [(&[(usize, u8)], &[(usize, u8)], Told); 20] = [
             (8_223, 63),
         ],
         &[],
-        Told::Refused(Refusal::Limit(Limit::Checkpoints)),
+        Told::Counts(3, 4, 5),
     ),
-    // the device ends where the second leaf should begin
-    (&[(8_369, 0x80)], &[], Told::Corrupt(32_768, true)),
-    // the inner page has another sum, and the leaf on its right too
+    // the slot is out of form
+    (&[(1, 0)], &[], Told::Corrupt(0, 0, 0)),
+    // byte 9 of the record is 1 in place of 0
+    (&[], &[(8_200, 1)], Told::Corrupt(8_192, 322_154, 322_163)),
+    // no record: table 2 has the number 0, which takes 2 times 169 from the sum
+    (&[(8_360, 0)], &[], Told::Corrupt(8_192, 321_816, 321_816)),
+    // a record of sequence 4, which adds 17
+    (&[(8_208, 4)], &[], Told::Corrupt(8_192, 322_171, 322_171)),
+    // the history has level 1
+    (
+        &[(8_270, 1)],
+        &[],
+        Told::Refused(Refusal::Limit(Limit::Image)),
+    ),
+    // table 2 has a tree of level 1, whose root is a leaf
+    (&[(8_366, 1)], &[], Told::Corrupt(16_384, 24_677, 24_677)),
+    // byte 11 of the inner page is 1 in place of 0, and the leaf on its right has another sum too
     (
         &[],
         &[(20_490, 1), (28_672, 2)],
-        Told::Corrupt(20_480, false),
+        Told::Corrupt(20_480, 35_699, 35_710),
     ),
-    (&[], &[(28_672, 2)], Told::Corrupt(28_672, false)),
+    // no block stands at 16,385
+    (&[(8_368, 1)], &[], Told::Corrupt(16_385, 24_677, 24_677)),
+    // the device ends where the second leaf should begin
+    (&[(8_369, 0x80)], &[], Told::Corrupt(32_768, 24_677, 24_677)),
+    // both links lead to the first leaf
+    (
+        &[(8_369, 0x30), (8_392, 1)],
+        &[],
+        Told::Corrupt(12_288, 8_748, 8_748),
+    ),
+    // the same, which is told before the sum that this leaf has
+    (
+        &[(8_369, 0x30), (8_392, 1)],
+        &[(12_288, 2)],
+        Told::Corrupt(12_288, 8_748, 8_748),
+    ),
+    // byte 1 of the first leaf is 2 in place of 1
+    (&[], &[(12_288, 2)], Told::Corrupt(12_288, 8_748, 8_749)),
+    // the first leaf stands nowhere, but has a sum, a size and a greatest name
+    (&[(8_320, 0)], &[], Told::Corrupt(0, 8_748, 8_748)),
+    // no leaf: of kind 2
+    (&[(16_384, 2)], &[], Told::Corrupt(16_384, 24_678, 24_678)),
+    // a leaf of three rows, of which two are there
+    (&[(16_386, 3)], &[], Told::Corrupt(16_384, 24_680, 24_680)),
+    // the link to the second leaf says the id 4
+    (&[(8_392, 4)], &[], Told::Corrupt(16_384, 24_677, 24_677)),
+    // and the durable stamp 1
+    (&[(8_400, 1)], &[], Told::Corrupt(16_384, 24_677, 24_677)),
+    // the leaf on the right has another sum
+    (&[], &[(28_672, 2)], Told::Corrupt(28_672, 9_036, 9_037)),
     // the leaf on the left goes on to the right one's keys, and that one begins below them
-    (&[(24_631, b'd')], &[], Told::Corrupt(24_576, true)),
-    (&[(28_727, b'c')], &[], Told::Corrupt(28_672, true)),
+    (&[(24_631, b'd')], &[], Told::Corrupt(24_576, 8_916, 8_916)),
+    (&[(28_727, b'c')], &[], Told::Corrupt(28_672, 8_924, 8_924)),
 ];
 
 fn put(rt: &impl Abort, content: &mut [u8], at: usize, bytes: &[u8]) {
@@ -208,7 +222,9 @@ fn device(
         &[(24_631, b'c'), (28_703, 3), (28_727, b'e')],
     );
     change(rt, &mut content, before);
-    put_sum(rt, &mut content, 12_288, 8_331);
+    if content.get(8_328) != Some(&0) {
+        put_sum(rt, &mut content, 12_288, 8_331);
+    }
     let second = second_leaf(&content);
     put_sum(rt, &mut content, second, 8_380);
     put_sum(rt, &mut content, 24_576, 20_510);
@@ -229,59 +245,36 @@ fn second_leaf(content: &[u8]) -> usize {
 }
 
 fn answer_of(alloc: Global, disk: &mut MemDisk) -> Told {
-    match recover(alloc, disk) {
+    match verify(alloc, disk) {
+        Ok(
+            Report {
+                tables,
+                leaves,
+                versions,
+            },
+        ) => Told::Counts(tables, leaves, versions),
         Err(
             Refusal::Corrupt {
                 offset,
                 want,
                 found,
             },
-        ) => Told::Corrupt(offset, want == found),
+        ) => Told::Corrupt(offset, want, found),
         Err(refusal) => Told::Refused(refusal),
-        Ok(Recovered { place: _, kept }) => match kept {
-            None => Told::Nothing,
-            Some(Kept { leaves, .. }) => {
-                let mut leaves = leaves.into_iter();
-                match (leaves.next(), leaves.next(), leaves.next()) {
-                    (Some(first), Some(second), Some(third)) => {
-                        Told::Rows(has(first, b"a\0"), has(second, b"b\0"), begins(third))
-                    }
-                    _ => Told::Nothing,
-                }
-            }
-        },
     }
-}
-
-// Whether a leaf has a row of the key.
-fn has(rows: Rows, key: &[u8]) -> bool {
-    rows.into_rows().iter().any(|row| row.0.as_bytes() == key)
-}
-
-// With what two keys begin.
-fn begins(rows: Rows) -> [u8; 2] {
-    match rows.into_rows().as_slice() {
-        [first, second] => [byte_of(&first.0), byte_of(&second.0)],
-        _ => [0, 0],
-    }
-}
-
-fn byte_of(key: &Item) -> u8 {
-    key.as_bytes().first().copied().unwrap_or(0)
 }
 
 #[test]
-fn each_device_is_told_as_what_it_is(rt: HostRuntime) {
+fn each_device_is_told_with_its_counts_or_its_damage(rt: HostRuntime) {
     for (before, behind, want) in CASES {
         let mut disk = device(&rt, rt.alloc(), before, behind);
         assert_eq!(rt; answer_of(rt.alloc(), &mut disk), want);
     }
-}
-
-#[test]
-fn a_fault_of_the_disk_is_told(rt: HostRuntime) {
-    let mut disk = device(&rt, rt.alloc(), &[], &[]);
-    disk.stop_after(6);
-    let want = Told::Refused(Refusal::DiskFault);
-    assert_eq!(rt; answer_of(rt.alloc(), &mut disk), want);
+    // the length and two slots, then the length and a block for each of six, and the length once more
+    for calls in 0..16 {
+        let mut disk = device(&rt, rt.alloc(), &[], &[]);
+        disk.stop_after(calls);
+        let want = Told::Refused(Refusal::DiskFault);
+        assert_eq!(rt; answer_of(rt.alloc(), &mut disk), want, "{calls}");
+    }
 }

@@ -1,0 +1,43 @@
+use Rattle.std.proofs.Common.{◌≡◌, ◌≤◌, ◌∙◌, sym, subst, List, length, ℕ, Option, Some, IsTrue}
+use Rattle.failure.specs.Counts.{Rose}
+use Rattle.disk_model.proofs.Crash.{looked_then}
+use Rattle.device_layout.specs.declared.slot.Slot.{Slot}
+use Rattle.turtle.specs.Slots.{Chooses}
+use Rattle.device_leaf.specs.Damage.{IsChosen}
+use Rattle.device_leaf.proofs.Opens.{err_map, ok_map, rose_sooner}
+use Rattle.recover_open.specs.Surveys.{IsSurveyed, SurveyRefused}
+use Rattle.recover_open.proofs.Steps.{slot_refused, nothing_is, blank_in_form, survey_further}
+use Rattle.recover_open.proofs.surveying.survey.Goals as goal
+
+pub returns-in-Err-clause-err : goal.returns-in-Err-clause-err
+returns-in-Err-clause-err g c = slot_refused _ _ (g.D.Disk.seen c.args.disk.now) _ c.in-Err.ensures.fault c.in-Err.ensures.corrupt
+
+pub returns-in-Ok-None-clause-ok : goal.returns-in-Ok-None-clause-ok
+returns-in-Ok-None-clause-ok g c h =
+    let bytes = g.D.Disk.seen c.args.disk.now in
+    let there = c.in-Ok-None.ensures.chosen h in
+    nothing_is bytes c.blank.result c.blank.ensures there.0 (subst (λ (o : Option Slot). Chooses bytes o) c.in-Ok-None.field-0-is there.1)
+
+chosen_now : (bytes : List ℕ) (o : Option Slot) (slot : Slot) → (8192 ≤ length bytes) × Chooses bytes o → o ≡ Some slot → IsChosen bytes slot
+chosen_now bytes o slot there is = record { long = there.0; chooses = subst (λ (x : Option Slot). Chooses bytes x) is there.1 }
+
+pub returns-in-Ok-Some-clause-ok : goal.returns-in-Ok-Some-clause-ok
+returns-in-Ok-Some-clause-ok g c h =
+    let looked = c.choose.ensures.looked in
+    ok_map c.survey_at.result (c.survey_at.ensures.ok (looked.same ∙ h) (subst (λ (l : List ℕ). IsChosen l c.in-Ok-Some.slot) (sym looked.content) (chosen_now (g.D.Disk.seen c.args.disk.now) _ c.in-Ok-Some.slot (c.in-Ok-Some.ensures.chosen h) c.in-Ok-Some.field-0-is)))
+    (λ o is. subst (λ (l : List ℕ). IsSurveyed l o) looked.content is)
+
+pub returns-in-Ok-Some-clause-err : goal.returns-in-Ok-Some-clause-err
+returns-in-Ok-Some-clause-err g c =
+    let D = g.D.Disk in
+    let looked = c.choose.ensures.looked in
+    err_map c.survey_at.result c.survey_at.ensures.err (λ r why. subst (λ (l : List ℕ). SurveyRefused (Rose (D.faults c.args.disk.now) (D.faults c.survey_at.new.disk)) (IsTrue (D.honest c.args.disk.now)) l r) looked.content
+    (survey_further _ _ (IsTrue (D.honest c.args.disk.now)) _ (D.seen c.choose.new.disk) r why (rose_sooner _ _ _ looked.count) (λ h. (looked.same ∙ h, subst (λ (l : List ℕ). IsChosen l c.in-Ok-Some.slot) (sym looked.content) (chosen_now (g.D.Disk.seen c.args.disk.now) _ c.in-Ok-Some.slot (c.in-Ok-Some.ensures.chosen h) c.in-Ok-Some.field-0-is)))))
+
+pub returns-in-Ok-Some-clause-looked : goal.returns-in-Ok-Some-clause-looked
+returns-in-Ok-Some-clause-looked g c =
+    let D = g.D.Disk in
+    looked_then D _ _ _ c.choose.ensures.looked c.survey_at.ensures.looked
+
+pub returns-in-Ok-None-clause-form : goal.returns-in-Ok-None-clause-form
+returns-in-Ok-None-clause-form g c = blank_in_form c.blank.result c.blank.ensures

@@ -1,0 +1,89 @@
+// A device, read through.
+ghost use Rattle.std.specs.Prelude.{◌≡◌, IfOk, IfErr, IfSome, IsTrue};
+ghost use Rattle.disk_model.specs.Crash.{Looked};
+ghost use Rattle.stored.specs.Records.{IsRecord};
+ghost use Rattle.recover_open.specs.Surveys.{AboveInForm, RefusesSurvey};
+ghost use Rattle.verify_dev.specs.Reports.{IsVerified, IsExamined, IsSurveyOf};
+
+use crate::leaves::check_all;
+use crate::report::{Report, report_of, zero};
+use checkpoint_record::Record;
+use disk_model::Disk;
+use recover_open::{Above, Surveyed, survey};
+use std::alloc::Global;
+use wt_code::Refusal;
+
+/// What is found of a device that was read through.
+#[derive(Drop)]
+pub struct Examined {
+    /// The record of its last completed checkpoint, None where there is none.
+    pub record: Option<Record>,
+    /// What that checkpoint has.
+    pub report: Report,
+}
+
+/// Reads all that the last completed checkpoint of a device has, and counts it. Ok says that it is
+/// there, and that the device reads as a content. Nothing is written. `O(bytes)`, each block read
+/// once.
+///
+/// `75 limit image` comes only where the checkpoint has a history. `Corrupt` tells damage that the
+/// device has (`IsDamage`), as `recover_open` tells it and in its order: what a survey tells first,
+/// then the first leaf at fault. `DiskFault` comes only where the disk has counted a fault, and the
+/// last refusal there is, is want of memory.
+pub fn verify<D: Disk>(alloc: Global, disk: &mut D) -> Result<Report, Refusal>
+    ensures ok { IsTrue (D.honest disk.old) → IfOk result (IsVerified (D.seen disk.old)) }
+    ensures err { IfErr result (RefusesSurvey D.Disk (IsTrue (D.honest disk.old)) disk.old disk.new) }
+    ensures looked { Looked D.Disk disk.old disk.new }
+    ensures home { D.home disk.new ≡ D.home disk.old }
+{
+    match examine(alloc, disk) {
+        Ok(found) => Ok(found.report),
+        Err(refusal) => Err(refusal),
+    }
+}
+
+/// The same, with the record of the checkpoint.
+pub fn examine<D: Disk>(alloc: Global, disk: &mut D) -> Result<Examined, Refusal>
+    ensures ok { IsTrue (D.honest disk.old) → IfOk result (IsExamined (D.seen disk.old)) }
+    ensures form { IfOk result (λ o. IfSome o.record (λ r. IsRecord r)) }
+    ensures err { IfErr result (RefusesSurvey D.Disk (IsTrue (D.honest disk.old)) disk.old disk.new) }
+    ensures looked { Looked D.Disk disk.old disk.new }
+    ensures home { D.home disk.new ≡ D.home disk.old }
+{
+    let Surveyed { place: _, above } = match survey(alloc, disk) {
+        Ok(found) => found,
+        Err(refusal) => return Err(refusal),
+    };
+    match above {
+        Some(above) => examine_from(alloc, disk, above),
+        None => Ok(Examined {
+            record: None,
+            report: zero(),
+        }),
+    }
+}
+
+// The checkpoint that was surveyed, with its leaves.
+fn examine_from<D: Disk>(alloc: Global, disk: &mut D, above: Above) -> Result<Examined, Refusal>
+    requires { AboveInForm above }
+    ensures ok { IsTrue (D.honest disk.old) → IsSurveyOf (D.seen disk.old) above → IfOk result (IsExamined (D.seen disk.old)) }
+    ensures form { IfOk result (λ o. IfSome o.record (λ r. IsRecord r)) }
+    ensures err { IfErr result (RefusesSurvey D.Disk (IsTrue (D.honest disk.old) × IsSurveyOf (D.seen disk.old) above) disk.old disk.new) }
+    ensures looked { Looked D.Disk disk.old disk.new }
+    ensures home { D.home disk.new ≡ D.home disk.old }
+{
+    let Above {
+        record: found,
+        uppers,
+    } = above;
+    match check_all(alloc, disk, &uppers) {
+        Ok(tally) => {
+            let report = report_of(&found, tally);
+            Ok(Examined {
+                record: Some(found),
+                report,
+            })
+        }
+        Err(refusal) => Err(refusal),
+    }
+}
