@@ -2,7 +2,6 @@
 use Rattle.std.proofs.Common.{◌≡◌, ◌≢◌, ◌+◌, ◌<◌, ◌≤◌, ℕ, zero, suc, refl, ap, sym, ◌∙◌, List, [], ◌∷◌, ◌++◌, length, inl, inr, subst, arith}
 use Rattle.std.specs.Prelude.{Option, Some, None, option_and_then, slice_get, slice_set}
 use Rattle.std.specs.List.{Contains}
-use Rattle.core.proofs.iter.runs.Lists.{nth_left, nth_seam}
 use Rattle.std.proofs.lemmas.Bool.{cases_eq}
 use Rattle.std.proofs.lemmas.List.{length-append}
 use Rattle.std.proofs.lemmas.Option.{same_Some, slice_get_within}
@@ -15,6 +14,7 @@ use Rattle.call_steps.specs.declared.frame.Frame.{Frame}
 use Rattle.call_steps.specs.declared.frame.FramePiece.{FramePiece}
 use Rattle.engine_world.specs.Leaves.{frame_in}
 use Rattle.engine_world.specs.Systems.{HasFirstLeaf}
+use Rattle.engine_world.proofs.Appended.{append-keeps, append-last}
 use Rattle.engine_world.proofs.NewLeaf.{IsCome, come-cases, come-kept, comes, new-there, new_leaf}
 use Rattle.engine.specs.Openings.{AreBare, AreLaid, IsHeld}
 use Rattle.engine.proofs.OneLeaf.{place-one}
@@ -71,12 +71,12 @@ module _ (front helds : List HeldLeaf) (x : HeldLeaf) (f : IsFront (front ++ x �
   last-within = omega (arith, f.short, front-long)
 
   pub last-given : slice_get helds (length front) ≡ Some x
-  last-given = f.same (length front) x (nth_seam front x)
+  last-given = f.same (length front) x (append-last front x)
 
   pub front-less : IsFront front helds
   front-less = record {
     short = omega (arith, last-within);
-    same = λ place held at. f.same place held (nth_left front (x ∷ []) place (slice_get_within front place held at) ∙ at);
+    same = λ place held at. f.same place held (append-keeps front x held place at);
   }
 
 -- a place within a list has a table

@@ -2,8 +2,6 @@
 use Rattle.std.proofs.Common.{◌≡◌, ◌≢◌, ◌+◌, ◌<◌, ◌≤◌, ℕ, refl, ap, sym, ◌∙◌, Bool, true, false, not, List, [], ◌∷◌, ◌++◌, length, inl, inr, subst, arith}
 use Rattle.std.specs.Prelude.{Option, Some, None, Result, Ok, Err, nat_le, slice_get, if◌then◌else◌}
 use Rattle.std.specs.List.{Contains}
-use Rattle.core.proofs.iter.runs.Lists.{nth_left, nth_seam}
-use Rattle.std.proofs.lemmas.Option.{slice_get_within}
 use Rattle.std.proofs.lemmas.Bool.{leb-false}
 use Rattle.std.proofs.lemmas.List.{length-set, length-append}
 use Rattle.limits.specs.declared.TheConstants.{TABLES_MAX}
@@ -32,6 +30,7 @@ use Rattle.engine_world.specs.Leaves.{frame_in}
 use Rattle.engine_world.specs.Stands.{Engine, Stands}
 use Rattle.engine_world.specs.Systems.{CreatesGo, HasFirstLeaf, SetsGo, first_piece, with_table}
 use Rattle.engine_world.specs.Worlds.{World}
+use Rattle.engine_world.proofs.Appended.{append-keeps, append-last}
 use Rattle.engine_world.proofs.NewLeaf.{IsCome, come-cases, comes, new_leaf}
 use Rattle.engine.specs.Sound.{IsPlaced, IsSound, LeavesPlaced}
 use Rattle.engine.specs.Systems.{Makes}
@@ -164,7 +163,7 @@ module _ (laws : CreateLaws) (e : Engine) (name : List ℕ) (formats : Formats) 
   old-placed l p = record {
     place = p.place;
     table = p.table;
-    there = ap (λ (ts : List Table). slice_get ts p.place) known-is ∙ (nth_left e.hub.tables.tables (t ∷ []) p.place (slice_get_within e.hub.tables.tables p.place p.table p.there) ∙ p.there);
+    there = ap (λ (ts : List Table). slice_get ts p.place) known-is ∙ append-keeps e.hub.tables.tables t p.table p.place p.there;
     number = p.number;
     frame = p.frame;
   }
@@ -173,7 +172,7 @@ module _ (laws : CreateLaws) (e : Engine) (name : List ℕ) (formats : Formats) 
   new-placed = record {
     place = place;
     table = t;
-    there = ap (λ (ts : List Table). slice_get ts place) known-is ∙ (ap (slice_get (e.hub.tables.tables ++ t ∷ [])) made.1 ∙ nth_seam e.hub.tables.tables t);
+    there = ap (λ (ts : List Table). slice_get ts place) known-is ∙ (ap (slice_get (e.hub.tables.tables ++ t ∷ [])) made.1 ∙ append-last e.hub.tables.tables t);
     number = refl;
     frame = refl;
   }
