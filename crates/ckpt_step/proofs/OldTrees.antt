@@ -15,7 +15,7 @@ use Rattle.device_layout.specs.declared.link.Link.{Link}
 use Rattle.kv_model.specs.Holds.{Member}
 use Rattle.kv_model.specs.History.{Table}
 use Rattle.catalog.specs.Known.{NumbersAscend}
-use Rattle.engine_world.proofs.Fronts.{one-place}
+use Rattle.engine.proofs.OneLeaf.{place-one}
 use Rattle.stored.specs.Blocks.{Block, AreApart, Apart, IsAddressed, IsAt}
 use Rattle.stored.specs.Records.{TableRoot}
 use Rattle.stored.specs.Stored.{Stored, history_blocks, stored_blocks, tables_blocks}
@@ -179,7 +179,7 @@ module _ (seen : List ℕ) (images : List ℕ → Type 0) (books : Books) (known
   root_one i j r there also =
       let one = zipped_at known places i r there in
       let two = zipped_at known places j r also in
-      one-place 1 known next i j one.table two.table ascend one.known_at two.known_at (ap (λ (x : TableRoot). x.table.number) (sym one.is ∙ two.is))
+      place-one 1 known next i j one.table two.table ascend one.known_at two.known_at (ap (λ (x : TableRoot). x.table.number) (sym one.is ∙ two.is))
 
   stood : (r : TableRoot) (tree : TableTree) → IsPair r tree tables s.trees → Stood r tree
   stood r tree pair =
@@ -265,7 +265,7 @@ module _ (seen : List ℕ) (images : List ℕ → Type 0) (books : Books) (known
     | inr past ↦ links_of_none tables s.trees t.number (λ j r there same.
         let tree = paired tables s.trees j r stands.seen_has.whole.trees there in
         let where_it = stood r tree.0 (j, there, tree.1) in
-        let index : where_it.index ≡ i = one-place 1 known next where_it.index i where_it.table t ascend where_it.known_at is (sym (ap (λ (x : TableRoot). x.table.number) where_it.root) ∙ same) in
+        let index : where_it.index ≡ i = place-one 1 known next where_it.index i where_it.table t ascend where_it.known_at is (sym (ap (λ (x : TableRoot). x.table.number) where_it.root) ∙ same) in
         omega (arith, index, past, slice_get_within places where_it.index where_it.place where_it.place_at)) ∙ sym (leaves_past places i past)
   ]
 
@@ -277,7 +277,7 @@ module _ (seen : List ℕ) (images : List ℕ → Type 0) (books : Books) (known
       elim (cases_eq one.there.pair.0 two.there.pair.0) [
         | inl index ↦
             let equal : table_root one.there.table p.root ≡ table_root two.there.table q.root = some_same (sym one.there.pair.1 ∙ (ap (λ (k : ℕ). slice_get tables k) index ∙ two.there.pair.1)) in
-            one-place 1 known next i j one.there.table two.there.table ascend one.there.known_at two.there.known_at (ap (λ (r : TableRoot). r.table.number) equal)
+            place-one 1 known next i j one.there.table two.there.table ascend one.there.known_at two.there.known_at (ap (λ (r : TableRoot). r.table.number) equal)
         | inr differ ↦
             let away = pairs_apart (table_root one.there.table p.root) (table_root two.there.table q.root) one.there.tree two.there.tree tables s.trees one.block two.block one.there.pair two.there.pair differ apart one.own two.own in
             absurd (meets one.block.place two.block.place away (some_size one.block (in_blocks i p x one)) (some_size two.block (in_blocks j q y two)) (ap (λ (z : Addr). z.offset) (sym one.place) ∙ (same ∙ (sym too ∙ ap (λ (z : Addr). z.offset) two.place))))

@@ -31,6 +31,7 @@ use Rattle.engine.specs.declared.step.Step.TheVariants.{Start, Go}
 use Rattle.engine.specs.Runs.{CallFits, IsBuilt, StepFits}
 use Rattle.engine.specs.Sound.{AreBuilt}
 use Rattle.engine.specs.Whole.{with_session_more}
+use Rattle.tree_dir.specs.declared.leaf.Leaf.{Leaf}
 use Rattle.engine_world.specs.Doings.{call_in, doing_at, landing, stamping, undoing}
 use Rattle.engine_world.specs.Stands.{Engine, Stands}
 use Rattle.engine_world.specs.Worlds.{Doing, Resting, Asked, Placed, Decided, Ending, World, doing_of}
@@ -223,17 +224,18 @@ undoing_ordinary phase.Running n a = tt
 undoing_ordinary phase.Failed n a = tt
 undoing_ordinary _ n a = tt
 
-doing_so : (s : Stage) (session : ℕ) (a : State) → IsOrdinaryDoing (doing_at s session a)
-doing_so (stage.Find made) session a = call_ordinary made a
-doing_so (stage.Publish made target) session a = call_ordinary made a
-doing_so (stage.Validate made target) session a = call_ordinary made a
-doing_so (stage.Look made target) session a = call_ordinary made a
-doing_so (stage.History made target) session a = cursor_ordinary session target a.key (answers.Refused NotFound) (cursor_in made)
-doing_so (stage.ClearCursor made target) session a = cursor_ordinary session target a.key a.answer (cursor_in made)
-doing_so (stage.Clear made target) session a = cursor_ordinary session target a.key a.answer (cursor_in made)
-doing_so (stage.Stamp stamps n) session a = stamping_ordinary a.phase stamps n a
-doing_so (stage.Undo n) session a = undoing_ordinary a.phase n a
-doing_so _ session a = tt
+doing_so : (s : Stage) (leaves : List Leaf) (session : ℕ) (a : State) → IsOrdinaryDoing (doing_at s leaves session a)
+doing_so (stage.Find made) leaves session a = call_ordinary made a
+doing_so (stage.Publish made target) leaves session a = call_ordinary made a
+doing_so (stage.Validate made target) leaves session a = call_ordinary made a
+doing_so (stage.Look made target) leaves session a = call_ordinary made a
+doing_so (stage.Pass made target) leaves session a = call_ordinary made a
+doing_so (stage.History made target) leaves session a = cursor_ordinary session target a.key (answers.Refused NotFound) (cursor_in made)
+doing_so (stage.ClearCursor made target) leaves session a = cursor_ordinary session target a.key a.answer (cursor_in made)
+doing_so (stage.Clear made target) leaves session a = cursor_ordinary session target a.key a.answer (cursor_in made)
+doing_so (stage.Stamp stamps n) leaves session a = stamping_ordinary a.phase stamps n a
+doing_so (stage.Undo n) leaves session a = undoing_ordinary a.phase n a
+doing_so _ leaves session a = tt
 
 none_past : {A : Type 0} (xs : List A) (n : ℕ) → slice_get xs n ≡ None → length xs ≤ n
 none_past [] n is = omega arith
@@ -249,7 +251,7 @@ doing_here : (e : Engine) (w : World) (session : ℕ) → Stands e w → (o : Op
 doing_here e w session st None is =
     let past = none_past e.sessions session is in
     subst (λ (d : Doing). IsOrdinaryDoing d) (sym (get_or_past w.sessions session Resting (omega (arith, past, st.doings)))) tt
-doing_here e w session st (Some a) is = subst (λ (d : Doing). IsOrdinaryDoing d) (sym (st.doing session a is)) (doing_so a.stage session a)
+doing_here e w session st (Some a) is = subst (λ (d : Doing). IsOrdinaryDoing d) (sym (st.doing session a is)) (doing_so a.stage e.hub.dir.leaves session a)
 
 built_here : (systems : List (Option SystemCall)) (number : ℕ) → AreBuilt systems → (o : Option SystemCall) → get_or systems number None ≡ o → MatchOption (option_map system_call_in o) (Unit {0}) IsOrdinary
 built_here systems number built None is = tt
