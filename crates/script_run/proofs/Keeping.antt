@@ -40,6 +40,7 @@ use Rattle.script_text.specs.Stored.{stored_call, stored_system}
 use Rattle.script_text.specs.declared.line.Line.{Line}
 use Rattle.script_text.specs.declared.line.Line.TheVariants as line
 use Rattle.script_text.specs.declared.replies.Reply.{Reply}
+use Rattle.tree_dir.specs.declared.leaf.Leaf.{Leaf}
 use Rattle.engine_world.specs.Doings.{doing_at, landing, stamping, undoing}
 use Rattle.engine_world.specs.Stands.{Engine, Stands}
 use Rattle.engine_world.specs.Steps.{BeginsIn, EndsIn, EndsUnless, EndsWith, Finds, Finishes, FoundBy, GoesOn, GoesTo, JudgedBy, Judges, LookAnswer, LooksOn, Made, SettledBy, Settles, TellsFault}
@@ -653,13 +654,13 @@ calm-undoing phase.Running left a = tt
 calm-undoing phase.Failed left a = tt
 calm-undoing _ left a = tt
 
-calm-doing : (s : Stage) (session : ℕ) (a : State) → IsCalm (doing_at s session a)
-calm-doing (stage.History made target) session a = spares-cursor session target a.key (answers.Refused NotFound) (cursor_in made)
-calm-doing (stage.ClearCursor made target) session a = spares-cursor session target a.key a.answer (cursor_in made)
-calm-doing (stage.Clear made target) session a = spares-cursor session target a.key a.answer (cursor_in made)
-calm-doing (stage.Stamp stamps left) session a = calm-stamping a.phase stamps left a
-calm-doing (stage.Undo left) session a = calm-undoing a.phase left a
-calm-doing _ session a = tt
+calm-doing : (s : Stage) (leaves : List Leaf) (session : ℕ) (a : State) → IsCalm (doing_at s leaves session a)
+calm-doing (stage.History made target) leaves session a = spares-cursor session target a.key (answers.Refused NotFound) (cursor_in made)
+calm-doing (stage.ClearCursor made target) leaves session a = spares-cursor session target a.key a.answer (cursor_in made)
+calm-doing (stage.Clear made target) leaves session a = spares-cursor session target a.key a.answer (cursor_in made)
+calm-doing (stage.Stamp stamps left) leaves session a = calm-stamping a.phase stamps left a
+calm-doing (stage.Undo left) leaves session a = calm-undoing a.phase left a
+calm-doing _ leaves session a = tt
 
 none-past : {A : Type 0} (xs : List A) (k : ℕ) → slice_get xs k ≡ None → length xs ≤ k
 none-past [] k is = omega arith
@@ -680,7 +681,7 @@ calm-at : (e : Engine) (w : World) (session : ℕ) → Stands e w → (o : Optio
 calm-at e w session st None is =
     let past = none-past e.sessions session is in
     subst (λ (d : Doing). IsCalm d) (sym (get_or_past w.sessions session Resting (omega (arith, past, st.doings)))) tt
-calm-at e w session st (Some a) is = subst (λ (d : Doing). IsCalm d) (sym (st.doing session a is)) (calm-doing a.stage session a)
+calm-at e w session st (Some a) is = subst (λ (d : Doing). IsCalm d) (sym (st.doing session a is)) (calm-doing a.stage e.hub.dir.leaves session a)
 
 made-at : (systems : List (Option SystemCall)) (number : ℕ) → AreBuilt systems → (o : Option SystemCall) → get_or systems number None ≡ o → IsMadeIn (option_map system_call_in o)
 made-at systems number built None is = tt

@@ -97,6 +97,11 @@ examined_reads bytes (Some r) o reports =
     let s = bare_stored reports.slot r reports.trees in
     (content_of s, inr (s, reports.on, refl))
 
+-- what holds in any case
+pub ok_of : {P : Type 0} (result : Result (Unit {0}) Refusal) → P → IfOk result (λ done. P)
+ok_of (Ok done) p = p
+ok_of (Err r) p = tt
+
 -- ---- why it is refused
 
 abbrev pub VerifyRefused : (fault known : Type 0) → List ℕ → Refusal → Type 0
