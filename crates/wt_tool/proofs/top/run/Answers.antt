@@ -58,5 +58,5 @@ on_engine Script other = tt
 on_engine (Dump hex reverse uri) other = tt
 on_engine (Load no_overwrite name) other = tt
 
-pub run_opened-in_default-requires : goal.run_opened-in_default-requires
-run_opened-in_default-requires g c = on_engine c.args.command.now (λ uri is. c.in_default.not-Verify uri is)
+pub run_opened-requires : goal.run_opened-requires
+run_opened-requires g c = on_engine c.args.command.now (λ uri is. c.in_default.not-Verify uri is)

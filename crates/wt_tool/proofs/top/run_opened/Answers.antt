@@ -227,5 +227,5 @@ pub returns-in-Load-clause-output_fault : goal.returns-in-Load-clause-output_fau
 returns-in-Load-clause-output_fault g c is = absurd ((load_status c.load.result c.load.ensures.statuses).1 is)
 
 -- `verify` has no engine
-pub unreachable-in-Verify-requires : goal.unreachable-in-Verify-requires
-unreachable-in-Verify-requires g c = subst (λ (a : Command). IsOnEngine (meaning a)) c.in-Verify.is c.requires
+pub unreachable-requires : goal.unreachable-requires
+unreachable-requires g c = subst (λ (a : Command). IsOnEngine (meaning a)) c.in-Verify.is c.requires
