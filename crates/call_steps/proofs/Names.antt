@@ -10,11 +10,11 @@ use Rattle.tree_dir.specs.declared.leaf.Leaf.{Leaf}
 use Rattle.catalog.specs.Known.{Known, AreTables, place_of}
 use Rattle.leaf_chains.proofs.Changes.{same_key}
 use Rattle.call_steps.specs.declared.stage.KeyCall.{KeyCall}
-use Rattle.call_steps.specs.declared.stage.Target.{Target}
+use Rattle.call_steps.specs.declared.stage.Stage.{Stage}
 use Rattle.call_steps.specs.HubEvents.{item_checks}
 use Rattle.call_steps.specs.Lengths.{length_checks}
 use Rattle.call_steps.specs.State.{State}
-use Rattle.call_steps.specs.Tables.{leaf_for, target_in, target_of}
+use Rattle.call_steps.specs.Tables.{leaf_for, stage_for, stage_of}
 
 some_before : (o : Option ℕ) (p : ℕ) → option_map (λ k. k + 1) o ≡ Some p → (q : ℕ) × (o ≡ Some q)
 some_before None p e = absurd cc
@@ -27,13 +27,13 @@ named_well (t ∷ later) name p all e = elim (cases_Bool (bytes_eq t.name name))
   | inr other ↦ let q = some_before (place_of name later) p (rw other at e) in named_well later name q.0 all.1 q.1
 ]
 
-some_place : (known : Known) (leaves : List Leaf) (call : KeyCall) (s : State) (o : Option ℕ) (target : Target)
-    → option_and_then target_in (option_and_then (leaf_for leaves call s) (option_and_then (λ place. slice_get known.tables place) o)) ≡ Some target → (p : ℕ) × (o ≡ Some p)
-some_place known leaves call s None target e = absurd cc
-some_place known leaves call s (Some p) target e = (p, refl)
+some_place : (known : Known) (leaves : List Leaf) (call : KeyCall) (s : State) (o : Option ℕ) (to : Stage)
+    → option_map (stage_for call) (option_and_then (leaf_for leaves call s) (option_and_then (λ place. slice_get known.tables place) o)) ≡ Some to → (p : ℕ) × (o ≡ Some p)
+some_place known leaves call s None to e = absurd cc
+some_place known leaves call s (Some p) to e = (p, refl)
 
-pub known_name : (known : Known) (leaves : List Leaf) (call : KeyCall) (s : State) (target : Target) → AreTables known → target_of known leaves call s ≡ Some target → is_name s.name ≡ true
-known_name known leaves call s target are e = let p = some_place known leaves call s (place_of s.name known.tables) target e in named_well known.tables s.name p.0 are.names p.1
+pub known_name : (known : Known) (leaves : List Leaf) (call : KeyCall) (s : State) (to : Stage) → AreTables known → stage_of known leaves call s ≡ Some to → is_name s.name ≡ true
+known_name known leaves call s to are e = let p = some_place known leaves call s (place_of s.name known.tables) to e in named_well known.tables s.name p.0 are.names p.1
 
 pub only_lengths : (s : State) → is_name s.name ≡ true → first_of (item_checks s) ≡ first_of (length_checks s)
 only_lengths s e = rw e refl

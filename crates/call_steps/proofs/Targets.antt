@@ -15,7 +15,7 @@ use Rattle.wt_calls.specs.Calls.{way_in}
 use Rattle.call_steps.specs.declared.stage.KeyCall.{KeyCall}
 use Rattle.call_steps.specs.declared.stage.KeyCall.TheVariants as key_call
 use Rattle.call_steps.specs.State.{State}
-use Rattle.call_steps.specs.Tables.{leaf_for, leaf_on, leaf_sought, next_for, number_of, sought, target_in, target_of}
+use Rattle.call_steps.specs.Tables.{leaf_for, leaf_on, leaf_sought, next_for, number_of, sought, stage_for, stage_of}
 
 -- ---- where a leaf is
 
@@ -65,33 +65,33 @@ sought-again d table key id is e = again d (leaf_sought d.leaves table key) id i
 pub next-again : (d : Directory) (call : KeyCall) (from id : ℕ) → IsDirectory d → option_map (λ (l : Leaf). l.id) (next_for call from d.leaves) ≡ Some id → leaf_named id d.leaves ≡ next_for call from d.leaves
 next-again d call from id is e = again d (next_for call from d.leaves) id is (λ l at. next-in call from d.leaves l at) e
 
-pub none-target : (o : Option Leaf) → option_map (λ (l : Leaf). l.id) o ≡ None → None ≡ option_and_then target_in o
-none-target None e = refl
-none-target (Some l) e = absurd cc
+pub none-stage : (call : KeyCall) (o : Option Leaf) → option_map (λ (l : Leaf). l.id) o ≡ None → None ≡ option_map (stage_for call) o
+none-stage call None e = refl
+none-stage call (Some l) e = absurd cc
 
 -- ---- the table of a name
 
 module _ (known : Known) (leaves : List Leaf) (call : KeyCall) (s : State) where
-  by-table : (o : Option Table) (n : ℕ) → option_map (λ (t : Table). t.number) o ≡ Some n → option_and_then target_in (leaf_sought leaves n (sought call s n)) ≡ option_and_then target_in (option_and_then (leaf_for leaves call s) o)
+  by-table : (o : Option Table) (n : ℕ) → option_map (λ (t : Table). t.number) o ≡ Some n → option_map (stage_for call) (leaf_sought leaves n (sought call s n)) ≡ option_map (stage_for call) (option_and_then (leaf_for leaves call s) o)
   by-table None n e = absurd cc
-  by-table (Some t) n e = ap (λ k. option_and_then target_in (leaf_sought leaves k (sought call s k))) (sym (same_Some t.number n e))
+  by-table (Some t) n e = ap (λ k. option_map (stage_for call) (leaf_sought leaves k (sought call s k))) (sym (same_Some t.number n e))
 
   by-place : (o : Option ℕ) (n : ℕ) → option_and_then (λ place. option_map (λ (t : Table). t.number) (slice_get known.tables place)) o ≡ Some n
-      → option_and_then target_in (leaf_sought leaves n (sought call s n)) ≡ option_and_then target_in (option_and_then (leaf_for leaves call s) (option_and_then (λ place. slice_get known.tables place) o))
+      → option_map (stage_for call) (leaf_sought leaves n (sought call s n)) ≡ option_map (stage_for call) (option_and_then (leaf_for leaves call s) (option_and_then (λ place. slice_get known.tables place) o))
   by-place None n e = absurd cc
   by-place (Some place) n e = by-table (slice_get known.tables place) n e
 
-  pub of-table : (n : ℕ) → number_of known s.name ≡ Some n → option_and_then target_in (leaf_sought leaves n (sought call s n)) ≡ target_of known leaves call s
+  pub of-table : (n : ℕ) → number_of known s.name ≡ Some n → option_map (stage_for call) (leaf_sought leaves n (sought call s n)) ≡ stage_of known leaves call s
   of-table n e = by-place (place_of s.name known.tables) n e
 
-  none-table : (o : Option Table) → option_map (λ (t : Table). t.number) o ≡ None → None ≡ option_and_then target_in (option_and_then (leaf_for leaves call s) o)
+  none-table : (o : Option Table) → option_map (λ (t : Table). t.number) o ≡ None → None ≡ option_map (stage_for call) (option_and_then (leaf_for leaves call s) o)
   none-table None e = refl
   none-table (Some t) e = absurd cc
 
   none-place : (o : Option ℕ) → option_and_then (λ place. option_map (λ (t : Table). t.number) (slice_get known.tables place)) o ≡ None
-      → None ≡ option_and_then target_in (option_and_then (leaf_for leaves call s) (option_and_then (λ place. slice_get known.tables place) o))
+      → None ≡ option_map (stage_for call) (option_and_then (leaf_for leaves call s) (option_and_then (λ place. slice_get known.tables place) o))
   none-place None e = refl
   none-place (Some place) e = none-table (slice_get known.tables place) e
 
-  pub no-table : number_of known s.name ≡ None → None ≡ target_of known leaves call s
+  pub no-table : number_of known s.name ≡ None → None ≡ stage_of known leaves call s
   no-table e = none-place (place_of s.name known.tables) e

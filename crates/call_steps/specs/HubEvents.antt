@@ -1,5 +1,5 @@
 -- What the events on the hub make of it and of the session.
-use Rattle.std.specs.Prelude.{◌≡◌, ◌<◌, ℕ, zero, suc, ◌==◌, Bool, not, ◌&&◌, nat_lt, List, [], ◌∷◌, length, Option, Some, None, option_and_then, if◌then◌else◌, Result, Ok, Err}
+use Rattle.std.specs.Prelude.{◌≡◌, ◌<◌, ℕ, zero, suc, ◌==◌, Bool, not, ◌&&◌, nat_lt, List, [], ◌∷◌, length, Option, Some, None, option_map, if◌then◌else◌, Result, Ok, Err}
 use Rattle.failure.specs.declared.Fault.{Fault}
 use Rattle.wt_code.specs.declared.answers.Answer.{Answer}
 use Rattle.wt_code.specs.declared.answers.Answer.TheVariants as answer
@@ -23,9 +23,11 @@ use Rattle.call_steps.specs.declared.stage.KeyCall.{KeyCall}
 use Rattle.call_steps.specs.declared.stage.Stage.{Stage}
 use Rattle.call_steps.specs.declared.stage.Stage.TheVariants as stage
 use Rattle.call_steps.specs.declared.stage.Target.{Target}
+use Rattle.call_steps.specs.declared.stage.Wanted.{Wanted}
+use Rattle.tree_dir.specs.Leaves.{leaf_named}
 use Rattle.call_steps.specs.Stages.{is_write, stamps_then, undoes}
 use Rattle.call_steps.specs.State.{State, at_stage, refuses, answered, finished, leaves, without_answer}
-use Rattle.call_steps.specs.Tables.{next_for, target_in, target_of}
+use Rattle.call_steps.specs.Tables.{next_for, stage_for, stage_of}
 use Rattle.call_steps.specs.Words.{unless_running}
 
 -- the reply, and what is left
@@ -85,18 +87,17 @@ item_checks s =
 abbrev pub draws : KeyCall → Hub → ℕ → Bool
 draws call h session = is_write call && ((session_of h.txns session).id == 0)
 
-abbrev pub finds_drawn : Hub → ℕ → State → KeyCall → Target → Made
-finds_drawn h session s call target =
+abbrev pub finds_drawn : Hub → ℕ → State → Stage → Made
+finds_drawn h session s to =
     if nat_lt NUMBER_MAX h.txns.next then beside h (refuses (refusal.Limit limit.Ids) s)
-    else with_txns h (drawn h.txns session) (reply.More, at_stage (stage.Publish call target) s)
+    else with_txns h (drawn h.txns session) (reply.More, at_stage to s)
 
-abbrev pub finds_at : Hub → ℕ → State → KeyCall → Option Target → Made
+abbrev pub finds_at : Hub → ℕ → State → KeyCall → Option Stage → Made
 finds_at h session s call None = beside h (refuses refusal.NoTable s)
-finds_at h session s call (Some target) =
-    if draws call h session then finds_drawn h session s call target else beside h (reply.More, at_stage (stage.Publish call target) s)
+finds_at h session s call (Some to) = if draws call h session then finds_drawn h session s to else beside h (reply.More, at_stage to s)
 
 abbrev pub finds : Hub → ℕ → State → KeyCall → Made
-finds h session s call = of_some (finds_at h session s call (target_of h.tables h.dir.leaves call s)) (λ reason. refuses_as reason h s) (first_of (item_checks s))
+finds h session s call = of_some (finds_at h session s call (stage_of h.tables h.dir.leaves call s)) (λ reason. refuses_as reason h s) (first_of (item_checks s))
 
 abbrev pub find_made : Hub → ℕ → State → KeyCall → Made
 find_made h session s call = while_up h s (of_some (finds h session s call) (λ reason. refuses_as reason h s) (unless_running s.phase))
@@ -111,16 +112,26 @@ history_answer (Some fault) = answer.Refused (refusal.Panic fault)
 abbrev pub history_made : Hub → State → KeyCall → Target → Made
 history_made h s call target = beside h (reply.More, answered call target (history_answer h.fault) s)
 
+-- ---- a leaf that was waited for
+
+-- it is sought anew where it is gone
+abbrev pub fills_to : Option Stage → KeyCall → State → State
+fills_to None call s = at_stage (stage.Find call) s
+fills_to (Some to) call s = at_stage to s
+
+abbrev pub fill_made : Hub → State → KeyCall → Wanted → Made
+fill_made h s call wanted = beside h (reply.More, fills_to (option_map (stage_for call) (leaf_named wanted.leaf h.dir.leaves)) call s)
+
 -- ---- the next leaf
 
 -- no row was found in a leaf: the call goes on to this one, or there is none further on
-abbrev pub passes_to : Option Target → KeyCall → Target → State → State
+abbrev pub passes_to : Option Stage → KeyCall → Target → State → State
 passes_to None call target s = answered call target (answer.Refused refusal.NotFound) s
-passes_to (Some next) call target s = at_stage (stage.Publish call next) s
+passes_to (Some to) call target s = at_stage to s
 
 -- a fault is not told here: the answer is not decided yet
 abbrev pub pass_made : Hub → State → KeyCall → Target → Made
-pass_made h s call target = beside h (reply.More, passes_to (option_and_then target_in (next_for call target.leaf h.dir.leaves)) call target s)
+pass_made h s call target = beside h (reply.More, passes_to (option_map (stage_for call) (next_for call target.leaf h.dir.leaves)) call target s)
 
 -- ---- prepare
 
@@ -197,6 +208,7 @@ resolve_made h session s = while_up h s (resolves_in s.phase h session s)
 abbrev pub hub_made_at : Stage → Hub → ℕ → State → Made
 hub_made_at (stage.Begin read) h session s = begin_made h session s read
 hub_made_at (stage.Find call) h session s = find_made h session s call
+hub_made_at (stage.Fill call wanted) h session s = fill_made h s call wanted
 hub_made_at (stage.Pass call target) h session s = pass_made h s call target
 hub_made_at (stage.History call target) h session s = history_made h s call target
 hub_made_at (stage.Release stamp) h session s = release_made h session s stamp

@@ -10,6 +10,8 @@ use Rattle.catalog.specs.Known.{Known, place_of}
 use Rattle.wt_calls.specs.Calls.{way_in}
 use Rattle.call_steps.specs.declared.stage.KeyCall.{KeyCall}
 use Rattle.call_steps.specs.declared.stage.KeyCall.TheVariants.{Step}
+use Rattle.call_steps.specs.declared.stage.Stage.{Stage}
+use Rattle.call_steps.specs.declared.stage.Stage.TheVariants as stage
 use Rattle.call_steps.specs.declared.stage.Target.{Target}
 use Rattle.call_steps.specs.Looks.{start_in}
 use Rattle.call_steps.specs.State.{State}
@@ -44,9 +46,18 @@ leaf_for leaves call s t = leaf_sought leaves t.number (sought call s t.number)
 abbrev pub number_of : Known → List ℕ → Option ℕ
 number_of known name = option_and_then (λ place. option_map (λ (t : Table). t.number) (slice_get known.tables place)) (place_of name known.tables)
 
-abbrev pub target_of : Known → List Leaf → KeyCall → State → Option Target
-target_of known leaves call s =
-    option_and_then target_in (option_and_then (leaf_for leaves call s) (option_and_then (λ place. slice_get known.tables place) (place_of s.name known.tables)))
+-- the stage of a call at a leaf: it has to be loaded where it is in no frame
+abbrev pub stage_by : KeyCall → Leaf → Option Target → Stage
+stage_by call l None = stage.Fill call (record { table = l.table; leaf = l.id })
+stage_by call l (Some target) = stage.Publish call target
+
+abbrev pub stage_for : KeyCall → Leaf → Stage
+stage_for call l = stage_by call l (target_in l)
+
+-- that at the leaf at which it begins
+abbrev pub stage_of : Known → List Leaf → KeyCall → State → Option Stage
+stage_of known leaves call s =
+    option_map (stage_for call) (option_and_then (leaf_for leaves call s) (option_and_then (λ place. slice_get known.tables place) (place_of s.name known.tables)))
 
 -- ---- further on
 

@@ -2,6 +2,7 @@
 use Rattle.std.specs.Prelude.{ℕ, ◌+◌, ◌==◌, List, [], Option, Some, None, if◌then◌else◌}
 use Rattle.wt_code.specs.declared.answers.Answer.{Answer}
 use Rattle.wt_code.specs.declared.answers.Answer.TheVariants as answer
+use Rattle.wt_code.specs.declared.refusals.Refusal.{Refusal}
 use Rattle.wt_code.specs.declared.refusals.Refusal.TheVariants as refusal
 use Rattle.wt_code.specs.declared.refusals.Invalid.{Invalid}
 use Rattle.wt_code.specs.declared.refusals.Invalid.TheVariants as invalid
@@ -16,6 +17,7 @@ use Rattle.call_steps.specs.declared.stage.KeyCall.{KeyCall}
 use Rattle.call_steps.specs.declared.stage.Stage.{Stage}
 use Rattle.call_steps.specs.declared.stage.Stage.TheVariants as stage
 use Rattle.call_steps.specs.declared.stage.Target.{Target}
+use Rattle.call_steps.specs.declared.stage.Wanted.{Wanted}
 use Rattle.call_steps.specs.Stages.{cursor_in}
 use Rattle.call_steps.specs.State.{State, at_stage, refuses, changed_at, unpinned, placed, cursor_word, first_pinned, clears, without_answer}
 use Rattle.call_steps.specs.Written.{frame_at}
@@ -42,6 +44,7 @@ abbrev pub next_at : Stage → State → Next
 next_at stage.Rest s = next.Nothing
 next_at (stage.Begin read) s = next.Hub
 next_at (stage.Find call) s = next.Hub
+next_at (stage.Fill call wanted) s = next.Fill wanted.leaf
 next_at (stage.Publish call target) s = next.Store s.word (target.frame + 1)
 next_at (stage.Validate call target) s = next.Load target.frame
 next_at (stage.Look call target) s = next.Frame target.frame
@@ -74,6 +77,20 @@ loaded_at _ seen s = s
 
 abbrev pub loaded : ℕ → State → State
 loaded seen s = loaded_at s.stage seen s
+
+-- ---- a leaf that cannot be had
+
+-- what would name a leaf's frame names none
+abbrev pub unframed : Wanted → Target
+unframed wanted = record { table = wanted.table; leaf = wanted.leaf; frame = 0; word = 0 }
+
+abbrev pub kept_out_at : Stage → Refusal → State → State
+kept_out_at (stage.Fill call wanted) r s = clears call (unframed wanted) (answer.Refused r) s
+kept_out_at _ r s = s
+
+-- the call that waits for a leaf is refused so
+abbrev pub kept_out : Refusal → State → State
+kept_out r s = kept_out_at s.stage r s
 
 -- ---- stores
 

@@ -1,12 +1,12 @@
 // What the sessions share beside the frames.
 
-ghost use Rattle.std.specs.Prelude.{◌≡◌, option_and_then, option_map};
+ghost use Rattle.std.specs.Prelude.{◌≡◌, option_map};
 ghost use Rattle.tree_dir.specs.Leaves.{leaf_named};
 ghost use Rattle.wt_calls.specs.Calls.{way_in};
-ghost use Rattle.call_steps.specs.Tables.{leaf_sought, next_for, number_of, row_sought, sought, target_in, target_of};
+ghost use Rattle.call_steps.specs.Tables.{leaf_sought, next_for, number_of, row_sought, sought, stage_for, stage_of};
 
 use crate::looks::start_of;
-use crate::stage::{KeyCall, Target};
+use crate::stage::{KeyCall, Stage, Target, Wanted};
 use crate::state::SessionState;
 use catalog::Catalog;
 use failure::Fault;
@@ -33,14 +33,14 @@ pub struct Hub {
 // The state word of a frame that has the first leaf that it ever had.
 const FIRST_WORD: u64 = 1;
 
-/// The leaf at which the session's call begins, and where it is; none where there is no table of its
+/// The stage of the session's call at the leaf at which it begins; none where there is no table of its
 /// name. `O(log n)` in the tables and in the leaves.
-pub fn target_of(tables: &Catalog, dir: &Dir, call: KeyCall, state: &SessionState) -> Option<Target>
-    ensures { result ≡ target_of tables.now dir.now.leaves call state.now }
+pub fn stage_of(tables: &Catalog, dir: &Dir, call: KeyCall, state: &SessionState) -> Option<Stage>
+    ensures { result ≡ stage_of tables.now dir.now.leaves call state.now }
 {
     match table_of(tables, state) {
         None => None,
-        Some(table) => first_target(dir, call, state, table),
+        Some(table) => first_stage(dir, call, state, table),
     }
 }
 
@@ -53,48 +53,60 @@ fn table_of(tables: &Catalog, state: &SessionState) -> Option<u32>
     Some(table.number)
 }
 
-// The leaf of this table at which the session's call begins.
-fn first_target(dir: &Dir, call: KeyCall, state: &SessionState, table: u32) -> Option<Target>
-    ensures { result ≡ option_and_then target_in (leaf_sought dir.now.leaves table (sought call state.now table)) }
+// That at the leaf of this table at which it begins.
+fn first_stage(dir: &Dir, call: KeyCall, state: &SessionState, table: u32) -> Option<Stage>
+    ensures { result ≡ option_map (stage_for call) (leaf_sought dir.now.leaves table (sought call state.now table)) }
 {
     // What holds of every directory holds of this one.
     dir.stands();
     match leaf_for(dir, call, state, table) {
         None => None,
-        Some(leaf) => target_in(dir, leaf),
+        Some(leaf) => stage_in(dir, call, leaf),
     }
 }
 
-/// The next leaf on the way of a call, and where it is; none where there is none further on.
-/// `O(log n)` in the leaves.
-pub(crate) fn next_target(dir: &Dir, call: KeyCall, leaf: u64) -> Option<Target>
-    ensures { result ≡ option_and_then target_in (next_for call leaf dir.now.leaves) }
+/// The stage of a call at the next leaf on its way; none where there is none further on. `O(log n)` in
+/// the leaves.
+pub(crate) fn next_stage(dir: &Dir, call: KeyCall, leaf: u64) -> Option<Stage>
+    ensures { result ≡ option_map (stage_for call) (next_for call leaf dir.now.leaves) }
 {
     // What holds of every directory holds of this one.
     dir.stands();
     match next_leaf(dir, call, leaf) {
         None => None,
-        Some(next) => target_in(dir, next),
+        Some(next) => stage_in(dir, call, next),
     }
 }
 
-fn target_in(dir: &Dir, leaf: u64) -> Option<Target>
-    ensures { result ≡ option_and_then target_in (leaf_named leaf dir.now.leaves) }
+/// The stage of a call at the leaf of this id; none where there is no such leaf. `O(1)`.
+pub(crate) fn stage_in(dir: &Dir, call: KeyCall, leaf: u64) -> Option<Stage>
+    ensures { result ≡ option_map (stage_for call) (leaf_named leaf dir.now.leaves) }
 {
     let there = dir.leaf(leaf)?;
-    target_at(there)
+    Some(stage_at(call, there))
 }
 
-fn target_at(leaf: &Leaf) -> Option<Target>
-    ensures { result ≡ target_in leaf.now }
+fn stage_at(call: KeyCall, leaf: &Leaf) -> Stage
+    ensures { result ≡ stage_for call leaf.now }
 {
-    let framed = leaf.frame?;
-    Some(Target {
-        table: leaf.table,
-        leaf: leaf.id,
-        frame: framed.frame,
-        word: FIRST_WORD,
-    })
+    match leaf.frame {
+        None => Stage::Fill(
+            call,
+            Wanted {
+                table: leaf.table,
+                leaf: leaf.id,
+            },
+        ),
+        Some(framed) => Stage::Publish(
+            call,
+            Target {
+                table: leaf.table,
+                leaf: leaf.id,
+                frame: framed.frame,
+                word: FIRST_WORD,
+            },
+        ),
+    }
 }
 
 fn leaf_for(dir: &Dir, call: KeyCall, state: &SessionState, table: u32) -> Option<u64>

@@ -5,12 +5,12 @@ ghost use Rattle.txn_table.specs.SessionData.{is_unreleased};
 ghost use Rattle.txn_table.specs.Tabled.{phase_of};
 ghost use Rattle.kv_model.specs.Refusals.{first_of};
 ghost use Rattle.call_steps.specs.Lengths.{length_checks};
-ghost use Rattle.call_steps.specs.Tables.{target_of};
-ghost use Rattle.call_steps.specs.HubEvents.{IsSeated, hub_made, hub_made_at, begin_made, begins_in, find_made, finds, finds_at, finds_drawn, item_checks, history_made, pass_made, release_made, done, done_made, decide_made, decides_in, decides_running, decides_prepared, leaves_with, resolve_made, resolves_in};
+ghost use Rattle.call_steps.specs.Tables.{stage_of};
+ghost use Rattle.call_steps.specs.HubEvents.{IsSeated, hub_made, hub_made_at, begin_made, begins_in, find_made, finds, finds_at, finds_drawn, item_checks, history_made, fill_made, pass_made, release_made, done, done_made, decide_made, decides_in, decides_running, decides_prepared, leaves_with, resolve_made, resolves_in};
 
-use crate::hub::{Hub, next_target, target_of};
+use crate::hub::{Hub, next_stage, stage_in, stage_of};
 use crate::reply::Reply;
-use crate::stage::{CommitStamps, KeyCall, Stage, Target};
+use crate::stage::{CommitStamps, KeyCall, Stage, Target, Wanted};
 use crate::state::SessionState;
 use crate::words::unless_running;
 use catalog::is_name;
@@ -30,6 +30,7 @@ pub fn hub_event(hub: &mut Hub, session: u32, state: &mut SessionState) -> Reply
     match state.stage() {
         Stage::Begin(read) => begin(hub, session, state, read),
         Stage::Find(call) => find(hub, session, state, call),
+        Stage::Fill(call, wanted) => fill(hub, state, call, wanted),
         Stage::Pass(call, target) => pass(hub, state, call, target),
         Stage::History(call, target) => look_in_history(hub, state, call, target),
         Stage::Release(stamp) => release(hub, session, state, stamp),
@@ -78,15 +79,15 @@ fn find(hub: &mut Hub, session: u32, state: &mut SessionState, call: KeyCall) ->
     if let Some(reason) = unless_running(state.phase()) {
         return state.refuse(Refusal::Invalid(reason));
     }
-    match target_of(&hub.tables, &hub.dir, call, state) {
+    match stage_of(&hub.tables, &hub.dir, call, state) {
         None => find_nothing(hub, session, state, call),
-        Some(target) => find_known(hub, session, state, call, target),
+        Some(stage) => find_known(hub, session, state, call, stage),
     }
 }
 
 // There is no table of this name. That is told where nothing is wrong with the call.
 fn find_nothing(hub: &Hub, session: u32, state: &mut SessionState, call: KeyCall) -> Reply
-    requires { target_of hub.now.tables hub.now.dir.leaves call state.old ≡ None }
+    requires { stage_of hub.now.tables hub.now.dir.leaves call state.old ≡ None }
     ensures { (result, (hub.now, state.new)) ≡ finds hub.now session state.old call }
 {
     match wrong_items(state) {
@@ -101,18 +102,18 @@ fn find_known(
     session: u32,
     state: &mut SessionState,
     call: KeyCall,
-    target: Target,
+    stage: Stage,
 ) -> Reply
     requires open { session < length hub.old.txns.sessions }
     requires running { phase_of hub.old.txns session ≡ Phase.Running }
-    requires known { target_of hub.old.tables hub.old.dir.leaves call state.old ≡ Some target }
+    requires known { stage_of hub.old.tables hub.old.dir.leaves call state.old ≡ Some stage }
     ensures { (result, (hub.new, state.new)) ≡ finds hub.old session state.old call }
 {
     // What holds of every catalog holds of this one.
     let _count = hub.tables.len();
     match wrong_lengths(state) {
         Some(reason) => state.refuse(Refusal::Invalid(reason)),
-        None => go_to_leaf(hub, session, state, call, target),
+        None => go_to_leaf(hub, session, state, call, stage),
     }
 }
 
@@ -147,18 +148,30 @@ fn go_to_leaf(
     session: u32,
     state: &mut SessionState,
     call: KeyCall,
-    target: Target,
+    stage: Stage,
 ) -> Reply
     requires open { session < length hub.old.txns.sessions }
     requires running { phase_of hub.old.txns session ≡ Phase.Running }
-    ensures { (result, (hub.new, state.new)) ≡ finds_at hub.old session state.old call (Some target) }
+    ensures { (result, (hub.new, state.new)) ≡ finds_at hub.old session state.old call (Some stage) }
 {
     if call.is_write() && hub.txns.id(session) == 0 {
         if let Err(refusal) = hub.txns.draw_id(session) {
             return state.refuse(refusal);
         }
     }
-    state.go_to(Stage::Publish(call, target));
+    state.go_to(stage);
+    Reply::More
+}
+
+// The leaf was loaded: the call goes on at it. One that is still in no frame is still waited for, and
+// one that is gone is sought anew.
+fn fill(hub: &Hub, state: &mut SessionState, call: KeyCall, wanted: Wanted) -> Reply
+    ensures { (result, (hub.now, state.new)) ≡ fill_made hub.now state.old call wanted }
+{
+    match stage_in(&hub.dir, call, wanted.leaf) {
+        None => state.go_to(Stage::Find(call)),
+        Some(stage) => state.go_to(stage),
+    }
     Reply::More
 }
 
@@ -166,9 +179,9 @@ fn go_to_leaf(
 fn pass(hub: &Hub, state: &mut SessionState, call: KeyCall, target: Target) -> Reply
     ensures { (result, (hub.now, state.new)) ≡ pass_made hub.now state.old call target }
 {
-    match next_target(&hub.dir, call, target.leaf) {
+    match next_stage(&hub.dir, call, target.leaf) {
         None => state.answer(call, target, Answer::Refused(Refusal::NotFound)),
-        Some(next) => state.go_to(Stage::Publish(call, next)),
+        Some(stage) => state.go_to(stage),
     }
     Reply::More
 }

@@ -7,6 +7,8 @@ pub enum Next {
     Nothing,
     /// The hub.
     Hub,
+    /// A leaf of this id, which is in no frame: once it is loaded, the hub.
+    Fill(u64),
     /// The piece of this frame.
     Frame(u32),
     /// A load of the state word of this frame.

@@ -19,6 +19,15 @@ pub struct Target {
     pub word: u64,
 }
 
+/// A leaf that is in no frame.
+#[derive(Clone, Copy, Debug, PartialEq, Eq)]
+pub struct Wanted {
+    /// The number of the table.
+    pub table: u32,
+    /// What the leaf is named by.
+    pub leaf: u64,
+}
+
 /// What a call does at its leaf.
 #[derive(Clone, Copy, Debug, PartialEq, Eq)]
 pub enum KeyCall {
@@ -74,6 +83,8 @@ pub enum Stage {
     Begin(Option<u64>),
     /// Find the leaf and its frame.
     Find(KeyCall),
+    /// Go on once the leaf is loaded: it was in no frame.
+    Fill(KeyCall, Wanted),
     /// Name the frame in the call's hazard word.
     Publish(KeyCall, Target),
     /// Look whether the frame has the leaf still.

@@ -4,12 +4,12 @@ ghost use Rattle.std.specs.Prelude.{◌≡◌, ◌+◌, None};
 ghost use Rattle.call_steps.specs.Written.{frame_at};
 ghost use Rattle.call_steps.specs.Stages.{cursor_in};
 ghost use Rattle.call_steps.specs.State.{changed_at, unpinned, placed};
-ghost use Rattle.call_steps.specs.Words.{unless_running, reset_word, missed_word, next_of, validated, loaded, ends, landed, cleared, missed, reset, reset_or_refused, unpins, unpins_on, stored};
+ghost use Rattle.call_steps.specs.Words.{unless_running, reset_word, missed_word, next_of, kept_out, unframed, validated, loaded, ends, landed, cleared, missed, reset, reset_or_refused, unpins, unpins_on, stored};
 
 use crate::cursor::{Cursor, Position};
 use crate::next::Next;
 use crate::reply::Reply;
-use crate::stage::{KeyCall, Stage, Target};
+use crate::stage::{KeyCall, Stage, Target, Wanted};
 use crate::state::{SessionState, first_pinned};
 use crate::written::WrittenKey;
 use std::alloc::Global;
@@ -43,6 +43,7 @@ impl SessionState {
             | Stage::Decide(_)
             | Stage::Resolve
             | Stage::Done => Next::Hub,
+            Stage::Fill(_, wanted) => Next::Fill(wanted.leaf),
             Stage::Publish(_, target) => Next::Store(self.word, mark_of(target)),
             Stage::Validate(_, target) => Next::Load(target.frame),
             Stage::Look(_, target) => Next::Frame(target.frame),
@@ -94,6 +95,19 @@ impl SessionState {
             self.stage = Stage::Look(call, target);
         } else {
             self.clear(call, target, Answer::Refused(Refusal::Again { seen }));
+        }
+    }
+
+    /// The leaf that the call waits for cannot be had: the call is refused so. Nothing is changed where
+    /// it waits for none. `O(1)`.
+    pub fn keep_out(&mut self, refusal: Refusal)
+        ensures { self.new ≡ kept_out refusal self.old }
+    {
+        match self.stage {
+            Stage::Fill(call, wanted) => {
+                self.clear(call, unframed(wanted), Answer::Refused(refusal));
+            }
+            _ => {}
         }
     }
 
@@ -197,6 +211,18 @@ impl SessionState {
                 Reply::More
             }
         }
+    }
+}
+
+// What would name the leaf's frame names none.
+fn unframed(wanted: Wanted) -> Target
+    ensures { result ≡ unframed wanted }
+{
+    Target {
+        table: wanted.table,
+        leaf: wanted.leaf,
+        frame: 0,
+        word: 0,
     }
 }
 

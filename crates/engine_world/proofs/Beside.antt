@@ -12,7 +12,9 @@ use Rattle.kv_model.specs.Pending.{NoneOf}
 use Rattle.kv_model.specs.Reads.{own_write, is_own, IsEnding, Value, ReadAnswer}
 use Rattle.kv_model.specs.Rows.{Way}
 use Rattle.tree_dir.specs.declared.leaf.Leaf.{Leaf}
+use Rattle.tree_dir.specs.declared.leaf.Framed.{Framed}
 use Rattle.tree_dir.specs.Leaves.{leaf_behind, leaf_under}
+use Rattle.tree_dir.specs.Ranges.{low_key}
 use Rattle.txn_table.specs.Tabled.{phase_of}
 use Rattle.update_chain.specs.declared.update.Update.{Update}
 use Rattle.leaf_chains.specs.Slots.{chain_at, slot_of}
@@ -81,11 +83,20 @@ pub record Beside (session : ℕ) (m next : Machine) (hub later : Hub) (pieces p
   pub slots : SlotsStay pieces pieces'
   pub updates : OthersUpdates m session pieces pieces'
 
--- a directory says of the leaves that were there what it said
+-- a leaf as it is later: one that has a frame stays in it
+pub record IsAlike (l now : Leaf) : Type 0 where
+  pub id : now.id ≡ l.id
+  pub table : now.table ≡ l.table
+  pub key : now.entry.key ≡ l.entry.key
+  pub frame : (f : Framed) → l.frame ≡ Some f → now.frame ≡ Some f
+
+-- a directory says of the leaves that were there what it said; to: what each has become
 pub record LeavesKept (leaves made : List Leaf) : Type 0 where
-  pub there : (l : Leaf) → Contains leaves l → Contains made l
-  pub under : (table : ℕ) (key : List ℕ) (l : Leaf) → leaf_under table key leaves ≡ Some l → leaf_under table key made ≡ Some l
-  pub behind : (l : Leaf) → Contains leaves l → leaf_behind l.id made ≡ leaf_behind l.id leaves
+  pub to : Leaf → Leaf
+  pub alike : (l : Leaf) → IsAlike l (to l)
+  pub there : (l : Leaf) → Contains leaves l → Contains made (to l)
+  pub under : (table : ℕ) (key : List ℕ) (l : Leaf) → leaf_under table key leaves ≡ Some l → leaf_under table key made ≡ Some (to l)
+  pub behind : (l : Leaf) → Contains leaves l → low_key (leaf_behind l.id made) ≡ low_key (leaf_behind l.id leaves)
   pub on : (way : Way) (l : Leaf) → Contains leaves l → leaves_on way l.table l.id made ≡ leaves_on way l.table l.id leaves
 
 -- and a frame that has one of them stays with its table, and a key in it keeps its slot

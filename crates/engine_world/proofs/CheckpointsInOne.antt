@@ -39,8 +39,8 @@ checkpoints-go chains e w st free none = record {
   dir = st.dir;
   begun = st.begun;
   owned = st.owned;
-  leaves = leaves-go-on chains begun CheckpointFinish e.hub.dir.leaves e.pieces e.states valid tt (λ table key. tt)
-      (leaves-go-on chains w.machine CheckpointStart e.hub.dir.leaves e.pieces e.states st.valid may (λ table key. tt) st.leaves);
+  leaves = leaves-go-on chains begun CheckpointFinish w.shelf e.hub.dir.leaves e.pieces e.states valid tt (λ table key. tt)
+      (leaves-go-on chains w.machine CheckpointStart w.shelf e.hub.dir.leaves e.pieces e.states st.valid may (λ table key. tt) st.leaves);
   count = st.count;
   doings = st.doings;
   doing = st.doing;

@@ -28,7 +28,7 @@ use Rattle.leaf_chains.specs.Slots.{chain_at, slot_of}
 use Rattle.call_steps.specs.declared.frame.Frame.{Frame}
 use Rattle.call_steps.specs.declared.frame.FramePiece.{FramePiece}
 use Rattle.call_steps.specs.Tables.{first_word}
-use Rattle.engine_world.specs.Leaves.{LeafStands, LeavesOwned, TablesBegun, frame_in, frame_of}
+use Rattle.engine_world.specs.Leaves.{LeafInFrame, LeafStands, LeavesOwned, TablesBegun, frame_in, frame_of}
 use Rattle.engine_world.specs.Stands.{Engine, Stands}
 use Rattle.engine_world.specs.Systems.{CreatesGo, HasFirstLeaf, first_piece, with_table}
 use Rattle.engine_world.specs.Worlds.{World}
@@ -122,7 +122,7 @@ module _ (chains : ChainsGoOn) (e : Engine) (w : World) (known : Known) (dir : D
   kept : LeavesKept e.hub.dir.leaves dir.leaves
   kept = come-kept e.hub.dir dir.leaves (new_leaf t.number id frame) c.stands.dir come
 
-  new-stands : LeafStands next dir.leaves pieces states (new_leaf t.number id frame)
+  new-stands : LeafInFrame next dir.leaves pieces states (new_leaf t.number id frame)
   new-stands = record {
     laid = record {
       framed = record { frame = frame; generation = 0 };
@@ -138,38 +138,43 @@ module _ (chains : ChainsGoOn) (e : Engine) (w : World) (known : Known) (dir : D
     bare = λ key outside. absurd (outside (under-come e.hub.dir dir.leaves (new_leaf t.number id frame) c.stands.dir come refl key));
   }
 
-  old-stands : (l : Leaf) → Contains e.hub.dir.leaves l → LeafStands next dir.leaves pieces states l
-  old-stands l there = record {
-    laid = record {
-      framed = old.laid.framed;
-      placed = old.laid.placed;
-      frame = old.laid.frame;
-      there = old-frame e.pieces frame old.laid.framed.frame (first_piece t id) apart ∙ old.laid.there;
-      table = old.laid.table;
-      id = old.laid.id;
-      word = get_or-set_other e.states frame old.laid.framed.frame first_word 0 apart ∙ old.laid.word;
-    };
-    keys = λ key under. old.keys key (sym (same key) ∙ under);
-    bare = λ key outside. old.bare key (λ under. outside (same key ∙ under));
-  } where
-    old : LeafStands next e.hub.dir.leaves e.pieces e.states l
-    old = leaves-go-on chains w.machine (CreateTable t) e.hub.dir.leaves e.pieces e.states c.stands.valid c.may (λ table key. tt) c.stands.leaves l there
-
-    apart : old.laid.framed.frame ≢ frame
-    apart = not-empty e.pieces frame old.laid.framed.frame old.laid.frame c.empty old.laid.there
-
+  old-stands : (l : Leaf) → Contains e.hub.dir.leaves l → LeafStands next w.shelf dir.leaves pieces states l
+  old-stands l there = by (leaves-go-on chains w.machine (CreateTable t) w.shelf e.hub.dir.leaves e.pieces e.states c.stands.valid c.may (λ table key. tt) c.stands.leaves l there) where
     same : (key : List ℕ) → leaf_under l.table key dir.leaves ≡ leaf_under l.table key e.hub.dir.leaves
     same key = under-same e.hub.dir dir.leaves (new_leaf t.number id frame) c.stands.dir come l.table key (come.apart l there)
 
-  each-stands : LeavesStand next dir.leaves pieces states
+    apart : (old : LeafInFrame next e.hub.dir.leaves e.pieces e.states l) → old.laid.framed.frame ≢ frame
+    apart old = not-empty e.pieces frame old.laid.framed.frame old.laid.frame c.empty old.laid.there
+
+    by : LeafStands next w.shelf e.hub.dir.leaves e.pieces e.states l → LeafStands next w.shelf dir.leaves pieces states l
+    by (inr old) = inr (record {
+      none = old.none;
+      keys = λ key under. old.keys key (sym (same key) ∙ under);
+      bare = λ key outside. old.bare key (λ under. outside (same key ∙ under));
+    })
+    by (inl old) = inl (record {
+      laid = record {
+        framed = old.laid.framed;
+        placed = old.laid.placed;
+        frame = old.laid.frame;
+        there = old-frame e.pieces frame old.laid.framed.frame (first_piece t id) (apart old) ∙ old.laid.there;
+        table = old.laid.table;
+        id = old.laid.id;
+        word = get_or-set_other e.states frame old.laid.framed.frame first_word 0 (apart old) ∙ old.laid.word;
+      };
+      keys = λ key under. old.keys key (sym (same key) ∙ under);
+      bare = λ key outside. old.bare key (λ under. outside (same key ∙ under));
+    })
+
+  each-stands : LeavesStand next w.shelf dir.leaves pieces states
   each-stands l there = elim (come-cases e.hub.dir dir.leaves (new_leaf t.number id frame) c.stands.dir come l there) [
     | inl old ↦ old-stands l old
-    | inr same ↦ subst (LeafStands next dir.leaves pieces states) same new-stands
+    | inr same ↦ subst (LeafStands next w.shelf dir.leaves pieces states) same (inl new-stands)
   ]
 
   all-begun : TablesBegun known.tables dir.leaves
   all-begun place u there = elim (append-finds e.hub.tables.tables t u place (subst (λ l. slice_get l place ≡ Some u) c.tables there)) [
-    | inl old ↦ let l = c.stands.begun place u old in (l.0, kept.there l.0 l.1, l.2)
+    | inl old ↦ let l = c.stands.begun place u old in (kept.to l.0, kept.there l.0 l.1, (kept.alike l.0).table ∙ l.2)
     | inr last ↦ (new_leaf t.number id frame, new-there e.hub.dir dir.leaves (new_leaf t.number id frame) c.stands.dir come, ap (λ (x : Table). x.number) last.1)
   ]
 
@@ -182,7 +187,7 @@ module _ (chains : ChainsGoOn) (e : Engine) (w : World) (known : Known) (dir : D
 
   -- a frame that has a leaf is as it was
   home-apart : (table : ℕ) (key : List ℕ) (f : ℕ) → frame_of e.hub.dir.leaves table key ≡ Some f → f ≢ frame
-  home-apart table key f home = let h = home-at w.machine e.hub.dir e.pieces e.states table key f c.stands.dir c.stands.leaves home in
+  home-apart table key f home = let h = home-at w.machine w.shelf e.hub.dir e.pieces e.states table key f c.stands.dir c.stands.leaves home in
       not-empty e.pieces frame f h.stands.laid.frame c.empty (ap (frame_in e.pieces) (sym h.at) ∙ h.stands.laid.there)
 
   leaves-stay : LeavesStay e.hub.dir.leaves dir.leaves e.pieces pieces

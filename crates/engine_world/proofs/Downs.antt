@@ -97,6 +97,7 @@ module _ (m : Machine) (fault : Fault) (valid : Valid m) (leaves : List Leaf) (p
   stage-down stage.Rest x = ends-down
   stage-down (stage.Begin read) x = ends-down
   stage-down (stage.Find call) x = (ends-down, x.1)
+  stage-down (stage.Fill call wanted) x = (x.0, (x.1.0, sought-down call x.1.0.0 x.1.1))
   stage-down (stage.Publish call target) x = (x.0, sought-down call x.0.1.0 x.1)
   stage-down (stage.Validate call target) x = (x.0, sought-down call x.0.1.0 x.1)
   stage-down (stage.Look call target) x = (x.0, sought-down call x.0.1.0 x.1)
@@ -135,7 +136,7 @@ downs-go chains e w fault st = record {
   dir = st.dir;
   begun = st.begun;
   owned = st.owned;
-  leaves = leaves-go-on chains w.machine (GoDown fault) e.hub.dir.leaves e.pieces e.states st.valid tt (λ table key. tt) st.leaves;
+  leaves = leaves-go-on chains w.machine (GoDown fault) w.shelf e.hub.dir.leaves e.pieces e.states st.valid tt (λ table key. tt) st.leaves;
   count = st.count;
   doings = st.doings;
   doing = st.doing;

@@ -28,6 +28,7 @@ use Rattle.wt_calls.specs.declared.system_call.SystemCall.{SystemCall}
 use Rattle.wt_calls.specs.Calls.{system_call_in}
 use Rattle.call_steps.specs.declared.frame.FramePiece.{FramePiece}
 use Rattle.call_steps.specs.State.{State}
+use Rattle.row_page.specs.Rows.{Row}
 use Rattle.engine_world.specs.Leaves.{LeafStands}
 use Rattle.engine_world.specs.Stands.{Engine}
 use Rattle.engine_world.specs.Systems.{EnginesStart, IsFirstOf, LeafStarts}
@@ -68,12 +69,17 @@ key-starts alike c table key chain row regular first = subst (λ l. KeyStands (s
     (alike (start c) table key (line (base c) table key) first.above None row [] (λ v there passes s t at. absurd (no-seat s t at))
     (sym first.all ∙ sym (append-nil (line (base c) table key))) (in-chain c table key regular))
 
-leaf-starts : FramesAlike → (c : Content) (leaves : List Leaf) (pieces : List FramePiece) (states : List ℕ) (l : Leaf) → IsRegular c → LeafStarts c leaves pieces states l → LeafStands (start c) leaves pieces states l
-leaf-starts alike c leaves pieces states l regular leaf = record {
+leaf-starts : FramesAlike → (c : Content) (shelf : ℕ → List Row) (leaves : List Leaf) (pieces : List FramePiece) (states : List ℕ) (l : Leaf) → IsRegular c → LeafStarts c shelf leaves pieces states l → LeafStands (start c) shelf leaves pieces states l
+leaf-starts alike c shelf leaves pieces states l regular (inl leaf) = inl (record {
   laid = leaf.laid;
   keys = λ key under. key-starts alike c l.table key (chain_at key leaf.laid.frame.leaf.chains) (shown_at key leaf.laid.frame.leaf.page) regular (leaf.keys key under);
   bare = leaf.bare;
-}
+})
+leaf-starts alike c shelf leaves pieces states l regular (inr leaf) = inr (record {
+  none = leaf.none;
+  keys = λ key under. key-starts alike c l.table key [] (shown_at key (shelf l.id)) regular (leaf.keys key under);
+  bare = leaf.bare;
+})
 
 -- ---- nobody is at work
 
@@ -85,7 +91,7 @@ no-session : (e : Engine) (session : ℕ) (a : State) → e.sessions ≡ [] → 
 no-session e session a none there = let is : None ≡ Some a = sym (ap (λ (l : List State). slice_get l session) none) ∙ there in absurd (cc)
 
 pub engines-start : FramesAlike → EnginesStart
-engines-start alike c e regular b = record {
+engines-start alike c shelf e regular b = record {
   valid = start-valid c regular;
   fault = b.fault;
   stamps = b.stamps;
@@ -95,7 +101,7 @@ engines-start alike c e regular b = record {
   dir = b.dir;
   begun = b.begun;
   owned = b.owned;
-  leaves = λ l there. leaf-starts alike c e.hub.dir.leaves e.pieces e.states l regular (b.leaves l there);
+  leaves = λ l there. leaf-starts alike c shelf e.hub.dir.leaves e.pieces e.states l regular (b.leaves l there);
   count = ap length b.sessions;
   doings = sym (ap length b.sessions);
   doing = λ session a there. absurd (no-session e session a b.sessions there);

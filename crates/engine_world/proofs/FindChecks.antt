@@ -1,6 +1,6 @@
 -- What the event that finds the table of a call checks, by the model and by the engine.
 use Rattle.std.proofs.Common.{◌≡◌, ◌⊎◌, ◌<◌, ◌≤◌, ◌+◌, ◌*◌, ◌^◌, ℕ, refl, ap, sym, ◌∙◌, Bool, true, false, ◌&&◌, List, [], ◌∷◌, length, inl, inr, subst, arith}
-use Rattle.std.specs.Prelude.{Option, Some, None, option_and_then, slice_get, nat_lt, not, ◌==◌, if◌then◌else◌, reverse}
+use Rattle.std.specs.Prelude.{Option, Some, None, option_and_then, slice_get, nat_lt, not, ◌==◌, if◌then◌else◌, reverse, option_map}
 use Rattle.std.specs.List.{Contains}
 use Rattle.std.proofs.lemmas.Bool.{cases_eq, both_ways, eqb-true, eq-eqb}
 use Rattle.limits.specs.declared.TheConstants.{KEY_MAX, VALUE_MAX, NUMBER_MAX}
@@ -23,23 +23,20 @@ use Rattle.txn_table.specs.Tabled.{Table, session_of, drawn}
 use Rattle.catalog.specs.Known.{Known, AreTables, place_of}
 use Rattle.catalog.proofs.Turning.{turn_named, places_named}
 use Rattle.wt_calls.specs.Calls.{way_in}
-use Rattle.call_steps.specs.declared.frame.FramePiece.{FramePiece}
 use Rattle.call_steps.specs.declared.reply.Reply.TheVariants as reply
 use Rattle.call_steps.specs.declared.stage.KeyCall.{KeyCall}
 use Rattle.call_steps.specs.declared.stage.KeyCall.TheVariants as key_call
 use Rattle.call_steps.specs.declared.stage.Stage.{Stage}
-use Rattle.call_steps.specs.declared.stage.Target.{Target}
 use Rattle.call_steps.specs.Stages.{is_write}
 use Rattle.call_steps.specs.HubEvents.{item_checks, draws}
 use Rattle.call_steps.specs.State.{State, at_stage}
-use Rattle.call_steps.specs.Tables.{leaf_for, leaf_sought, sought, target_in, target_of}
+use Rattle.call_steps.specs.Tables.{leaf_for, leaf_sought, sought, stage_for, stage_of}
 use Rattle.engine_world.specs.Walks.{leaves_on}
 use Rattle.engine_world.specs.Worlds.{Resting, Placed}
-use Rattle.engine_world.specs.Doings.{call_in, find_left, further_left}
-use Rattle.engine_world.specs.Leaves.{IsLaid, TablesBegun}
+use Rattle.engine_world.specs.Doings.{call_in, find_left, further_from}
+use Rattle.engine_world.specs.Leaves.{TablesBegun}
 use Rattle.engine_world.specs.Steps.{Finds, FoundBy, Judges, Made as Left}
 use Rattle.engine_world.specs.Stages.{NamesOnly}
-use Rattle.engine_world.proofs.Homes.{LeavesStand, target-from, target_at}
 use Rattle.engine_world.proofs.HubMoves.{SetsSeat}
 use Rattle.engine_world.proofs.Seeking.{sought-some}
 use Rattle.engine_world.proofs.WalkCounts.{leaves-few}
@@ -157,61 +154,59 @@ checks-agree (key_call.Step cursor way) a m session t only = rows-checked m a.na
 
 -- there is none
 pub record NotThere (known : Known) (leaves : List Leaf) (m : Machine) (call : KeyCall) (a : State) : Type 0 where
-  pub target : target_of known leaves call a ≡ None
+  pub to : stage_of known leaves call a ≡ None
   pub table : named a.name (tables m.history) ≡ None
 
 -- it stands at a place, and has a leaf at which the call begins
-pub record StandsAt (known : Known) (leaves : List Leaf) (pieces : List FramePiece) (states : List ℕ) (m : Machine) (call : KeyCall) (a : State) : Type 0 where
+pub record StandsAt (known : Known) (leaves : List Leaf) (m : Machine) (call : KeyCall) (a : State) : Type 0 where
   pub of : KnownTable
   pub leaf : Leaf
   pub there : Contains leaves leaf
   pub number : leaf.table ≡ of.number
   pub sought : leaf_sought leaves leaf.table (sought call a leaf.table) ≡ Some leaf
-  pub laid : IsLaid pieces states leaf
-  pub target : target_of known leaves call a ≡ Some (target_at leaf laid.framed)
+  pub to : stage_of known leaves call a ≡ Some (stage_for call leaf)
   pub table : named a.name (tables m.history) ≡ Some of
 
-abbrev target_by : List Leaf → KeyCall → State → Option KnownTable → Option Target
-target_by leaves call a o = option_and_then target_in (option_and_then (leaf_for leaves call a) o)
+abbrev stage_in : List Leaf → KeyCall → State → Option KnownTable → Option Stage
+stage_in leaves call a o = option_map (stage_for call) (option_and_then (leaf_for leaves call a) o)
 
-module _ (known : Known) (d : Directory) (pieces : List FramePiece) (states : List ℕ) (m : Machine) (call : KeyCall) (a : State) where
+module _ (known : Known) (d : Directory) (m : Machine) (call : KeyCall) (a : State) where
   -- the leaf of a table that is known
-  found-leaf : (t : KnownTable) → IsDirectory d → LeavesStand m d.leaves pieces states → (l : Leaf) → Contains d.leaves l → l.table ≡ t.number → (n : Leaf) → leaf_sought d.leaves t.number (sought call a t.number) ≡ Some n
-      → target_of known d.leaves call a ≡ target_by d.leaves call a (Some t) → named a.name (tables m.history) ≡ Some t → StandsAt known d.leaves pieces states m call a
-  found-leaf t is stand l l_there own n begins target named = record {
+  found-leaf : (t : KnownTable) → IsDirectory d → (l : Leaf) → Contains d.leaves l → l.table ≡ t.number → (n : Leaf) → leaf_sought d.leaves t.number (sought call a t.number) ≡ Some n
+      → stage_of known d.leaves call a ≡ stage_in d.leaves call a (Some t) → named a.name (tables m.history) ≡ Some t → StandsAt known d.leaves m call a
+  found-leaf t is l l_there own n begins to named = record {
     of = t;
     leaf = n;
     there = has.0;
     number = has.1;
     sought = ap (λ k. leaf_sought d.leaves k (sought call a k)) has.1 ∙ begins;
-    laid = (stand n has.0).laid;
-    target = target ∙ (ap (option_and_then target_in) begins ∙ target-from n (stand n has.0).laid.framed (stand n has.0).laid.placed);
+    to = to ∙ ap (option_map (stage_for call)) begins;
     table = named;
   } where
     has : Contains d.leaves n × (n.table ≡ t.number)
     has = sought-there d t.number (sought call a t.number) n is begins
 
-  pub find-name : AreTables known → reverse known.tables ≡ tables m.history → IsDirectory d → TablesBegun known.tables d.leaves → LeavesStand m d.leaves pieces states
-      → NotThere known d.leaves m call a ⊎ StandsAt known d.leaves pieces states m call a
-  find-name are made is begun stand = by-place (place_of a.name known.tables) refl where
+  pub find-name : AreTables known → reverse known.tables ≡ tables m.history → IsDirectory d → TablesBegun known.tables d.leaves
+      → NotThere known d.leaves m call a ⊎ StandsAt known d.leaves m call a
+  find-name are made is begun = by-place (place_of a.name known.tables) refl where
     table-is : named a.name (tables m.history) ≡ option_and_then (λ place. slice_get known.tables place) (place_of a.name known.tables)
     table-is = ap (λ l. named a.name l) (sym made) ∙ (turn_named known.tables are.distinct a.name ∙ places_named known.tables a.name)
 
-    by-table : (place : ℕ) → place_of a.name known.tables ≡ Some place → (o : Option KnownTable) → slice_get known.tables place ≡ o → NotThere known d.leaves m call a ⊎ StandsAt known d.leaves pieces states m call a
+    by-table : (place : ℕ) → place_of a.name known.tables ≡ Some place → (o : Option KnownTable) → slice_get known.tables place ≡ o → NotThere known d.leaves m call a ⊎ StandsAt known d.leaves m call a
     by-table place at None none = inl (record {
-      target = ap (λ (o : Option ℕ). target_by d.leaves call a (option_and_then (λ place. slice_get known.tables place) o)) at ∙ ap (target_by d.leaves call a) none;
+      to = ap (λ (o : Option ℕ). stage_in d.leaves call a (option_and_then (λ place. slice_get known.tables place) o)) at ∙ ap (stage_in d.leaves call a) none;
       table = table-is ∙ (ap (λ (o : Option ℕ). option_and_then (λ place. slice_get known.tables place) o) at ∙ none);
     })
     by-table place at (Some t) there =
         let l = begun place t there in
         let n = sought-some d l.0 (sought call a t.number) is l.1 in
-        inr (found-leaf t is stand l.0 l.1 l.2 n.0 (ap (λ k. leaf_sought d.leaves k (sought call a t.number)) (sym l.2) ∙ n.1)
-        (ap (λ (o : Option ℕ). target_by d.leaves call a (option_and_then (λ place. slice_get known.tables place) o)) at ∙ ap (target_by d.leaves call a) there)
+        inr (found-leaf t is l.0 l.1 l.2 n.0 (ap (λ k. leaf_sought d.leaves k (sought call a t.number)) (sym l.2) ∙ n.1)
+        (ap (λ (o : Option ℕ). stage_in d.leaves call a (option_and_then (λ place. slice_get known.tables place) o)) at ∙ ap (stage_in d.leaves call a) there)
         (table-is ∙ (ap (λ (o : Option ℕ). option_and_then (λ place. slice_get known.tables place) o) at ∙ there)))
 
-    by-place : (o : Option ℕ) → place_of a.name known.tables ≡ o → NotThere known d.leaves m call a ⊎ StandsAt known d.leaves pieces states m call a
+    by-place : (o : Option ℕ) → place_of a.name known.tables ≡ o → NotThere known d.leaves m call a ⊎ StandsAt known d.leaves m call a
     by-place None none = inl (record {
-      target = ap (λ (o : Option ℕ). target_by d.leaves call a (option_and_then (λ place. slice_get known.tables place) o)) none;
+      to = ap (λ (o : Option ℕ). stage_in d.leaves call a (option_and_then (λ place. slice_get known.tables place) o)) none;
       table = table-is ∙ ap (λ (o : Option ℕ). option_and_then (λ place. slice_get known.tables place) o) none;
     })
     by-place (Some place) at = by-table place at (slice_get known.tables place) refl
@@ -264,15 +259,15 @@ found-done d event m call now name table number fewer is same there of less =
     (table, there, (fewer, less, ap (λ (c : Call). placed (after m event) c fewer number) same ∙ ap (placed (after m event) call fewer) of))
 
 -- a call that goes to a leaf has fewer steps left
-less-left : (k n : ℕ) → k ≤ n → n ≤ 2 ^ 28 → 6 + 4 * k < 7 + 4 * 2 ^ 28
+less-left : (k n : ℕ) → k ≤ n → n ≤ 2 ^ 28 → 7 + 5 * k < 8 + 5 * 2 ^ 28
 less-left k n less few = omega (arith, less, few)
 
-none-left : 6 + 4 * 0 < 7 + 4 * 2 ^ 28
+none-left : 7 + 5 * 0 < 8 + 5 * 2 ^ 28
 none-left = omega arith
 
-pub placed-less : (call : KeyCall) (target : Target) (leaves : List Leaf) → length leaves ≤ 2 ^ 28 → 6 + further_left call target leaves < find_left
-placed-less (key_call.Step cursor way) target leaves few = less-left (leaves_on (way_in way) target.table target.leaf leaves) (length leaves) (leaves-few (way_in way) target.table target.leaf leaves) few
-placed-less key_call.Get target leaves few = none-left
-placed-less (key_call.Put demand) target leaves few = none-left
-placed-less key_call.Remove target leaves few = none-left
-placed-less (key_call.Seek cursor) target leaves few = none-left
+pub placed-less : (call : KeyCall) (table id : ℕ) (leaves : List Leaf) → length leaves ≤ 2 ^ 28 → 7 + further_from call table id leaves < find_left
+placed-less (key_call.Step cursor way) table id leaves few = less-left (leaves_on (way_in way) table id leaves) (length leaves) (leaves-few (way_in way) table id leaves) few
+placed-less key_call.Get table id leaves few = none-left
+placed-less (key_call.Put demand) table id leaves few = none-left
+placed-less key_call.Remove table id leaves few = none-left
+placed-less (key_call.Seek cursor) table id leaves few = none-left

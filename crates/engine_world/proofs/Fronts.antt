@@ -1,6 +1,6 @@
 -- The slot that was noted of a write, and the update on top of the chain in it.
 use Rattle.std.proofs.Common.{◌≡◌, ◌⊎◌, ℕ, suc, refl, ap, sym, ◌∙◌, true, false, List, [], ◌∷◌, ◌++◌, inl, inr, subst, map, arith}
-use Rattle.std.specs.Prelude.{Option, Some, None, slice_get}
+use Rattle.std.specs.Prelude.{Option, Some, None, slice_get, option_and_then, option_map}
 use Rattle.std.proofs.lemmas.Bool.{cases_eq}
 use Rattle.std.proofs.lemmas.Option.{same_Some}
 use Rattle.item.specs.declared.Change.{Change}
@@ -15,6 +15,7 @@ use Rattle.kv_model.specs.Reads.{own_write, is_own, IsEnding}
 use Rattle.kv_model.proofs.Newest.{find-member}
 use Rattle.kv_model.proofs.OwnWrites.{at-parts}
 use Rattle.rows_shown.specs.Shows.{shown_at}
+use Rattle.tree_dir.specs.declared.leaf.Framed.{Framed}
 use Rattle.tree_dir.specs.declared.leaf.Leaf.{Leaf}
 use Rattle.tree_dir.specs.Leaves.{leaf_under}
 use Rattle.update_chain.specs.declared.update.Update.{Update}
@@ -31,7 +32,7 @@ use Rattle.call_steps.specs.declared.written.WrittenKey.{WrittenKey}
 use Rattle.call_steps.specs.Leaves.{chain_in}
 use Rattle.call_steps.specs.State.{State}
 use Rattle.engine_world.specs.Worlds.{World}
-use Rattle.engine_world.specs.Leaves.{AreNoted, IsLaid, IsSlotOf, LeafStands, AllHave, EditedDownTo, frame_in, frame_of, slots_in}
+use Rattle.engine_world.specs.Leaves.{AreNoted, IsLaid, IsSlotOf, LeafInFrame, LeafOnDevice, LeafStands, AllHave, EditedDownTo, frame_in, frame_of, slots_in}
 use Rattle.engine_world.specs.Stands.{Engine, Stands}
 use Rattle.engine_world.proofs.Homes.{LeavesStand, frame-of-leaf}
 
@@ -134,6 +135,15 @@ own-slot leaves pieces states t keys l key o noted x under own =
     let found = find-member (writes_at l.table key) t.writes o own in let parts = at-parts l.table key o found.1 in
     slot-is leaves pieces states t.writes keys l key o noted x under found.0 parts.0 parts.1
 
+-- and the leaf of such a key is in a frame
+pub own-framed : (leaves : List Leaf) (pieces : List FramePiece) (t : Transaction) (keys : List WrittenKey) (l : Leaf) (key : List ℕ) (o : Write) → AreNoted leaves pieces t.writes keys
+    → l.frame ≡ None → leaf_under l.table key leaves ≡ Some l → own_write t l.table key ≡ Some o → ⊥
+own-framed leaves pieces t keys l key o noted none under own =
+    let found = find-member (writes_at l.table key) t.writes o own in let parts = at-parts l.table key o found.1 in let k = noted.noted o found.0 in
+    let home : frame_of leaves l.table key ≡ Some k.0.frame = ap (λ n. frame_of leaves n key) (sym parts.0) ∙ (ap (frame_of leaves o.table) (sym parts.1) ∙ k.2.home) in
+    let nowhere : frame_of leaves l.table key ≡ None = ap (option_and_then (λ (x : Leaf). option_map (λ (f : Framed). f.frame) x.frame)) under ∙ ap (option_map (λ (f : Framed). f.frame)) none in
+    let clash : None ≡ Some k.0.frame = sym nowhere ∙ home in absurd cc
+
 -- what was done in all the slots was done in this one
 pub edited-at : (e : Edit) (name : Name) (pieces : List FramePiece) (keys : List WrittenKey) (place : ℕ) (key : List ℕ) → EditedDownTo e name pieces keys 0 → SlotIs pieces keys place key
     → AllHave e name (chain_at key (slots_in pieces place))
@@ -146,10 +156,10 @@ abbrev pub row_at : List FramePiece → ℕ → List ℕ → Option (Version Cha
 row_at pieces place key = shown_at key (of_some [] (λ (f : Frame). f.leaf.page) (frame_in pieces place))
 
 -- what a leaf holds, key by key, with the frames as they are
-pub leaf-with : (m next : Machine) (leaves : List Leaf) (pieces : List FramePiece) (states : List ℕ) (l : Leaf) → (x : LeafStands m leaves pieces states l)
+pub leaf-with : (m next : Machine) (leaves : List Leaf) (pieces : List FramePiece) (states : List ℕ) (l : Leaf) → (x : LeafInFrame m leaves pieces states l)
     → ((key : List ℕ) → leaf_under l.table key leaves ≡ Some l → StandsFor m l.table key (chain_at key (slots_in pieces x.laid.framed.frame)) (row_at pieces x.laid.framed.frame key) []
     → StandsFor next l.table key (chain_at key (slots_in pieces x.laid.framed.frame)) (row_at pieces x.laid.framed.frame key) [])
-    → LeafStands next leaves pieces states l
+    → LeafInFrame next leaves pieces states l
 leaf-with m next leaves pieces states l x on = record {
   laid = x.laid;
   keys = λ key under. subst (Holds next key) x.laid.there (on key under (subst (Holds m key) (sym x.laid.there) (x.keys key under)));
@@ -173,13 +183,27 @@ pub leaves-own : ChainsGoOn → (e : Engine) (w : World) (s : ℕ) (a : State) (
     → ((table : ℕ) (key : List ℕ) → DidNotWrite w.machine s table key → LeavesAlone w.machine table key event)
     → ((place table : ℕ) (key : List ℕ) (o : Write) → own_write x table key ≡ Some o → SlotIs e.pieces a.written place key → StandsFor w.machine table key (chain_at key (slots_in e.pieces place)) (row_at e.pieces place key) []
     → StandsFor (after w.machine event) table key (chain_at key (slots_in e.pieces place)) (row_at e.pieces place key) [])
-    → LeavesStand (after w.machine event) e.hub.dir.leaves e.pieces e.states
-leaves-own chains-go-on e w s a x event st at there may alone on l here = leaf-with w.machine (after w.machine event) e.hub.dir.leaves e.pieces e.states l leaf (λ key under k. elim (own-cases (own_write x l.table key)) [
-  | inl none ↦ chains-go-on w.machine event l.table key (chain_at key (slots_in e.pieces leaf.laid.framed.frame)) (row_at e.pieces leaf.laid.framed.frame key) [] st.valid may (alone l.table key (did-not w.machine s x l.table key there none)) k
-  | inr own ↦ on leaf.laid.framed.frame l.table key own.0 own.1 (own-slot e.hub.dir.leaves e.pieces e.states x a.written l key own.0 noted leaf.laid under own.1) k
-]) where
-  leaf : LeafStands w.machine e.hub.dir.leaves e.pieces e.states l
-  leaf = st.leaves l here
-
+    → LeavesStand (after w.machine event) w.shelf e.hub.dir.leaves e.pieces e.states
+leaves-own chains-go-on e w s a x event st at there may alone on l here = by (st.leaves l here) where
   noted : AreNoted e.hub.dir.leaves e.pieces x.writes a.written
   noted = subst (λ o. AreNoted e.hub.dir.leaves e.pieces (of_some [] (λ (z : Transaction). z.writes) o) a.written) there (st.sessions s a at).noted
+
+  in-frame : LeafInFrame w.machine e.hub.dir.leaves e.pieces e.states l → LeafInFrame (after w.machine event) e.hub.dir.leaves e.pieces e.states l
+  in-frame leaf = leaf-with w.machine (after w.machine event) e.hub.dir.leaves e.pieces e.states l leaf (λ key under k. elim (own-cases (own_write x l.table key)) [
+    | inl none ↦ chains-go-on w.machine event l.table key (chain_at key (slots_in e.pieces leaf.laid.framed.frame)) (row_at e.pieces leaf.laid.framed.frame key) [] st.valid may (alone l.table key (did-not w.machine s x l.table key there none)) k
+    | inr own ↦ on leaf.laid.framed.frame l.table key own.0 own.1 (own-slot e.hub.dir.leaves e.pieces e.states x a.written l key own.0 noted leaf.laid under own.1) k
+  ])
+
+  on-device : LeafOnDevice w.machine w.shelf e.hub.dir.leaves l → LeafOnDevice (after w.machine event) w.shelf e.hub.dir.leaves l
+  on-device leaf = record {
+    none = leaf.none;
+    keys = λ key under. elim (own-cases (own_write x l.table key)) [
+      | inl none ↦ chains-go-on w.machine event l.table key [] (shown_at key (w.shelf l.id)) [] st.valid may (alone l.table key (did-not w.machine s x l.table key there none)) (leaf.keys key under)
+      | inr own ↦ absurd (own-framed e.hub.dir.leaves e.pieces x a.written l key own.0 noted leaf.none under own.1)
+    ];
+    bare = leaf.bare;
+  }
+
+  by : LeafStands w.machine w.shelf e.hub.dir.leaves e.pieces e.states l → LeafStands (after w.machine event) w.shelf e.hub.dir.leaves e.pieces e.states l
+  by (inl leaf) = inl (in-frame leaf)
+  by (inr leaf) = inr (on-device leaf)

@@ -35,8 +35,8 @@ module _ (e : Engine) (w : World) (session : ℕ) (a : State) (call : KeyCall) (
   on : IsOnLeaf w.machine e.hub.dir.leaves session call target
   on = stage-stands e w session a (stage.History call target) st at is
 
-  looked : HasLooked w.machine e.hub.dir.leaves session call target
-  looked = ((on.0.0, on.0.1, inl on.0.2.0), on.1)
+  looked : HasLooked w.machine session call
+  looked = (on.0.0, on.0.1, inl on.0.2.0)
 
   -- the session goes on to this stage with this answer
   answered-goes : (g : Stage) (answer : Answer (List ℕ)) → StageStands g w.machine e.hub.dir.leaves e.pieces session (record a { stage = g; answer = answer })

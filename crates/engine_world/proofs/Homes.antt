@@ -14,11 +14,17 @@ use Rattle.call_steps.specs.declared.frame.Frame.{Frame}
 use Rattle.call_steps.specs.declared.frame.FramePiece.{FramePiece}
 use Rattle.call_steps.specs.declared.stage.Target.{Target}
 use Rattle.call_steps.specs.Tables.{first_word, target_in}
-use Rattle.engine_world.specs.Leaves.{IsLaid, LeafStands, frame_in, frame_of}
+use Rattle.row_page.specs.Rows.{Row}
+use Rattle.engine_world.specs.Leaves.{IsLaid, LeafInFrame, LeafStands, frame_in, frame_of}
 
 -- each leaf stands
-abbrev pub LeavesStand : Machine → List Leaf → List FramePiece → List ℕ → Type 0
-LeavesStand m leaves pieces states = (l : Leaf) → Contains leaves l → LeafStands m leaves pieces states l
+abbrev pub LeavesStand : Machine → (ℕ → List Row) → List Leaf → List FramePiece → List ℕ → Type 0
+LeavesStand m shelf leaves pieces states = (l : Leaf) → Contains leaves l → LeafStands m shelf leaves pieces states l
+
+-- one that has a frame stands in it
+pub in-its-frame : (m : Machine) (shelf : ℕ → List Row) (leaves : List Leaf) (pieces : List FramePiece) (states : List ℕ) (l : Leaf) (f : Framed) → l.frame ≡ Some f → LeafStands m shelf leaves pieces states l → LeafInFrame m leaves pieces states l
+in-its-frame m shelf leaves pieces states l f placed (inl framed) = framed
+in-its-frame m shelf leaves pieces states l f placed (inr x) = let clash : None ≡ Some f = sym x.none ∙ placed in absurd cc
 
 -- the key lies in the leaf
 abbrev pub LiesIn : List Leaf → Leaf → List ℕ → Type 0
@@ -80,24 +86,27 @@ pub record IsAt (m : Machine) (d : Directory) (pieces : List FramePiece) (states
   pub there : Contains d.leaves leaf
   pub table_is : leaf.table ≡ table
   pub under : leaf_under leaf.table key d.leaves ≡ Some leaf
-  pub stands : LeafStands m d.leaves pieces states leaf
+  pub stands : LeafInFrame m d.leaves pieces states leaf
   pub at : stands.laid.framed.frame ≡ frame
 
-pub home-at : (m : Machine) (d : Directory) (pieces : List FramePiece) (states : List ℕ) (table : ℕ) (key : List ℕ) (frame : ℕ) → IsDirectory d → LeavesStand m d.leaves pieces states → frame_of d.leaves table key ≡ Some frame
+pub home-at : (m : Machine) (shelf : ℕ → List Row) (d : Directory) (pieces : List FramePiece) (states : List ℕ) (table : ℕ) (key : List ℕ) (frame : ℕ) → IsDirectory d → LeavesStand m shelf d.leaves pieces states → frame_of d.leaves table key ≡ Some frame
     → IsAt m d pieces states table key frame
-home-at m d pieces states table key frame is stand e = record {
+home-at m shelf d pieces states table key frame is stand e = record {
   leaf = h.leaf;
   there = has.there;
   table_is = has.table;
   under = ap (λ n. leaf_under n key d.leaves) has.table ∙ h.under;
-  stands = stand h.leaf has.there;
-  at = ap (λ (f : Framed). f.frame) (same_Some (stand h.leaf has.there).laid.framed h.framed (sym (stand h.leaf has.there).laid.placed ∙ h.placed)) ∙ h.at;
+  stands = stands;
+  at = ap (λ (f : Framed). f.frame) (same_Some stands.laid.framed h.framed (sym stands.laid.placed ∙ h.placed)) ∙ h.at;
 } where
   h : IsHome d.leaves table key frame
   h = home-is d.leaves table key frame e
 
   has : HasKey d table key h.leaf
   has = under-has d is table key h.leaf h.under
+
+  stands : LeafInFrame m d.leaves pieces states h.leaf
+  stands = in-its-frame m shelf d.leaves pieces states h.leaf h.framed h.placed (stand h.leaf has.there)
 
 -- and the frame of a key of a leaf that stands
 pub frame-of-leaf : (leaves : List Leaf) (pieces : List FramePiece) (states : List ℕ) (l : Leaf) (key : List ℕ) → (x : IsLaid pieces states l) → leaf_under l.table key leaves ≡ Some l → frame_of leaves l.table key ≡ Some x.framed.frame

@@ -40,6 +40,8 @@ use Rattle.engine_world.specs.Stages.{EndsOnlyDown, StageStands}
 use Rattle.engine_world.specs.Stands.{Engine, Stands, SessionStands}
 use Rattle.engine_world.proofs.Beside.{Beside, MachineBeside, IsEventOf}
 use Rattle.engine_world.proofs.Events.{event-beside, slots-same, updates-same}
+use Rattle.row_page.specs.Rows.{Row}
+use Rattle.engine_world.specs.Leaves.{LeafStands}
 use Rattle.engine_world.proofs.Homes.{LeavesStand}
 use Rattle.engine_world.proofs.Moves.{leads, alone-leads}
 
@@ -137,13 +139,20 @@ refused-goes e w session a g r st at is ends goes = alone-leads e w session a (a
 
 -- ---- leaves
 
-pub leaves-go-on : ChainsGoOn → (m : Machine) (event : Event) (leaves : List Leaf) (pieces : List FramePiece) (states : List ℕ) → Valid m → Allowed m event → ((table : ℕ) (key : List ℕ) → LeavesAlone m table key event)
-    → LeavesStand m leaves pieces states → LeavesStand (after m event) leaves pieces states
-leaves-go-on law m event leaves pieces states v may alone stand l there = record {
-  laid = (stand l there).laid;
-  keys = λ key home. law m event l.table key (chain_at key (stand l there).laid.frame.leaf.chains) (shown_at key (stand l there).laid.frame.leaf.page) [] v may (alone l.table key) ((stand l there).keys key home);
-  bare = (stand l there).bare;
-}
+pub leaves-go-on : ChainsGoOn → (m : Machine) (event : Event) (shelf : ℕ → List Row) (leaves : List Leaf) (pieces : List FramePiece) (states : List ℕ) → Valid m → Allowed m event → ((table : ℕ) (key : List ℕ) → LeavesAlone m table key event)
+    → LeavesStand m shelf leaves pieces states → LeavesStand (after m event) shelf leaves pieces states
+leaves-go-on law m event shelf leaves pieces states v may alone stand l there = by (stand l there) where
+  by : LeafStands m shelf leaves pieces states l → LeafStands (after m event) shelf leaves pieces states l
+  by (inl x) = inl (record {
+    laid = x.laid;
+    keys = λ key home. law m event l.table key (chain_at key x.laid.frame.leaf.chains) (shown_at key x.laid.frame.leaf.page) [] v may (alone l.table key) (x.keys key home);
+    bare = x.bare;
+  })
+  by (inr x) = inr (record {
+    none = x.none;
+    keys = λ key home. law m event l.table key [] (shown_at key (shelf l.id)) [] v may (alone l.table key) (x.keys key home);
+    bare = x.bare;
+  })
 
 -- ---- the table of transactions
 
@@ -188,7 +197,7 @@ seat-beside session m next hub now u pieces machine s = record {
 -- it changes one seat, and the leaves stand
 pub seat-leads : (e : Engine) (w : World) (session : ℕ) (old a : State) (now : Table) (u : SessionData) (event : Event) (told : Reply) → Stands e w → slice_get e.sessions session ≡ Some old
     → Allowed w.machine event → IsEventOf session event → SetsSeat e.hub.txns now session u → TableStands now (after w.machine event) → tables (after w.machine event).history ≡ tables w.machine.history
-    → LeavesStand (after w.machine event) e.hub.dir.leaves e.pieces e.states
+    → LeavesStand (after w.machine event) w.shelf e.hub.dir.leaves e.pieces e.states
     → GoesOn (doing_in e.hub.dir.leaves session old) w.machine session (record { told = told; machine = after w.machine event; doing = doing_in e.hub.dir.leaves session a })
     → SessionStands (after w.machine event) (record e.hub { txns = now }) e.pieces session a
     → Goes e w session (told, (record e.hub { txns = now }, a))

@@ -1,8 +1,10 @@
 pub mod Appended
 pub mod Arranged
+pub mod AtLeaves
 pub mod Begins
 pub mod Beside
 pub mod CheckpointsInOne
+pub mod Coming
 pub mod Commits
 pub mod Creates
 pub mod CursorChanges
@@ -18,6 +20,9 @@ pub mod FindChecks
 pub mod Finds
 pub mod Finishing
 pub mod Found
+pub mod Filling
+pub mod Growing
+pub mod KeepingOut
 pub mod Fronts
 pub mod Histories
 pub mod Homes

@@ -40,10 +40,10 @@ use Rattle.engine_world.specs.Worlds.{World, Placed, Decided}
 use Rattle.engine_world.specs.Doings.{call_in, event_with, doing_at, doing_in, further_left}
 use Rattle.engine_world.specs.Steps.{Made, GoesTo, GoesOn, LookAnswer, LooksOn}
 use Rattle.engine_world.specs.Laws.{Leads, IsViewOf, with_session, with_piece}
-use Rattle.engine_world.specs.Leaves.{AreNoted, IsLaid, frame_in}
+use Rattle.engine_world.specs.Leaves.{AreNoted, IsLaid, LeafInFrame, frame_in}
 use Rattle.engine_world.specs.Stages.{StageStands, IsOnLeaf, IsSought, HasLooked, Seeks}
 use Rattle.engine_world.specs.Stands.{Engine, Stands, SessionStands, position_in, writes_in}
-use Rattle.engine_world.proofs.Homes.{LiesIn, target-frame, target-is}
+use Rattle.engine_world.proofs.Homes.{LiesIn, in-its-frame, target-frame, target-is}
 use Rattle.engine_world.proofs.Moves.{alone-leads}
 use Rattle.engine_world.proofs.OnePiece.{set-same, frame-there}
 
@@ -61,8 +61,8 @@ placed-same word target [] n = refl
 placed-same word target (k ∷ ks) zero = refl
 placed-same word target (k ∷ ks) (suc n) = ap (λ l. position_in k ∷ l) (placed-same word target ks n)
 
-pub looked : (m : Machine) (leaves : List Leaf) (session : ℕ) (call : KeyCall) (target : Target) → IsOnLeaf m leaves session call target → HasLooked m leaves session call target
-looked m leaves session call target on = ((on.0.0, on.0.1, inl on.0.2.0), on.1)
+pub looked : (m : Machine) (leaves : List Leaf) (session : ℕ) (call : KeyCall) (target : Target) → IsOnLeaf m leaves session call target → HasLooked m session call
+looked m leaves session call target on = (on.0.0, on.0.1, inl on.0.2.0)
 
 module _ (m : Machine) (hub : Hub) (pieces : List FramePiece) (session : ℕ) where
   pub keeps : (a : State) → SessionStands m hub pieces session a → Keeps m hub pieces session a
@@ -181,16 +181,16 @@ module _ (e : Engine) (w : World) (session frame : ℕ) (a : State) (p : FramePi
     home_there = seeks.0.1.1;
     targeted = seeks.0.1.2;
     number = number;
-    laid = (st.leaves seeks.0.1.0 seeks.0.1.1).laid;
+    laid = stands.laid;
     laid_at = laid_at;
     place = place;
-    was = (st.leaves seeks.0.1.0 seeks.0.1.1).laid.frame;
-    held = sym (frame-there e.pieces frame p there) ∙ (ap (frame_in e.pieces) (sym laid_at) ∙ (st.leaves seeks.0.1.0 seeks.0.1.1).laid.there);
-    table = (st.leaves seeks.0.1.0 seeks.0.1.1).laid.table;
-    id = (st.leaves seeks.0.1.0 seeks.0.1.1).laid.id;
-    keys = λ key lies. subst (λ n. StandsFor w.machine n key (chain_at key (st.leaves seeks.0.1.0 seeks.0.1.1).laid.frame.leaf.chains) (shown_at key (st.leaves seeks.0.1.0 seeks.0.1.1).laid.frame.leaf.page) []) number
-        ((st.leaves seeks.0.1.0 seeks.0.1.1).keys key lies);
-    bare = (st.leaves seeks.0.1.0 seeks.0.1.1).bare;
+    was = stands.laid.frame;
+    held = sym (frame-there e.pieces frame p there) ∙ (ap (frame_in e.pieces) (sym laid_at) ∙ stands.laid.there);
+    table = stands.laid.table;
+    id = stands.laid.id;
+    keys = λ key lies. subst (λ n. StandsFor w.machine n key (chain_at key stands.laid.frame.leaf.chains) (shown_at key stands.laid.frame.leaf.page) []) number
+        (stands.keys key lies);
+    bare = stands.bare;
     sees = view-stands e.hub w.machine session seeks.0.0.0 view st.txns v seeks.0.0.1;
     on = seeks.0;
     sought = seeks.1;
@@ -199,14 +199,17 @@ module _ (e : Engine) (w : World) (session frame : ℕ) (a : State) (p : FramePi
     seeks : Seeks w.machine e.hub.dir.leaves session call target a
     seeks = subst (λ g. StageStands g w.machine e.hub.dir.leaves e.pieces session a) is (st.sessions session a at).stage
 
+    stands : LeafInFrame w.machine e.hub.dir.leaves e.pieces e.states seeks.0.1.0
+    stands = let is = target-is seeks.0.1.0 target seeks.0.1.2 in in-its-frame w.machine w.shelf e.hub.dir.leaves e.pieces e.states seeks.0.1.0 is.framed is.placed (st.leaves seeks.0.1.0 seeks.0.1.1)
+
     number : seeks.0.1.0.table ≡ target.table
     number = ap (λ (x : Target). x.table) (target-is seeks.0.1.0 target seeks.0.1.2).is
 
     place : target.frame ≡ frame
     place = let same : next.Frame target.frame ≡ next.Frame frame = subst (λ g. next_at g a ≡ next.Frame frame) is goes in cc
 
-    laid_at : (st.leaves seeks.0.1.0 seeks.0.1.1).laid.framed.frame ≡ frame
-    laid_at = target-frame e.pieces e.states seeks.0.1.0 target (st.leaves seeks.0.1.0 seeks.0.1.1).laid seeks.0.1.2 ∙ place
+    laid_at : stands.laid.framed.frame ≡ frame
+    laid_at = target-frame e.pieces e.states seeks.0.1.0 target stands.laid seeks.0.1.2 ∙ place
 
   -- what the look makes of the leaf
   pub look-made : (a' : State) (p' : FramePiece) (x : AtLeaf e w session frame a p view call target) → a.stage ≡ stage.Look call target → FrameMade view p a p' a'

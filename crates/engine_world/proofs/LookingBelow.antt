@@ -150,7 +150,7 @@ prev-ordered law e w session a p stamps left t o alive now = subst (λ f. Ordere
 
       -- the leaf in the frame
       home : IsAt w.machine e.hub.dir e.pieces e.states wrote.0.table wrote.0.key (frame_at a.written left)
-      home = home-at w.machine e.hub.dir e.pieces e.states wrote.0.table wrote.0.key (frame_at a.written left) o.st.dir o.st.leaves (wrote.2.home ∙ ap Some last.2)
+      home = home-at w.machine w.shelf e.hub.dir e.pieces e.states wrote.0.table wrote.0.key (frame_at a.written left) o.st.dir o.st.leaves (wrote.2.home ∙ ap Some last.2)
 
       there : frame_in e.pieces (frame_at a.written left) ≡ Some home.stands.laid.frame
       there = leaf-framed w.machine e.hub.dir.leaves e.pieces e.states home.leaf (frame_at a.written left) home.stands home.at
@@ -164,7 +164,7 @@ prev-ordered law e w session a p stamps left t o alive now = subst (λ f. Ordere
       under : (k : WrittenKey) → Member k a.written → k.frame ≡ frame_at a.written left → UnderIs w.machine e.pieces t home.stands.laid.frame.leaf k
       under k member same = let x = noted.wrote k member in
           let slot : slot_of x.0.key home.stands.laid.frame.leaf.chains ≡ Some k.slot = ap (slot_of x.0.key) (sym (ap (slots_in e.pieces) same ∙ in-leaf)) ∙ x.2.slot in
-          let lies = lies-in w.machine e.hub.dir e.pieces e.states home.leaf (frame_at a.written left) k x.0.table x.0.key o.st.dir o.st.leaves home.there home.stands home.at same x.2 in record {
+          let lies = lies-in w.machine w.shelf e.hub.dir e.pieces e.states home.leaf (frame_at a.written left) k x.0.table x.0.key o.st.dir o.st.leaves home.there home.stands home.at same x.2 in record {
             write = x.0;
             there = x.1;
             below = below-slot x.0.key home.stands.laid.frame.leaf.page home.stands.laid.frame.leaf.chains k.slot slot

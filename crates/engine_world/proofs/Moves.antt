@@ -49,7 +49,7 @@ pub record Moves (e : Engine) (w : World) (session : ℕ) (hub : Hub) (pieces : 
   pub stamps : hub.stamps ≡ e.hub.stamps
   pub txns : TableStands hub.txns next
   pub made : tables next.history ≡ tables w.machine.history
-  pub leaves : LeavesStand next e.hub.dir.leaves pieces e.states
+  pub leaves : LeavesStand next w.shelf e.hub.dir.leaves pieces e.states
   pub mine : SessionStands next hub pieces session a
 
 -- the engine and the world after it
@@ -71,7 +71,7 @@ moves e w session old a hub pieces hazards next st at v = record {
   dir = subst IsDirectory (sym v.beside.dir) st.dir;
   begun = subst (λ (d : Directory). TablesBegun hub.tables.tables d.leaves) (sym v.beside.dir) (subst (λ (k : Known). TablesBegun k.tables e.hub.dir.leaves) (sym v.beside.tables) st.begun);
   owned = subst (λ (d : Directory). LeavesOwned hub.tables.tables d.leaves) (sym v.beside.dir) (subst (λ (k : Known). LeavesOwned k.tables e.hub.dir.leaves) (sym v.beside.tables) st.owned);
-  leaves = subst (λ (d : Directory). LeavesStand next d.leaves pieces e.states) (sym v.beside.dir) v.leaves;
+  leaves = subst (λ (d : Directory). LeavesStand next w.shelf d.leaves pieces e.states) (sym v.beside.dir) v.leaves;
   count = length-set e.sessions session a ∙ (st.count ∙ sym v.beside.machine.count);
   doings = length-set w.sessions session (doing_in e.hub.dir.leaves session a) ∙ (st.doings ∙ sym (length-set e.sessions session a));
   doing = λ r b there. subst (λ (d : Directory). doing_of (world_with w e.hub.dir.leaves session a next) r ≡ doing_in d.leaves r b) (sym v.beside.dir) (elim (cases_eq r session) [
@@ -114,10 +114,8 @@ leads e w session old a hub pieces hazards next told st at goes v = (
 )
 
 -- the session's state alone changes, and a hazard word
-pub alone-leads : (e : Engine) (w : World) (session : ℕ) (old a : State) (hazards : List ℕ) (told : Reply) → Stands e w → slice_get e.sessions session ≡ Some old
-    → GoesOn (doing_in e.hub.dir.leaves session old) w.machine session (record { told = told; machine = w.machine; doing = doing_in e.hub.dir.leaves session a }) → SessionStands w.machine e.hub e.pieces session a
-    → Leads (engine_with e session e.hub e.pieces hazards a) w session told
-alone-leads e w session old a hazards told st at goes mine = leads e w session old a e.hub e.pieces hazards w.machine told st at goes (record {
+pub alone : (e : Engine) (w : World) (session : ℕ) (a : State) → Stands e w → SessionStands w.machine e.hub e.pieces session a → Moves e w session e.hub e.pieces a w.machine
+alone e w session a st mine = record {
   valid = st.valid;
   beside = all-same session w.machine w.machine e.hub e.pieces (beside-same session w.machine);
   fault = refl;
@@ -126,4 +124,9 @@ alone-leads e w session old a hazards told st at goes mine = leads e w session o
   made = refl;
   leaves = st.leaves;
   mine = mine;
-})
+}
+
+pub alone-leads : (e : Engine) (w : World) (session : ℕ) (old a : State) (hazards : List ℕ) (told : Reply) → Stands e w → slice_get e.sessions session ≡ Some old
+    → GoesOn (doing_in e.hub.dir.leaves session old) w.machine session (record { told = told; machine = w.machine; doing = doing_in e.hub.dir.leaves session a }) → SessionStands w.machine e.hub e.pieces session a
+    → Leads (engine_with e session e.hub e.pieces hazards a) w session told
+alone-leads e w session old a hazards told st at goes mine = leads e w session old a e.hub e.pieces hazards w.machine told st at goes (alone e w session a st mine)

@@ -14,6 +14,7 @@ use Rattle.tree_dir.proofs.Parting.{under-has}
 use Rattle.tree_dir.proofs.Splicing.{greater, lower, parted}
 use Rattle.engine_world.specs.Systems.{HasFirstLeaf, first_entry}
 use Rattle.engine_world.specs.Walks.{all_ahead, all_behind, in_table, leaves_on}
+use Rattle.tree_dir.specs.Ranges.{low_key}
 use Rattle.engine_world.proofs.Beside.{LeavesKept}
 
 -- ---- one more between these
@@ -113,7 +114,7 @@ pub record IsCome (leaves made : List Leaf) (n : Leaf) : Type 0 where
   pub fresh : (l : Leaf) → Contains leaves l → n.id ≢ l.id
 
 module _ (d : Directory) (made : List Leaf) (n : Leaf) (is : IsDirectory d) (c : IsCome d.leaves made n) where
-  come-there : (l : Leaf) → Contains d.leaves l → Contains made l
+  pub come-there : (l : Leaf) → Contains d.leaves l → Contains made l
   come-there l there = subst (λ ls. Contains ls l) (sym c.new) (outside c.before (n ∷ []) c.behind l (subst (λ ls. Contains ls l) c.old there))
 
   pub new-there : Contains made n
@@ -130,9 +131,11 @@ module _ (d : Directory) (made : List Leaf) (n : Leaf) (is : IsDirectory d) (c :
 
   pub come-kept : LeavesKept d.leaves made
   come-kept = record {
+    to = λ l. l;
+    alike = λ l. record { id = refl; table = refl; key = refl; frame = λ f e. e };
     there = come-there;
     under = under-kept;
-    behind = λ l there. ap (leaf_behind l.id) c.new ∙ (behind-other l.id c.before c.behind n c.low c.high (c.fresh l there) ∙ ap (leaf_behind l.id) (sym c.old));
+    behind = λ l there. ap low_key (ap (leaf_behind l.id) c.new ∙ (behind-other l.id c.before c.behind n c.low c.high (c.fresh l there) ∙ ap (leaf_behind l.id) (sym c.old)));
     on = λ way l there. ap (leaves_on way l.table l.id) c.new ∙ (on-other way l.table l.id c.before c.behind n (c.apart l there) ∙ ap (leaves_on way l.table l.id) (sym c.old));
   }
 

@@ -63,7 +63,7 @@ slot-durable m leaves pieces k table key s = λ i. newest_durable (line m.histor
 
 -- where the directory is the same
 pub kept-same : (leaves : List Leaf) → LeavesKept leaves leaves
-kept-same leaves = record { there = λ l there. there; under = λ table key l e. e; behind = λ l there. refl; on = λ way l there. refl }
+kept-same leaves = record { to = λ l. l; alike = λ l. record { id = refl; table = refl; key = refl; frame = λ f e. e }; there = λ l there. there; under = λ table key l e. e; behind = λ l there. refl; on = λ way l there. refl }
 
 pub stay-same : (leaves : List Leaf) (pieces later : List FramePiece) → SlotsStay pieces later → LeavesStay leaves leaves pieces later
 stay-same leaves pieces later stays = record {
@@ -74,7 +74,7 @@ stay-same leaves pieces later stays = record {
 
 -- a key stays in its frame
 pub home-stays : (leaves made : List Leaf) (table : ℕ) (key : List ℕ) (frame : ℕ) → LeavesKept leaves made → frame_of leaves table key ≡ Some frame → frame_of made table key ≡ Some frame
-home-stays leaves made table key frame kept e = frame-from made table key h.leaf h.framed (kept.under table key h.leaf h.under) h.placed ∙ ap Some h.at where
+home-stays leaves made table key frame kept e = frame-from made table key (kept.to h.leaf) h.framed (kept.under table key h.leaf h.under) ((kept.alike h.leaf).frame h.framed h.placed) ∙ ap Some h.at where
   h : IsHome leaves table key frame
   h = home-is leaves table key frame e
 

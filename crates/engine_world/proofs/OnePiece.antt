@@ -23,7 +23,8 @@ use Rattle.catalog.proofs.Turning.{turn_one}
 use Rattle.call_steps.specs.declared.frame.Frame.{Frame}
 use Rattle.call_steps.specs.declared.frame.FramePiece.{FramePiece}
 use Rattle.call_steps.specs.declared.written.WrittenKey.{WrittenKey}
-use Rattle.engine_world.specs.Leaves.{IsLaid, LeafStands, IsSlotOf, frame_in, slots_in, table_at}
+use Rattle.row_page.specs.Rows.{Row}
+use Rattle.engine_world.specs.Leaves.{IsLaid, LeafInFrame, LeafStands, IsSlotOf, frame_in, slots_in, table_at}
 use Rattle.engine_world.proofs.Beside.{SlotsStay, BringsOnly, OthersUpdates}
 use Rattle.engine_world.proofs.Homes.{LeavesStand, one-leaf}
 use Rattle.engine_world.proofs.Moves.{get-set-same, get-set-other}
@@ -109,7 +110,7 @@ module _ (pieces : List FramePiece) (frame : ℕ) (p p' : FramePiece) (at : slic
   laid-other states l x other = record { framed = x.framed; placed = x.placed; frame = x.frame; there = frame-other x.framed.frame other ∙ x.there; table = x.table; id = x.id; word = x.word }
 
   here-stands : (next : Machine) (states : List ℕ) (leaves : List Leaf) (home : Leaf) (f' : Frame) → (x : IsLaid pieces states home) → x.framed.frame ≡ frame → IsNow next leaves home p' f'
-      → LeafStands next leaves (slice_set pieces frame p') states home
+      → LeafInFrame next leaves (slice_set pieces frame p') states home
   here-stands next states leaves home f' x same now = record {
     laid = record {
       framed = x.framed;
@@ -125,25 +126,32 @@ module _ (pieces : List FramePiece) (frame : ℕ) (p p' : FramePiece) (at : slic
   }
 
   -- the leaf in the piece stands, and so do the others
-  pub leaves-on : (m next : Machine) (states : List ℕ) (d : Directory) (home : Leaf) (f' : Frame) → IsDirectory d → LeavesStand m d.leaves pieces states → Contains d.leaves home → (x : IsLaid pieces states home) → x.framed.frame ≡ frame
+  pub leaves-on : (m next : Machine) (shelf : ℕ → List Row) (states : List ℕ) (d : Directory) (home : Leaf) (f' : Frame) → IsDirectory d → LeavesStand m shelf d.leaves pieces states → Contains d.leaves home → (x : IsLaid pieces states home) → x.framed.frame ≡ frame
       → IsNow next d.leaves home p' f'
       → ((l : Leaf) → Contains d.leaves l → l ≢ home → (key : List ℕ) (chain : List Update) (row : Option (Version Change)) → leaf_under l.table key d.leaves ≡ Some l → StandsFor m l.table key chain row [] → StandsFor next l.table key chain row [])
-      → LeavesStand next d.leaves (slice_set pieces frame p') states
-  leaves-on m next states d home f' is stand home_there x same now elsewhere l there = elim (cases_eq old.laid.framed.frame frame) [
-    | inl here ↦ subst (λ (n : Leaf). LeafStands next d.leaves (slice_set pieces frame p') states n)
-        (one-leaf d pieces states home l is home_there there x old.laid (same ∙ sym here)) (here-stands next states d.leaves home f' x same now)
-    | inr other ↦ record {
-      laid = laid-other states l old.laid other;
-      keys = λ key under. elsewhere l there (λ one. other (moved one)) key (chain_at key old.laid.frame.leaf.chains) (shown_at key old.laid.frame.leaf.page) under (old.keys key under);
-      bare = old.bare;
-    }
-  ] where
-    old : LeafStands m d.leaves pieces states l
-    old = stand l there
+      → LeavesStand next shelf d.leaves (slice_set pieces frame p') states
+  leaves-on m next shelf states d home f' is stand home_there x same now elsewhere l there = by (stand l there) where
+    framed : (old : LeafInFrame m d.leaves pieces states l) → LeafInFrame next d.leaves (slice_set pieces frame p') states l
+    framed old = elim (cases_eq old.laid.framed.frame frame) [
+      | inl here ↦ subst (λ (n : Leaf). LeafInFrame next d.leaves (slice_set pieces frame p') states n)
+          (one-leaf d pieces states home l is home_there there x old.laid (same ∙ sym here)) (here-stands next states d.leaves home f' x same now)
+      | inr other ↦ record {
+        laid = laid-other states l old.laid other;
+        keys = λ key under. elsewhere l there (λ one. other (moved old one)) key (chain_at key old.laid.frame.leaf.chains) (shown_at key old.laid.frame.leaf.page) under (old.keys key under);
+        bare = old.bare;
+      }
+    ] where
+      -- one leaf is in one frame
+      moved : (old : LeafInFrame m d.leaves pieces states l) → l ≡ home → old.laid.framed.frame ≡ frame
+      moved old one = ap (λ (f : Framed). f.frame) (same_Some old.laid.framed x.framed (sym old.laid.placed ∙ (ap (λ (n : Leaf). n.frame) one ∙ x.placed))) ∙ same
 
-    -- one leaf is in one frame
-    moved : l ≡ home → (stand l there).laid.framed.frame ≡ frame
-    moved one = ap (λ (f : Framed). f.frame) (same_Some (stand l there).laid.framed x.framed (sym (stand l there).laid.placed ∙ (ap (λ (n : Leaf). n.frame) one ∙ x.placed))) ∙ same
+    by : LeafStands m shelf d.leaves pieces states l → LeafStands next shelf d.leaves (slice_set pieces frame p') states l
+    by (inl old) = inl (framed old)
+    by (inr old) = inr (record {
+      none = old.none;
+      keys = λ key under. elsewhere l there (λ one. let clash : None ≡ Some x.framed = sym old.none ∙ (ap (λ (n : Leaf). n.frame) one ∙ x.placed) in absurd cc) key [] (shown_at key (shelf l.id)) under (old.keys key under);
+      bare = old.bare;
+    })
 
 -- a slot that was noted stays that of its key
 pub slot-stays : (leaves : List Leaf) (pieces later : List FramePiece) → SlotsStay pieces later → (k : WrittenKey) (table : ℕ) (key : List ℕ) → IsSlotOf leaves pieces k table key → IsSlotOf leaves later k table key

@@ -89,7 +89,7 @@ opens-go chains e w st = record {
   dir = st.dir;
   begun = st.begun;
   owned = st.owned;
-  leaves = leaves-go-on chains w.machine OpenSession e.hub.dir.leaves e.pieces e.states st.valid tt (λ table key. tt) st.leaves;
+  leaves = leaves-go-on chains w.machine OpenSession w.shelf e.hub.dir.leaves e.pieces e.states st.valid tt (λ table key. tt) st.leaves;
   count = (let here = length-append e.sessions (opened ∷ []) in let there = length-append w.machine.sessions (None ∷ []) in let same = st.count in omega arith);
   doings = (let here = length-append w.sessions (Resting ∷ []) in let there = length-append e.sessions (opened ∷ []) in let same = st.doings in omega arith);
   doing = λ r b there. elim (append-finds e.sessions opened b r there) [

@@ -14,7 +14,9 @@ use Rattle.kv_model.specs.Refusals.{newest_durable, stamp_of, or_stamp}
 use Rattle.kv_model.specs.Rows.{Way, is_past, starts_at}
 use Rattle.kv_model.specs.Valid.{Valid}
 use Rattle.tree_dir.specs.declared.leaf.Leaf.{Leaf}
-use Rattle.tree_dir.specs.Leaves.{Directory}
+use Rattle.tree_dir.specs.declared.leaf.Framed.{Framed}
+use Rattle.tree_dir.specs.Leaves.{Directory, leaf_under}
+use Rattle.call_steps.specs.Tables.{first_word, target_in}
 use Rattle.update_chain.specs.declared.update.Update.{Update}
 use Rattle.update_chain.specs.EventLaws.{outcome}
 use Rattle.wt_calls.specs.Calls.{way_in}
@@ -28,18 +30,19 @@ use Rattle.call_steps.specs.declared.stage.KeyCall.TheVariants as key_call
 use Rattle.call_steps.specs.declared.stage.Stage.{Stage}
 use Rattle.call_steps.specs.declared.stage.Stage.TheVariants as stage
 use Rattle.call_steps.specs.declared.stage.Target.{Target}
+use Rattle.call_steps.specs.declared.stage.Wanted.{Wanted}
 use Rattle.call_steps.specs.declared.written.WrittenKey.{WrittenKey}
 use Rattle.call_steps.specs.Leaves.{chain_in}
 use Rattle.call_steps.specs.Stages.{is_write, cursor_in}
 use Rattle.call_steps.specs.State.{State}
-use Rattle.engine_world.specs.Doings.{call_in, doing_at, doing_in, further_left}
+use Rattle.engine_world.specs.Doings.{call_in, doing_at, doing_in, further_from, further_left}
 use Rattle.engine_world.specs.Leaves.{AreNoted, EditedDownTo, IsSlotOf, durable_under, slots_in}
-use Rattle.engine_world.specs.Stages.{AreCommitted, DecidesStand, DoneStands, EndsOnlyDown, ForTransaction, HasLooked, IsEdited, IsLeafOf, IsOnLeaf, IsOrdered, IsPassed, IsSought, MarksStand, NoneAmong, NoneStands, OrdersStand, ResolvesStand, Seeks, StageStands, StampsStand, UndoesStand, stamps_in, way_of}
+use Rattle.engine_world.specs.Stages.{AreCommitted, Awaits, IsLeafAt, DecidesStand, DoneStands, EndsOnlyDown, ForTransaction, HasLooked, IsEdited, IsLeafOf, IsOnLeaf, IsOrdered, IsPassed, IsSought, MarksStand, NoneAmong, NoneStands, OrdersStand, ResolvesStand, Seeks, StageStands, StampsStand, UndoesStand, stamps_in, way_of}
 use Rattle.engine_world.specs.Stands.{SessionStands, writes_in}
 use Rattle.engine_world.specs.Walks.{leaves_on, passed, passed_with}
 use Rattle.engine_world.specs.Worlds.{Placed}
-use Rattle.engine_world.proofs.Beside.{Apart, Beside, LeavesKept, LeavesStay, MachineApart, OthersUpdates}
-use Rattle.engine_world.proofs.Homes.{target-is}
+use Rattle.engine_world.proofs.Beside.{Apart, Beside, IsAlike, LeavesKept, LeavesStay, MachineApart, OthersUpdates}
+use Rattle.engine_world.proofs.Homes.{IsTarget, target-from, target-is}
 use Rattle.engine_world.proofs.NotedSlots.{at-index, drawn-with, noted-stay, own-found, slot-chain, slot-durable, slot-stays, stay-same}
 use Rattle.engine_world.proofs.WalkKeys.{passed-kept, passed-with-kept}
 
@@ -67,15 +70,28 @@ module _ (session : ℕ) (m next : Machine) (leaves made : List Leaf) (pieces la
   ends-down : EndsOnlyDown m r → EndsOnlyDown next r
   ends-down down t there ending = subst (λ (f : Option Fault). is_there f ≡ true) (sym o.machine.fault) (down t (sym same ∙ there) ending)
 
+  -- a leaf as it is now
+  abbrev now : Leaf → Leaf
+  now l = o.stay.kept.to l
+
+  alike : (l : Leaf) → IsAlike l (now l)
+  alike l = o.stay.kept.alike l
+
+  target-now : (l : Leaf) (target : Target) → IsTarget l target → target_in (now l) ≡ Some target
+  target-now l target t = target-from (now l) t.framed ((alike l).frame t.framed t.placed) ∙ ap (λ (x : Target). Some x)
+      (ap (λ n. target_of n (now l).id t.framed) (alike l).table ∙ (ap (λ n. target_of l.table n t.framed) (alike l).id ∙ t.is)) where
+        target_of : ℕ → ℕ → Framed → Target
+        target_of table id f = record { table = table; leaf = id; frame = f.frame; word = first_word }
+
   abbrev leaf-stays : (target : Target) → IsLeafOf leaves target → IsLeafOf made target
-  leaf-stays target x = (x.0, o.stay.kept.there x.0 x.1, x.2)
+  leaf-stays target x = let t = target-is x.0 target x.2 in (now x.0, o.stay.kept.there x.0 x.1, target-now x.0 target t)
 
   abbrev on-leaf : (call : KeyCall) (target : Target) → IsOnLeaf m leaves r call target → IsOnLeaf next made r call target
   on-leaf call target x =
       (still (λ t. (t.phase ≡ Running) × (is_write call ≡ true → 0 < t.id)) (λ t. (t.phase ≡ Running) × (is_write call ≡ true → 0 < t.id)) (λ t there p. p) x.0, leaf-stays target x.1)
 
-  looked : (call : KeyCall) (target : Target) → HasLooked m leaves r call target → HasLooked next made r call target
-  looked call target x = (still Of Of (λ t there p. p) x.0, leaf-stays target x.1) where
+  looked : (call : KeyCall) (target : Target) → HasLooked m r call → HasLooked next r call
+  looked call target x = still Of Of (λ t there p. p) x where
     Of : Transaction → Type 0
     Of t = (t.phase ≡ Running) ⊎ ((t.phase ≡ Failed) × (cursor_in call ≡ None))
 
@@ -89,21 +105,28 @@ module _ (session : ℕ) (m next : Machine) (leaves made : List Leaf) (pieces la
   way-same : (table cursor : ℕ) (way : Way) → way_of next r table cursor way ≡ way_of m r table cursor way
   way-same table cursor way = ap (λ cursors. is_past way (starts_at table (slice_index_or cursors cursor None))) (o.machine.cursors r o.other)
 
-  sought-stays : (call : KeyCall) (l : Leaf) → Contains leaves l → IsSought m leaves r b call l → IsSought next made r b call l
-  sought-stays (key_call.Step cursor way) l there x = none-stays l.table (way_in way) (passed (way_in way) leaves l (way_of m r l.table cursor (way_in way))) (passed (way_in way) made l (way_of next r l.table cursor (way_in way)))
-      (λ k. passed-kept (way_in way) leaves made l (way_of next r l.table cursor (way_in way)) k (o.stay.kept.behind l there)
-      ∙ ap (λ within. passed (way_in way) leaves l within k) (way-same l.table cursor (way_in way))) x
-  sought-stays call l there x = o.stay.kept.under l.table b.key l x
+  sought-stays : (call : KeyCall) (l : Leaf) → Contains leaves l → IsSought m leaves r b call l → IsSought next made r b call (now l)
+  sought-stays (key_call.Step cursor way) l there x = subst (λ n. NoneAmong next r n (way_in way) (passed (way_in way) made (now l) (way_of next r n cursor (way_in way)))) (sym (alike l).table)
+      (none-stays l.table (way_in way) (passed (way_in way) leaves l (way_of m r l.table cursor (way_in way))) (passed (way_in way) made (now l) (way_of next r l.table cursor (way_in way)))
+      (λ k. passed-kept (way_in way) leaves made l (now l) (way_of next r l.table cursor (way_in way)) k (alike l) (o.stay.kept.behind l there)
+      ∙ ap (λ within. passed (way_in way) leaves l within k) (way-same l.table cursor (way_in way))) x)
+  sought-stays call l there x = ap (λ n. leaf_under n b.key made) (alike l).table ∙ o.stay.kept.under l.table b.key l x
 
   seeks-stay : (call : KeyCall) (target : Target) → Seeks m leaves r call target b → Seeks next made r call target b
   seeks-stay call target x = (on-leaf call target x.0, sought-stays call x.0.1.0 x.0.1.1 x.1)
 
-  passed-stays : (call : KeyCall) (l : Leaf) → Contains leaves l → IsPassed m leaves r call l → IsPassed next made r call l
-  passed-stays (key_call.Step cursor way) l there x =
-      none-stays l.table (way_in way) (passed_with (way_in way) leaves l (way_of m r l.table cursor (way_in way))) (passed_with (way_in way) made l (way_of next r l.table cursor (way_in way)))
-      (λ k. passed-with-kept (way_in way) leaves made l (way_of next r l.table cursor (way_in way)) k (o.stay.kept.behind l there)
-      ∙ ap (λ within. passed_with (way_in way) leaves l within k) (way-same l.table cursor (way_in way))) x
+  passed-stays : (call : KeyCall) (l : Leaf) → Contains leaves l → IsPassed m leaves r call l → IsPassed next made r call (now l)
+  passed-stays (key_call.Step cursor way) l there x = subst (λ n. NoneAmong next r n (way_in way) (passed_with (way_in way) made (now l) (way_of next r n cursor (way_in way)))) (sym (alike l).table)
+      (none-stays l.table (way_in way) (passed_with (way_in way) leaves l (way_of m r l.table cursor (way_in way))) (passed_with (way_in way) made (now l) (way_of next r l.table cursor (way_in way)))
+      (λ k. passed-with-kept (way_in way) leaves made l (now l) (way_of next r l.table cursor (way_in way)) k (alike l) (o.stay.kept.behind l there)
+      ∙ ap (λ within. passed_with (way_in way) leaves l within k) (way-same l.table cursor (way_in way))) x)
   passed-stays call l there x = x
+
+  waits : (call : KeyCall) (wanted : Wanted) → Awaits m leaves r call wanted b → Awaits next made r call wanted b
+  waits call wanted x = (
+    still (λ t. (t.phase ≡ Running) × (is_write call ≡ true → 0 < t.id)) (λ t. (t.phase ≡ Running) × (is_write call ≡ true → 0 < t.id)) (λ t there p. p) x.0,
+    ((now x.1.0.0, o.stay.kept.there x.1.0.0 x.1.0.1, (alike x.1.0.0).id ∙ x.1.0.2, (alike x.1.0.0).table ∙ x.1.0.3), sought-stays call x.1.0.0 x.1.0.1 x.1.1),
+  )
 
   -- ---- its writes
 
@@ -192,6 +215,7 @@ module _ (session : ℕ) (m next : Machine) (leaves made : List Leaf) (pieces la
   stays stage.Rest x = ends-down x
   stays (stage.Begin read) x = ends-down x
   stays (stage.Find call) x = (ends-down x.0, x.1)
+  stays (stage.Fill call wanted) x = waits call wanted x
   stays (stage.Publish call target) x = seeks-stay call target x
   stays (stage.Validate call target) x = seeks-stay call target x
   stays (stage.Look call target) x = seeks-stay call target x
@@ -269,10 +293,16 @@ others-go-on session m next hub later pieces pieces' r b v = others-stay session
 
 further-kept : (leaves made : List Leaf) (call : KeyCall) (target : Target) → LeavesKept leaves made → IsLeafOf leaves target → further_left call target made ≡ further_left call target leaves
 further-kept leaves made (key_call.Step cursor way) target kept x = let t = target-is x.0 target x.2 in
-    ap (λ n. 4 * n) (subst (λ (to : Target). leaves_on (way_in way) to.table to.leaf made ≡ leaves_on (way_in way) to.table to.leaf leaves) t.is (kept.on (way_in way) x.0 x.1))
+    ap (λ n. 5 * n) (subst (λ (to : Target). leaves_on (way_in way) to.table to.leaf made ≡ leaves_on (way_in way) to.table to.leaf leaves) t.is (kept.on (way_in way) x.0 x.1))
 further-kept leaves made call target kept x = refl
 
+waited-kept : (leaves made : List Leaf) (call : KeyCall) (wanted : Wanted) → LeavesKept leaves made → IsLeafAt leaves wanted → further_from call wanted.table wanted.leaf made ≡ further_from call wanted.table wanted.leaf leaves
+waited-kept leaves made (key_call.Step cursor way) wanted kept x = ap (λ n. 5 * n)
+    (subst (λ n. leaves_on (way_in way) n wanted.leaf made ≡ leaves_on (way_in way) n wanted.leaf leaves) x.3 (subst (λ n. leaves_on (way_in way) x.0.table n made ≡ leaves_on (way_in way) x.0.table n leaves) x.2 (kept.on (way_in way) x.0 x.1)))
+waited-kept leaves made call wanted kept x = refl
+
 doing-at-kept : (m : Machine) (leaves made : List Leaf) (pieces : List FramePiece) (session : ℕ) (a : State) (g : Stage) → LeavesKept leaves made → StageStands g m leaves pieces session a → doing_at g made session a ≡ doing_at g leaves session a
+doing-at-kept m leaves made pieces session a (stage.Fill call wanted) kept x = ap (λ n. Placed (call_in call a) wanted.table (7 + n)) (waited-kept leaves made call wanted kept x.1.0)
 doing-at-kept m leaves made pieces session a (stage.Publish call target) kept x = ap (λ n. Placed (call_in call a) target.table (6 + n)) (further-kept leaves made call target kept x.0.1)
 doing-at-kept m leaves made pieces session a (stage.Validate call target) kept x = ap (λ n. Placed (call_in call a) target.table (5 + n)) (further-kept leaves made call target kept x.0.1)
 doing-at-kept m leaves made pieces session a (stage.Look call target) kept x = ap (λ n. Placed (call_in call a) target.table (4 + n)) (further-kept leaves made call target kept x.0.1)

@@ -1,6 +1,6 @@
 -- The event that goes on from a leaf without a row to the next one on the way.
 use Rattle.std.proofs.Common.{◌≡◌, ◌+◌, ◌*◌, ◌<◌, ℕ, suc, refl, ap, sym, ◌∙◌, Bool, true, List, inl, inr, subst, arith}
-use Rattle.std.specs.Prelude.{Option, Some, None, option_and_then, slice_get}
+use Rattle.std.specs.Prelude.{Option, Some, None, option_map, slice_get}
 use Rattle.std.specs.List.{Contains}
 use Rattle.wt_code.specs.declared.answers.Answer.{Answer}
 use Rattle.wt_code.specs.declared.answers.Answer.TheVariants as answers
@@ -20,16 +20,15 @@ use Rattle.call_steps.specs.declared.stage.Stage.TheVariants as stage
 use Rattle.call_steps.specs.declared.stage.Target.{Target}
 use Rattle.call_steps.specs.HubEvents.{beside, hub_made_at, pass_made, passes_to}
 use Rattle.call_steps.specs.State.{State, answered, at_stage}
-use Rattle.call_steps.specs.Tables.{leaf_on, target_in}
+use Rattle.call_steps.specs.Tables.{leaf_on, stage_for}
 use Rattle.engine_world.specs.Worlds.{World, Placed}
 use Rattle.engine_world.specs.Doings.{call_in, further_left}
 use Rattle.engine_world.specs.Laws.{IsPass, PassesGo}
-use Rattle.engine_world.specs.Leaves.{IsLaid}
 use Rattle.engine_world.specs.Stages.{GoesPast, IsOnLeaf, IsPassed, IsSought}
 use Rattle.engine_world.specs.Stands.{Engine, Stands}
-use Rattle.engine_world.specs.Steps.{Made}
 use Rattle.engine_world.specs.Walks.{leaves_on, passed}
-use Rattle.engine_world.proofs.Homes.{target-from, target-is, target_at}
+use Rattle.engine_world.proofs.AtLeaves.{PlacesAt, places-at, stands-for}
+use Rattle.engine_world.proofs.Homes.{target-is}
 use Rattle.engine_world.proofs.HubMoves.{Goes, goes-from, stage-stands}
 use Rattle.engine_world.proofs.Looking.{Keeps, answered-does, answered-stands, keeps, made_in, stands-at}
 use Rattle.engine_world.proofs.Moves.{alone-leads}
@@ -83,47 +82,41 @@ module _ (e : Engine) (w : World) (session : ℕ) (a : State) (cursor : ℕ) (wa
     there : Contains e.hub.dir.leaves n × (n.table ≡ on.1.0.table)
     there = next-there e.hub.dir st.dir on.1.0 on.1.1 (way_in way) n next
 
-    laid : IsLaid e.pieces e.states n
-    laid = (st.leaves n there.0).laid
-
-    abbrev to : Target
-    to = target_at n laid.framed
+    abbrev to : Stage
+    to = stage_for step n
 
     -- its walk has passed what was passed with the leaf before it
-    sought : IsSought w.machine e.hub.dir.leaves session (at_stage (stage.Publish step to) a) step n
+    sought : IsSought w.machine e.hub.dir.leaves session (at_stage to a) step n
     sought t t_there key inside = subst (λ (m : ℕ). passed (way_in way) e.hub.dir.leaves n (within m) key ≡ true → ReadAnswer w.machine session t m key (Value None)) (sym there.1)
         (λ here. past t t_there key (sym (passed-next e.hub.dir st.dir on.1.0 on.1.1 (way_in way) n (within on.1.0.table) key next) ∙ here)) inside
 
     -- one leaf less is left
-    less : further_left step target e.hub.dir.leaves ≡ 4 * suc (leaves_on (way_in way) n.table n.id e.hub.dir.leaves)
-    less = ap (λ k. 4 * k) (ap (λ id. leaves_on (way_in way) target.table id e.hub.dir.leaves) (sym named)
+    less : further_left step target e.hub.dir.leaves ≡ 5 * suc (leaves_on (way_in way) n.table n.id e.hub.dir.leaves)
+    less = ap (λ k. 5 * k) (ap (λ id. leaves_on (way_in way) target.table id e.hub.dir.leaves) (sym named)
         ∙ (leaves-less (way_in way) target.table on.1.0.id e.hub.dir.leaves n st.dir.once next (there.1 ∙ number) ∙ ap (λ m. suc (leaves_on (way_in way) m n.id e.hub.dir.leaves)) (sym (there.1 ∙ number))))
 
-    does : made_in e.hub.dir.leaves w.machine session (at_stage (stage.Publish step to) a)
-        ≡ record { told = reply.More; machine = w.machine; doing = Placed (call_in step a) target.table (6 + further_left step to e.hub.dir.leaves) }
-    does = ap (placed (6 + further_left step to e.hub.dir.leaves)) (there.1 ∙ number) where
-      placed : ℕ → ℕ → Made
-      placed left table = record { told = reply.More; machine = w.machine; doing = Placed (call_in step a) table left }
+    places : PlacesAt step n e.hub.dir.leaves session (at_stage to a)
+    places = places-at step n e.hub.dir.leaves session a
 
-    goes-on : Goes e w session (beside e.hub (reply.More, at_stage (stage.Publish step to) a))
-    goes-on = alone-leads e w session a (at_stage (stage.Publish step to) a) e.hazards reply.More st at
-        (goes-from e.hub.dir.leaves session a (stage.Pass step target) w.machine (made_in e.hub.dir.leaves w.machine session (at_stage (stage.Publish step to) a)) is
-        (inl (6 + further_left step to e.hub.dir.leaves, fewer, does)))
-        (stands-at w.machine e.hub e.pieces session (at_stage (stage.Publish step to) a)
+    does : made_in e.hub.dir.leaves w.machine session (at_stage to a) ≡ record { told = reply.More; machine = w.machine; doing = Placed (call_in step a) target.table places.left }
+    does = ap (λ d. record { told = reply.More; machine = w.machine; doing = d }) (places.is ∙ ap (λ table. Placed (call_in step a) table places.left) (there.1 ∙ number))
+
+    fewer : places.left < 3 + further_left step target e.hub.dir.leaves
+    fewer = let most = places.most in subst (λ k. places.left < 3 + k) (sym less) (omega (arith, most))
+
+    next-goes : Goes e w session (beside e.hub (reply.More, at_stage to a))
+    next-goes = alone-leads e w session a (at_stage to a) e.hazards reply.More st at
+        (goes-from e.hub.dir.leaves session a (stage.Pass step target) w.machine (made_in e.hub.dir.leaves w.machine session (at_stage to a)) is (inl (places.left, fewer, does)))
+        (stands-at w.machine e.hub e.pieces session (at_stage to a)
         (record { phase = kept.phase; seated = record { opened = kept.seated.opened; phase = kept.seated.phase }; cursors = kept.cursors; noted = kept.noted })
-        ((on.0, (n, there.0, target-from n laid.framed laid.placed)), sought)) where
-          fewer : 6 + further_left step (target_at n laid.framed) e.hub.dir.leaves < 3 + further_left step target e.hub.dir.leaves
-          fewer = subst (λ k. 6 + further_left step (target_at n laid.framed) e.hub.dir.leaves < 3 + k) (sym less) (omega arith)
+        (stands-for w.machine e.hub.dir.leaves e.pieces session a step n there.0 on.0 sought))
 
-    next-goes : Goes e w session (beside e.hub (reply.More, passes_to (target_in n) step target a))
-    next-goes = subst (λ t. Goes e w session (beside e.hub (reply.More, passes_to t step target a))) (sym (target-from n laid.framed laid.placed)) goes-on
-
-  by-next : (o : Option Leaf) → leaf_on (way_in way) on.1.0.id e.hub.dir.leaves ≡ o → Goes e w session (beside e.hub (reply.More, passes_to (option_and_then target_in o) step target a))
+  by-next : (o : Option Leaf) → leaf_on (way_in way) on.1.0.id e.hub.dir.leaves ≡ o → Goes e w session (beside e.hub (reply.More, passes_to (option_map (stage_for step) o) step target a))
   by-next None none = ends none
   by-next (Some n) next = next-goes n next
 
   pass-goes : Goes e w session (pass_made e.hub a step target)
-  pass-goes = subst (λ id. Goes e w session (beside e.hub (reply.More, passes_to (option_and_then target_in (leaf_on (way_in way) id e.hub.dir.leaves)) step target a))) named
+  pass-goes = subst (λ id. Goes e w session (beside e.hub (reply.More, passes_to (option_map (stage_for step) (leaf_on (way_in way) id e.hub.dir.leaves)) step target a))) named
       (by-next (leaf_on (way_in way) on.1.0.id e.hub.dir.leaves) refl)
 
 pub passes-go : PassesGo

@@ -68,7 +68,7 @@ place-leads chains e w session old a hazards told cursor position st there has p
       stamps = refl;
       txns = (calls-stand e.hub.txns m st.valid st.txns).others event tt has;
       made = refl;
-      leaves = leaves-go-on chains m event e.hub.dir.leaves e.pieces e.states st.valid has (λ table key. tt) st.leaves;
+      leaves = leaves-go-on chains m event w.shelf e.hub.dir.leaves e.pieces e.states st.valid has (λ table key. tt) st.leaves;
       mine = record {
         phase = ap phase_in p.phase ∙ mine.phase;
         seated = record { opened = mine.seated.opened; phase = mine.seated.phase ∙ ap known_phase (sym p.phase) };
@@ -183,19 +183,19 @@ lands-or-stays session cursor target (answer.Row key v) a = inl (record { positi
 lands-or-stays session cursor target (answer.Refused refusal.NotFound) a = inl (record { position = None; key = a.key; event = refl; state = refl })
 lands-or-stays session cursor target _ a = inr (refl, refl)
 
-looked-ends : (e : Engine) (w : World) (session : ℕ) (call : KeyCall) (target : Target) → HasLooked w.machine e.hub.dir.leaves session call target → EndsOnlyDown w.machine session
-looked-ends e w session call target x = alive-ends w.machine session x.0.0 x.0.1 (λ ending. elim x.0.2 [
+looked-ends : (e : Engine) (w : World) (session : ℕ) (call : KeyCall) (target : Target) → HasLooked w.machine session call → EndsOnlyDown w.machine session
+looked-ends e w session call target x = alive-ends w.machine session x.0 x.1 (λ ending. elim x.2 [
   | inl running ↦ subst IsEnding running ending
   | inr failed ↦ subst IsEnding failed.0 ending
 ])
 
 -- a call that moves a cursor was not refused a write
-looked-runs : (e : Engine) (w : World) (session cursor : ℕ) (call : KeyCall) (target : Target) → HasLooked w.machine e.hub.dir.leaves session call target → cursor_in call ≡ Some cursor
+looked-runs : (e : Engine) (w : World) (session cursor : ℕ) (call : KeyCall) (target : Target) → HasLooked w.machine session call → cursor_in call ≡ Some cursor
     → HasTransaction w.machine session (λ t. t.phase ≡ Running)
 looked-runs e w session cursor call target x of = (
-  x.0.0,
-  x.0.1,
-  elim x.0.2 [
+  x.0,
+  x.1,
+  elim x.2 [
     | inl running ↦ running
     | inr failed ↦ let none : None ≡ Some cursor = sym failed.1 ∙ of in absurd (cc)
   ],
@@ -205,7 +205,7 @@ module _ (chains : ChainsGoOn) (e : Engine) (w : World) (session value word : �
   abbrev old : State
   old = at_stage (stage.Clear call target) a
 
-  looked : HasLooked w.machine e.hub.dir.leaves session call target
+  looked : HasLooked w.machine session call
   looked = (st.sessions session old there).stage
 
   -- the call ends in this state

@@ -21,7 +21,7 @@ use Rattle.kv_model.specs.Calls.{Call, Begin, GetKey, PutKey, RemoveKey, SeekKey
 use Rattle.kv_model.specs.Told.{Tells}
 use Rattle.engine_world.specs.Worlds.{Doing, Resting, Asked, Placed, Decided, Ending}
 use Rattle.engine_world.specs.Steps.{Made, GoesTo, EndsWith, Finishes, JudgedBy, FoundBy, Finds, EndsIn, SettledBy, Settles, Judges, LookAnswer, Looks, LooksShort, TellsFault, EndsUnless}
-use Rattle.engine_world.specs.Whole.{nothing_around, IsFound, PlacedFrom, Reached, ReachesOn, StepsReach}
+use Rattle.engine_world.specs.Whole.{KeptOutReaches, around_kept, IsFound, PlacedFrom, Reached, ReachesOn, StepsReach}
 
 -- ---- the events of decisions
 
@@ -168,32 +168,32 @@ write-fault m s t table key change demand outcome event is = by-outcome outcome 
 
 -- ---- judged
 
-module _ (from : Machine) (session : ℕ) where
+module _ (kept : Option Refusal) (from : Machine) (session : ℕ) where
   -- the made step is the end of the call
-  at-end : (call : Call) (answer : Answer (List ℕ)) (next : Machine) (made : Made) → EndsWith answer next made → SessionAnswers nothing_around from session call answer next → ReachesOn from session call made
-  at-end call answer next made ends is = subst (ReachesOn from session call) (sym ends) (inr (answer, refl, is))
+  at-end : (call : Call) (answer : Answer (List ℕ)) (next : Machine) (made : Made) → EndsWith answer next made → SessionAnswers (around_kept kept) from session call answer next → ReachesOn kept from session call made
+  at-end call answer next made ends is = subst (ReachesOn kept from session call) (sym ends) (inr (answer, refl, is))
 
-  going : (call : Call) (to : ℕ → Doing) (left : ℕ) (next : Machine) (made : Made) → GoesTo to left next made → ((fewer : ℕ) → Reached from session call (to fewer) next) → ReachesOn from session call made
-  going call to left next made goes is = subst (ReachesOn from session call) (sym goes.2) (inl (refl, is goes.0))
+  going : (call : Call) (to : ℕ → Doing) (left : ℕ) (next : Machine) (made : Made) → GoesTo to left next made → ((fewer : ℕ) → Reached kept from session call (to fewer) next) → ReachesOn kept from session call made
+  going call to left next made goes is = subst (ReachesOn kept from session call) (sym goes.2) (inl (refl, is goes.0))
 
-  finishing : (call : Call) (answer : Answer (List ℕ)) (left : ℕ) (next : Machine) (made : Made) → Finishes answer left next made → next.fault ≡ None → SessionAnswers nothing_around from session call answer next → ReachesOn from session call made
+  finishing : (call : Call) (answer : Answer (List ℕ)) (left : ℕ) (next : Machine) (made : Made) → Finishes answer left next made → next.fault ≡ None → SessionAnswers (around_kept kept) from session call answer next → ReachesOn kept from session call made
   finishing call answer left next made (inl ends) up is = at-end call answer next made ends is
   finishing call answer left next made (inr goes) up is = going call (Decided answer Nothing) left next made goes (λ fewer. (up, is))
 
 -- ---- by the call
 
-module _ (from : Machine) (session : ℕ) where
+module _ (kept : Option Refusal) (from : Machine) (session : ℕ) where
   judged-reach : (call : Call) (request : Request) (decided : Outcome × Event) (made : Made) → JudgedBy decided from made
-      → ((answer : Answer (List ℕ)) → Tells decided.0 answer → SessionAnswers nothing_around from session call answer (after from decided.1)) → ReachesOn from session call made
-  judged-reach call request decided made by is = at-end from session call by.0 (after from decided.1) made by.2 (is by.0 by.1)
+      → ((answer : Answer (List ℕ)) → Tells decided.0 answer → SessionAnswers (around_kept kept) from session call answer (after from decided.1)) → ReachesOn kept from session call made
+  judged-reach call request decided made by is = at-end kept from session call by.0 (after from decided.1) made by.2 (is by.0 by.1)
 
   finds-reach : (call : Call) (name : List ℕ) (request : Request) (left : ℕ) (made : Made) → Finds from session request call name left made
-      → ((r : Refusal) (event : Event) → decision from session request ≡ (Refused r, event) → SessionAnswers nothing_around from session call (answers.Refused r) from)
-      → ((table : ℕ) (m : Machine) → IsFound from session name request table m → PlacedFrom from session call table m) → ReachesOn from session call made
+      → ((r : Refusal) (event : Event) → decision from session request ≡ (Refused r, event) → SessionAnswers (around_kept kept) from session call (answers.Refused r) from)
+      → ((table : ℕ) (m : Machine) → IsFound from session name request table m → PlacedFrom from session call table m) → ReachesOn kept from session call made
   finds-reach call name request left made finds refuses places = by-outcome (decision from session request).0 (decision from session request).1 refl finds where
-    by-outcome : (o : Outcome) (event : Event) → decision from session request ≡ (o, event) → FoundBy o event from call name left made → ReachesOn from session call made
-    by-outcome (Refused r) event is found = at-end from session call (answers.Refused r) from made found (refuses r event is)
-    by-outcome Done event is found = going from session call (Placed call found.0.number) left (after from event) made found.2
+    by-outcome : (o : Outcome) (event : Event) → decision from session request ≡ (o, event) → FoundBy o event from call name left made → ReachesOn kept from session call made
+    by-outcome (Refused r) event is found = at-end kept from session call (answers.Refused r) from made found (refuses r event is)
+    by-outcome Done event is found = going kept from session call (Placed call found.0.number) left (after from event) made found.2
         (λ fewer. (refl, places found.0.number (after from event) (record { event = event; of = found.0; decided = is; machine = refl; found = found.1; number = refl })))
     by-outcome (Gives v) event is found = absurd found
     by-outcome (GivesRow k v) event is found = absurd found
@@ -203,28 +203,28 @@ module _ (from : Machine) (session : ℕ) where
 
   abbrev SettlesTo : Call → Request → Type 0
   SettlesTo call request = (outcome : Outcome) (next : Machine) (answer : Answer (List ℕ))
-      → (let d = decision from session request in settled from session d.0 d.1 ≡ (outcome, next)) → Tells outcome answer → SessionAnswers nothing_around from session call answer next
+      → (let d = decision from session request in settled from session d.0 d.1 ≡ (outcome, next)) → Tells outcome answer → SessionAnswers (around_kept kept) from session call answer next
 
-  settles-reach : (call : Call) (request : Request) (left : ℕ) (made : Made) → IsSettling (decision from session request).1 → SettlesTo call request → Settles from session request left made → ReachesOn from session call made
+  settles-reach : (call : Call) (request : Request) (left : ℕ) (made : Made) → IsSettling (decision from session request).1 → SettlesTo call request → Settles from session request left made → ReachesOn kept from session call made
   settles-reach call request left made settling to settles = by-event (decision from session request).0 (decision from session request).1 refl settling settles where
     ends-reach : (o : Outcome) (event : Event) (middle : Machine) → (let d = decision from session request in settled from session d.0 d.1 ≡ ended middle session o)
-        → (answer : Answer (List ℕ)) → Tells o answer → EndsIn (transaction_of middle session) answer middle session left made → ReachesOn from session call made
+        → (answer : Answer (List ℕ)) → Tells o answer → EndsIn (transaction_of middle session) answer middle session left made → ReachesOn kept from session call made
     ends-reach o event middle is answer tells ends = by-seat (transaction_of middle session) refl ends where
       by-fault : (t : Transaction) → transaction_of middle session ≡ Some t → (f : Option Fault) → middle.fault ≡ f
           → ended middle session o ≡ (let x : Outcome × Event = of_some (o, EndTransaction session) (λ fault. (Refused (told.Panic fault), Nothing)) f in (x.0, after middle x.1))
       by-fault t there f same = rw (there, same) refl
 
-      by-seat : (seat : Option Transaction) → transaction_of middle session ≡ seat → EndsIn seat answer middle session left made → ReachesOn from session call made
-      by-seat None none finishes = finishing from session call answer left middle made finishes.1 finishes.0
+      by-seat : (seat : Option Transaction) → transaction_of middle session ≡ seat → EndsIn seat answer middle session left made → ReachesOn kept from session call made
+      by-seat None none finishes = finishing kept from session call answer left middle made finishes.1 finishes.0
           (to o middle answer (is ∙ (let e : ended middle session o ≡ (o, middle) = rw none refl in e)) tells)
-      by-seat (Some t) there (inl goes) = going from session call (Ending answer) left middle made goes (λ fewer. (
+      by-seat (Some t) there (inl goes) = going kept from session call (Ending answer) left middle made goes (λ fewer. (
         (λ up. to o (after middle (EndTransaction session)) answer (is ∙ by-fault t there None up) tells),
         (λ fault down. to (Refused (told.Panic fault)) middle (answers.Refused (told.Panic fault)) (is ∙ by-fault t there (Some fault) down) refl),
       ))
-      by-seat (Some t) there (inr finishes) = finishing from session call answer left (after middle (EndTransaction session)) made finishes.2 finishes.0 (to o (after middle (EndTransaction session)) answer (is ∙ by-fault t there None finishes.0) tells)
+      by-seat (Some t) there (inr finishes) = finishing kept from session call answer left (after middle (EndTransaction session)) made finishes.2 finishes.0 (to o (after middle (EndTransaction session)) answer (is ∙ by-fault t there None finishes.0) tells)
 
-    by-event : (o : Outcome) (event : Event) → decision from session request ≡ (o, event) → IsSettling event → SettledBy o event from session left made → ReachesOn from session call made
-    by-event o Nothing is quiet by = at-end from session call by.0 from made by.2 (to o from by.0 (ap (λ (d : Outcome × Event). settled from session d.0 d.1) is) by.1)
+    by-event : (o : Outcome) (event : Event) → decision from session request ≡ (o, event) → IsSettling event → SettledBy o event from session left made → ReachesOn kept from session call made
+    by-event o Nothing is quiet by = at-end kept from session call by.0 from made by.2 (to o from by.0 (ap (λ (d : Outcome × Event). settled from session d.0 d.1) is) by.1)
     by-event o (StartLeaving s) is quiet by = ends-reach o (StartLeaving s) (after from (StartLeaving s)) (ap (λ (d : Outcome × Event). settled from session d.0 d.1) is) by.0 by.1 by.2
     by-event o (CommitAt s commit durable) is quiet by = ends-reach o (CommitAt s commit durable) (after from (CommitAt s commit durable)) (ap (λ (d : Outcome × Event). settled from session d.0 d.1) is) by.0 by.1 by.2
     by-event o OpenSession is quiet by = absurd quiet
@@ -245,27 +245,27 @@ module _ (from : Machine) (session : ℕ) where
 
 -- ---- every call
 
-module _ (from : Machine) (session : ℕ) where
-  judges-reach : (call : Call) (left : ℕ) (made : Made) → Judges call from session left made → ReachesOn from session call made
-  judges-reach (Begin read) left made by = judged-reach from session (Begin read) (BeginCall read) (decision from session (BeginCall read)) made by
+module _ (kept : Option Refusal) (from : Machine) (session : ℕ) where
+  judges-reach : (call : Call) (left : ℕ) (made : Made) → Judges call from session left made → ReachesOn kept from session call made
+  judges-reach (Begin read) left made by = judged-reach kept from session (Begin read) (BeginCall read) (decision from session (BeginCall read)) made by
       (λ answer tells. inl ((decision from session (BeginCall read)).0, ((decision from session (BeginCall read)).1, refl, refl), tells))
-  judges-reach (Prepare stamp) left made by = judged-reach from session (Prepare stamp) (PrepareCall stamp) (decision from session (PrepareCall stamp)) made by
+  judges-reach (Prepare stamp) left made by = judged-reach kept from session (Prepare stamp) (PrepareCall stamp) (decision from session (PrepareCall stamp)) made by
       (λ answer tells. inl ((decision from session (PrepareCall stamp)).0, ((decision from session (PrepareCall stamp)).1, refl, refl), tells))
-  judges-reach (Reset cursor) left made by = judged-reach from session (Reset cursor) RollbackCall (reset_decision from session cursor) made by
+  judges-reach (Reset cursor) left made by = judged-reach kept from session (Reset cursor) RollbackCall (reset_decision from session cursor) made by
       (λ answer tells. inl ((reset_decision from session cursor).0, ((reset_decision from session cursor).1, refl, refl), tells))
-  judges-reach (GetKey name key) left made by = finds-reach from session (GetKey name key) name (FindKey name key) left made by
+  judges-reach (GetKey name key) left made by = finds-reach kept from session (GetKey name key) name (FindKey name key) left made by
       (λ r event is. inl (Refused r, inl (r, event, is, refl, refl), refl)) (λ table m found. found)
-  judges-reach (PutKey name key value demand) left made by = finds-reach from session (PutKey name key value demand) name (FindToWrite name key (PutOf value)) left made by
+  judges-reach (PutKey name key value demand) left made by = finds-reach kept from session (PutKey name key value demand) name (FindToWrite name key (PutOf value)) left made by
       (λ r event is. inl (Refused r, inl (r, event, is, refl, refl), refl)) (λ table m found. found)
-  judges-reach (RemoveKey name key) left made by = finds-reach from session (RemoveKey name key) name (FindToWrite name key RemoveOf) left made by
+  judges-reach (RemoveKey name key) left made by = finds-reach kept from session (RemoveKey name key) name (FindToWrite name key RemoveOf) left made by
       (λ r event is. inl (Refused r, inl (r, event, is, refl, refl), refl)) (λ table m found. found)
-  judges-reach (SeekKey cursor name key) left made by = finds-reach from session (SeekKey cursor name key) name (FindKey name key) left made by
+  judges-reach (SeekKey cursor name key) left made by = finds-reach kept from session (SeekKey cursor name key) name (FindKey name key) left made by
       (λ r event is. inl (Refused r, inl (r, event, is, refl, refl), refl)) (λ table m found. found)
-  judges-reach (NextRow cursor name way) left made by = finds-reach from session (NextRow cursor name way) name (FindRow name) left made by
+  judges-reach (NextRow cursor name way) left made by = finds-reach kept from session (NextRow cursor name way) name (FindRow name) left made by
       (λ r event is. inl (Refused r, inl (r, event, is, refl, refl), refl)) (λ table m found. found)
-  judges-reach (Commit commit durable) left made by = settles-reach from session (Commit commit durable) (CommitCall commit durable) left made (commit-settles from session commit durable)
+  judges-reach (Commit commit durable) left made by = settles-reach kept from session (Commit commit durable) (CommitCall commit durable) left made (commit-settles from session commit durable)
       (λ outcome next answer is tells. inl (outcome, is, tells)) by
-  judges-reach Rollback left made by = settles-reach from session Rollback RollbackCall left made (rollback-settles from session) (λ outcome next answer is tells. inl (outcome, is, tells)) by
+  judges-reach Rollback left made by = settles-reach kept from session Rollback RollbackCall left made (rollback-settles from session) (λ outcome next answer is tells. inl (outcome, is, tells)) by
   judges-reach (Create name formats) left made by = absurd by
   judges-reach (Set oldest stable) left made by = absurd by
   judges-reach CkptStart left made by = absurd by
@@ -287,7 +287,7 @@ module _ (from : Machine) (session : ℕ) where
   -- what a look at the place answers is the whole call's
   abbrev PlaceAnswers : Call → List ℕ → Request → ℕ → Type 0
   PlaceAnswers call name request table = (m : Machine) (t : Transaction) (outcome : Outcome) (event : Event) (answer : Answer (List ℕ)) → IsFound from session name request table m → transaction_of m session ≡ Some t
-      → LookAnswer call m session t table outcome event → Tells outcome answer → SessionAnswers nothing_around from session call answer (after m event)
+      → LookAnswer call m session t table outcome event → Tells outcome answer → SessionAnswers (around_kept kept) from session call answer (after m event)
 
   looked : (Look : Machine → Transaction → Table → Outcome → Event → Type 0) (name : List ℕ) (request : Request) (table : ℕ) (m : Machine) (t : Transaction) (outcome : Outcome) (event : Event)
       → (found : IsFound from session name request table m) → transaction_of m session ≡ Some t → Look m t found.of outcome event → AtPlace from session name request Look outcome (after m event)
@@ -302,13 +302,13 @@ module _ (from : Machine) (session : ℕ) where
     ap (λ x. after x event) found.machine,
   )
 
-  short : (request : Request) (name : List ℕ) (table : ℕ) (m : Machine) → IsFound from session name request table m → IsHeldUp nothing_around from session request (answers.Refused told.NoMemory) m
+  short : (request : Request) (name : List ℕ) (table : ℕ) (m : Machine) → IsFound from session name request table m → IsHeldUp (around_kept kept) from session request (answers.Refused told.NoMemory) m
   short request name table m found = inr (found.event, found.decided, inl (refl, found.machine))
 
-  reading : (call : Call) (answer : Answer (List ℕ)) (event : Event) (left : ℕ) (m : Machine) (made : Made) → GoesTo (Decided answer event) left m made → m.fault ≡ None → SessionAnswers nothing_around from session call answer (after m event) → ReachesOn from session call made
-  reading call answer event left m made goes up is = going from session call (Decided answer event) left m made goes (λ fewer. (up, is))
+  reading : (call : Call) (answer : Answer (List ℕ)) (event : Event) (left : ℕ) (m : Machine) (made : Made) → GoesTo (Decided answer event) left m made → m.fault ≡ None → SessionAnswers (around_kept kept) from session call answer (after m event) → ReachesOn kept from session call made
+  reading call answer event left m made goes up is = going kept from session call (Decided answer event) left m made goes (λ fewer. (up, is))
 
-  places-reach : (call : Call) (table left : ℕ) (m : Machine) (made : Made) → PlacedFrom from session call table m → Looks call m session table left made ⊎ LooksShort m left made → ReachesOn from session call made
+  places-reach : (call : Call) (table left : ℕ) (m : Machine) (made : Made) → PlacedFrom from session call table m → Looks call m session table left made ⊎ LooksShort m left made → ReachesOn kept from session call made
   places-reach (GetKey name key) table left m made found (inl looks) = reading (GetKey name key) looks.answer looks.event left m made looks.goes (found-up name (FindKey name key) table m refl (key-quiet from session name key) found)
       (inl (
         looks.outcome,
@@ -375,18 +375,52 @@ module _ (from : Machine) (session : ℕ) where
   places-reach Close table left m made found looks = absurd found
 
 pub steps-reach : StepsReach
-steps-reach from m session call Resting made reached goes = absurd reached
-steps-reach from m session call (Asked asked left) made reached (inl goes) = going from session call (Asked asked) left m made goes (λ fewer. reached)
-steps-reach from m session call (Asked asked left) made reached (inr judges) = judges-reach from session call left made
+steps-reach kept from m session call Resting made reached goes = absurd reached
+steps-reach kept from m session call (Asked asked left) made reached (inl goes) = going kept from session call (Asked asked) left m made goes (λ fewer. reached)
+steps-reach kept from m session call (Asked asked left) made reached (inr judges) = judges-reach kept from session call left made
     (subst (λ x. Judges call x session left made) reached.1 (subst (λ c. Judges c m session left made) reached.0 judges))
-steps-reach from m session call (Placed asked table left) made reached (inl goes) = going from session call (Placed asked table) left m made goes (λ fewer. reached)
-steps-reach from m session call (Placed asked table left) made reached (inr looks) = places-reach from session call table left m made reached.1
+steps-reach kept from m session call (Placed asked table left) made reached (inl goes) = going kept from session call (Placed asked table) left m made goes (λ fewer. reached)
+steps-reach kept from m session call (Placed asked table left) made reached (inr looks) = places-reach kept from session call table left m made reached.1
     (subst (λ c. Looks c m session table left made ⊎ LooksShort m left made) reached.0 looks)
-steps-reach from m session call (Decided answer event left) made reached (inl goes) = going from session call (Decided answer event) left m made goes (λ fewer. reached)
-steps-reach from m session call (Decided answer event left) made reached (inr (inl ends)) = at-end from session call answer (after m event) made ends reached.1
-steps-reach from m session call (Decided answer event left) made reached (inr (inr faults)) = absurd (subst (λ o. TellsFault o left m made) reached.0 faults)
-steps-reach from m session call (Ending answer left) made reached (inl goes) = going from session call (Ending answer) left m made goes (λ fewer. reached)
-steps-reach from m session call (Ending answer left) made reached (inr ends) = by-fault m.fault refl ends where
-  by-fault : (f : Option Fault) → m.fault ≡ f → EndsUnless f answer m session left made → ReachesOn from session call made
-  by-fault None up finishes = finishing from session call answer left (after m (EndTransaction session)) made finishes up (reached.0 up)
-  by-fault (Some fault) down ends = at-end from session call (answers.Refused (told.Panic fault)) m made ends (reached.1 fault down)
+steps-reach kept from m session call (Decided answer event left) made reached (inl goes) = going kept from session call (Decided answer event) left m made goes (λ fewer. reached)
+steps-reach kept from m session call (Decided answer event left) made reached (inr (inl ends)) = at-end kept from session call answer (after m event) made ends reached.1
+steps-reach kept from m session call (Decided answer event left) made reached (inr (inr faults)) = absurd (subst (λ o. TellsFault o left m made) reached.0 faults)
+steps-reach kept from m session call (Ending answer left) made reached (inl goes) = going kept from session call (Ending answer) left m made goes (λ fewer. reached)
+steps-reach kept from m session call (Ending answer left) made reached (inr ends) = by-fault m.fault refl ends where
+  by-fault : (f : Option Fault) → m.fault ≡ f → EndsUnless f answer m session left made → ReachesOn kept from session call made
+  by-fault None up finishes = finishing kept from session call answer left (after m (EndTransaction session)) made finishes up (reached.0 up)
+  by-fault (Some fault) down ends = at-end kept from session call (answers.Refused (told.Panic fault)) m made ends (reached.1 fault down)
+
+-- ---- a leaf that cannot be had
+
+module _ (r : Refusal) (from : Machine) (session : ℕ) where
+  held-up : (request : Request) (name : List ℕ) (table : ℕ) (m : Machine) → IsFound from session name request table m → IsHeldUp (around_kept (Some r)) from session request (answers.Refused r) m
+  held-up request name table m found = inr (found.event, found.decided, inr (r, refl, refl, inl found.machine))
+
+  keeps-out : (call : Call) (table left : ℕ) (m : Machine) (made : Made) → PlacedFrom from session call table m → GoesTo (Decided (answers.Refused r) Nothing) left m made → Reached (Some r) from session call made.doing made.machine
+  keeps-out call table left m made found goes = subst (λ (x : Made). Reached (Some r) from session call x.doing x.machine) (sym goes.2) (by call found) where
+    by : (c : Call) → PlacedFrom from session c table m → (m.fault ≡ None) × SessionAnswers (around_kept (Some r)) from session c (answers.Refused r) m
+    by (GetKey name key) found = (found-up None from session name (FindKey name key) table m refl (key-quiet from session name key) found, inr (held-up (FindKey name key) name table m found))
+    by (SeekKey cursor name key) found = (found-up None from session name (FindKey name key) table m refl (key-quiet from session name key) found, inr (held-up (FindKey name key) name table m found))
+    by (NextRow cursor name way) found = (found-up None from session name (FindRow name) table m refl (row-quiet from session name) found, inr (held-up (FindRow name) name table m found))
+    by (PutKey name key value demand) found =
+        (found-up None from session name (FindToWrite name key (PutOf value)) table m refl (write-quiet from session name key (PutOf value)) found, inr (held-up (FindToWrite name key (PutOf value)) name table m found))
+    by (RemoveKey name key) found =
+        (found-up None from session name (FindToWrite name key RemoveOf) table m refl (write-quiet from session name key RemoveOf) found, inr (held-up (FindToWrite name key RemoveOf) name table m found))
+    by (Begin read) found = absurd found
+    by (Prepare stamp) found = absurd found
+    by (Reset cursor) found = absurd found
+    by (Commit commit durable) found = absurd found
+    by Rollback found = absurd found
+    by (Create name formats) found = absurd found
+    by (Set oldest stable) found = absurd found
+    by CkptStart found = absurd found
+    by CkptStep found = absurd found
+    by CkptFinish found = absurd found
+    by (Evict name key) found = absurd found
+    by Rts found = absurd found
+    by Close found = absurd found
+
+pub kept-out-reaches : KeptOutReaches
+kept-out-reaches from m session call (Placed asked table left) r made reached goes = keeps-out r from session call table left m made reached.1 goes
+kept-out-reaches from m session call _ r made reached goes = absurd goes

@@ -1,5 +1,5 @@
 -- What stands over the events that are of no session.
-use Rattle.std.proofs.Common.{◌≡◌, ◌≢◌, ℕ, refl, List, [], length, arith}
+use Rattle.std.proofs.Common.{◌≡◌, ◌≢◌, ℕ, refl, List, length, arith}
 use Rattle.std.specs.Prelude.{None, Some, slice_get}
 use Rattle.std.proofs.lemmas.Option.{slice_get_within}
 use Rattle.kv_model.specs.Allowed.{Allowed}
@@ -42,6 +42,19 @@ created-apart session m table valid may = record {
   grown = λ table key v member. member;
   none = λ r t table key other there drawn none. none;
   absent = λ r t number key other there reads. value-goes-on m (CreateTable table) r t number key None valid may there tt reads;
+}
+
+-- nothing happens
+pub same-apart : (session : ℕ) (m : Machine) → MachineApart session m m
+same-apart session m = record {
+  run = refl;
+  fault = refl;
+  others = λ r other. refl;
+  cursors = λ r other. refl;
+  held = λ r t table key other there alive own. refl;
+  grown = λ table key v member. member;
+  none = λ r t table key other there drawn none. none;
+  absent = λ r t number key other there reads. reads;
 }
 
 -- every session is another one

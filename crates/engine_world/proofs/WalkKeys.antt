@@ -1,5 +1,5 @@
 -- Which keys a walk over the leaves of a table has passed.
-use Rattle.std.proofs.Common.{◌≡◌, ◌⊎◌, ℕ, refl, ap, sym, ◌∙◌, Bool, true, false, ◌&&◌, List, [], ◌∷◌, inl, inr, subst}
+use Rattle.std.proofs.Common.{◌≡◌, ◌⊎◌, ℕ, refl, ap, sym, ◌∙◌, Bool, true, false, List, [], ◌∷◌, inl, inr, subst}
 use Rattle.std.specs.Prelude.{IsTrue, Option, Some, None, not}
 use Rattle.std.specs.List.{Contains}
 use Rattle.std.proofs.lemmas.Bool.{and_from, and_parts, both_ways, cases_Bool, not-true, not_from_false}
@@ -12,6 +12,9 @@ use Rattle.tree_dir.specs.Ranges.{low_key}
 use Rattle.tree_dir.proofs.Parting.{first-begins, has-under, last-ends, next-turns, prev-turns, under-has}
 use Rattle.call_steps.specs.Tables.{leaf_on, leaf_sought, row_sought}
 use Rattle.engine_world.specs.Walks.{before_leaf, passed, passed_with}
+use Rattle.std.proofs.lemmas.Option.{same_Some}
+use Rattle.kv_model.specs.RowLaws.{before_cut}
+use Rattle.engine_world.proofs.Beside.{IsAlike}
 use Rattle.engine_world.proofs.WalkCounts.{behind-there}
 
 -- ---- keys
@@ -135,10 +138,23 @@ sought-there d table (Some key) l is under = let has = under-has d is table key 
 
 -- ---- another directory that says the same of the leaf
 
-pub passed-kept : (way : Way) (leaves made : List Leaf) (l : Leaf) (within : List ℕ → Bool) (key : List ℕ) → leaf_behind l.id made ≡ leaf_behind l.id leaves → passed way made l within key ≡ passed way leaves l within key
-passed-kept Up leaves made l within key same = refl
-passed-kept Down leaves made l within key same = ap (λ (o : Option Leaf). before_leaf Down o (λ k. false) within key) same
+before-low : (way : Way) (o p : Option Leaf) (others within : List ℕ → Bool) (key : List ℕ) → low_key o ≡ low_key p → before_leaf way o others within key ≡ before_leaf way p others within key
+before-low way None None others within key same = refl
+before-low way None (Some n) others within key same = absurd cc
+before-low way (Some l) None others within key same = absurd cc
+before-low way (Some l) (Some n) others within key same = ap (λ (low : List ℕ). before_cut way low within key) (same_Some l.entry.key n.entry.key same)
 
-pub passed-with-kept : (way : Way) (leaves made : List Leaf) (l : Leaf) (within : List ℕ → Bool) (key : List ℕ) → leaf_behind l.id made ≡ leaf_behind l.id leaves → passed_with way made l within key ≡ passed_with way leaves l within key
-passed-with-kept Up leaves made l within key same = ap (λ (o : Option Leaf). before_leaf Up o within within key) same
-passed-with-kept Down leaves made l within key same = refl
+-- so does its next leaf
+abbrev pub KeepsNext : List Leaf → List Leaf → Leaf → Type 0
+KeepsNext leaves made l = low_key (leaf_behind l.id made) ≡ low_key (leaf_behind l.id leaves)
+
+next-low : (leaves made : List Leaf) (l now : Leaf) → IsAlike l now → KeepsNext leaves made l → low_key (leaf_behind now.id made) ≡ low_key (leaf_behind l.id leaves)
+next-low leaves made l now alike next = ap (λ id. low_key (leaf_behind id made)) alike.id ∙ next
+
+pub passed-kept : (way : Way) (leaves made : List Leaf) (l now : Leaf) (within : List ℕ → Bool) (key : List ℕ) → IsAlike l now → KeepsNext leaves made l → passed way made now within key ≡ passed way leaves l within key
+passed-kept Up leaves made l now within key alike next = ap (λ (low : List ℕ). before_cut Up low within key) alike.key
+passed-kept Down leaves made l now within key alike next = before-low Down (leaf_behind now.id made) (leaf_behind l.id leaves) (λ k. false) within key (next-low leaves made l now alike next)
+
+pub passed-with-kept : (way : Way) (leaves made : List Leaf) (l now : Leaf) (within : List ℕ → Bool) (key : List ℕ) → IsAlike l now → KeepsNext leaves made l → passed_with way made now within key ≡ passed_with way leaves l within key
+passed-with-kept Up leaves made l now within key alike next = before-low Up (leaf_behind now.id made) (leaf_behind l.id leaves) within within key (next-low leaves made l now alike next)
+passed-with-kept Down leaves made l now within key alike next = ap (λ (low : List ℕ). before_cut Down low within key) alike.key

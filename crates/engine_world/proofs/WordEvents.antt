@@ -18,13 +18,13 @@ use Rattle.call_steps.specs.State.{State, at_stage, changed_at, clears, first_pi
 use Rattle.call_steps.specs.Words.{ends, loaded_at, missed, next_at, stored_at, unpinned_in, validated}
 use Rattle.engine_world.specs.Doings.{call_in, doing_at, further_left, unpins_left}
 use Rattle.engine_world.specs.Laws.{IsPublish, IsUnpin, Leads, LoadGoes, PublishesGo, UnpinsGo, with_hazard, with_session}
-use Rattle.engine_world.specs.Leaves.{word_at}
+use Rattle.engine_world.specs.Leaves.{LeafInFrame, word_at}
 use Rattle.engine_world.specs.Stages.{IsLeafOf, IsOnLeaf, IsSought, Seeks, StageStands}
 use Rattle.engine_world.specs.Stands.{Engine, Stands, position_in}
 use Rattle.engine_world.specs.Steps.{GoesOn}
 use Rattle.engine_world.specs.Worlds.{World, Placed}
 use Rattle.engine_world.proofs.CursorChanges.{fewer-pinned, first-is-pinned, positions-stay}
-use Rattle.engine_world.proofs.Homes.{target-frame, target-is}
+use Rattle.engine_world.proofs.Homes.{IsTarget, in-its-frame, target-frame, target-is}
 use Rattle.engine_world.proofs.Moves.{alone-leads, engine_with}
 use Rattle.engine_world.proofs.OwnStates.{call-at, none-ends, restates}
 
@@ -40,15 +40,19 @@ placed-on e w session hazards a at to call target left fewer st there old new lt
     (restates w.machine e.hub e.pieces session (at_stage at a) (at_stage to a) refl refl refl stands (st.sessions session (at_stage at a) there))
 
 -- the leaf that is sought stays that
-sought-kept : (m : Machine) (leaves : List Leaf) (session : ℕ) (g h : Stage) (a : State) (call : KeyCall) (l : Leaf) → IsSought m leaves session (at_stage g a) call l → IsSought m leaves session (at_stage h a) call l
+pub sought-kept : (m : Machine) (leaves : List Leaf) (session : ℕ) (g h : Stage) (a : State) (call : KeyCall) (l : Leaf) → IsSought m leaves session (at_stage g a) call l → IsSought m leaves session (at_stage h a) call l
 sought-kept m leaves session g h a (key_call.Step cursor way) l x = x
 sought-kept m leaves session g h a call l x = x
 
 -- ---- a load
 
 word-there : (e : Engine) (w : World) (target : Target) → Stands e w → IsLeafOf e.hub.dir.leaves target → word_at e.states target.frame ≡ target.word
-word-there e w target st leaf = ap (word_at e.states) (sym (target-frame e.pieces e.states leaf.0 target (st.leaves leaf.0 leaf.1).laid leaf.2))
-    ∙ ((st.leaves leaf.0 leaf.1).laid.word ∙ ap (λ (x : Target). x.word) (target-is leaf.0 target leaf.2).is)
+word-there e w target st leaf = ap (word_at e.states) (sym (target-frame e.pieces e.states leaf.0 target stands.laid leaf.2)) ∙ (stands.laid.word ∙ ap (λ (x : Target). x.word) is.is) where
+  is : IsTarget leaf.0 target
+  is = target-is leaf.0 target leaf.2
+
+  stands : LeafInFrame w.machine e.hub.dir.leaves e.pieces e.states leaf.0
+  stands = in-its-frame w.machine w.shelf e.hub.dir.leaves e.pieces e.states leaf.0 is.framed is.placed (st.leaves leaf.0 leaf.1)
 
 validates : (e : Engine) (w : World) (session : ℕ) (call : KeyCall) (target : Target) (a : State) → Stands e w → slice_get e.sessions session ≡ Some (at_stage (stage.Validate call target) a)
     → Leads (with_session e session (validated call target (word_at e.states target.frame) (at_stage (stage.Validate call target) a))) w session reply.More
@@ -93,7 +97,7 @@ pub clear-cursor : (e : Engine) (w : World) (session value word : ℕ) (call : K
 clear-cursor e w session value word call target a st there =
     alone-leads e w session (at_stage (stage.ClearCursor call target) a) (missed call target a) (slice_set e.hazards word value) reply.More st there (inl (1, (omega arith), refl))
     (restates w.machine e.hub e.pieces session (at_stage (stage.ClearCursor call target) a) (missed call target a) refl refl (by-cursor (cursor_in call))
-    ((on-leaf.0.0, on-leaf.0.1, inl on-leaf.0.2.0), on-leaf.1) (st.sessions session (at_stage (stage.ClearCursor call target) a) there)) where
+    (on-leaf.0.0, on-leaf.0.1, inl on-leaf.0.2.0) (st.sessions session (at_stage (stage.ClearCursor call target) a) there)) where
       on-leaf : IsOnLeaf w.machine e.hub.dir.leaves session call target
       on-leaf = (st.sessions session (at_stage (stage.ClearCursor call target) a) there).stage
 

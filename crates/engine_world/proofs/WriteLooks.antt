@@ -165,7 +165,7 @@ module _ (e : Engine) (w : World) (session frame : ℕ) (a : State) (p p' : Fram
         stamps = refl;
         txns = (calls-stand e.hub.txns w.machine st.valid st.txns).others event tt may;
         made = refl;
-        leaves = leaves-go-on chains-go w.machine event e.hub.dir.leaves e.pieces e.states st.valid may (λ table key. tt) st.leaves;
+        leaves = leaves-go-on chains-go w.machine event w.shelf e.hub.dir.leaves e.pieces e.states st.valid may (λ table key. tt) st.leaves;
         mine = subst (SessionStands next e.hub e.pieces session) (sym c.now) mine;
       })) where
         event : Event
@@ -202,7 +202,7 @@ module _ (e : Engine) (w : World) (session frame : ℕ) (a : State) (p p' : Fram
 
         mine : SessionStands next e.hub e.pieces session (conflicts x.call x.target c.other x.before)
         mine = stands-at next e.hub e.pieces session (conflicts x.call x.target c.other x.before) (clears-keep next e.hub e.pieces session x.call x.target answer failed keeps-failed)
-            ((in_phase Failed l.transaction, now, inr (refl, writes.none)), l.on.1)
+            (in_phase Failed l.transaction, now, inr (refl, writes.none))
 
   -- ---- an accepted write
 
@@ -262,7 +262,7 @@ module _ (e : Engine) (w : World) (session frame : ℕ) (a : State) (p p' : Fram
       stamps = refl;
       txns = (calls-stand e.hub.txns w.machine st.valid st.txns).others event tt may;
       made = refl;
-      leaves = leaves-on e.pieces frame p p' there w.machine next e.states e.hub.dir l.home (with_leaf x.leaf_after l.was) st.dir st.leaves l.home_there l.laid l.laid_at (record {
+      leaves = leaves-on e.pieces frame p p' there w.machine next w.shelf e.states e.hub.dir l.home (with_leaf x.leaf_after l.was) st.dir st.leaves l.home_there l.laid l.laid_at (record {
         is = ap (λ (q : FramePiece). q.frame) is;
         table = l.table;
         id = l.id;
@@ -325,7 +325,7 @@ module _ (e : Engine) (w : World) (session frame : ℕ) (a : State) (p p' : Fram
       mine : SessionStands next e.hub pieces session (clears x.call x.target answers.Done middle)
       mine = stands-at next e.hub pieces session (clears x.call x.target answers.Done middle)
           (clears-keep next e.hub pieces session x.call x.target answers.Done middle (subst (Keeps next e.hub pieces session) (sym i.state) (keeps-noted led refl)))
-          ((written x.target.table x.before.key x.change l.transaction, now, inl l.running), l.on.1) where
+          (written x.target.table x.before.key x.change l.transaction, now, inl l.running) where
             led : Bool
             led = is_led_by (own_name x.view) (chain_at x.before.key x.leaf.chains)
 

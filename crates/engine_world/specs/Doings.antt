@@ -54,13 +54,16 @@ done_left a = unpins_left a + 1
 abbrev pub decide_left : State → ℕ
 decide_left a = length a.written + (done_left a + 1)
 
--- a leaf that a walk goes past takes it four steps
+-- a leaf that a walk goes past takes it five steps
+abbrev pub further_from : KeyCall → ℕ → ℕ → List Leaf → ℕ
+further_from call table id leaves = 5 * leaves_left call table id leaves
+
 abbrev pub further_left : KeyCall → Target → List Leaf → ℕ
-further_left call target leaves = 4 * leaves_left call target leaves
+further_left call target leaves = further_from call target.table target.leaf leaves
 
 -- no directory has more leaves
 abbrev pub find_left : ℕ
-find_left = 7 + 4 * 2 ^ 28
+find_left = 8 + 5 * 2 ^ 28
 
 -- ---- by the stage of the call
 
@@ -77,6 +80,7 @@ abbrev pub doing_at : Stage → List Leaf → ℕ → State → Doing
 doing_at stage.Rest leaves session a = Resting
 doing_at (stage.Begin read) leaves session a = Asked (Begin read) 1
 doing_at (stage.Find call) leaves session a = Asked (call_in call a) find_left
+doing_at (stage.Fill call wanted) leaves session a = Placed (call_in call a) wanted.table (7 + further_from call wanted.table wanted.leaf leaves)
 doing_at (stage.Publish call target) leaves session a = Placed (call_in call a) target.table (6 + further_left call target leaves)
 doing_at (stage.Validate call target) leaves session a = Placed (call_in call a) target.table (5 + further_left call target leaves)
 doing_at (stage.Look call target) leaves session a = Placed (call_in call a) target.table (4 + further_left call target leaves)

@@ -1,11 +1,16 @@
 -- What each event of a session's call leaves of an engine that stands for a world.
-use Rattle.std.specs.Prelude.{◌≡◌, ℕ, Some, slice_get, slice_set}
+use Rattle.std.specs.Prelude.{◌≡◌, ◌≢◌, ℕ, Some, slice_get, slice_set}
 use Rattle.stamp.specs.declared.View.{View}
 use Rattle.snapshot.specs.Sight.{sight_of}
 use Rattle.txn_table.specs.Tabled.{session_of}
 use Rattle.wt_calls.specs.declared.session_call.SessionCall.{SessionCall}
+use Rattle.wt_code.specs.declared.refusals.Refusal.{Refusal}
+use Rattle.wt_code.specs.declared.refusals.Refusal.TheVariants as refusal
 use Rattle.wt_calls.specs.Calls.{session_call_in}
 use Rattle.call_steps.specs.declared.frame.FramePiece.{FramePiece}
+use Rattle.tree_dir.specs.declared.leaf.Framed.{Framed}
+use Rattle.tree_dir.specs.declared.leaf.Leaf.{Leaf}
+use Rattle.tree_dir.specs.Leaves.{leaf_named}
 use Rattle.call_steps.specs.declared.hub.Hub.{Hub}
 use Rattle.call_steps.specs.declared.next.Next.TheVariants as next
 use Rattle.call_steps.specs.declared.reply.Reply.{Reply}
@@ -18,10 +23,10 @@ use Rattle.call_steps.specs.FrameEvents.{FrameMade}
 use Rattle.call_steps.specs.HubEvents.{hub_made}
 use Rattle.call_steps.specs.Starts.{Starts}
 use Rattle.call_steps.specs.State.{State}
-use Rattle.call_steps.specs.Words.{next_of, loaded, stored}
+use Rattle.call_steps.specs.Words.{kept_out, next_of, loaded, stored}
 use Rattle.engine_world.specs.Worlds.{World}
 use Rattle.engine_world.specs.Leaves.{word_at}
-use Rattle.engine_world.specs.Steps.{MayBegin, MayGo}
+use Rattle.engine_world.specs.Steps.{MayBegin, MayGo, MayKeepOut}
 use Rattle.engine_world.specs.Stands.{Engine, Stands}
 
 -- the engine with one session as it is now
@@ -81,6 +86,11 @@ IsBegin _ = ⊥
 abbrev pub IsFind : Stage → Type 0
 IsFind (stage.Find call) = Unit {0}
 IsFind _ = ⊥
+
+-- the leaf that the session waits for is in a frame
+abbrev pub IsFilled : Hub → Stage → Type 0
+IsFilled h (stage.Fill call wanted) = (l : Leaf) × (f : Framed) × (leaf_named wanted.leaf h.dir.leaves ≡ Some l) × (l.frame ≡ Some f)
+IsFilled h _ = ⊥
 
 abbrev pub IsPass : Stage → Type 0
 IsPass (stage.Pass call target) = Unit {0}
@@ -165,6 +175,10 @@ BeginsGo = HubGoes IsBegin
 abbrev pub FindsGo : Type 0
 FindsGo = HubGoes IsFind
 
+abbrev pub FillsGo : Type 0
+FillsGo = (e : Engine) (w : World) (session : ℕ) (a : State) → Stands e w → slice_get e.sessions session ≡ Some a → IsFilled e.hub a.stage
+    → let made = hub_made e.hub session a in Leads (with_session (with_hub e made.1.0) session made.1.1) w session made.0
+
 abbrev pub PassesGo : Type 0
 PassesGo = HubGoes IsPass
 
@@ -215,3 +229,14 @@ ResetsGo = StoreGoes IsReset
 
 abbrev pub UnpinsGo : Type 0
 UnpinsGo = StoreGoes IsUnpin
+
+-- ---- a leaf that cannot be had
+
+abbrev pub IsWaiting : Stage → Type 0
+IsWaiting (stage.Fill call wanted) = Unit {0}
+IsWaiting _ = ⊥
+
+-- the call that waits for it is refused so
+abbrev pub KeepsOutGo : Type 0
+KeepsOutGo = (e : Engine) (w : World) (session : ℕ) (a : State) (r : Refusal) → Stands e w → slice_get e.sessions session ≡ Some a → IsWaiting a.stage → r ≢ refusal.NotFound
+    → (after : World) × MayKeepOut w session r after × Stands (with_session e session (kept_out r a)) after

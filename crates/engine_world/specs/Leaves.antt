@@ -6,6 +6,7 @@ use Rattle.kv_model.specs.History.{Table, Write, line}
 use Rattle.kv_model.specs.Holds.{Member}
 use Rattle.kv_model.specs.Machine.{Machine, of_some}
 use Rattle.kv_model.specs.Refusals.{newest_durable}
+use Rattle.row_page.specs.Rows.{Row}
 use Rattle.rows_shown.specs.Shows.{shown_at}
 use Rattle.update_chain.specs.declared.update.Update.{Update}
 use Rattle.update_chain.specs.EventLaws.{StandsFor}
@@ -49,11 +50,20 @@ pub record IsLaid (pieces : List FramePiece) (states : List ℕ) (l : Leaf) : Ty
   pub id : frame.id ≡ l.id
   pub word : word_at states framed.frame ≡ first_word
 
--- its chains and rows stand for the keys that lie in it, and it has none of others
-pub record LeafStands (m : Machine) (leaves : List Leaf) (pieces : List FramePiece) (states : List ℕ) (l : Leaf) : Type 0 where
+-- the leaf is in a frame: its chains and rows stand for the keys that lie in it, and it has none of others
+pub record LeafInFrame (m : Machine) (leaves : List Leaf) (pieces : List FramePiece) (states : List ℕ) (l : Leaf) : Type 0 where
   pub laid : IsLaid pieces states l
   pub keys : (key : List ℕ) → leaf_under l.table key leaves ≡ Some l → StandsFor m l.table key (chain_at key laid.frame.leaf.chains) (shown_at key laid.frame.leaf.page) []
   pub bare : (key : List ℕ) → leaf_under l.table key leaves ≢ Some l → (chain_at key laid.frame.leaf.chains ≡ []) × (shown_at key laid.frame.leaf.page ≡ None)
+
+-- it is in none: so do the rows of its block
+pub record LeafOnDevice (m : Machine) (shelf : ℕ → List Row) (leaves : List Leaf) (l : Leaf) : Type 0 where
+  pub none : l.frame ≡ None
+  pub keys : (key : List ℕ) → leaf_under l.table key leaves ≡ Some l → StandsFor m l.table key [] (shown_at key (shelf l.id)) []
+  pub bare : (key : List ℕ) → leaf_under l.table key leaves ≢ Some l → shown_at key (shelf l.id) ≡ None
+
+abbrev pub LeafStands : Machine → (ℕ → List Row) → List Leaf → List FramePiece → List ℕ → Leaf → Type 0
+LeafStands m shelf leaves pieces states l = LeafInFrame m leaves pieces states l ⊎ LeafOnDevice m shelf leaves l
 
 -- each table has a leaf
 abbrev pub TablesBegun : List Table → List Leaf → Type 0

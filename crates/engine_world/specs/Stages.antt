@@ -24,6 +24,7 @@ use Rattle.call_steps.specs.declared.stage.CommitStamps.{CommitStamps}
 use Rattle.call_steps.specs.declared.stage.Stage.{Stage}
 use Rattle.call_steps.specs.declared.stage.Stage.TheVariants as stage
 use Rattle.call_steps.specs.declared.stage.Target.{Target}
+use Rattle.call_steps.specs.declared.stage.Wanted.{Wanted}
 use Rattle.call_steps.specs.Stages.{is_write, cursor_in}
 use Rattle.call_steps.specs.State.{State, is_pinned_at}
 use Rattle.call_steps.specs.Tables.{target_in}
@@ -37,6 +38,10 @@ ForTransaction m session P = (t : Transaction) → transaction_of m session ≡ 
 -- the leaf is there, in this frame
 abbrev pub IsLeafOf : List Leaf → Target → Type 0
 IsLeafOf leaves target = (l : Leaf) × Contains leaves l × (target_in l ≡ Some target)
+
+-- it is there, in whatever frame or in none
+abbrev pub IsLeafAt : List Leaf → Wanted → Type 0
+IsLeafAt leaves wanted = (l : Leaf) × Contains leaves l × (l.id ≡ wanted.leaf) × (l.table ≡ wanted.table)
 
 -- the transaction of a call on a leaf runs, and has drawn its id where the call writes
 abbrev pub IsOnLeaf : Machine → List Leaf → ℕ → KeyCall → Target → Type 0
@@ -60,6 +65,11 @@ IsSought m leaves session a call l = leaf_under l.table a.key leaves ≡ Some l
 abbrev pub Seeks : Machine → List Leaf → ℕ → KeyCall → Target → State → Type 0
 Seeks m leaves session call target a = (on : IsOnLeaf m leaves session call target) × IsSought m leaves session a call on.1.0
 
+-- the call waits for its leaf
+abbrev pub Awaits : Machine → List Leaf → ℕ → KeyCall → Wanted → State → Type 0
+Awaits m leaves session call wanted a =
+    HasTransaction m session (λ t. (t.phase ≡ Running) × (is_write call ≡ true → 0 < t.id)) × ((at : IsLeafAt leaves wanted) × IsSought m leaves session a call at.0)
+
 -- a walk found no row in its leaf either
 abbrev pub IsPassed : Machine → List Leaf → ℕ → KeyCall → Leaf → Type 0
 IsPassed m leaves session (key_call.Step cursor way) l = NoneAmong m session l.table (way_in way) (passed_with (way_in way) leaves l (way_of m session l.table cursor (way_in way)))
@@ -69,9 +79,8 @@ abbrev pub GoesPast : Machine → List Leaf → ℕ → KeyCall → Target → T
 GoesPast m leaves session call target = (on : IsOnLeaf m leaves session call target) × IsPassed m leaves session call on.1.0
 
 -- the call has looked: its transaction runs, or was refused a write
-abbrev pub HasLooked : Machine → List Leaf → ℕ → KeyCall → Target → Type 0
-HasLooked m leaves session call target =
-    HasTransaction m session (λ t. (t.phase ≡ Running) ⊎ ((t.phase ≡ Failed) × (cursor_in call ≡ None))) × IsLeafOf leaves target
+abbrev pub HasLooked : Machine → ℕ → KeyCall → Type 0
+HasLooked m session call = HasTransaction m session (λ t. (t.phase ≡ Running) ⊎ ((t.phase ≡ Failed) × (cursor_in call ≡ None)))
 
 -- a call has no more than it names
 abbrev pub NamesOnly : KeyCall → State → Type 0
@@ -155,13 +164,14 @@ abbrev pub StageStands : Stage → Machine → List Leaf → List FramePiece →
 StageStands stage.Rest m leaves pieces session a = EndsOnlyDown m session
 StageStands (stage.Begin read) m leaves pieces session a = EndsOnlyDown m session
 StageStands (stage.Find call) m leaves pieces session a = EndsOnlyDown m session × NamesOnly call a
+StageStands (stage.Fill call wanted) m leaves pieces session a = Awaits m leaves session call wanted a
 StageStands (stage.Publish call target) m leaves pieces session a = Seeks m leaves session call target a
 StageStands (stage.Validate call target) m leaves pieces session a = Seeks m leaves session call target a
 StageStands (stage.Look call target) m leaves pieces session a = Seeks m leaves session call target a
 StageStands (stage.Pass call target) m leaves pieces session a = GoesPast m leaves session call target
 StageStands (stage.History call target) m leaves pieces session a = IsOnLeaf m leaves session call target
 StageStands (stage.ClearCursor call target) m leaves pieces session a = IsOnLeaf m leaves session call target
-StageStands (stage.Clear call target) m leaves pieces session a = HasLooked m leaves session call target
+StageStands (stage.Clear call target) m leaves pieces session a = HasLooked m session call
 StageStands (stage.Reset cursor) m leaves pieces session a = EndsOnlyDown m session
 StageStands (stage.Mark stamp left) m leaves pieces session a =
     IsLeft left a × HasTransaction m session (λ t. (t.phase ≡ Running) × IsEdited (edit.Mark stamp) m pieces t a left)

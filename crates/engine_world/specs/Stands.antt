@@ -58,7 +58,7 @@ pub record Stands (e : Engine) (w : World) : Type 0 where
   pub dir : IsDirectory e.hub.dir
   pub begun : TablesBegun e.hub.tables.tables e.hub.dir.leaves
   pub owned : LeavesOwned e.hub.tables.tables e.hub.dir.leaves
-  pub leaves : (l : Leaf) → Contains e.hub.dir.leaves l → LeafStands w.machine e.hub.dir.leaves e.pieces e.states l
+  pub leaves : (l : Leaf) → Contains e.hub.dir.leaves l → LeafStands w.machine w.shelf e.hub.dir.leaves e.pieces e.states l
   pub count : length e.sessions ≡ length w.machine.sessions
   pub doings : length w.sessions ≡ length e.sessions
   pub doing : (session : ℕ) (a : State) → slice_get e.sessions session ≡ Some a → doing_of w session ≡ doing_in e.hub.dir.leaves session a

@@ -4,6 +4,7 @@ use Rattle.failure.specs.declared.Fault.{Fault}
 use Rattle.item.specs.declared.Change.TheVariants.{Put as PutOf, Remove as RemoveOf}
 use Rattle.wt_code.specs.declared.answers.Answer.{Answer}
 use Rattle.wt_code.specs.declared.answers.Answer.TheVariants as answers
+use Rattle.wt_code.specs.declared.refusals.Refusal.{Refusal}
 use Rattle.wt_code.specs.declared.refusals.Refusal.TheVariants.{NoMemory, Panic, Invalid}
 use Rattle.wt_code.specs.declared.refusals.Invalid.TheVariants.{InCall, NoCall}
 use Rattle.kv_model.specs.History.{Table, tables, named}
@@ -140,3 +141,15 @@ BeginsIn _ w session call told next = (told ≡ reply.Answer (answers.Refused (I
 
 abbrev pub MayBegin : World → ℕ → Call → Reply → World → Type 0
 MayBegin w session call told next = BeginsIn (doing_of w session) w session call told next
+
+-- ---- a leaf that cannot be had
+
+-- the call that waits for it is refused so
+abbrev pub IsKeptOut : Doing → Refusal → Machine → Made → Type 0
+IsKeptOut (Placed call table left) r m made = GoesTo (Decided (answers.Refused r) Nothing) left m made
+IsKeptOut _ r m made = ⊥
+
+pub record MayKeepOut (w : World) (session : ℕ) (r : Refusal) (later : World) : Type 0 where
+  pub made : Made
+  pub keeps : IsKeptOut (doing_of w session) r w.machine made
+  pub leaves : later ≡ record w { machine = made.machine; sessions = slice_set w.sessions session made.doing }

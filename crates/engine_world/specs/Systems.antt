@@ -1,5 +1,5 @@
 -- What the opening of a session, a create, a set, a checkpoint in one go and a failed write of the device leave of an engine that stands for a world, and with what an engine starts.
-use Rattle.std.specs.Prelude.{◌≡◌, ◌≢◌, ◌<◌, ◌+◌, ℕ, List, [], ◌∷◌, ◌++◌, length, map, reverse, Option, None, Some, Ok, slice_set}
+use Rattle.std.specs.Prelude.{◌≡◌, ◌≢◌, ◌<◌, ◌+◌, ℕ, List, [], ◌∷◌, ◌++◌, ◌⊎◌, length, map, reverse, Option, None, Some, Ok, slice_set}
 use Rattle.std.specs.List.{Contains}
 use Rattle.std.specs.Option.{option_to_list}
 use Rattle.failure.specs.declared.Fault.{Fault}
@@ -15,6 +15,7 @@ use Rattle.stored.specs.Links.{nowhere}
 use Rattle.stored.specs.TableTree.{Entry}
 use Rattle.tree_dir.specs.declared.leaf.Leaf.{Leaf}
 use Rattle.tree_dir.specs.Leaves.{Directory, HasTable, IsDirectory, changed, in_frame, leaf_under}
+use Rattle.row_page.specs.Rows.{Row}
 use Rattle.rows_shown.specs.Shows.{shown_at}
 use Rattle.update_chain.specs.declared.update.Update.{Update}
 use Rattle.update_chain.specs.Updates.{unmarked_update}
@@ -70,6 +71,28 @@ CreatesGo = (e : Engine) (w : World) (name : List ℕ) (formats : Formats) (know
     → frame_in e.pieces frame ≡ None → frame < length e.pieces → frame < length e.states
     → Stands (with_table e known dir (asked e.hub.tables name formats) id frame) (record w { machine = after w.machine (CreateTable (asked e.hub.tables name formats)) })
 
+-- a frame more, which has no leaf
+abbrev pub with_frame : Engine → Engine
+with_frame e = record e { pieces = e.pieces ++ record { generation = 0; frame = None } ∷ []; states = e.states ++ 0 ∷ [] }
+
+-- nobody sees it
+abbrev pub FramesGrow : Type 0
+FramesGrow = (e : Engine) (w : World) → Stands e w → Stands (with_frame e) w
+
+-- a leaf comes into a frame that had none, with the rows of its block
+abbrev pub with_leaf : Engine → Leaf → ℕ → List Row → Engine
+with_leaf e l frame rows =
+    record e {
+      hub = record e.hub { dir = record e.hub.dir { leaves = changed l.id (in_frame (Some (record { frame = frame; generation = 0 }))) e.hub.dir.leaves } };
+      pieces = slice_set e.pieces frame (record { generation = 0; frame = Some (record { table = l.table; id = l.id; leaf = record { page = rows; chains = [] } }) });
+      states = slice_set e.states frame first_word;
+    }
+
+-- nobody sees it
+abbrev pub LeavesCome : Type 0
+LeavesCome = (e : Engine) (w : World) (l : Leaf) (frame : ℕ) → Stands e w → Contains e.hub.dir.leaves l → l.frame ≡ None → frame_in e.pieces frame ≡ None → frame < length e.pieces → frame < length e.states
+    → IsDirectory (with_leaf e l frame (w.shelf l.id)).hub.dir → Stands (with_leaf e l frame (w.shelf l.id)) w
+
 -- a checkpoint starts and finishes, with nobody between
 abbrev pub checkpointed : Machine → Machine
 checkpointed m = after (after m CheckpointStart) CheckpointFinish
@@ -94,13 +117,22 @@ pub record IsFirstOf (versions : List (Version Change)) (chain : List Update) (r
   pub all : versions ≡ above ++ option_to_list row
 
 -- the leaf is in its frame, with the versions that the content keeps of the keys that lie in it, and none of others
-pub record LeafStarts (c : Content) (leaves : List Leaf) (pieces : List FramePiece) (states : List ℕ) (l : Leaf) : Type 0 where
+pub record StartsInFrame (c : Content) (leaves : List Leaf) (pieces : List FramePiece) (states : List ℕ) (l : Leaf) : Type 0 where
   pub laid : IsLaid pieces states l
   pub keys : (key : List ℕ) → leaf_under l.table key leaves ≡ Some l → IsFirstOf (line (base c) l.table key) (chain_at key laid.frame.leaf.chains) (shown_at key laid.frame.leaf.page)
   pub bare : (key : List ℕ) → leaf_under l.table key leaves ≢ Some l → (chain_at key laid.frame.leaf.chains ≡ []) × (shown_at key laid.frame.leaf.page ≡ None)
 
+-- it is in none, and the rows of its block are those versions
+pub record StartsOnDevice (c : Content) (shelf : ℕ → List Row) (leaves : List Leaf) (l : Leaf) : Type 0 where
+  pub none : l.frame ≡ None
+  pub keys : (key : List ℕ) → leaf_under l.table key leaves ≡ Some l → IsFirstOf (line (base c) l.table key) [] (shown_at key (shelf l.id))
+  pub bare : (key : List ℕ) → leaf_under l.table key leaves ≢ Some l → shown_at key (shelf l.id) ≡ None
+
+abbrev pub LeafStarts : Content → (ℕ → List Row) → List Leaf → List FramePiece → List ℕ → Leaf → Type 0
+LeafStarts c shelf leaves pieces states l = StartsInFrame c leaves pieces states l ⊎ StartsOnDevice c shelf leaves l
+
 -- an engine that begins on this content, without a session
-pub record Begins (c : Content) (e : Engine) : Type 0 where
+pub record Begins (c : Content) (shelf : ℕ → List Row) (e : Engine) : Type 0 where
   pub fault : e.hub.fault ≡ None
   pub stamps : e.hub.stamps ≡ record { oldest = c.oldest; stable = c.stable }
   pub txns : e.hub.txns ≡ fresh (c.run + 1) 0
@@ -109,13 +141,13 @@ pub record Begins (c : Content) (e : Engine) : Type 0 where
   pub dir : IsDirectory e.hub.dir
   pub begun : TablesBegun e.hub.tables.tables e.hub.dir.leaves
   pub owned : LeavesOwned e.hub.tables.tables e.hub.dir.leaves
-  pub leaves : (l : Leaf) → Contains e.hub.dir.leaves l → LeafStarts c e.hub.dir.leaves e.pieces e.states l
+  pub leaves : (l : Leaf) → Contains e.hub.dir.leaves l → LeafStarts c shelf e.hub.dir.leaves e.pieces e.states l
   pub sessions : e.sessions ≡ []
   pub systems : map (λ x. None) e.systems ≡ e.systems
 
 -- the machine that an opening makes, with nobody at work
-abbrev pub first_world : Content → Engine → World
-first_world c e = record { machine = start c; sessions = []; systems = map (λ x. None) e.systems }
+abbrev pub first_world : Content → (ℕ → List Row) → Engine → World
+first_world c shelf e = record { machine = start c; sessions = []; systems = map (λ x. None) e.systems; shelf = shelf }
 
 abbrev pub EnginesStart : Type 0
-EnginesStart = (c : Content) (e : Engine) → IsRegular c → Begins c e → Stands e (first_world c e)
+EnginesStart = (c : Content) (shelf : ℕ → List Row) (e : Engine) → IsRegular c → Begins c shelf e → Stands e (first_world c shelf e)

@@ -7,7 +7,6 @@ use Rattle.tree_dir.specs.declared.leaf.Leaf.{Leaf}
 use Rattle.tree_dir.specs.Leaves.{leaf_behind}
 use Rattle.call_steps.specs.declared.stage.KeyCall.{KeyCall}
 use Rattle.call_steps.specs.declared.stage.KeyCall.TheVariants.{Step}
-use Rattle.call_steps.specs.declared.stage.Target.{Target}
 
 -- ---- keys
 
@@ -46,7 +45,7 @@ abbrev pub leaves_on : Way → ℕ → ℕ → List Leaf → ℕ
 leaves_on Up table id leaves = length (all_behind id (in_table table leaves))
 leaves_on Down table id leaves = length (all_ahead id (in_table table leaves))
 
--- how many leaves a call may still go to
-abbrev pub leaves_left : KeyCall → Target → List Leaf → ℕ
-leaves_left (Step cursor way) target leaves = leaves_on (way_in way) target.table target.leaf leaves
-leaves_left _ target leaves = 0
+-- how many leaves a call may still go to from the leaf of this table and id
+abbrev pub leaves_left : KeyCall → ℕ → ℕ → List Leaf → ℕ
+leaves_left (Step cursor way) table id leaves = leaves_on (way_in way) table id leaves
+leaves_left _ table id leaves = 0

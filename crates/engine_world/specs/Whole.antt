@@ -1,8 +1,9 @@
 -- A whole call: its steps with nobody between, and what they come to.
-use Rattle.std.specs.Prelude.{◌≡◌, ◌⊎◌, ℕ, false, List, [], Some, None}
+use Rattle.std.specs.Prelude.{◌≡◌, ◌⊎◌, ℕ, false, List, [], Option, Some, None}
 use Rattle.failure.specs.declared.Fault.{Fault}
 use Rattle.wt_code.specs.declared.answers.Answer.{Answer}
 use Rattle.wt_code.specs.declared.answers.Answer.TheVariants as answers
+use Rattle.wt_code.specs.declared.refusals.Refusal.{Refusal}
 use Rattle.wt_code.specs.declared.refusals.Refusal.TheVariants.{Panic}
 use Rattle.item.specs.declared.Change.TheVariants.{Put as PutOf, Remove as RemoveOf}
 use Rattle.kv_model.specs.History.{Table, tables, named}
@@ -12,11 +13,14 @@ use Rattle.kv_model.specs.Calls.{Call, GetKey, PutKey, RemoveKey, SeekKey, NextR
 use Rattle.kv_model.specs.CallLaws.{any_around}
 use Rattle.call_steps.specs.declared.reply.Reply.TheVariants as reply
 use Rattle.engine_world.specs.Worlds.{Doing, Resting, Asked, Placed, Decided, Ending}
-use Rattle.engine_world.specs.Steps.{Made, GoesOn}
+use Rattle.engine_world.specs.Steps.{Made, GoesOn, IsKeptOut}
 
--- of the outside a session's call rests on nothing, and no page is kept from it
+-- Of the outside a session's call rests on nothing but its leaf, which was kept from it by this refusal, if by any.
+abbrev pub around_kept : Option Refusal → Around
+around_kept kept = record (any_around false (record { eviction = None; calls = [] }) 0) { MayKeepOut = λ r. kept ≡ Some r }
+
 abbrev pub nothing_around : Around
-nothing_around = record (any_around false (record { eviction = None; calls = [] }) 0) { MayKeepOut = λ r. ⊥ }
+nothing_around = around_kept None
 
 -- the table was found, by the first event of a call on a leaf
 pub record IsFound (from : Machine) (session : ℕ) (name : List ℕ) (request : Request) (table : ℕ) (m : Machine) : Type 0 where
@@ -36,21 +40,25 @@ PlacedFrom from session (NextRow cursor name way) table m = IsFound from session
 PlacedFrom from session _ table m = ⊥
 
 -- how far the call is that began on the first machine, when it does this on the second
-abbrev pub Reached : Machine → ℕ → Call → Doing → Machine → Type 0
-Reached from session call Resting m = ⊥
-Reached from session call (Asked asked left) m = (asked ≡ call) × (m ≡ from)
-Reached from session call (Placed asked table left) m = (asked ≡ call) × PlacedFrom from session call table m
-Reached from session call (Decided answer event left) m = (m.fault ≡ None) × SessionAnswers nothing_around from session call answer (after m event)
-Reached from session call (Ending answer left) m =
-    (m.fault ≡ None → SessionAnswers nothing_around from session call answer (after m (EndTransaction session)))
-    × ((fault : Fault) → m.fault ≡ Some fault → SessionAnswers nothing_around from session call (answers.Refused (Panic fault)) m)
+abbrev pub Reached : Option Refusal → Machine → ℕ → Call → Doing → Machine → Type 0
+Reached kept from session call Resting m = ⊥
+Reached kept from session call (Asked asked left) m = (asked ≡ call) × (m ≡ from)
+Reached kept from session call (Placed asked table left) m = (asked ≡ call) × PlacedFrom from session call table m
+Reached kept from session call (Decided answer event left) m = (m.fault ≡ None) × SessionAnswers (around_kept kept) from session call answer (after m event)
+Reached kept from session call (Ending answer left) m =
+    (m.fault ≡ None → SessionAnswers (around_kept kept) from session call answer (after m (EndTransaction session)))
+    × ((fault : Fault) → m.fault ≡ Some fault → SessionAnswers (around_kept kept) from session call (answers.Refused (Panic fault)) m)
 
 -- the call goes on, or has the answer of the whole call
-abbrev pub ReachesOn : Machine → ℕ → Call → Made → Type 0
-ReachesOn from session call made =
-    ((made.told ≡ reply.More) × Reached from session call made.doing made.machine)
-    ⊎ ((answer : Answer (List ℕ)) × (made.told ≡ reply.Answer answer) × SessionAnswers nothing_around from session call answer made.machine)
+abbrev pub ReachesOn : Option Refusal → Machine → ℕ → Call → Made → Type 0
+ReachesOn kept from session call made =
+    ((made.told ≡ reply.More) × Reached kept from session call made.doing made.machine)
+    ⊎ ((answer : Answer (List ℕ)) × (made.told ≡ reply.Answer answer) × SessionAnswers (around_kept kept) from session call answer made.machine)
 
 -- a step brings a call that began with nobody between nearer to its answer
 abbrev pub StepsReach : Type 0
-StepsReach = (from m : Machine) (session : ℕ) (call : Call) (doing : Doing) (made : Made) → Reached from session call doing m → GoesOn doing m session made → ReachesOn from session call made
+StepsReach = (kept : Option Refusal) (from m : Machine) (session : ℕ) (call : Call) (doing : Doing) (made : Made) → Reached kept from session call doing m → GoesOn doing m session made → ReachesOn kept from session call made
+
+-- so does the refusal that its leaf cannot be had
+abbrev pub KeptOutReaches : Type 0
+KeptOutReaches = (from m : Machine) (session : ℕ) (call : Call) (doing : Doing) (r : Refusal) (made : Made) → Reached None from session call doing m → IsKeptOut doing r m made → Reached (Some r) from session call made.doing made.machine

@@ -1,8 +1,9 @@
--- The machine of an engine, with the calls that are under way.
+-- The machine of an engine, with the calls that are under way and what stands in leaves that are in no frame.
 use Rattle.std.specs.Prelude.{ℕ, List, Option, slice_index_or}
 use Rattle.wt_code.specs.declared.answers.Answer.{Answer}
 use Rattle.kv_model.specs.Machine.{Machine, Event}
 use Rattle.kv_model.specs.Calls.{Call}
+use Rattle.row_page.specs.Rows.{Row}
 
 -- what a session does; left: how many steps its call has left at most
 pub data Doing : Type 0 where
@@ -22,6 +23,8 @@ pub record World : Type 0 where
   pub sessions : List Doing
   -- by actor of the system: the call that it has started, which one event makes
   pub systems : List (Option Call)
+  -- by the id of a leaf: the rows of its block
+  pub shelf : ℕ → List Row
 
 abbrev pub doing_of : World → ℕ → Doing
 doing_of w session = slice_index_or w.sessions session Resting

@@ -1,7 +1,7 @@
 //! Laws of the events on the hub. A law calls those of lower crates
 //! that its proof rests on.
 
-ghost use Rattle.engine_world.specs.Laws.{BeginsGo, DecidesGo, EndsGo, FindsGo, HistoriesGo, PassesGo, ReleasesGo, ResolvesGo};
+ghost use Rattle.engine_world.specs.Laws.{BeginsGo, DecidesGo, EndsGo, FillsGo, FindsGo, HistoriesGo, KeepsOutGo, PassesGo, ReleasesGo, ResolvesGo};
 
 use update_chain::{chains_go_on, commits_stand, ends_stand, prepares_stand, resolves_stand};
 
@@ -18,6 +18,16 @@ pub fn finds_go()
 {
     chains_go_on();
 }
+
+/// The event that goes on once the leaf of a call is in a frame.
+pub fn fills_go()
+    ensures { FillsGo }
+{}
+
+/// The leaf that a call waits for cannot be had: the call is refused so.
+pub fn keeps_out_go()
+    ensures { KeepsOutGo }
+{}
 
 /// The event that goes on to the next leaf on the way.
 pub fn passes_go()

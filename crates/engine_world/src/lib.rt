@@ -16,8 +16,12 @@ mod words;
 
 pub use frames::{marks_go, orders_go, reads_go, rows_go, stamps_go, undos_go, writes_go};
 pub use hub::{
-    begins_go, decides_go, ends_go, finds_go, histories_go, passes_go, releases_go, resolves_go,
+    begins_go, decides_go, ends_go, fills_go, finds_go, histories_go, keeps_out_go, passes_go,
+    releases_go, resolves_go,
 };
-pub use system::{checkpoints_go, creates_go, downs_go, engines_start, opens_go, sets_go};
-pub use whole::steps_reach;
+pub use system::{
+    checkpoints_go, creates_go, downs_go, engines_start, frames_grow, leaves_come, opens_go,
+    sets_go,
+};
+pub use whole::{kept_out_reaches, steps_reach};
 pub use words::{clears_go, loads_go, publishes_go, resets_go, starts_go, unpins_go};

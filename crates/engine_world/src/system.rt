@@ -1,7 +1,7 @@
 //! Laws of the start of an engine, of sessions that are opened, and of the events of the system. A law calls those of lower crates
 //! that its proof rests on.
 
-ghost use Rattle.engine_world.specs.Systems.{CheckpointsGo, CreatesGo, DownsGo, EnginesStart, OpensGo, SetsGo};
+ghost use Rattle.engine_world.specs.Systems.{CheckpointsGo, CreatesGo, DownsGo, EnginesStart, FramesGrow, LeavesCome, OpensGo, SetsGo};
 
 use kv_model::frames_are_alike;
 use update_chain::chains_go_on;
@@ -33,6 +33,16 @@ pub fn creates_go()
 {
     chains_go_on();
 }
+
+/// A frame more, which has no leaf: nobody sees it.
+pub fn frames_grow()
+    ensures { FramesGrow }
+{}
+
+/// A leaf that is in no frame comes into one, with the rows of its block: nobody sees it.
+pub fn leaves_come()
+    ensures { LeavesCome }
+{}
 
 /// A checkpoint starts and finishes, with nobody between. None runs, and no prepared transaction is being resolved.
 pub fn checkpoints_go()
