@@ -28,7 +28,7 @@ use Rattle.checkpoint_core.specs.Finishes.{IsOld}
 use Rattle.device_leaf.specs.Leaves.{LeafIs}
 use Rattle.tree_write.specs.Captures.{Captures, IsPlaced, IsSafe, MayWrite, StaysLive, places_of}
 use Rattle.tree_write.specs.Sizes.{WritesLeaf, WritesLeaves, first_link, links_behind}
-use Rattle.tree_write.specs.Steps.{AreSpelled, LeafWritten, LeafWrites, LeavesStopped, LeavesWritten, image_keys, key_at, leaf_block, leaf_keys, links_in}
+use Rattle.tree_write.specs.Steps.{AreSpelled, LeafWritten, LeafWrites, LeavesStopped, LeavesWritten, image_keys, key_at, leaf_block, links_in, part_keys}
 use Rattle.tree_write.specs.Writes.{AreOwn, IsLiveLeaf, KeepSame, MayWriteOver}
 use Rattle.tree_write.proofs.Deciding.{some_rows, writes_of}
 use Rattle.tree_write.proofs.Joining.{captures_join, captures_none, lacks_behind, live_is_used, none_before}
@@ -87,10 +87,10 @@ get_some {A} (y ∷ l) zero x lt is = ap (λ (z : A). Some z) (sym is)
 get_some (y ∷ l) (suc i) x lt is = get_some l i x (omega (arith, lt)) is
 
 -- the keys, with one more
-pub keys_more : (images : List Image) (i : ℕ) (image : Image) → slice_get images i ≡ Some image → take (i + 1) (leaf_keys images) ≡ take i (leaf_keys images) ++ key_at i image ∷ []
-keys_more [] i image at = absurd (none_some at)
-keys_more (x ∷ images) zero image at = refl
-keys_more (x ∷ images) (suc i) image at = subst (λ (k : ℕ). take k (leaf_keys (x ∷ images)) ≡ take (suc i) (leaf_keys (x ∷ images)) ++ image.low ∷ []) two (ap (λ (l : List (List ℕ)). [] ∷ l) (rest images i at))
+pub keys_more : (low : List ℕ) (images : List Image) (i : ℕ) (image : Image) → slice_get images i ≡ Some image → take (i + 1) (part_keys low images) ≡ take i (part_keys low images) ++ key_at low i image ∷ []
+keys_more low [] i image at = absurd (none_some at)
+keys_more low (x ∷ images) zero image at = refl
+keys_more low (x ∷ images) (suc i) image at = subst (λ (k : ℕ). take k (part_keys low (x ∷ images)) ≡ take (suc i) (part_keys low (x ∷ images)) ++ image.low ∷ []) two (ap (λ (l : List (List ℕ)). low ∷ l) (rest images i at))
   where
     two : suc (i + 1) ≡ suc i + 1
     two = omega arith

@@ -14,9 +14,11 @@ use Rattle.block_mgr.specs.Cells.{AreUnits, captured, cell_at}
 use Rattle.device_layout.specs.declared.addr.Addr.{Addr}
 use Rattle.stored.specs.Blocks.{Block, Holds, IsAddressed}
 use Rattle.stored.specs.Stored.{Stored}
+use Rattle.stored.specs.TableTree.{Entry}
 use Rattle.checkpoint_core.specs.Stands.{AreInUse, blocks_of}
 use Rattle.checkpoint_core.specs.Finishes.{IsOld}
 use Rattle.tree_write.specs.Captures.{Captures, MayWrite, places_of}
+use Rattle.tree_write.specs.Drafts.{addrs_to}
 use Rattle.tree_write.specs.Keeps.{AreLive, KeepsAll, captured_all}
 use Rattle.tree_write.proofs.Joining.{captures_join}
 use Rattle.tree_write.proofs.OneBlock.{captures_kept, live_captured}
@@ -78,3 +80,14 @@ live_at cells (x ∷ addrs) (suc i) d live lt = live_at cells addrs i d live.1 (
 
 pub captured_more : (cells : List Cell) (addrs : List Addr) (i : ℕ) (d : Addr) → i < length addrs → captured_all cells (take (i + 1) addrs) ≡ captured (captured_all cells (take i addrs)) (unit_of (get_or addrs i d).offset)
 captured_more cells addrs i d lt = ap (captured_all cells) (take_more addrs i d lt) ∙ fold-append {A = Addr} {B = List Cell} (λ l x. captured l (unit_of x.offset)) cells (take i addrs) (get_or addrs i d ∷ [])
+
+-- ---- the walk over entries
+
+pub addrs_length : (es : List Entry) → length (addrs_to es) ≡ length es
+addrs_length [] = refl
+addrs_length (e ∷ es) = ap (λ (n : ℕ). suc n) (addrs_length es)
+
+pub addr_at : (es : List Entry) (i : ℕ) (e : Entry) (d : Addr) → i < length es → e ≡ get_or es i e → get_or (addrs_to es) i d ≡ e.link.addr
+addr_at [] i e d lt is = absurd (omega (arith, lt))
+addr_at (x ∷ es) zero e d lt is = ap (λ (y : Entry). y.link.addr) (sym is)
+addr_at (x ∷ es) (suc i) e d lt is = addr_at es i e d (omega (arith, lt)) is

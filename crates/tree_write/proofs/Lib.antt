@@ -1,7 +1,7 @@
 mod Lists
 pub mod Joining
 pub mod OneBlock
-mod LeafKeys
+pub mod LeafKeys
 mod Deciding
 mod Tops
 pub mod Still
@@ -10,5 +10,8 @@ mod LeafSteps
 mod PageSteps
 mod Going
 mod Rising
+pub mod Aligning
 mod Assembling
 pub mod Keeping
+pub mod Drafting
+pub mod Parts

@@ -1,8 +1,9 @@
 -- The blocks of a tree, as they are captured and as they stand.
-use Rattle.std.specs.Prelude.{◌≡◌, ℕ, suc, ◌==◌, ◌≤◌, List, [], ◌∷◌, ◌++◌, length, map, refl}
+use Rattle.std.specs.Prelude.{◌≡◌, ℕ, suc, ◌==◌, ◌≤◌, List, [], ◌∷◌, ◌++◌, length, map, None, Some, refl}
 use Rattle.std.specs.List.{AllByRecursion}
 use Rattle.std.proofs.Common.{inl, inr, sym, ◌∙◌, ap, subst, arith}
 use Rattle.std.proofs.lemmas.Bool.{cases_Bool, eqb-true}
+use Rattle.std.proofs.lemmas.List.{append-nil}
 use Rattle.block_mgr.specs.Blocks.{Books, HasLive}
 use Rattle.device_layout.specs.declared.addr.Addr.{Addr}
 use Rattle.device_layout.specs.declared.link.Link.{Link}
@@ -15,10 +16,10 @@ use Rattle.tree_open.specs.Pages.{page_block}
 use Rattle.tree_open.specs.Trees.{root_own}
 use Rattle.tree_write.specs.Captures.{AreDistinct, AreOnce, IsPlaced, StaysLive, places_of}
 use Rattle.tree_write.specs.Cuts.{AreFullLeaves, IsCut, captured_blocks, risen_blocks}
+use Rattle.tree_write.specs.Drafts.{IsCutBy, or_empty}
 use Rattle.tree_write.specs.Steps.{IsTop, leaf_block}
 use Rattle.tree_write.specs.Writes.{AreOwn, LeadApart}
 use Rattle.tree_write.proofs.Joining.{live_is_used, used_not_placed}
-use Rattle.tree_write.proofs.LeafKeys.{AreEntriesOf}
 use Rattle.tree_write.proofs.Lists.{all_back, all_both, all_front, all_map}
 
 -- ---- one more
@@ -36,7 +37,7 @@ bear_more (x ∷ es) (other ∷ done) e rows bear one = (bear.0, bear_more es do
 pub one_block : (e : Entry) (rows : List Row) → Stored e → leaf_blocks table_kind (e ∷ []) (rows ∷ []) ≡ leaf_block e.link rows ∷ []
 one_block e rows stored = elim (cases_Bool (e.link.addr.offset == 0)) [ inl is ↦ absurd (stored (eqb-true e.link.addr.offset 0 is)) | inr isnt ↦ rw isnt refl ]
 
-first_block : (e : Entry) (rows : List Row) (es : List Entry) (done : List (List Row)) → Stored e → leaf_blocks table_kind (e ∷ es) (rows ∷ done) ≡ leaf_block e.link rows ∷ leaf_blocks table_kind es done
+pub first_block : (e : Entry) (rows : List Row) (es : List Entry) (done : List (List Row)) → Stored e → leaf_blocks table_kind (e ∷ es) (rows ∷ done) ≡ leaf_block e.link rows ∷ leaf_blocks table_kind es done
 first_block e rows es done stored = elim (cases_Bool (e.link.addr.offset == 0)) [ inl is ↦ absurd (stored (eqb-true e.link.addr.offset 0 is)) | inr isnt ↦ rw isnt refl ]
 
 pub blocks_more : (es : List Entry) (done : List (List Row)) (e : Entry) (rows : List Row) → AllBear table_kind es done → Stored e → leaf_blocks table_kind (es ++ e ∷ []) (done ++ rows ∷ []) ≡ leaf_blocks table_kind es done ++ leaf_block e.link rows ∷ []
@@ -100,16 +101,21 @@ captured_all P root t all =
 
 -- ---- the tree that is cut
 
-pub is_cut : (root : Root) (layers : List (Layer Entry)) (es : List Entry) (leaves : List (List Row)) → IsTop root layers es → AllBear table_kind es leaves → AreEntriesOf es leaves → AreFullLeaves leaves → AllByRecursion (λ (l : List Row). 1 ≤ length l) leaves → 1 ≤ length leaves
-    → IsCut root (join leaves) (record { layers = layers; leaves = leaves })
-is_cut root layers es leaves top bear entries full has some = record {
+or_some : (leaves : List (List Row)) → 1 ≤ length leaves → leaves ≡ or_empty leaves
+or_some [] some = absurd (omega (arith, some))
+or_some (rows ∷ leaves) some = refl
+
+pub is_cut_by : (parts : List (List (List Row))) (root : Root) (layers : List (Layer Entry)) (es : List Entry) (leaves : List (List Row)) → leaves ≡ join parts → IsTop root layers es → AllBear table_kind es leaves → Climbs es → Stay es leaves → AllByRecursion AreFullLeaves parts
+    → AllByRecursion (λ (l : List Row). 1 ≤ length l) leaves → 1 ≤ length leaves → IsCutBy parts root (join leaves) (record { layers = layers; leaves = leaves })
+is_cut_by parts root layers es leaves are top bear climbs stay full has some = record {
   tree = record {
     levels = top.levels;
     lead = top.risen.lead;
     bear = subst (λ (l : List Entry). AllBear table_kind l leaves) (sym top.risen.bottom) bear;
-    parts = subst (λ (l : List Entry). Climbs l × Stay l leaves) (sym top.risen.bottom) (entries.climbs, entries.stay);
+    parts = subst (λ (l : List Entry). Climbs l × Stay l leaves) (sym top.risen.bottom) (climbs, stay);
   };
   whole = refl;
+  parted = or_some leaves some ∙ ap or_empty are;
   full_leaves = full;
   full_layers = top.risen.full;
   needed = top.risen.needed;
@@ -124,6 +130,25 @@ is_cut root layers es leaves top bear entries full has some = record {
       where
         clash : (r ∷ rows) ++ join leaves ≡ [] → ⊥
         clash same = cc
+
+-- a tree that is cut in one part
+pub cut_whole : (leaves : List (List Row)) (root : Root) (rows : List Row) (t : TableTree) → IsCutBy (leaves ∷ []) root rows t → IsCut root rows t
+cut_whole leaves root rows t cut = record {
+  tree = cut.tree;
+  whole = cut.whole;
+  full_leaves = subst AreFullLeaves (sym (cut.parted ∙ ap or_empty (append-nil leaves))) (full_or leaves cut.full_leaves.0);
+  full_layers = cut.full_layers;
+  needed = cut.needed;
+  some = cut.some;
+  nowhere = cut.nowhere;
+}
+  where
+    no_row : (row : Row) → None ≡ Some row → ⊥
+    no_row row same = cc
+
+    full_or : (leaves : List (List Row)) → AreFullLeaves leaves → AreFullLeaves (or_empty leaves)
+    full_or [] full = ((λ row is. absurd (no_row row is)), tt)
+    full_or (rows ∷ leaves) full = full
 
 -- ---- no two at one place
 

@@ -4,3 +4,4 @@ pub mod Cuts
 pub mod Keeps
 pub mod Writes
 pub mod Steps
+pub mod Drafts

@@ -58,18 +58,18 @@ keys_of es = map {A = Entry} (λ e. e.key) es
 abbrev pub lows_of : List PageDraft → List (List ℕ)
 lows_of drafts = map {A = PageDraft} (λ p. p.low) drafts
 
--- the keys of the entries of leaves: the first has the empty key, and each other one the least key of its image
+-- the keys of the entries of a part: the first has the part's low key, and each other one the least key of its image
 abbrev pub image_keys : List Image → List (List ℕ)
 image_keys images = map {A = Image} (λ i. i.low) images
 
-abbrev pub leaf_keys : List Image → List (List ℕ)
-leaf_keys [] = []
-leaf_keys (i ∷ images) = [] ∷ image_keys images
+abbrev pub part_keys : List ℕ → List Image → List (List ℕ)
+part_keys low [] = []
+part_keys low (i ∷ images) = low ∷ image_keys images
 
--- the key of the entry of the image at a place
-abbrev pub key_at : ℕ → Image → List ℕ
-key_at zero i = []
-key_at (suc place) i = i.low
+-- the key of the entry of the image at a place of the part
+abbrev pub key_at : List ℕ → ℕ → Image → List ℕ
+key_at low zero i = low
+key_at low (suc place) i = i.low
 
 -- the link of the first entry
 abbrev pub top_link : List Entry → Link

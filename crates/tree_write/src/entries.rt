@@ -1,12 +1,14 @@
 // Entries of a level, and what they lead to.
-ghost use Rattle.std.specs.Prelude.{◌≡◌, ◌++◌, map, slice_index_or, IfOk};
+ghost use Rattle.std.specs.Prelude.{◌≡◌, ◌++◌, [], map, slice_index_or, IfOk};
 ghost use Rattle.stored.specs.Links.{LinkFits, nowhere as nowhere_link};
 ghost use Rattle.stored.specs.TableTree.{Entry as StoredEntry};
+ghost use Rattle.tree_write.specs.Drafts.{rooted};
 ghost use Rattle.tree_write.specs.Steps.{top_link};
 
 use device_layout::{Addr, Link};
 use failure::NoMemory;
 use inner_page::Entry;
+use item::Item;
 use stamp::Name;
 use std::alloc::Global;
 
@@ -55,6 +57,23 @@ pub(crate) fn top_link(entries: &[Entry]) -> Link
         Some(entry) => entry.link,
         None => nowhere(),
     }
+}
+
+// The entries as those of a whole tree: a root has no key of its own, so the first gets the empty one.
+pub(crate) fn rooted(alloc: Global, entries: Vec<Entry>) -> Vec<Entry>
+    ensures { result.items ≡ rooted entries.items }
+{
+    let mut entries = entries;
+    if !entries.is_empty() {
+        clear_key(alloc, &mut entries[0]);
+    }
+    entries
+}
+
+fn clear_key(alloc: Global, entry: &mut Entry)
+    ensures { entry.new ≡ record { key = []; link = entry.old.link } }
+{
+    entry.key = Item::new(Vec::new(alloc));
 }
 
 // The links of entries.

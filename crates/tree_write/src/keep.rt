@@ -1,11 +1,13 @@
 // Trees that are captured as they stand.
 ghost use Rattle.std.specs.Prelude.{◌≡◌, ◌≤◌, ◌↔◌, ◌+◌, ◌++◌, length, true, vec_capacity, vec_len, IfErr, OnErr, OnOk, IsTrue};
 ghost use Rattle.wt_code.specs.declared.store_error.StoreError.TheVariants.{NoMemory as WantOfMemory};
+ghost use Rattle.tree_write.specs.Drafts.{addrs_to};
 ghost use Rattle.tree_write.specs.Keeps.{AreLive, KeepsAll};
 
 use crate::blocks::capture;
 use block_mgr::Blocks;
 use device_layout::Addr;
+use inner_page::Entry;
 use tree_open::TreePlace;
 use wt_code::StoreError;
 
@@ -62,5 +64,20 @@ fn capture_all(blocks: &mut Blocks, addrs: &[Addr], listed: &mut Vec<Addr>)
 {
     for addr in addrs {
         capture(blocks, *addr, listed);
+    }
+}
+
+// Captures the leaves of entries, one after the other, and puts their addresses behind the others, for
+// which there is room.
+pub(crate) fn capture_leaves(blocks: &mut Blocks, entries: &[Entry], listed: &mut Vec<Addr>)
+    requires live { AreLive blocks.old.cells (addrs_to entries.now) }
+    requires held { blocks.old.is_held ≡ true }
+    requires room { vec_len listed.old + length entries.now ≤ vec_capacity listed.old }
+    ensures keeps { KeepsAll blocks.old blocks.new (addrs_to entries.now) }
+    ensures listed { listed.new.items ≡ listed.old.items ++ addrs_to entries.now }
+    ensures held { blocks.new.is_held ≡ true }
+{
+    for entry in entries {
+        capture(blocks, entry.link.addr, listed);
     }
 }

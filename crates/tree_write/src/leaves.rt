@@ -11,7 +11,7 @@ ghost use Rattle.row_page.specs.Rows.{Row};
 ghost use Rattle.stored.specs.Links.{LinkFits};
 ghost use Rattle.stored.specs.Stored.{Stored};
 ghost use Rattle.stored.specs.TableTree.{Entry as StoredEntry};
-ghost use Rattle.tree_write.specs.Steps.{AreSpelled, LeavesWrite, key_at, keys_of, leaf_keys};
+ghost use Rattle.tree_write.specs.Steps.{AreSpelled, LeavesWrite, key_at, keys_of, part_keys};
 ghost use Rattle.tree_write.specs.Writes.{MayWriteOver};
 
 use crate::entries::link_at;
@@ -26,12 +26,14 @@ use reconcile::Image;
 use std::alloc::Global;
 use wt_code::StoreError;
 
-// Writes and captures the leaves of images, where `was` has those of the checkpoint before by place,
-// and gives the entries that lead to them.
+// Writes and captures the leaves of a part, of its images, where `was` has those of the checkpoint
+// before by place, and gives the entries that lead to them: the first has the low key, and each other
+// one that of its image.
 pub(crate) fn write_leaves<D: Disk>(
     alloc: Global,
     disk: &mut D,
     blocks: &mut Blocks,
+    low: &Item,
     was: &[Link],
     images: &[Image],
     captured: &mut Vec<Addr>,
@@ -39,7 +41,7 @@ pub(crate) fn write_leaves<D: Disk>(
     requires leaves { (leaves : List (List Row)) × AreSpelled images.now leaves }
     requires held { blocks.old.is_held ≡ true }
     requires ready { IsTrue (D.honest disk.old) → end_of blocks.old.space ≤ length (D.seen disk.old) }
-    ensures keys { IfOk result (λ v. keys_of v.items ≡ leaf_keys images.now) }
+    ensures keys { IfOk result (λ v. keys_of v.items ≡ part_keys low.now images.now) }
     ensures fits { IfOk result (λ v. AllByRecursion (λ (e : StoredEntry). LinkFits e.link) v.items) }
     ensures writes { (leaves : List (List Row)) → AreSpelled images.now leaves → IsTrue (D.honest disk.old) → (old : Option Stored) (first : Books) → MayWriteOver (D.seen disk.old) (D.may_leave disk.old) first blocks.old old was.now
         → (addrs : List AnAddr) × (captured.new.items ≡ captured.old.items ++ addrs) × LeavesWrite D.Disk old first blocks.old blocks.new disk.old disk.new was.now leaves addrs result }
@@ -53,7 +55,7 @@ pub(crate) fn write_leaves<D: Disk>(
     };
     for i in 0..images.len() {
         let image = &images[i];
-        let Ok(key) = key_of(alloc, i, image) else {
+        let Ok(key) = key_of(low, i, image) else {
             return Err(StoreError::NoMemory);
         };
         match write_leaf(alloc, disk, blocks, link_at(was, i), image, captured) {
@@ -64,12 +66,12 @@ pub(crate) fn write_leaves<D: Disk>(
     Ok(entries)
 }
 
-// The key of the entry of the image at a place: a root has none of its own, so the first is empty.
-fn key_of(alloc: Global, place: usize, image: &Image) -> Result<Item, NoMemory>
-    ensures { IfOk result (λ k. k ≡ key_at place image.now) }
+// The key of the entry of the image at a place of a part with this low key.
+fn key_of(low: &Item, place: usize, image: &Image) -> Result<Item, NoMemory>
+    ensures { IfOk result (λ k. k ≡ key_at low.now place image.now) }
 {
     if place == 0 {
-        Ok(Item::new(Vec::new(alloc)))
+        low.copy()
     } else {
         image.low.copy()
     }

@@ -6,11 +6,13 @@
 //! (`specs/Captures`); that a leaf which the checkpoint before has at the same place with the same rows
 //! keeps its block, and every other block is new; that at each moment the checkpoint before still
 //! stands; and that each block is listed when it is captured, also before an error. `keep_tree` captures
-//! a tree as it stands. Leaves to the caller what is in the rows, which tables may keep their trees,
+//! a tree as it stands. A `TreeDraft` is such a tree part by part: each part is written, or kept as it
+//! stands. Leaves to the caller what is in the rows, which tables may keep their trees,
 //! and the record.
 #![tactic(auto)]
 
 mod blocks;
+mod draft;
 mod entries;
 mod keep;
 mod leaf;
@@ -20,5 +22,6 @@ mod levels;
 mod tests;
 mod tree;
 
+pub use draft::TreeDraft;
 pub use keep::{keep_tree, may_keep};
 pub use tree::write_tree;

@@ -10,16 +10,13 @@ ghost use Rattle.row_page.specs.Rows.{Row};
 ghost use Rattle.leaf_rows.specs.Rows.{AreFit};
 ghost use Rattle.reconcile.specs.Images.{AreImages};
 ghost use Rattle.stored.specs.Stored.{Stored};
-ghost use Rattle.tree_write.specs.Writes.{IsNoPlace, MayWriteOver, TreeWrites};
+ghost use Rattle.tree_write.specs.Writes.{MayWriteOver, TreeWrites};
 
-use crate::entries::nowhere;
-use crate::leaves::write_leaves;
-use crate::levels::rise;
+use crate::draft::TreeDraft;
 use block_mgr::Blocks;
-use checkpoint_record::Root;
 use device_layout::{Addr, Link};
 use disk_model::Disk;
-use failure::NoMemory;
+use item::Item;
 use reconcile::Image;
 use std::alloc::Global;
 use tree_open::TreePlace;
@@ -54,32 +51,10 @@ pub fn write_tree<D: Disk>(
     ensures fault { IfErr result (λ e. IsOfDisk e → Rose (D.faults disk.old) (D.faults disk.new)) }
     ensures disk { SameDisk D.Disk disk.old disk.new }
 {
-    if images.is_empty() {
-        return match no_tree(alloc) {
-            Ok(place) => Ok(place),
-            Err(_) => Err(StoreError::NoMemory),
-        };
-    }
-    match write_leaves(alloc, disk, blocks, was, &images, captured) {
-        Ok(leaves) => rise(alloc, disk, blocks, leaves, captured),
+    let mut draft = TreeDraft::new(alloc);
+    let low = Item::new(Vec::new(alloc));
+    match draft.write(alloc, disk, blocks, &low, was, &images, captured) {
+        Ok(()) => draft.finish(alloc, disk, blocks, captured),
         Err(error) => Err(error),
     }
-}
-
-// Where the tree of no rows stands: nowhere.
-fn no_tree(alloc: Global) -> Result<TreePlace, NoMemory>
-    ensures { IfOk result IsNoPlace }
-{
-    let mut leaves = Vec::new(alloc);
-    let Ok(()) = leaves.push(nowhere()) else {
-        return Err(NoMemory);
-    };
-    Ok(TreePlace {
-        root: Root {
-            level: 0,
-            link: nowhere(),
-        },
-        leaves,
-        addrs: Vec::new(alloc),
-    })
 }

@@ -7,7 +7,7 @@ use Rattle.device_layout.specs.declared.addr.Addr.{Addr}
 use Rattle.device_layout.specs.declared.link.Link.{Link}
 use Rattle.stored.specs.Links.{LinkFits}
 use Rattle.stored.specs.TableTree.{Entry}
-use Rattle.tree_write.specs.Steps.{LeafWrites, LeafWritten, keys_of, leaf_keys}
+use Rattle.tree_write.specs.Steps.{LeafWrites, LeafWritten, keys_of, part_keys}
 use Rattle.tree_write.specs.Writes.{IsLiveLeaf}
 use Rattle.tree_write.proofs.Going.{Going, begun, ended, failed, get_some, keys_more, leaf_mid, live_mid, more, next, spelled_at, stopped}
 use Rattle.tree_write.proofs.LeafSteps.{want_space}
@@ -87,7 +87,7 @@ loop-i-preserved g c =
       ready = λ h. done.ready (now.disk.same ∙ h);
       count = omega (arith, ap (λ (l : List Entry). length l) items, length-append es (entry ∷ []), now.count);
       room = omega (arith, c.push_reserved.ensures.capacity, now.room);
-      keys = ap keys_of items ∙ (map-append {A = Entry} {B = List ℕ} (λ e. e.key) es (entry ∷ []) ∙ (ap (λ (l : List (List ℕ)). l ++ entry.key ∷ []) now.keys ∙ (ap (λ (k : List ℕ). take c.loop-i.i (leaf_keys c.args.images.now) ++ k ∷ []) c.in-Ok-key_of.ensures ∙ sym (keys_more c.args.images.now c.loop-i.i image at))));
+      keys = ap keys_of items ∙ (map-append {A = Entry} {B = List ℕ} (λ e. e.key) es (entry ∷ []) ∙ (ap (λ (l : List (List ℕ)). l ++ entry.key ∷ []) now.keys ∙ (ap (λ (k : List ℕ). take c.loop-i.i (part_keys c.args.low.now c.args.images.now) ++ k ∷ []) c.in-Ok-key_of.ensures ∙ sym (keys_more c.args.low.now c.args.images.now c.loop-i.i image at))));
       fits = subst (λ (l : List Entry). AllByRecursion (λ (e : Entry). LinkFits e.link) l) (sym items) (all_both (λ (e : Entry). LinkFits e.link) es (entry ∷ []) now.fits (done.fits, tt));
       going = λ leaves spelled h old first may.
           let only = λ (d : List ℕ) (left : D.left_since c.args.disk.now (D.moment c.args.disk.now) d). g.met.D.Disk.only_now _ d left in

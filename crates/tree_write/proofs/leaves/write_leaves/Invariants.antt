@@ -9,7 +9,7 @@ use Rattle.row_page.specs.Rows.{Row}
 use Rattle.stored.specs.Links.{LinkFits}
 use Rattle.stored.specs.Stored.{Stored}
 use Rattle.stored.specs.TableTree.{Entry}
-use Rattle.tree_write.specs.Steps.{AreSpelled, keys_of, leaf_keys}
+use Rattle.tree_write.specs.Steps.{AreSpelled, keys_of, part_keys}
 use Rattle.tree_write.specs.Writes.{MayWriteOver}
 use Rattle.tree_write.proofs.Going.{Going}
 use Rattle.tree_write.proofs.leaves.write_leaves.Given as goal
@@ -21,7 +21,7 @@ invariant-loop-i g l = record {
   ready : IsTrue (g.D.Disk.honest l.fn.disk) → end_of l.blocks.space ≤ length (g.D.Disk.seen l.disk);
   count : length l.entries.items ≡ l.i;
   room : length l.images ≤ vec_capacity l.entries;
-  keys : keys_of l.entries.items ≡ take l.i (leaf_keys l.images);
+  keys : keys_of l.entries.items ≡ take l.i (part_keys l.low l.images);
   fits : AllByRecursion (λ (e : Entry). LinkFits e.link) l.entries.items;
   going : (leaves : List (List Row)) → AreSpelled l.images leaves → IsTrue (g.D.Disk.honest l.fn.disk) → (old : Option Stored) (first : Books) → MayWriteOver (g.D.Disk.seen l.fn.disk) (g.D.Disk.may_leave l.fn.disk) first l.fn.blocks old l.was
       → (addrs : List Addr) × (l.captured.items ≡ l.fn.captured.items ++ addrs) × Going g.D.Disk old first l.fn.blocks l.fn.disk l.was l.images leaves l.i l.entries.items addrs l.blocks l.disk;

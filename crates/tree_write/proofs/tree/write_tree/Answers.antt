@@ -1,88 +1,57 @@
-use Rattle.std.proofs.Common.{◌≡◌, ◌∙◌, ◌++◌, ◌≤◌, [], List, length, ap, sym, subst, arith, append_assoc}
-use Rattle.std.proofs.lemmas.Bool.{eqb-true}
+use Rattle.std.proofs.Common.{◌≡◌, ◌∙◌, ◌++◌, [], ◌∷◌, List, ℕ, Err, length, ap, sym, subst, arith, append_assoc}
 use Rattle.std.proofs.lemmas.List.{append-nil}
-use Rattle.std.specs.Prelude.{Result}
-use Rattle.wt_code.specs.declared.store_error.StoreError.{StoreError}
 use Rattle.device_layout.specs.declared.addr.Addr.{Addr}
-use Rattle.tree_open.specs.declared.place.TreePlace.{TreePlace}
 use Rattle.reconcile.specs.declared.image.Image.{Image}
-use Rattle.tree_write.specs.Steps.{AreSpelled, keys_of, leaf_keys}
-use Rattle.tree_write.specs.Writes.{TreeWrites}
-use Rattle.tree_write.proofs.Assembling.{entries_known, leaves_failed, no_images, nothing_stopped, nothing_written, rise_answers, some_images}
-use Rattle.tree_write.proofs.LeafKeys.{entries_fit, leaves_of}
-use Rattle.tree_write.proofs.LeafSteps.{want_space}
+use Rattle.reconcile.specs.Images.{AreImages}
+use Rattle.row_page.specs.Rows.{Row}
+use Rattle.stored.specs.TableTree.{Entry}
+use Rattle.stored.specs.Tree.{join}
+use Rattle.tree_write.specs.Drafts.{AreFrom, Drafted, PartsWrite, aligned}
+use Rattle.tree_write.specs.Steps.{keys_of, part_keys}
+use Rattle.tree_write.proofs.Assembling.{leaves_failed, one_part}
+use Rattle.tree_write.proofs.Drafting.{draft_begun}
+use Rattle.tree_write.proofs.LeafKeys.{from_empty, part_stays}
+use Rattle.tree_write.proofs.Parts.{part_alone}
 use Rattle.tree_write.proofs.tree.write_tree.Goals as goal
-use Rattle.tree_write.proofs.tree.write_tree.Goals.{in-Ok, in-Err}
 
-pub returns-then-is_empty-clause-writes : goal.returns-then-is_empty-clause-writes
-returns-then-is_empty-clause-writes g c rows images fit h old first may =
+pub write-requires-clause-rows : goal.write-requires-clause-rows
+write-requires-clause-rows g c =
+    let rows = c.requires.rows.0 in
+    (rows, subst (λ (l : List Image). AreImages l rows) (sym c.deref.ensures.value) c.requires.rows.1, c.requires.rows.2, subst (λ (k : List ℕ). AreFrom k rows) (sym (c.new-low.ensures ∙ c.new.ensures.items)) (from_empty rows))
+
+pub returns-in-Ok-clause-writes : goal.returns-in-Ok-clause-writes
+returns-in-Ok-clause-writes g c rows are fit h old first may =
     let D = g.D.Disk in
-    let books = c.args.blocks.now in
     let d = c.args.disk.now in
-    let none : length c.args.images.items ≡ 0 = omega (arith, c.args.images.ok.0, eqb-true _ _ (sym c.is_empty.ensures ∙ c.if-is_empty.true)) in (
-      [],
-      sym (append-nil c.args.captured.now.items),
-      elim c.match-no_tree.branch [
-        | in-Ok w ↦ subst (λ (r : Result TreePlace StoreError). TreeWrites D old first c.args.was.now rows [] books books d d r) (sym w.result-is)
-            (nothing_written D old first books d (λ d left. g.met.D.Disk.only_now _ d left) c.args.was.now may rows w.in-Ok.place w.in-Ok.ensures (no_images c.args.images.items rows none images))
-        | in-Err w ↦ subst (λ (r : Result TreePlace StoreError). TreeWrites D old first c.args.was.now rows [] books books d d r) (sym w.result-is)
-            (nothing_stopped D old first books d (λ d left. g.met.D.Disk.only_now _ d left) c.args.was.now may rows _ (λ is. want_space is))
-      ],
-    )
-
-pub write_leaves-requires-clause-leaves : goal.write_leaves-requires-clause-leaves
-write_leaves-requires-clause-leaves g c =
-    let of = leaves_of c.args.images.items c.requires.rows.0 c.requires.rows.1 in
-    (of.leaves, subst (λ (l : List Image). AreSpelled l of.leaves) (sym c.deref.ensures.value) of.spelled)
-
-pub rise-requires-clause-fit : goal.rise-requires-clause-fit
-rise-requires-clause-fit g c =
-    let images = c.args.images.items in
-    let es = c.in-Ok-write_leaves.leaves.items in
-    let some : 1 ≤ length images = omega (arith, c.args.images.ok.0, some_images _ _ c.is_empty.ensures c.if-is_empty.false) in
-    let of = leaves_of images c.requires.rows.0 c.requires.rows.1 in
-    let keys : keys_of es ≡ leaf_keys images = subst (λ (l : List Image). keys_of es ≡ leaf_keys l) c.deref.ensures.value c.in-Ok-write_leaves.ensures.keys in
-    entries_fit es (entries_known images c.requires.rows.0 of c.requires.rows.2 some es keys).keys c.in-Ok-write_leaves.ensures.fits
-
-pub rise-requires-clause-climbs : goal.rise-requires-clause-climbs
-rise-requires-clause-climbs g c =
-    let images = c.args.images.items in
-    let es = c.in-Ok-write_leaves.leaves.items in
-    let some : 1 ≤ length images = omega (arith, c.args.images.ok.0, some_images _ _ c.is_empty.ensures c.if-is_empty.false) in
-    let of = leaves_of images c.requires.rows.0 c.requires.rows.1 in
-    let keys : keys_of es ≡ leaf_keys images = subst (λ (l : List Image). keys_of es ≡ leaf_keys l) c.deref.ensures.value c.in-Ok-write_leaves.ensures.keys in
-    (entries_known images c.requires.rows.0 of c.requires.rows.2 some es keys).climbs
-
-pub rise-requires-clause-root : goal.rise-requires-clause-root
-rise-requires-clause-root g c =
-    let images = c.args.images.items in
-    let es = c.in-Ok-write_leaves.leaves.items in
-    let some : 1 ≤ length images = omega (arith, c.args.images.ok.0, some_images _ _ c.is_empty.ensures c.if-is_empty.false) in
-    let of = leaves_of images c.requires.rows.0 c.requires.rows.1 in
-    let keys : keys_of es ≡ leaf_keys images = subst (λ (l : List Image). keys_of es ≡ leaf_keys l) c.deref.ensures.value c.in-Ok-write_leaves.ensures.keys in
-    (entries_known images c.requires.rows.0 of c.requires.rows.2 some es keys).first
-
-pub returns-in-Ok-write_leaves-clause-writes : goal.returns-in-Ok-write_leaves-clause-writes
-returns-in-Ok-write_leaves-clause-writes g c rows are fit h old first may =
-    let D = g.D.Disk in
-    let images = c.args.images.items in
-    let es = c.in-Ok-write_leaves.leaves.items in
-    let some : 1 ≤ length images = omega (arith, c.args.images.ok.0, some_images _ _ c.is_empty.ensures c.if-is_empty.false) in
-    let of = leaves_of images rows are in
-    let keys : keys_of es ≡ leaf_keys images = subst (λ (l : List Image). keys_of es ≡ leaf_keys l) c.deref.ensures.value c.in-Ok-write_leaves.ensures.keys in
-    let wrote = c.in-Ok-write_leaves.ensures.writes of.leaves (subst (λ (l : List Image). AreSpelled l of.leaves) (sym c.deref.ensures.value) of.spelled) h old first may in
-    let mid = c.write_leaves.ensures.disk in
-    let rises = c.rise.ensures.rises (mid.same ∙ h) old first wrote.2.captures.may in (
-      wrote.0 ++ rises.0,
-      rises.1 ∙ (ap (λ (l : List Addr). l ++ rises.0) wrote.1 ∙ append_assoc c.args.captured.now.items wrote.0 rises.0),
-      rise_answers images rows of fit some D old first c.args.blocks.now c.args.disk.now c.args.was.now may es keys wrote.0 c.write_leaves.new.blocks c.write_leaves.new.disk wrote.2 mid.room rises.0 c.rise.new.blocks c.rise.new.disk c.rise.result rises.2,
+    let books = c.args.blocks.now in
+    let was = c.args.was.now in
+    let begun = subst (λ (l : List Entry). Drafted D old first books books d d [] [] [] l) (sym c.new-draft.ensures) (draft_begun D old first books d (λ x left. g.met.D.Disk.only_now _ x left) (record { may = may.may; live = may.live; leaves = tt }) (c.requires.ready h)) in
+    let wrote = c.in-Ok.ensures.writes rows (subst (λ (l : List Image). AreImages l rows) (sym c.deref.ensures.value) are) h old first books d [] [] [] begun may.leaves in
+    let of = wrote.0 in
+    let es = c.write.new.self in
+    let mid = c.write.new.disk in
+    let whole : of.leaves ++ [] ≡ of.leaves = append-nil of.leaves in
+    let draft = subst (λ (l : List (List Row)). Drafted D old first books c.write.new.blocks d mid (aligned was of.leaves) l wrote.1 es) (sym whole) wrote.3 in
+    let keys : keys_of es ≡ part_keys [] c.deref.result.now = c.in-Ok.ensures.keys ∙ (ap (λ (l : List Entry). keys_of l ++ part_keys c.new-low.result c.deref.result.now) c.new-draft.ensures ∙ ap (λ (k : List ℕ). part_keys k c.deref.result.now) (c.new-low.ensures ∙ c.new.ensures.items)) in
+    let stay = part_stays [] es c.deref.result.now rows (omega arith) keys of fit (from_empty rows) in
+    let rose = c.finish.ensures.writes (c.write.ensures.disk.same ∙ h) old first books d (aligned was of.leaves) (of.leaves ∷ []) wrote.1 draft (part_alone es of.leaves stay of.full of.some) in (
+      wrote.1 ++ rose.0,
+      rose.1 ∙ (ap (λ (l : List Addr). l ++ rose.0) wrote.2 ∙ append_assoc c.args.captured.now.items wrote.1 rose.0),
+      one_part D old first books c.finish.new.blocks d c.finish.new.disk was of.leaves rows (wrote.1 ++ rose.0) c.finish.result
+          (subst (λ (l : List Row). PartsWrite D old first (aligned was of.leaves) (of.leaves ∷ []) l (wrote.1 ++ rose.0) books c.finish.new.blocks d c.finish.new.disk c.finish.result) (ap (λ (l : List (List Row)). join l) whole ∙ of.whole) rose.2),
     )
 
 pub returns-clause-writes : goal.returns-clause-writes
 returns-clause-writes g c rows are fit h old first may =
     let D = g.D.Disk in
-    let images = c.args.images.items in
-    let some : 1 ≤ length images = omega (arith, c.args.images.ok.0, some_images _ _ c.is_empty.ensures c.if-is_empty.false) in
-    let of = leaves_of images rows are in
-    let stop = c.in-Err-write_leaves.ensures.writes of.leaves (subst (λ (l : List Image). AreSpelled l of.leaves) (sym c.deref.ensures.value) of.spelled) h old first may in
-    (stop.0, stop.1, leaves_failed images rows of fit some D old first c.args.blocks.now c.args.disk.now c.args.was.now may stop.0 c.write_leaves.new.blocks c.write_leaves.new.disk c.in-Err-write_leaves.error (omega (arith, c.args.images.ok, c.args.images.small)) stop.2)
+    let d = c.args.disk.now in
+    let books = c.args.blocks.now in
+    let was = c.args.was.now in
+    let begun = subst (λ (l : List Entry). Drafted D old first books books d d [] [] [] l) (sym c.new-draft.ensures) (draft_begun D old first books d (λ x left. g.met.D.Disk.only_now _ x left) (record { may = may.may; live = may.live; leaves = tt }) (c.requires.ready h)) in
+    let stop = c.in-Err.ensures.writes rows (subst (λ (l : List Image). AreImages l rows) (sym c.deref.ensures.value) are) h old first books d [] [] [] begun may.leaves in
+    let of = stop.0 in (
+      stop.1,
+      stop.2,
+      one_part D old first books c.write.new.blocks d c.write.new.disk was of.leaves rows stop.1 (Err c.in-Err.error)
+          (leaves_failed c.deref.result.now rows of fit D old first books d (aligned was of.leaves) stop.1 c.write.new.blocks c.write.new.disk c.in-Err.error (omega (arith, ap (λ (l : List Image). length l) c.deref.ensures.value, c.args.images.ok, c.args.images.small)) stop.3),
+    )
