@@ -1,6 +1,5 @@
 -- The trees of before that do not stay where they are.
-use Rattle.std.specs.Prelude.{◌≡◌, ◌⊎◌, ◌<◌, ◌+◌, ◌*◌, ℕ, zero, suc, List, [], ◌∷◌, ◌++◌, length, map, take, Option, Some, None, refl, slice_get}
-use Rattle.std.specs.List.{flat_map, fold}
+use Rattle.std.specs.Prelude.{◌≡◌, ◌⊎◌, ◌<◌, ◌+◌, ℕ, zero, suc, List, [], ◌∷◌, ◌++◌, length, take, Option, Some, None, refl, slice_get}
 use Rattle.std.proofs.Common.{◌∙◌, ap, sym, subst, inl, inr, arith, get_or}
 use Rattle.std.proofs.lemmas.List.{append-nil, append_assoc}
 use Rattle.std.proofs.lemmas.List.Sums.{fold-append}
@@ -11,7 +10,7 @@ use Rattle.stored.specs.Stored.{Stored}
 use Rattle.tree_open.specs.declared.place.TreePlace.{TreePlace}
 use Rattle.ckpt_step.specs.Frees.{without, without_all}
 use Rattle.ckpt_step.specs.Halves.{AreOldBlocks}
-use Rattle.ckpt_step.specs.Trees.{AreKept, addrs_of, kept_by, left_by, placed_by}
+use Rattle.ckpt_step.specs.Trees.{addrs_of, kept_by, left_by, placed_by}
 use Rattle.ckpt_step.proofs.Cells.{AreLeft}
 use Rattle.ckpt_step.proofs.Members.{in_back, in_either, in_front}
 

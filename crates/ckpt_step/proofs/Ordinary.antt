@@ -226,6 +226,7 @@ undoing_ordinary _ n a = tt
 
 doing_so : (s : Stage) (leaves : List Leaf) (session : ℕ) (a : State) → IsOrdinaryDoing (doing_at s leaves session a)
 doing_so (stage.Find made) leaves session a = call_ordinary made a
+doing_so (stage.Fill made wanted) leaves session a = call_ordinary made a
 doing_so (stage.Publish made target) leaves session a = call_ordinary made a
 doing_so (stage.Validate made target) leaves session a = call_ordinary made a
 doing_so (stage.Look made target) leaves session a = call_ordinary made a

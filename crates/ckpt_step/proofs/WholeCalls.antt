@@ -7,6 +7,7 @@ use Rattle.kv_model.specs.Machine.{Machine, Transaction, Event, StartLeaving, Co
 use Rattle.kv_model.specs.Rows.{NextAnswer, SeekAnswer, reset_decision, row_event, seek_event}
 use Rattle.kv_model.specs.Decisions.{Outcome, Done, Request, OpenCall, BeginCall, PrepareCall, CommitCall, RollbackCall, EndCall, FindKey, FindToWrite, FindRow, CreateCall, SetCall, Occupied, GetAnswer, WriteAnswer, decision}
 use Rattle.kv_model.specs.Calls.{Actor, Session, System, Call, Begin, GetKey, PutKey, RemoveKey, SeekKey, NextRow, Reset, Prepare, Commit, Rollback, Create, Set, CkptStart, CkptStep, CkptFinish, Evict, Rts, Close, ActorAnswers, AtPlace, Decided, HeldUp, IsHeldUp, IsShort, Judged, OpensSession, SessionAnswers, SystemAnswers, ended, settled}
+use Rattle.engine_world.proofs.KeepingOut.{none_out}
 use Rattle.engine_world.specs.Whole.{nothing_around}
 use Rattle.ckpt_step.proofs.Quiet.{IsMild, IsMildRequest, IsQuiet, Quiet, commit_mild, decision_quiet, is_quiet, reset_quiet, row_quiet, seek_quiet, write_quiet}
 
@@ -86,7 +87,7 @@ module _ (barred : Type 0) (k : Kept barred) where
   held_goes m next session request answer mild (inr (e, is, inl short)) =
       let first = made_goes m (after m e) (decision m session request) Done e (decision_quiet barred m session request mild) is refl in
       k.on m (after m e) next first (short_goes (after m e) next answer short)
-  held_goes m next session request answer mild (inr (e, is, inr out)) = absurd out.1
+  held_goes m next session request answer mild (inr (e, is, inr out)) = absurd (none_out out.0 out.1)
 
   kept_goes : (m next : Machine) (session : ℕ) (call : Call) (answer : Answer (List ℕ)) → HeldUp nothing_around m session call answer next → k.To m next
   kept_goes m next session (GetKey name key) answer h = held_goes m next session (FindKey name key) answer tt h
@@ -106,7 +107,7 @@ module _ (barred : Type 0) (k : Kept barred) where
   system_goes m next (Create name formats) answer mild (inl short) = short_goes m next answer short
   system_goes m next (Create name formats) answer mild (inr (table, is, (outcome, d, tells))) = judged_goes m next 0 (CreateCall table) outcome tt d
   system_goes m next (Evict name key) answer mild (inl short) = short_goes m next answer short
-  system_goes m next (Evict name key) answer mild (inr (inl out)) = absurd out.1
+  system_goes m next (Evict name key) answer mild (inr (inl out)) = absurd (none_out out.0 out.1)
   system_goes m next (Evict name key) answer mild (inr (inr evicts)) = subst (λ (n : Machine). k.To m n) (sym evicts.3) (k.same m)
   system_goes m next (Set oldest stable) answer mild (outcome, d, tells) = judged_goes m next 0 (SetCall oldest stable) outcome tt d
   system_goes m next Rts answer mild s = absurd mild

@@ -10,7 +10,8 @@ use Rattle.wt_calls.specs.declared.call.Call.{Call}
 use Rattle.wt_calls.specs.declared.call.Call.TheVariants as call
 use Rattle.call_steps.specs.declared.reply.Reply.{Reply}
 use Rattle.engine_world.specs.Stands.{Engine}
-use Rattle.engine_world.specs.Systems.{checkpointed, first_world}
+use Rattle.engine_world.specs.Systems.{checkpointed}
+use Rattle.engine.specs.Openings.{first_world}
 use Rattle.engine_world.specs.Worlds.{World, Doing, Resting, Asked, Placed, Decided, Ending, doing_of}
 use Rattle.engine.specs.declared.step.Step.{Step}
 use Rattle.engine.specs.declared.step.Step.TheVariants.{Start, Go}

@@ -1,5 +1,5 @@
 -- An engine on what a device holds.
-use Rattle.std.proofs.Common.{◌≡◌, ◌+◌, ◌-◌, ◌^◌, ◌<◌, ◌≤◌, ℕ, zero, suc, refl, ap, sym, ◌∙◌, List, [], ◌∷◌, ◌++◌, length, replicate, subst, arith}
+use Rattle.std.proofs.Common.{◌≡◌, ◌+◌, ◌-◌, ◌^◌, ◌<◌, ◌≤◌, ℕ, zero, suc, refl, ap, sym, ◌∙◌, List, [], ◌∷◌, ◌++◌, length, replicate, inl, subst, arith}
 use Rattle.std.specs.Prelude.{Option, Some, None, map, reverse, slice_get, slice_index_or}
 use Rattle.std.proofs.lemmas.List.{get_or_append_left, get_or-replicate, length-append, length-replicate}
 use Rattle.std.proofs.lemmas.Option.{same_Some, slice_get_within}
@@ -7,6 +7,7 @@ use Rattle.std.specs.List.{Contains}
 use Rattle.limits.specs.declared.TheConstants.{NUMBER_MAX, TABLES_MAX}
 use Rattle.kv_model.specs.Content.{Content, base as base_of}
 use Rattle.kv_model.specs.History.{Table, line}
+use Rattle.row_page.specs.Rows.{Row}
 use Rattle.tree_dir.specs.declared.leaf.Leaf.{Leaf}
 use Rattle.tree_dir.specs.Leaves.{Directory, IsDirectory}
 use Rattle.txn_table.specs.Tabled.{fresh}
@@ -19,12 +20,12 @@ use Rattle.call_steps.specs.declared.hub.Hub.{Hub}
 use Rattle.call_steps.specs.Tables.{first_word}
 use Rattle.engine_world.specs.Leaves.{LeavesOwned, TablesBegun, frame_in, word_at}
 use Rattle.engine_world.specs.Stands.{Engine}
-use Rattle.engine_world.specs.Systems.{Begins, EnginesStart, IsFirstOf, LeafStarts, first_world}
+use Rattle.engine_world.specs.Systems.{Begins, EnginesStart, IsFirstOf, LeafStarts, StartsInFrame}
 use Rattle.engine.specs.Bases.{IsBaseOf}
-use Rattle.engine.specs.Openings.{AreBare, AreLaid, HasBase, IsHeld}
+use Rattle.engine.specs.Openings.{AreBare, AreLaid, HasBase, IsHeld, first_world, no_shelf}
 use Rattle.engine.specs.Sizes.{LeavesFit, NamesFit, SessionsFit}
-use Rattle.engine.specs.Sound.{AreBuilt, IsSound, LeavesPlaced}
-use Rattle.engine.proofs.OneLeaf.{LeavesLaid, lies-in}
+use Rattle.engine.specs.Sound.{AllFramed, AreBuilt, IsSound, LeavesPlaced}
+use Rattle.engine.proofs.OneLeaf.{LeavesLaid, lies-in, placed-framed}
 use Rattle.engine.proofs.CallSizes.{sessions-none}
 
 -- four actors without a call
@@ -93,7 +94,7 @@ module _ (e : Engine) (run oldest stable : ℕ) (known : Known) (leaves : List H
       kept : (leaf : HeldLeaf) × (slice_get leaves place ≡ Some leaf) × ((key : List ℕ) → IsFirstOf (line (base_of c) t.number key) (chain_at key leaf.chains) (shown_at key leaf.page))
       kept = base.leaves_are place t at
 
-    leaf-starts : (l : Leaf) → Contains dir.leaves l → LeafStarts c dir.leaves e.pieces e.states l
+    leaf-starts : (l : Leaf) → Contains dir.leaves l → StartsInFrame c dir.leaves e.pieces e.states l
     unfolding is-laid held
     leaf-starts l there = record {
       laid = is-laid l there;
@@ -103,8 +104,8 @@ module _ (e : Engine) (run oldest stable : ℕ) (known : Known) (leaves : List H
       h : IsHeld 0 known.tables leaves e.pieces l
       h = held l there
 
-    pub begins-on : Begins c e
-    begins-on = record {
+    pub begins-on : (shelf : ℕ → List Row) → Begins c shelf e
+    begins-on shelf = record {
       fault = ap (λ (h : Hub). h.fault) o.hub;
       stamps = ap (λ (h : Hub). h.stamps) o.hub ∙ (ap (λ n. record { oldest = n; stable = stable }) base.oldest_is ∙ ap (λ n. record { oldest = c.oldest; stable = n }) base.stable_is);
       txns = ap (λ (h : Hub). h.txns) o.hub ∙ ap (λ n. fresh n 0) base.run_is;
@@ -113,7 +114,7 @@ module _ (e : Engine) (run oldest stable : ℕ) (known : Known) (leaves : List H
       dir = subst (λ (d : Directory). IsDirectory d) (sym dir-is) o.directory;
       begun = subst (λ (h : Hub). TablesBegun h.tables.tables h.dir.leaves) (sym o.hub) (λ place t at. o.laid.begun place t (omega arith) at);
       owned = subst (λ (h : Hub). LeavesOwned h.tables.tables h.dir.leaves) (sym o.hub) (λ l there. let p = placed l there in (p.place, p.table, p.there, p.number));
-      leaves = subst (λ (d : Directory). (l : Leaf) → Contains d.leaves l → LeafStarts c d.leaves e.pieces e.states l) (sym dir-is) leaf-starts;
+      leaves = subst (λ (d : Directory). (l : Leaf) → Contains d.leaves l → LeafStarts c shelf d.leaves e.pieces e.states l) (sym dir-is) (λ l there. inl (leaf-starts l there));
       sessions = o.sessions;
       systems = subst (λ (calls : List (Option SystemCall)). map (λ x. None) calls ≡ calls) (sym o.systems) refl;
     }
@@ -128,7 +129,10 @@ none-built (suc (suc (suc (suc i)))) asked is = absurd (cc)
 pub opened-sound : EnginesStart → (e : Engine) (run oldest stable : ℕ) (known : Known) (leaves : List HeldLeaf) (dir : Directory) → HasBase run oldest stable known leaves → IsOpened run oldest stable known leaves dir e
     → known.next + TABLES_MAX < 2 ^ 32 + length known.tables → run ≤ NUMBER_MAX → IsSound e
 opened-sound law e run oldest stable known leaves dir base o numbers most = record {
-  world = (first_world base.0 e, law base.0 e base.1 (begins-on e run oldest stable known leaves dir o base.0 base.2));
+  running = record {
+    world = (first_world base.0 e, law base.0 no_shelf e base.1 (begins-on e run oldest stable known leaves dir o base.0 base.2 no_shelf));
+    framed = subst (λ (h : Hub). AllFramed h.dir.leaves) (sym o.hub) (placed-framed known.tables dir.leaves (placed e run oldest stable known leaves dir o));
+  };
   built = subst (λ (calls : List (Option SystemCall)). AreBuilt calls) (sym o.systems) none-built;
   actors = ap (λ (calls : List (Option SystemCall)). length calls) o.systems;
   pieces = o.pieces;

@@ -1,6 +1,6 @@
 -- Sessions and names that fit go on to fit: what an event on the hub or on a word and the start of a call leave.
 use Rattle.std.proofs.Common.{◌≡◌, ◌≤◌, ℕ, zero, suc, refl, sym, Bool, true, false, List, [], ◌∷◌, ◌++◌, length, subst, arith}
-use Rattle.std.specs.Prelude.{Option, Some, None, Result, Ok, Err, if◌then◌else◌, nat_lt, ◌==◌, option_and_then, slice_set}
+use Rattle.std.specs.Prelude.{Option, Some, None, Result, Ok, Err, if◌then◌else◌, nat_lt, ◌==◌, option_and_then, option_map, slice_get, slice_set}
 use Rattle.std.proofs.lemmas.Bool.{ltb-false}
 use Rattle.wt_code.specs.declared.answers.Answer.{Answer}
 use Rattle.wt_code.specs.declared.answers.Answer.TheVariants as answers
@@ -15,6 +15,9 @@ use Rattle.txn_table.specs.declared.phase.Phase.{Phase}
 use Rattle.txn_table.specs.declared.phase.Phase.TheVariants as phase
 use Rattle.txn_table.specs.SessionData.{is_unreleased}
 use Rattle.txn_table.specs.Tabled.{drawn, ended, in_phase, phase_of, released_in}
+use Rattle.tree_dir.specs.declared.leaf.Leaf.{Leaf}
+use Rattle.tree_dir.specs.Leaves.{leaf_named}
+use Rattle.catalog.specs.Known.{place_of}
 use Rattle.wt_calls.specs.declared.session_call.SessionCall.{SessionCall}
 use Rattle.wt_calls.specs.declared.session_call.SessionCall.TheVariants as call
 use Rattle.call_steps.specs.declared.hub.Hub.{Hub}
@@ -25,11 +28,11 @@ use Rattle.call_steps.specs.declared.stage.KeyCall.{KeyCall}
 use Rattle.call_steps.specs.declared.stage.Stage.{Stage}
 use Rattle.call_steps.specs.declared.stage.Stage.TheVariants as stage
 use Rattle.call_steps.specs.declared.stage.Target.{Target}
-use Rattle.call_steps.specs.HubEvents.{Made, beside, passes_to, history_answer, with_txns, hub_made, hub_made_at, begins_in, begins_by, find_made, finds, finds_at, finds_drawn, draws, prepares_by, done_in, decides_in, decides_running, decides_prepared, leaves_with, resolves_in, refuses_as, item_checks}
+use Rattle.call_steps.specs.HubEvents.{Made, beside, fills_to, passes_to, history_answer, with_txns, hub_made, hub_made_at, begins_in, begins_by, find_made, finds, finds_at, finds_drawn, draws, prepares_by, done_in, decides_in, decides_running, decides_prepared, leaves_with, resolves_in, refuses_as, item_checks}
 use Rattle.call_steps.specs.Stages.{after_orders, after_stamps, cursor_in, first_mark, first_order, first_undo, marks, orders, stamps_then, undo_or_resolve, undoes}
 use Rattle.call_steps.specs.Starts.{Starts, StartsAt, StartsIn}
 use Rattle.call_steps.specs.State.{State, answered, at_stage, clears, finished, first_pinned, forgotten, moves, opened, refuses, without_answer}
-use Rattle.call_steps.specs.Tables.{next_for, target_in, target_of}
+use Rattle.call_steps.specs.Tables.{leaf_for, next_for, stage_by, stage_for, stage_of, target_in}
 use Rattle.call_steps.specs.Words.{ends, loaded, loaded_at, reset, stored, stored_at, unless_running, unpinned_in}
 use Rattle.engine.specs.Sizes.{CallFitsAt, ItemsFit, NamesFit, SessionsFit}
 
@@ -182,6 +185,13 @@ stored-fits s fit = by s.stage fit where
 
 -- ---- the hub
 
+-- a call at a leaf
+leaf-fits : (s : State) (c : KeyCall) (l : Leaf) → ItemsFit s → CallFitsIn (at_stage (stage_for c l) s)
+leaf-fits s c l fit = by (target_in l) where
+  by : (o : Option Target) → CallFitsIn (at_stage (stage_by c l o) s)
+  by None = fit
+  by (Some target) = fit
+
 -- what an event leaves of the names and of the session
 abbrev pub MadeFits : Made → Type 0
 MadeFits made = NamesFit made.1.0.txns × CallFitsIn made.1.1
@@ -236,26 +246,26 @@ module _ (h : Hub) (session : ℕ) (names : NamesFit h.txns) where
     not-longer : (most n : ℕ) → nat_lt most n ≡ false → n ≤ most
     not-longer most n isnt = let least = ltb-false most n isnt in omega arith
 
-  draws-fit : (s : State) (c : KeyCall) (target : Target) → ItemsFit s → MadeFits (finds_drawn h session s c target)
-  draws-fit s c target fit = by (nat_lt NUMBER_MAX h.txns.next) refl where
+  draws-fit : (s : State) (c : KeyCall) (l : Leaf) → ItemsFit s → MadeFits (finds_drawn h session s (stage_for c l))
+  draws-fit s c l fit = by (nat_lt NUMBER_MAX h.txns.next) refl where
     by : (b : Bool) → nat_lt NUMBER_MAX h.txns.next ≡ b
-        → MadeFits (if b then beside h (refuses (refusal.Limit limit.Ids) s) else with_txns h (drawn h.txns session) (reply.More, at_stage (stage.Publish c target) s))
+        → MadeFits (if b then beside h (refuses (refusal.Limit limit.Ids) s) else with_txns h (drawn h.txns session) (reply.More, at_stage (stage_for c l) s))
     by true is = (names, tt)
-    by false is = (record { run = names.run; next = (let least = ltb-false NUMBER_MAX h.txns.next is in omega arith) }, fit)
+    by false is = (record { run = names.run; next = (let least = ltb-false NUMBER_MAX h.txns.next is in omega arith) }, leaf-fits s c l fit)
 
-  target-fits : (s : State) (c : KeyCall) (o : Option Target) → ItemsFit s → MadeFits (finds_at h session s c o)
+  target-fits : (s : State) (c : KeyCall) (o : Option Leaf) → ItemsFit s → MadeFits (finds_at h session s c (option_map (stage_for c) o))
   target-fits s c None fit = (names, tt)
-  target-fits s c (Some target) fit = by (draws c h session) where
-    by : (b : Bool) → MadeFits (if b then finds_drawn h session s c target else beside h (reply.More, at_stage (stage.Publish c target) s))
-    by true = draws-fit s c target fit
-    by false = (names, fit)
+  target-fits s c (Some l) fit = by (draws c h session) where
+    by : (b : Bool) → MadeFits (if b then finds_drawn h session s (stage_for c l) else beside h (reply.More, at_stage (stage_for c l) s))
+    by true = draws-fit s c l fit
+    by false = (names, leaf-fits s c l fit)
 
   finds-fit : (s : State) (c : KeyCall) → MadeFits (find_made h session s c)
   finds-fit s c = by-option (of_some (finds h session s c) (λ reason. refuses_as reason h s) (unless_running s.phase)) _ h.fault
       (by-option (finds h session s c) (λ reason. refuses_as reason h s) (unless_running s.phase) (by-checks (first_of (item_checks s)) refl) (refused-fits s))
       (λ fault. (names, tt)) where
-        by-checks : (o : Option Invalid) → first_of (item_checks s) ≡ o → MadeFits (of_some (finds_at h session s c (target_of h.tables h.dir.leaves c s)) (λ reason. refuses_as reason h s) o)
-        by-checks None is = target-fits s c (target_of h.tables h.dir.leaves c s) (items-fit s is)
+        by-checks : (o : Option Invalid) → first_of (item_checks s) ≡ o → MadeFits (of_some (finds_at h session s c (stage_of h.tables h.dir.leaves c s)) (λ reason. refuses_as reason h s) o)
+        by-checks None is = target-fits s c (option_and_then (leaf_for h.dir.leaves c s) (option_and_then (λ place. slice_get h.tables.tables place) (place_of s.name h.tables.tables))) (items-fit s is)
         by-checks (Some reason) is = (names, tt)
 
   prepares-fit : (s : State) (stamp : ℕ) (r : Result (Unit {0}) Invalid) → MadeFits (prepares_by r h session s stamp)
@@ -294,14 +304,19 @@ module _ (h : Hub) (session : ℕ) (names : NamesFit h.txns) where
 
   pub hub-fits : (s : State) → CallFitsIn s → MadeFits (hub_made h session s)
   hub-fits s fit = by s.stage fit where
-    passes : (c : KeyCall) (target : Target) (o : Option Target) → ItemsFit s → CallFitsIn (passes_to o c target s)
+    passes : (c : KeyCall) (target : Target) (o : Option Leaf) → ItemsFit s → CallFitsIn (passes_to (option_map (stage_for c) o) c target s)
     passes c target None here = answered-fits c target _ s
-    passes c target (Some next) here = here
+    passes c target (Some l) here = leaf-fits s c l here
+
+    fills : (c : KeyCall) (o : Option Leaf) → ItemsFit s → CallFitsIn (fills_to (option_map (stage_for c) o) c s)
+    fills c None here = tt
+    fills c (Some l) here = leaf-fits s c l here
 
     by : (g : Stage) → CallFitsAt g s → MadeFits (hub_made_at g h session s)
     by (stage.Begin read) here = by-option (begins_in s.phase h session s read) _ h.fault (begins-fit s read s.phase) (λ fault. (names, tt))
     by (stage.Find c) here = finds-fit s c
-    by (stage.Pass c target) here = (names, passes c target (option_and_then target_in (next_for c target.leaf h.dir.leaves)) here)
+    by (stage.Fill c wanted) here = (names, fills c (leaf_named wanted.leaf h.dir.leaves) here)
+    by (stage.Pass c target) here = (names, passes c target (next_for c target.leaf h.dir.leaves) here)
     by (stage.History c target) here = (names, answered-fits c target (history_answer h.fault) s)
     by (stage.Release stamp) here = by-option (of_some (prepares_by (answer_by (prepare_rules h.stamps.stable stamp)) h session s stamp) (λ reason. refuses_as reason h s) (unless_running s.phase)) _ h.fault
         (by-option (prepares_by (answer_by (prepare_rules h.stamps.stable stamp)) h session s stamp) (λ reason. refuses_as reason h s) (unless_running s.phase)

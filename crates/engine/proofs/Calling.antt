@@ -1,6 +1,6 @@
 -- A whole call of a session is answered as the model says.
 use Rattle.std.proofs.Common.{◌≡◌, ◌<◌, ℕ, zero, suc, refl, ap, sym, ◌∙◌, List, length, inl, inr, subst}
-use Rattle.std.specs.Prelude.{slice_set, slice_index_or}
+use Rattle.std.specs.Prelude.{None, slice_set, slice_index_or}
 use Rattle.std.proofs.lemmas.List.{get_or-set_same, length-set, set-get_or}
 use Rattle.wt_code.specs.declared.answers.Answer.{Answer}
 use Rattle.wt_code.specs.declared.answers.Answer.TheVariants as answers
@@ -25,9 +25,9 @@ pub record Comes (from : Machine) (w : World) (session : ℕ) (call : Call) (ans
   pub moved_to : last ≡ moved w session last.machine Resting
 
 pub comes : StepsReach → (from : Machine) (w : World) (session : ℕ) (call : Call) (answer : Answer (List ℕ)) → session < length w.sessions
-    → (n : ℕ) (middle last : World) → middle ≡ moved w session middle.machine (doing_of middle session) → Reached from session call (doing_of middle session) middle.machine
+    → (n : ℕ) (middle last : World) → middle ≡ moved w session middle.machine (doing_of middle session) → Reached None from session call (doing_of middle session) middle.machine
     → StepsOut n middle (actor.Session session) answer last → Comes from w session call answer last
-comes law from w session call answer inside zero middle last at reached go = elim (law from middle.machine session call (doing_of middle session) go.made reached go.goes) [
+comes law from w session call answer inside zero middle last at reached go = elim (law None from middle.machine session call (doing_of middle session) go.made reached go.goes) [
   | inl on ↦ absurd (let two : reply.Answer answer ≡ reply.More = go.tells ∙ on.0 in cc)
   | inr is ↦ record {
     answers = subst (λ m. SessionAnswers nothing_around from session call answer m) (sym machine-is) (subst (λ a. SessionAnswers nothing_around from session call a go.made.machine) (same is.0 (go.tells ∙ is.1)) is.2);
@@ -51,9 +51,9 @@ comes law from w session call answer inside zero middle last at reached go = eli
     | inl answered ↦ answered.2
     | inr fewer ↦ absurd (let two : reply.Answer answer ≡ reply.More = go.tells ∙ fewer.0 in cc)
   ]
-comes law from w session call answer inside (suc n) middle last at reached steps = elim (law from middle.machine session call (doing_of middle session) go.made reached go.goes) [
+comes law from w session call answer inside (suc n) middle last at reached steps = elim (law None from middle.machine session call (doing_of middle session) go.made reached go.goes) [
   | inl on ↦ comes law from w session call answer inside n steps.0 last (moved-then w middle steps.0 session reply.More inside at go)
-      (subst (λ d. Reached from session call d steps.0.machine) (sym does-now) (subst (λ m. Reached from session call go.made.doing m) (sym machine-is) on.1)) steps.2
+      (subst (λ d. Reached None from session call d steps.0.machine) (sym does-now) (subst (λ m. Reached None from session call go.made.doing m) (sym machine-is) on.1)) steps.2
   | inr is ↦ absurd (let two : reply.More ≡ reply.Answer is.0 = go.tells ∙ is.1 in cc)
 ] where
   go : MayGo middle session reply.More steps.0
@@ -91,7 +91,7 @@ whole law Resting w middle last session call told answer n rests inside begun no
 
   come : Comes w.machine w session call answer last
   come = comes law w.machine w session call answer inside n middle last (begun.2 ∙ (λ i. moved w session (sym machine-is i) (sym does i)))
-      (subst (λ d. Reached w.machine session call d middle.machine) (sym does) (refl, machine-is)) steps
+      (subst (λ d. Reached None w.machine session call d middle.machine) (sym does) (refl, machine-is)) steps
 
   same : moved w session last.machine Resting ≡ record w { machine = last.machine }
   same = λ i. record w { machine = last.machine; sessions = (ap (slice_set w.sessions session) (sym rests) ∙ set-get_or w.sessions session Resting) i }

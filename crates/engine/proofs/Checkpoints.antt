@@ -29,7 +29,7 @@ use Rattle.leaf_chains.specs.Slots.{chain_at}
 use Rattle.leaf_frame.specs.Leaf.{HeldLeaf}
 use Rattle.tree_dir.specs.declared.leaf.Leaf.{Leaf}
 use Rattle.call_steps.specs.declared.frame.Frame.{Frame}
-use Rattle.engine_world.specs.Leaves.{LeafStands, frame_in}
+use Rattle.engine_world.specs.Leaves.{LeafInFrame, frame_in}
 use Rattle.engine_world.specs.Stands.{Engine, Stands}
 use Rattle.engine_world.specs.Systems.{DownsGo, with_fault}
 use Rattle.engine_world.specs.Worlds.{World}
@@ -37,7 +37,7 @@ use Rattle.engine_world.proofs.HubMoves.{decided-down, decided-up}
 use Rattle.engine.specs.Checkpoints.{HeldStands, MayStart}
 use Rattle.engine.specs.Sizes.{LeafFits, LeavesFit}
 use Rattle.engine.specs.Sound.{IsSound}
-use Rattle.engine.proofs.OneLeaf.{LeavesLaid, frame-is, lies-in}
+use Rattle.engine.proofs.OneLeaf.{LeavesLaid, frame-is, lies-in, placed-stands}
 
 -- ---- the start
 
@@ -120,10 +120,10 @@ has-leaf e w place t sound st at = record {
   l = st.begun place t at
 
   laid : LeavesLaid e.hub.dir.leaves e.pieces e.states
-  laid n there = (st.leaves n there).laid
+  laid n there = (placed-stands e w sound.placed st n there).laid
 
-  own : LeafStands w.machine e.hub.dir.leaves e.pieces e.states l.0
-  own = st.leaves l.0 l.1
+  own : LeafInFrame w.machine e.hub.dir.leaves e.pieces e.states l.0
+  own = placed-stands e w sound.placed st l.0 l.1
 
 pub leaf-given : (e : Engine) (w : World) (place : ℕ) (t : Table) (result : Option (Bor HeldLeaf)) → HasLeaf e w place t
     → option_map (λ l. l.now) result ≡ option_map (λ (f : Frame). f.leaf) (frame_in e.pieces place) → MatchOption result ⊥ (λ l. HeldStands w.machine t l.now)
@@ -144,7 +144,10 @@ leaf-fits e place (Some c) fit is = by (frame_in e.pieces place) refl is where
 
 pub down-sound : DownsGo → (e : Engine) (fault : Fault) → IsSound e → IsSound (with_fault e fault)
 down-sound law e fault sound = record {
-  world = (record sound.world.0 { machine = after sound.world.0.machine (GoDown fault) }, law e sound.world.0 fault sound.world.1);
+  running = record {
+    world = (let was = sound.running.world in (record was.0 { machine = after was.0.machine (GoDown fault) }, law e was.0 fault was.1));
+    framed = sound.running.framed;
+  };
   built = sound.built;
   actors = sound.actors;
   pieces = sound.pieces;

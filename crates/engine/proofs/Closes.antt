@@ -75,6 +75,7 @@ doing-works leaves session a = by-stage a.stage where
   by-stage stage.Rest = refl
   by-stage (stage.Begin read) = refl
   by-stage (stage.Find call) = refl
+  by-stage (stage.Fill call wanted) = refl
   by-stage (stage.Publish call target) = refl
   by-stage (stage.Validate call target) = refl
   by-stage (stage.Look call target) = refl

@@ -26,7 +26,8 @@ use Rattle.engine_world.specs.Leaves.{word_at}
 use Rattle.engine_world.specs.Stands.{Engine, Stands}
 use Rattle.engine_world.specs.Steps.{GoesOn, MayBegin}
 use Rattle.engine_world.specs.Worlds.{World, Resting, doing_of}
-use Rattle.engine.specs.Events.{HasWorld, IsFrameEvent}
+use Rattle.engine.specs.Events.{HasWorld, IsFrameEvent, IsOnHub}
+use Rattle.engine.specs.Sound.{AllFramed}
 use Rattle.engine.proofs.Stepping.{HubLaws, FrameLaws, StoreLaws, hub-goes, frame-goes, store-goes}
 
 -- an element that was lent is that of the list
@@ -36,9 +37,9 @@ lent-at xs i x inside is = slice_get_read xs (length xs) i x refl inside is
 pub seated-at : (e : Engine) (session : ℕ) (a : State) → HasWorld e → slice_get e.sessions session ≡ Some a → IsSeated e.hub session a
 seated-at e session a world at = (world.1.sessions session a at).seated
 
-pub hub-step : HubLaws → (e : Engine) (session : ℕ) (a a' : State) (hub : Hub) (told : Reply) → slice_get e.sessions session ≡ Some a → next_of a ≡ next.Hub
+pub hub-step : HubLaws → (e : Engine) (session : ℕ) (a a' : State) (hub : Hub) (told : Reply) → slice_get e.sessions session ≡ Some a → AllFramed e.hub.dir.leaves → IsOnHub (next_of a)
     → (let made : Made = (told, (hub, a')) in made) ≡ hub_made e.hub session a → (w : World) → Stands e w → Leads (with_session (with_hub e hub) session a') w session told
-hub-step laws e session a a' hub told at on made w st = subst (λ (m : Made). Leads (with_session (with_hub e m.1.0) session m.1.1) w session m.0) (sym made) (hub-goes laws e w session a st at on)
+hub-step laws e session a a' hub told at framed on made w st = subst (λ (m : Made). Leads (with_session (with_hub e m.1.0) session m.1.1) w session m.0) (sym made) (hub-goes laws e w session a st at framed on)
 
 pub load-step : LoadGoes → (e : Engine) (session frame seen : ℕ) (a a' : State) → slice_get e.sessions session ≡ Some a → next_of a ≡ next.Load frame → seen ≡ word_at e.states frame → a' ≡ loaded seen a
     → (w : World) → Stands e w → Leads (with_session e session a') w session reply.More
@@ -83,6 +84,7 @@ rest-step e session a at on w st = (
   by-stage stage.Rest to = refl
   by-stage (stage.Begin read) to = absurd (cc)
   by-stage (stage.Find call) to = absurd (cc)
+  by-stage (stage.Fill call wanted) to = absurd (cc)
   by-stage (stage.Publish call target) to = absurd (cc)
   by-stage (stage.Validate call target) to = absurd (cc)
   by-stage (stage.Look call target) to = absurd (cc)

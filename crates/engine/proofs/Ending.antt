@@ -5,6 +5,7 @@ use Rattle.std.proofs.lemmas.List.{get_or-set_same, length-set, set-set}
 use Rattle.std.proofs.lemmas.Option.{slice_get-get_or}
 use Rattle.wt_code.specs.declared.answers.Answer.{Answer}
 use Rattle.kv_model.specs.Machine.{of_some}
+use Rattle.tree_dir.specs.Leaves.{Directory}
 use Rattle.call_steps.specs.declared.reply.Reply.{Reply}
 use Rattle.call_steps.specs.declared.reply.Reply.TheVariants as reply
 use Rattle.call_steps.specs.State.{opened}
@@ -17,14 +18,17 @@ use Rattle.engine.specs.declared.step.Actor.TheVariants as actor
 use Rattle.engine.specs.Events.{HasWorld}
 use Rattle.engine.specs.Goings.{IsTaken}
 use Rattle.engine.specs.Runs.{StepsMore, StepsOut}
-use Rattle.engine.specs.Sound.{Keeps}
+use Rattle.engine.specs.Sound.{AllFramed, IsRunning, Keeps}
 use Rattle.engine.specs.Whole.{Ends, left_of, left_at, moved}
 use Rattle.engine.proofs.Lefts.{ends-or-fewer}
+
+pub runs-on : (old new : Engine) → IsRunning old → Keeps old new → HasWorld new → IsRunning new
+runs-on old new running kept world = record { world = world; framed = subst (λ (d : Directory). AllFramed d.leaves) (sym kept.dir) running.framed }
 
 -- steps of the call were made, and it goes on
 pub record IsOnWay (old now : Engine) (session : ℕ) : Type 0 where
   pub open_one : session < length now.sessions
-  pub world : HasWorld now
+  pub running : IsRunning now
   pub kept : Keeps old now
   pub more : (w : World) → Stands old w → (n : ℕ) × (middle : World) × StepsMore n w (actor.Session session) middle × Stands now middle
 
@@ -37,8 +41,8 @@ keeps-from {new} e old same k = subst (λ x. Keeps x new) same k
 pub keeps-same : (e : Engine) → Keeps e e
 keeps-same e = record { systems = refl; pieces = refl; states = refl; tables = refl; dir = refl; free = λ frame none. none; sizes = λ fit. fit }
 
-pub starts-way : (e : Engine) (session : ℕ) → session < length e.sessions → HasWorld e → IsOnWay e e session
-starts-way e session inside world = record { open_one = inside; world = world; kept = keeps-same e; more = λ w st. (0, w, refl, st) }
+pub starts-way : (e : Engine) (session : ℕ) → session < length e.sessions → IsRunning e → IsOnWay e e session
+starts-way e session inside running = record { open_one = inside; running = running; kept = keeps-same e; more = λ w st. (0, w, refl, st) }
 
 more-then : (n : ℕ) (w middle last : World) (session : ℕ) → StepsMore n w (actor.Session session) middle → MayGo middle session reply.More last → StepsMore (suc n) w (actor.Session session) last
 more-then zero w middle last session same goes = (last, subst (λ x. MayGo x session reply.More last) same goes, refl)
@@ -68,18 +72,18 @@ pub goes-way : (old now new : Engine) (session : ℕ) (told : Reply) → IsOnWay
 goes-way old now new session told way steps kept none = (
   record {
     open_one = open_new;
-    world = (leads.0, leads.2);
+    running = runs-on now new way.running kept (leads.0, leads.2);
     kept = keeps-then old now new way.kept kept;
     more = λ w st. let m = way.more w st in let l = steps m.1 m.3 in
         (suc m.0, l.0, more-then m.0 w m.1 l.0 session m.2 (subst (λ t. MayGo m.1 session t l.0) (is-more m.1 l.0 l.1) l.1), l.2);
   },
   fewer,
 ) where
-  leads : Leads new way.world.0 session told
-  leads = steps way.world.0 way.world.1
+  leads : Leads new way.running.world.0 session told
+  leads = steps way.running.world.0 way.running.world.1
 
   open_new : session < length new.sessions
-  open_new = leads-open now new way.world.0 session told way.world.1 leads way.open_one
+  open_new = leads-open now new way.running.world.0 session told way.running.world.1 leads way.open_one
 
   is-more : (w later : World) → MayGo w session told later → told ≡ reply.More
   is-more w later go = elim (ends-or-fewer (doing_of w session) w.machine session go.made go.goes) [
@@ -88,16 +92,16 @@ goes-way old now new session told way steps kept none = (
   ]
 
   fewer : left_at new session < left_at now session
-  fewer = elim (ends-or-fewer (doing_of way.world.0 session) way.world.0.machine session leads.1.made leads.1.goes) [
+  fewer = elim (ends-or-fewer (doing_of way.running.world.0 session) way.running.world.0.machine session leads.1.made leads.1.goes) [
     | inl answered ↦ absurd (none answered.0 (leads.1.tells ∙ answered.1))
-    | inr less ↦ subst (λ n. left_at new session < n) (sym (does-at now way.world.0 session way.world.1 way.open_one))
-        (subst (λ n. n < left_of (doing_of way.world.0 session)) (sym (does-at new leads.0 session leads.2 open_new ∙ ap left_of does-now)) less.1)
+    | inr less ↦ subst (λ n. left_at new session < n) (sym (does-at now way.running.world.0 session way.running.world.1 way.open_one))
+        (subst (λ n. n < left_of (doing_of way.running.world.0 session)) (sym (does-at new leads.0 session leads.2 open_new ∙ ap left_of does-now)) less.1)
   ] where
-    inside : session < length way.world.0.sessions
-    inside = let d = way.world.1.doings in let o = way.open_one in omega (arith, d, o)
+    inside : session < length way.running.world.0.sessions
+    inside = let d = way.running.world.1.doings in let o = way.open_one in omega (arith, d, o)
 
     does-now : doing_of leads.0 session ≡ leads.1.made.doing
-    does-now = ap (λ (x : World). doing_of x session) leads.1.leaves ∙ get_or-set_same way.world.0.sessions session leads.1.made.doing Resting inside
+    does-now = ap (λ (x : World). doing_of x session) leads.1.leaves ∙ get_or-set_same way.running.world.0.sessions session leads.1.made.doing Resting inside
 
 pub ends-way : (old now new : Engine) (session : ℕ) (answer : Answer (List ℕ)) → IsOnWay old now session → ((w : World) → Stands now w → Leads new w session (reply.Answer answer))
     → (w : World) → Stands old w → Ends new w (actor.Session session) answer

@@ -15,7 +15,7 @@ use Rattle.call_steps.specs.declared.frame.FramePiece.{FramePiece}
 use Rattle.engine_world.specs.Leaves.{frame_in}
 use Rattle.engine_world.specs.Systems.{HasFirstLeaf}
 use Rattle.engine_world.proofs.Appended.{append-keeps, append-last}
-use Rattle.engine_world.proofs.NewLeaf.{IsCome, come-cases, come-kept, comes, new-there, new_leaf}
+use Rattle.engine_world.proofs.NewLeaf.{IsCome, come-cases, come-there, comes, new-there, new_leaf}
 use Rattle.engine.specs.Openings.{AreBare, AreLaid, IsHeld}
 use Rattle.engine.proofs.OneLeaf.{place-one}
 
@@ -136,7 +136,7 @@ module _ (known : Known) (helds : List HeldLeaf) (pieces : List FramePiece) (d :
     begun : (place : ℕ) (u : Table) → n ≤ place → slice_get known.tables place ≡ Some u → (l : Leaf) × Contains made.leaves l × (l.table ≡ u.number)
     begun place u from there = elim (cases_eq n place) [
       | inl same ↦ (new_leaf t.number id n, new-there d made.leaves (new_leaf t.number id n) is come, ap (λ (v : Table). v.number) (same_Some t u (sym at ∙ (ap (slice_get known.tables) same ∙ there))))
-      | inr other ↦ let old = laid.begun place u (omega (arith, from, other)) there in (old.0, (come-kept d made.leaves (new_leaf t.number id n) is come).there old.0 old.1, old.2)
+      | inr other ↦ let old = laid.begun place u (omega (arith, from, other)) there in (old.0, come-there d made.leaves (new_leaf t.number id n) is come old.0 old.1, old.2)
     ]
 
     pub one-laid : AreLaid n known.tables helds made.leaves (slice_set pieces n (laid_piece t.number id held))

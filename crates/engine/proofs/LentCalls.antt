@@ -1,5 +1,5 @@
 -- Calls whose items are lent: they start, or memory is too short for the copies and nothing has changed.
-use Rattle.std.proofs.Common.{◌≡◌, ℕ, refl, ap, sym, ◌∙◌, inl, inr, List, Result, Ok, Err, subst}
+use Rattle.std.proofs.Common.{◌≡◌, ℕ, refl, ap, sym, ◌∙◌, inr, List, Result, Ok, Err, subst}
 use Rattle.std.specs.Prelude.{Some, slice_get, slice_set, IfOk, OnErr}
 use Rattle.std.proofs.lemmas.List.{set-get_or}
 use Rattle.std.proofs.lemmas.Option.{get_or_from_slice_get}

@@ -11,9 +11,11 @@ use Rattle.tree_dir.specs.Ranges.{HasKey}
 use Rattle.tree_dir.proofs.Parting.{has-under, keys-have}
 use Rattle.catalog.specs.Known.{AreTables, Known, NumbersAscend}
 use Rattle.call_steps.specs.declared.frame.FramePiece.{FramePiece}
-use Rattle.engine_world.specs.Leaves.{IsLaid}
-use Rattle.engine_world.proofs.Homes.{one-leaf}
-use Rattle.engine.specs.Sound.{IsPlaced, LeavesPlaced}
+use Rattle.engine_world.specs.Leaves.{IsLaid, LeafInFrame}
+use Rattle.engine_world.specs.Stands.{Engine, Stands}
+use Rattle.engine_world.specs.Worlds.{World}
+use Rattle.engine_world.proofs.Homes.{in-its-frame, one-leaf}
+use Rattle.engine.specs.Sound.{AllFramed, IsPlaced, LeavesPlaced}
 
 -- ---- numbers
 
@@ -43,6 +45,15 @@ place-one low (x ∷ known) next (suc i) zero t u ascend at other same =
 place-one low (x ∷ known) next (suc i) (suc j) t u ascend at other same = ap suc (place-one (x.number + 1) known next i j t u ascend.1 at other same)
 
 -- ---- the leaf
+
+-- each leaf is in a frame
+pub placed-framed : (known : List Table) (leaves : List Leaf) → LeavesPlaced known leaves → AllFramed leaves
+placed-framed known leaves placed l there = let p = placed l there in (record { frame = p.place; generation = 0 }, p.frame)
+
+-- and stands there
+pub placed-stands : (e : Engine) (w : World) → LeavesPlaced e.hub.tables.tables e.hub.dir.leaves → Stands e w → (l : Leaf) → Contains e.hub.dir.leaves l → LeafInFrame w.machine e.hub.dir.leaves e.pieces e.states l
+placed-stands e w placed st l there = let f = placed-framed e.hub.tables.tables e.hub.dir.leaves placed l there in
+    in-its-frame w.machine w.shelf e.hub.dir.leaves e.pieces e.states l f.0 f.1 (st.leaves l there)
 
 -- each leaf is in its frame
 abbrev pub LeavesLaid : List Leaf → List FramePiece → List ℕ → Type 0

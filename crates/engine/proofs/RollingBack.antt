@@ -23,10 +23,10 @@ use Rattle.engine_world.proofs.HubMoves.{decided-up, none-there, one-there}
 use Rattle.engine_world.proofs.Rollbacks.{up-living}
 use Rattle.engine.specs.Closes.{MayClose}
 use Rattle.engine.specs.Events.{HasWorld}
-use Rattle.engine.specs.Sound.{AreBuilt, IsSound, Keeps, LeavesPlaced}
+use Rattle.engine.specs.Sound.{AreBuilt, IsRunning, IsSound, Keeps, LeavesPlaced}
 use Rattle.engine.specs.Whole.{CallsIn, MayCall}
 use Rattle.engine.proofs.Closes.{close-rests, close-up, resting-ends}
-use Rattle.engine.proofs.Ending.{keeps-same, keeps-then}
+use Rattle.engine.proofs.Ending.{keeps-same, keeps-then, runs-on}
 
 -- ---- one session
 
@@ -126,13 +126,13 @@ pub record RolledTo (now : Engine) (w : World) (at : ℕ) : Type 0 where
   pub rest : left_from machine at ≡ rolled_back w.machine
 
 pub record IsRolledTo (old now : Engine) (at : ℕ) : Type 0 where
-  pub world : HasWorld now
+  pub running : IsRunning now
   pub kept : Keeps old now
   pub count : length now.sessions ≡ length old.sessions
   pub rolled : (w : World) → Stands old w → MayClose w → RolledTo now w at
 
-pub rolls-none : (e : Engine) → HasWorld e → IsRolledTo e e 0
-rolls-none e world = record { world = world; kept = keeps-same e; count = refl; rolled = λ w st may. record { machine = w.machine; stands = st; up = close-up w may; rest = refl } }
+pub rolls-none : (e : Engine) → IsRunning e → IsRolledTo e e 0
+rolls-none e running = record { running = running; kept = keeps-same e; count = refl; rolled = λ w st may. record { machine = w.machine; stands = st; up = close-up w may; rest = refl } }
 
 -- what a call of a session leaves
 abbrev pub Called : Engine → Engine → ℕ → Answer (List ℕ) → Type 0
@@ -150,9 +150,9 @@ called-count now new session answer world call = let later = call world.0 world.
 
 pub rolls-one : (old now new : Engine) (session : ℕ) (answer : Answer (List ℕ)) → IsRolledTo old now session → session < length now.sessions → Called now new session answer → Keeps now new → IsRolledTo old new (session + 1)
 rolls-one old now new session answer way inside call kept = record {
-  world = (let later = call way.world.0 way.world.1 in (later.0, later.2));
+  running = runs-on now new way.running kept (let later = call way.running.world.0 way.running.world.1 in (later.0, later.2));
   kept = keeps-then old now new way.kept kept;
-  count = called-count now new session answer way.world call ∙ way.count;
+  count = called-count now new session answer way.running.world call ∙ way.count;
   rolled = λ w st may. rolled w st may (way.rolled w st may);
 } where
   rolled : (w : World) → Stands old w → MayClose w → RolledTo now w session → RolledTo new w (session + 1)
@@ -183,7 +183,7 @@ rolls-all old now at way over w st may = let r = way.rolled w st may in
 -- what holds of every engine is kept
 pub keeps-sound : (old new : Engine) → IsSound old → HasWorld new → Keeps old new → IsSound new
 keeps-sound old new sound world kept = record {
-  world = world;
+  running = runs-on old new sound.running kept world;
   built = subst AreBuilt (sym kept.systems) sound.built;
   actors = ap length kept.systems ∙ sound.actors;
   pieces = kept.pieces ∙ sound.pieces;

@@ -19,6 +19,7 @@ use Rattle.call_steps.specs.declared.stage.KeyCall.TheVariants as key_call
 use Rattle.call_steps.specs.declared.stage.Stage.{Stage}
 use Rattle.call_steps.specs.declared.stage.Stage.TheVariants as stage
 use Rattle.call_steps.specs.declared.stage.Target.{Target}
+use Rattle.call_steps.specs.declared.stage.Wanted.{Wanted}
 use Rattle.call_steps.specs.declared.written.WrittenKey.{WrittenKey}
 use Rattle.call_steps.specs.FrameEvents.{FrameMade}
 use Rattle.call_steps.specs.HubEvents.{hub_made}
@@ -26,17 +27,22 @@ use Rattle.call_steps.specs.State.{State}
 use Rattle.call_steps.specs.Words.{next_at, next_of, stored}
 use Rattle.call_steps.specs.Written.{frame_at}
 use Rattle.engine_world.specs.Worlds.{World}
-use Rattle.engine_world.specs.Laws.{Leads, IsViewOf, with_hub, with_piece, with_hazard, with_session, BeginsGo, FindsGo, PassesGo, HistoriesGo, ReleasesGo, DecidesGo, ResolvesGo, EndsGo, ReadsGo, WritesGo, RowsGo, MarksGo, OrdersGo, StampsGo, UndosGo, PublishesGo, ClearsGo, ResetsGo, UnpinsGo, IsBegin, IsFind, IsPass, IsHistory, IsRelease, IsDecide, IsResolve, IsDone, ReadsKey, WritesKey, StepsOn, IsLook, IsMark, IsOrder, IsStamp, IsUndo, IsPublish, IsClearing, IsReset, IsUnpin}
+use Rattle.engine_world.specs.Laws.{Leads, IsViewOf, with_hub, with_piece, with_hazard, with_session, BeginsGo, FindsGo, FillsGo, PassesGo, HistoriesGo, ReleasesGo, DecidesGo, ResolvesGo, EndsGo, ReadsGo, WritesGo, RowsGo, MarksGo, OrdersGo, StampsGo, UndosGo, PublishesGo, ClearsGo, ResetsGo, UnpinsGo, IsBegin, IsFind, IsFilled, IsPass, IsHistory, IsRelease, IsDecide, IsResolve, IsDone, ReadsKey, WritesKey, StepsOn, IsLook, IsMark, IsOrder, IsStamp, IsUndo, IsPublish, IsClearing, IsReset, IsUnpin}
 use Rattle.engine_world.specs.Leaves.{frame_in}
 use Rattle.engine_world.specs.Stages.{IsLeft, IsLeafOf, StageStands}
 use Rattle.engine_world.specs.Stands.{Engine, Stands}
-use Rattle.engine_world.proofs.Homes.{home-at, target-frame}
+use Rattle.tree_dir.specs.Leaves.{leaf_named}
+use Rattle.tree_dir.proofs.Parting.{ids-name}
+use Rattle.engine_world.proofs.Homes.{home-at, in-its-frame, target-frame, target-is}
+use Rattle.engine.specs.Events.{IsOnHub}
+use Rattle.engine.specs.Sound.{AllFramed}
 
 -- ---- the hub
 
 pub record HubLaws : Type 0 where
   pub begins : BeginsGo
   pub finds : FindsGo
+  pub fills : FillsGo
   pub passes : PassesGo
   pub histories : HistoriesGo
   pub releases : ReleasesGo
@@ -44,30 +50,35 @@ pub record HubLaws : Type 0 where
   pub resolves : ResolvesGo
   pub ends : EndsGo
 
-pub hub-goes : HubLaws → (e : Engine) (w : World) (session : ℕ) (a : State) → Stands e w → slice_get e.sessions session ≡ Some a → next_of a ≡ next.Hub
+pub hub-goes : HubLaws → (e : Engine) (w : World) (session : ℕ) (a : State) → Stands e w → slice_get e.sessions session ≡ Some a → AllFramed e.hub.dir.leaves → IsOnHub (next_of a)
     → let made = hub_made e.hub session a in Leads (with_session (with_hub e made.1.0) session made.1.1) w session made.0
-hub-goes laws e w session a st at on = by-stage a.stage refl on where
-  by-stage : (s : Stage) → a.stage ≡ s → next_at s a ≡ next.Hub → let made = hub_made e.hub session a in Leads (with_session (with_hub e made.1.0) session made.1.1) w session made.0
+hub-goes laws e w session a st at framed on = by-stage a.stage refl on where
+  filled : (call : KeyCall) (wanted : Wanted) → StageStands (stage.Fill call wanted) w.machine e.hub.dir.leaves e.pieces session a → IsFilled e.hub (stage.Fill call wanted)
+  filled call wanted x = let l = x.1.0.0 in let f = framed l x.1.0.1 in
+      (l, f.0, ap (λ id. leaf_named id e.hub.dir.leaves) (sym x.1.0.2) ∙ ids-name e.hub.dir st.dir l x.1.0.1, f.1)
+
+  by-stage : (s : Stage) → a.stage ≡ s → IsOnHub (next_at s a) → let made = hub_made e.hub session a in Leads (with_session (with_hub e made.1.0) session made.1.1) w session made.0
   by-stage (stage.Begin read) is on = laws.begins e w session a st at (subst IsBegin (sym is) tt)
   by-stage (stage.Find call) is on = laws.finds e w session a st at (subst IsFind (sym is) tt)
+  by-stage (stage.Fill call wanted) is on = laws.fills e w session a st at (subst (IsFilled e.hub) (sym is) (filled call wanted (subst (λ x. StageStands x w.machine e.hub.dir.leaves e.pieces session a) is (st.sessions session a at).stage)))
   by-stage (stage.Pass call target) is on = laws.passes e w session a st at (subst IsPass (sym is) tt)
   by-stage (stage.History call target) is on = laws.histories e w session a st at (subst IsHistory (sym is) tt)
   by-stage (stage.Release stamp) is on = laws.releases e w session a st at (subst IsRelease (sym is) tt)
   by-stage (stage.Decide stamps) is on = laws.decides e w session a st at (subst IsDecide (sym is) tt)
   by-stage stage.Resolve is on = laws.resolves e w session a st at (subst IsResolve (sym is) tt)
   by-stage stage.Done is on = laws.ends e w session a st at (subst IsDone (sym is) tt)
-  by-stage stage.Rest is on = absurd (cc)
-  by-stage (stage.Publish call target) is on = absurd (cc)
-  by-stage (stage.Validate call target) is on = absurd (cc)
-  by-stage (stage.Look call target) is on = absurd (cc)
-  by-stage (stage.ClearCursor call target) is on = absurd (cc)
-  by-stage (stage.Clear call target) is on = absurd (cc)
-  by-stage (stage.Reset cursor) is on = absurd (cc)
-  by-stage (stage.Mark stamp left) is on = absurd (cc)
-  by-stage (stage.Order stamps left) is on = absurd (cc)
-  by-stage (stage.Stamp stamps left) is on = absurd (cc)
-  by-stage (stage.Undo left) is on = absurd (cc)
-  by-stage (stage.Unpin cursor) is on = absurd (cc)
+  by-stage stage.Rest is on = absurd on
+  by-stage (stage.Publish call target) is on = absurd on
+  by-stage (stage.Validate call target) is on = absurd on
+  by-stage (stage.Look call target) is on = absurd on
+  by-stage (stage.ClearCursor call target) is on = absurd on
+  by-stage (stage.Clear call target) is on = absurd on
+  by-stage (stage.Reset cursor) is on = absurd on
+  by-stage (stage.Mark stamp left) is on = absurd on
+  by-stage (stage.Order stamps left) is on = absurd on
+  by-stage (stage.Stamp stamps left) is on = absurd on
+  by-stage (stage.Undo left) is on = absurd on
+  by-stage (stage.Unpin cursor) is on = absurd on
 
 -- ---- frames
 
@@ -99,6 +110,7 @@ frame-goes laws e w session frame a a' p p' view st at on piece is-view made = b
   by-stage stage.Rest is to = absurd (cc)
   by-stage (stage.Begin read) is to = absurd (cc)
   by-stage (stage.Find call) is to = absurd (cc)
+  by-stage (stage.Fill call wanted) is to = absurd (cc)
   by-stage (stage.Publish call target) is to = absurd (cc)
   by-stage (stage.Validate call target) is to = absurd (cc)
   by-stage (stage.Pass call target) is to = absurd (cc)
@@ -133,7 +145,7 @@ written-there e w session (suc n) a st at some = by-key (slice_get a.written n) 
 
   of-key : (k : WrittenKey) → Member k a.written → k.frame < length e.pieces
   of-key k in-written = let wrote = (st.sessions session a at).noted.wrote k in-written in
-      let home = home-at w.machine e.hub.dir e.pieces e.states wrote.0.table wrote.0.key k.frame st.dir st.leaves wrote.2.home in
+      let home = home-at w.machine w.shelf e.hub.dir e.pieces e.states wrote.0.table wrote.0.key k.frame st.dir st.leaves wrote.2.home in
       piece-there e.pieces k.frame home.stands.laid.frame (ap (frame_in e.pieces) (sym home.at) ∙ home.stands.laid.there)
 
   by-key : (o : Option WrittenKey) → slice_get a.written n ≡ o → of_some 0 (λ (k : WrittenKey). k.frame) o < length e.pieces
@@ -154,7 +166,7 @@ is-ready e w session frame a st at on = by-stage a.stage refl on (st.sessions se
   ready place there is busy = record { there = subst (λ f. f < length e.pieces) (let x : place ≡ frame = cc in x) there; busy = busy }
 
   leaf-there : (target : Target) → IsLeafOf e.hub.dir.leaves target → target.frame < length e.pieces
-  leaf-there target of = let laid = (st.leaves of.0 of.1).laid in
+  leaf-there target of = let t = target-is of.0 target of.2 in let laid = (in-its-frame w.machine w.shelf e.hub.dir.leaves e.pieces e.states of.0 t.framed t.placed (st.leaves of.0 of.1)).laid in
       piece-there e.pieces target.frame laid.frame (ap (frame_in e.pieces) (sym (target-frame e.pieces e.states of.0 target laid of.2)) ∙ laid.there)
 
   by-stage : (s : Stage) → a.stage ≡ s → next_at s a ≡ next.Frame frame → StageStands a.stage w.machine e.hub.dir.leaves e.pieces session a → IsReady e session frame
@@ -168,6 +180,7 @@ is-ready e w session frame a st at on = by-stage a.stage refl on (st.sessions se
     by-facts stage.Rest to facts = absurd (cc)
     by-facts (stage.Begin read) to facts = absurd (cc)
     by-facts (stage.Find call) to facts = absurd (cc)
+    by-facts (stage.Fill call wanted) to facts = absurd (cc)
     by-facts (stage.Publish call target) to facts = absurd (cc)
     by-facts (stage.Validate call target) to facts = absurd (cc)
     by-facts (stage.Pass call target) to facts = absurd (cc)
@@ -201,6 +214,7 @@ store-goes laws e w session word value at a st there on = by-stage a.stage refl 
   by-stage stage.Rest is to = absurd (cc)
   by-stage (stage.Begin read) is to = absurd (cc)
   by-stage (stage.Find call) is to = absurd (cc)
+  by-stage (stage.Fill call wanted) is to = absurd (cc)
   by-stage (stage.Validate call target) is to = absurd (cc)
   by-stage (stage.Look call target) is to = absurd (cc)
   by-stage (stage.Pass call target) is to = absurd (cc)

@@ -36,7 +36,7 @@ use Rattle.engine.specs.Sound.{IsPlaced, IsSound, LeavesPlaced}
 use Rattle.engine.specs.Systems.{Makes}
 use Rattle.engine.proofs.LeafSizes.{filled-fits, leaves-set}
 use Rattle.engine.proofs.Laying.{frame-other}
-use Rattle.engine.proofs.OneLeaf.{number-below}
+use Rattle.engine.proofs.OneLeaf.{number-below, placed-framed}
 
 -- ---- a fault comes first
 
@@ -177,11 +177,11 @@ module _ (laws : CreateLaws) (e : Engine) (name : List ℕ) (formats : Formats) 
     frame = refl;
   }
 
-  world : Stands e sound.world.0
-  world = sound.world.1
+  world : Stands e sound.running.world.0
+  world = sound.running.world.1
 
   come : IsCome e.hub.dir.leaves dir.leaves (new_leaf t.number id place)
-  come = comes e.hub.dir dir t.number id place world.dir (none-yet e sound.world.0 world sound.placed) first
+  come = comes e.hub.dir dir t.number id place world.dir (none-yet e sound.running.world.0 world sound.placed) first
 
   placed : LeavesPlaced known.tables dir.leaves
   placed l at = elim (come-cases e.hub.dir dir.leaves (new_leaf t.number id place) world.dir come l at) [
@@ -192,12 +192,12 @@ module _ (laws : CreateLaws) (e : Engine) (name : List ℕ) (formats : Formats) 
   free : (frame : ℕ) → length known.tables ≤ frame → frame_in new.pieces frame ≡ None
   free frame above = frame-other e.pieces place frame (first_piece t id) (λ same. omega (arith, made.1, long, above, same)) ∙ sound.free frame (omega (arith, long, above))
 
-  then : Makes new sound.world.0 (Create name formats) answers.Done
-  then = create-new sound.world.0 world
+  then : Makes new sound.running.world.0 (Create name formats) answers.Done
+  then = create-new sound.running.world.0 world
 
   pub new-sound : IsSound (with_table e known dir (table_in e name formats) id place)
   new-sound = record {
-    world = (record sound.world.0 { machine = then.0 }, then.2);
+    running = record { world = (record sound.running.world.0 { machine = then.0 }, then.2); framed = placed-framed known.tables dir.leaves placed };
     built = sound.built;
     actors = sound.actors;
     pieces = length-set e.pieces place _ ∙ sound.pieces;

@@ -60,7 +60,10 @@ set-built (y ∷ ys) (suc n) x built new (suc i) asked is = set-built ys n x (λ
 
 pub set-sound : (e : Engine) (number : ℕ) (x : Option SystemCall) → IsSound e → ((asked : SystemCall) → x ≡ Some asked → IsBuilt asked) → IsSound (record e { systems = slice_set e.systems number x })
 set-sound e number x sound new = record {
-  world = (record sound.world.0 { systems = slice_set sound.world.0.systems number (option_map system_call_in x) }, set-stands e sound.world.0 number x sound.world.1);
+  running = record {
+    world = (let was = sound.running.world in (record was.0 { systems = slice_set was.0.systems number (option_map system_call_in x) }, set-stands e was.0 number x was.1));
+    framed = sound.running.framed;
+  };
   built = set-built e.systems number x sound.built new;
   actors = length-set e.systems number x ∙ sound.actors;
   pieces = sound.pieces;
@@ -74,7 +77,10 @@ set-sound e number x sound new = record {
 -- a session more, which rests
 pub more-sound : OpensGo → (e : Engine) → IsSound e → IsSound (with_opened e)
 more-sound law e sound = record {
-  world = (with_session_more sound.world.0, law e sound.world.0 sound.world.1);
+  running = record {
+    world = (let was = sound.running.world in (with_session_more was.0, law e was.0 was.1));
+    framed = sound.running.framed;
+  };
   built = sound.built;
   actors = sound.actors;
   pieces = sound.pieces;

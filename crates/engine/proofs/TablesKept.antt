@@ -12,10 +12,9 @@ use Rattle.call_steps.specs.declared.stage.CommitStamps.{CommitStamps}
 use Rattle.call_steps.specs.declared.stage.KeyCall.{KeyCall}
 use Rattle.call_steps.specs.declared.stage.Stage.{Stage}
 use Rattle.call_steps.specs.declared.stage.Stage.TheVariants as stage
-use Rattle.call_steps.specs.declared.stage.Target.{Target}
 use Rattle.call_steps.specs.HubEvents.{Made, hub_made, hub_made_at, begins_in, begins_by, find_made, finds, finds_at, finds_drawn, draws, prepares_by, done_in, decides_in, decides_running, decides_prepared, leaves_with, resolves_in, refuses_as, item_checks}
 use Rattle.call_steps.specs.State.{State}
-use Rattle.call_steps.specs.Tables.{target_of}
+use Rattle.call_steps.specs.Tables.{stage_of}
 use Rattle.call_steps.specs.Words.{unless_running}
 use Rattle.kv_model.specs.Refusals.{first_of, begin_rules, prepare_rules, commit_rules, resolve_rules}
 use Rattle.ts_rules.specs.Rules.{answer_by}
@@ -49,11 +48,11 @@ begins-keep h session s read phase.Leaving = (refl, refl)
 finds-keep : (h : Hub) (session : ℕ) (s : State) (call : KeyCall) → KeepsTables h (find_made h session s call)
 finds-keep h session s call = by-option h (of_some (finds h session s call) (λ reason. refuses_as reason h s) (unless_running s.phase)) _ h.fault
     (by-option h (finds h session s call) (λ reason. refuses_as reason h s) (unless_running s.phase)
-    (by-option h (finds_at h session s call (target_of h.tables h.dir.leaves call s)) (λ reason. refuses_as reason h s) (first_of (item_checks s)) (at-target (target_of h.tables h.dir.leaves call s)) (λ reason. (refl, refl))) (λ reason. (refl, refl)))
+    (by-option h (finds_at h session s call (stage_of h.tables h.dir.leaves call s)) (λ reason. refuses_as reason h s) (first_of (item_checks s)) (at-target (stage_of h.tables h.dir.leaves call s)) (λ reason. (refl, refl))) (λ reason. (refl, refl)))
     (λ fault. (refl, refl)) where
-      at-target : (o : Option Target) → KeepsTables h (finds_at h session s call o)
+      at-target : (o : Option Stage) → KeepsTables h (finds_at h session s call o)
       at-target None = (refl, refl)
-      at-target (Some target) = by-bool h (draws call h session) (finds_drawn h session s call target) _ (by-bool h (nat_lt NUMBER_MAX h.txns.next) _ _ (refl, refl) (refl, refl)) (refl, refl)
+      at-target (Some to) = by-bool h (draws call h session) (finds_drawn h session s to) _ (by-bool h (nat_lt NUMBER_MAX h.txns.next) _ _ (refl, refl) (refl, refl)) (refl, refl)
 
 decides-keep : (h : Hub) (session : ℕ) (s : State) (stamps : CommitStamps) (p : Phase) → KeepsTables h (decides_in p h session s stamps)
 decides-keep h session s stamps phase.Idle = (refl, refl)
@@ -94,6 +93,7 @@ hub-keeps h session s = by-stage s.stage where
   by-stage : (g : Stage) → KeepsTables h (hub_made_at g h session s)
   by-stage (stage.Begin read) = by-option h (begins_in s.phase h session s read) _ h.fault (begins-keep h session s read s.phase) (λ fault. (refl, refl))
   by-stage (stage.Find call) = finds-keep h session s call
+  by-stage (stage.Fill call wanted) = (refl, refl)
   by-stage (stage.Pass call target) = (refl, refl)
   by-stage (stage.History call target) = (refl, refl)
   by-stage (stage.Release stamp) = by-option h (of_some (prepares_by (answer_by (prepare_rules h.stamps.stable stamp)) h session s stamp) (λ reason. refuses_as reason h s) (unless_running s.phase)) _ h.fault

@@ -1,17 +1,29 @@
 -- What an engine is opened on, and how its leaves are laid into the frames.
-use Rattle.std.specs.Prelude.{◌≡◌, ◌≤◌, ℕ, List, Some, None, slice_get}
+use Rattle.std.specs.Prelude.{◌≡◌, ◌≤◌, ℕ, List, [], Some, None, slice_get}
 use Rattle.std.specs.List.{Contains}
 use Rattle.kv_model.specs.Content.{Content}
 use Rattle.kv_model.specs.History.{Table}
 use Rattle.kv_model.specs.Machine.{of_some}
 use Rattle.kv_model.specs.Regular.{IsRegular}
+use Rattle.row_page.specs.Rows.{Row}
 use Rattle.leaf_frame.specs.Leaf.{HeldLeaf}
 use Rattle.catalog.specs.Known.{Known}
 use Rattle.call_steps.specs.declared.frame.FramePiece.{FramePiece}
 use Rattle.tree_dir.specs.declared.leaf.Leaf.{Leaf}
 use Rattle.engine_world.specs.Leaves.{frame_in}
+use Rattle.engine_world.specs.Stands.{Engine}
+use Rattle.engine_world.specs.Systems.{first_world as world_on}
+use Rattle.engine_world.specs.Worlds.{World}
 use Rattle.engine.specs.Bases.{IsBaseOf}
 use Rattle.engine.specs.Sound.{IsPlaced}
+
+-- no leaf is on the device alone
+abbrev pub no_shelf : ℕ → List Row
+no_shelf id = []
+
+-- the world with which an engine begins that has each of its leaves in a frame
+abbrev pub first_world : Content → Engine → World
+first_world c e = world_on c no_shelf e
 
 -- what is handed to an engine is some content that a device may hold
 abbrev pub HasBase : ℕ → ℕ → ℕ → Known → List HeldLeaf → Type 0

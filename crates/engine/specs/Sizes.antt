@@ -27,6 +27,7 @@ ItemsFit a = (length a.key ≤ KEY_MAX) × (length a.value ≤ VALUE_MAX)
 
 -- they do from the event that finds its table up to the last look
 abbrev pub CallFitsAt : Stage → State → Type 0
+CallFitsAt (stage.Fill call wanted) a = ItemsFit a
 CallFitsAt (stage.Publish call target) a = ItemsFit a
 CallFitsAt (stage.Validate call target) a = ItemsFit a
 CallFitsAt (stage.Look call target) a = ItemsFit a

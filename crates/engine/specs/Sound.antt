@@ -3,6 +3,7 @@ use Rattle.std.specs.Prelude.{◌≡◌, ◌+◌, ◌^◌, ◌<◌, ◌≤◌, �
 use Rattle.std.specs.List.{Contains}
 use Rattle.limits.specs.declared.TheConstants.{TABLES_MAX}
 use Rattle.kv_model.specs.History.{Table}
+use Rattle.tree_dir.specs.declared.leaf.Framed.{Framed}
 use Rattle.tree_dir.specs.declared.leaf.Leaf.{Leaf}
 use Rattle.wt_calls.specs.declared.system_call.SystemCall.{SystemCall}
 use Rattle.engine_world.specs.Leaves.{frame_in}
@@ -27,8 +28,17 @@ pub record IsPlaced (known : List Table) (l : Leaf) : Type 0 where
 abbrev pub LeavesPlaced : List Table → List Leaf → Type 0
 LeavesPlaced known leaves = (l : Leaf) → Contains leaves l → IsPlaced known l
 
-pub record IsSound (e : Engine) : Type 0 where
+-- each leaf is in a frame
+abbrev pub AllFramed : List Leaf → Type 0
+AllFramed leaves = (l : Leaf) → Contains leaves l → (f : Framed) × (l.frame ≡ Some f)
+
+-- it stands for some world, and no call of it waits for a leaf
+pub record IsRunning (e : Engine) : Type 0 where
   pub world : HasWorld e
+  pub framed : AllFramed e.hub.dir.leaves
+
+pub record IsSound (e : Engine) : Type 0 where
+  pub running : IsRunning e
   pub built : AreBuilt e.systems
   pub actors : length e.systems ≡ 4
   -- a frame for each table that there may be, with a state word, and a number

@@ -5,8 +5,7 @@ ghost use Rattle.wt_calls.specs.Calls.{session_call_in};
 ghost use Rattle.engine_world.specs.Stands.{Stands};
 ghost use Rattle.engine_world.specs.Steps.{MayBegin};
 ghost use Rattle.engine_world.specs.Worlds.{World, Resting, doing_of};
-ghost use Rattle.engine.specs.Events.{HasWorld};
-ghost use Rattle.engine.specs.Sound.{Keeps};
+ghost use Rattle.engine.specs.Sound.{IsRunning, Keeps};
 ghost use Rattle.engine.specs.Whole.{MayAnswer, MayCall};
 
 use crate::local::Local;
@@ -39,7 +38,7 @@ impl Parts {
     /// A whole get of a session.
     fn get(&mut self, alloc: Global, session: u32, table: &[u8], key: &[u8]) -> Answer<Item>
         requires open { session < length self.old.sessions }
-        requires world { HasWorld self.old }
+        requires running { IsRunning self.old }
         ensures answer { (w : World) → Stands self.old w → (later : World) × MayCall w session (session_call_in (SessionCall.Get table.now key.now)) result later × Stands self.new later }
         ensures kept { Keeps self.old self.new }
     {
@@ -78,7 +77,7 @@ impl Parts {
         demand: Demand,
     ) -> Answer<Item>
         requires open { session < length self.old.sessions }
-        requires world { HasWorld self.old }
+        requires running { IsRunning self.old }
         ensures answer { (w : World) → Stands self.old w → (later : World) × MayCall w session (session_call_in (SessionCall.Put table.now key.now value.now demand)) result later × Stands self.new later }
         ensures kept { Keeps self.old self.new }
     {

@@ -7,9 +7,8 @@ ghost use Rattle.kv_model.specs.Content.{Content};
 ghost use Rattle.kv_model.specs.Regular.{IsRegular};
 ghost use Rattle.tree_dir.specs.Leaves.{no_leaves};
 ghost use Rattle.engine_world.specs.Stands.{Stands};
-ghost use Rattle.engine_world.specs.Systems.{first_world};
 ghost use Rattle.engine.specs.Bases.{IsBaseOf};
-ghost use Rattle.engine.specs.Openings.{AreBare, AreLaid, HasBase, number_at};
+ghost use Rattle.engine.specs.Openings.{AreBare, AreLaid, HasBase, first_world, number_at};
 ghost use Rattle.engine.specs.Sizes.{LeafFits, LeavesFit};
 ghost use Rattle.engine.specs.Sound.{IsSound};
 

@@ -14,17 +14,17 @@ ghost use Rattle.engine_world.specs.Laws.{Leads, with_hub, with_hazard, with_ses
 ghost use Rattle.engine_world.specs.Stands.{Stands};
 ghost use Rattle.engine_world.specs.Steps.{MayBegin};
 ghost use Rattle.engine_world.specs.Worlds.{World};
-ghost use Rattle.engine.specs.Events.{HasWorld, IsFrameEvent};
+ghost use Rattle.engine.specs.Events.{IsFrameEvent, IsOnHub};
 ghost use Rattle.engine.specs.Goings.{IsTaken, Passes};
-ghost use Rattle.engine.specs.Sound.{Keeps};
+ghost use Rattle.engine.specs.Sound.{IsRunning, Keeps};
 ghost use Rattle.engine.specs.Whole.{Ends, MayCall};
 
 use crate::step::Actor;
 use call_steps::{FramePiece, Hub, Next, Reply, SessionState, frame_event, hub_event};
 use engine_world::{
-    begins_go, clears_go, decides_go, ends_go, finds_go, histories_go, loads_go, marks_go,
-    orders_go, passes_go, publishes_go, reads_go, releases_go, resets_go, resolves_go, rows_go,
-    stamps_go, starts_go, steps_reach, undos_go, unpins_go, writes_go,
+    begins_go, clears_go, decides_go, ends_go, fills_go, finds_go, histories_go, loads_go,
+    marks_go, orders_go, passes_go, publishes_go, reads_go, releases_go, resets_go, resolves_go,
+    rows_go, stamps_go, starts_go, steps_reach, undos_go, unpins_go, writes_go,
 };
 use item::Item;
 use stamp::View;
@@ -70,13 +70,13 @@ impl Parts {
     /// One step of a session's call.
     pub(crate) fn go(&mut self, alloc: Global, session: u32) -> Reply
         requires open { session < length self.old.sessions }
-        requires world { HasWorld self.old }
+        requires running { IsRunning self.old }
         ensures step { (w : World) → Stands self.old w → Leads self.new w session result }
         ensures kept { Keeps self.old self.new }
     {
         match self.sessions[session as usize].next() {
             Next::Nothing => self.rest(session),
-            Next::Hub => self.go_on_hub(session),
+            Next::Hub | Next::Fill(_) => self.go_on_hub(session),
             Next::Frame(frame) => self.go_on_frame(alloc, session, frame),
             Next::Load(frame) => self.load(session, frame),
             Next::Store(word, value) => self.store(alloc, session, word, value),
@@ -86,7 +86,7 @@ impl Parts {
     /// The steps that a session's call has left, up to its answer.
     pub(crate) fn finish(&mut self, alloc: Global, session: u32) -> Answer<Item>
         requires open { session < length self.old.sessions }
-        requires world { HasWorld self.old }
+        requires running { IsRunning self.old }
         ensures answer { (w : World) → Stands self.old w → Ends self.new w (Actor.Session session) result }
         ensures kept { Keeps self.old self.new }
     {
@@ -102,13 +102,13 @@ impl Parts {
     #[inline(always)]
     fn go_on(&mut self, alloc: Global, session: u32, answer: &mut Answer<Item>) -> bool
         requires open { session < length self.old.sessions }
-        requires world { HasWorld self.old }
+        requires running { IsRunning self.old }
         ensures step { Passes self.old self.new session result answer.new }
         ensures kept { Keeps self.old self.new }
     {
         match self.sessions[session as usize].next() {
             Next::Nothing => take_answer(self.rest(session), answer),
-            Next::Hub => take_answer(self.go_on_hub(session), answer),
+            Next::Hub | Next::Fill(_) => take_answer(self.go_on_hub(session), answer),
             Next::Frame(frame) => take_answer(self.go_on_frame(alloc, session, frame), answer),
             Next::Load(frame) => take_answer(self.load(session, frame), answer),
             Next::Store(word, value) => {
@@ -121,7 +121,7 @@ impl Parts {
     #[inline(always)]
     pub(crate) fn call(&mut self, alloc: Global, session: u32, call: SessionCall) -> Answer<Item>
         requires open { session < length self.old.sessions }
-        requires world { HasWorld self.old }
+        requires running { IsRunning self.old }
         ensures answer { (w : World) → Stands self.old w → (later : World) × MayCall w session (session_call_in call) result later × Stands self.new later }
         ensures kept { Keeps self.old self.new }
     {
@@ -133,7 +133,7 @@ impl Parts {
     #[inline(always)]
     pub(crate) fn go_through(&mut self, alloc: Global, session: u32, told: Reply) -> Answer<Item>
         requires open { session < length self.old.sessions }
-        requires world { HasWorld self.old }
+        requires running { IsRunning self.old }
         ensures answer { (w begun : World) (asked : Call) → session < length w.sessions → MayBegin w session asked told begun → Stands self.old begun → (later : World) × MayCall w session asked result later × Stands self.new later }
         ensures kept { Keeps self.old self.new }
     {
@@ -155,13 +155,14 @@ impl Parts {
 
     fn go_on_hub(&mut self, session: u32) -> Reply
         requires open { session < length self.old.sessions }
-        requires world { HasWorld self.old }
-        requires next { (a : State) → slice_get self.old.sessions session ≡ Some a → next_of a ≡ Next.Hub }
+        requires running { IsRunning self.old }
+        requires next { (a : State) → slice_get self.old.sessions session ≡ Some a → IsOnHub (next_of a) }
         ensures step { (w : World) → Stands self.old w → Leads self.new w session result }
         ensures kept { Keeps self.old self.new }
     {
         begins_go();
         finds_go();
+        fills_go();
         passes_go();
         histories_go();
         releases_go();
@@ -173,7 +174,7 @@ impl Parts {
 
     fn go_on_frame(&mut self, alloc: Global, session: u32, frame: u32) -> Reply
         requires open { session < length self.old.sessions }
-        requires world { HasWorld self.old }
+        requires running { IsRunning self.old }
         requires next { (a : State) → slice_get self.old.sessions session ≡ Some a → next_of a ≡ Next.Frame frame }
         ensures step { (w : World) → Stands self.old w → Leads self.new w session result }
         ensures kept { Keeps self.old self.new }

@@ -11,7 +11,7 @@ use Rattle.leaf_frame.specs.Leaf.{HeldLeaf}
 use Rattle.catalog.specs.Known.{Known}
 use Rattle.catalog.specs.Opens.{AreRecorded}
 use Rattle.engine_world.specs.Stands.{Engine}
-use Rattle.engine_world.specs.Systems.{first_world}
+use Rattle.engine.specs.Openings.{first_world, no_shelf}
 use Rattle.engine_world.specs.Worlds.{World}
 use Rattle.engine.specs.Bases.{IsBaseOf, LeavesKeep}
 use Rattle.engine_start.specs.declared.by_number.NumberedRows.{NumberedRows}
@@ -40,6 +40,7 @@ started m history e = record {
   };
   sessions = [];
   systems = map (λ x. None) e.systems;
+  shelf = no_shelf;
 }
 
 pub same_world : (m : Marks) (ids : List ℕ) (all leaves : List TableLeaf) (e : Engine) → seen_leaves m ids all ≡ leaves → kept_leaves m leaves ≡ leaves → first_world (leaves_content m leaves) e ≡ first_world (leaves_content_with m ids all) e

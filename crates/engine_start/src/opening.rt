@@ -5,7 +5,7 @@ ghost use Rattle.limits.specs.declared.TheConstants.{TABLES_MAX};
 ghost use Rattle.kv_model.specs.Allowed.{StampsFit};
 ghost use Rattle.catalog.specs.Opens.{AreRecorded};
 ghost use Rattle.engine_world.specs.Stands.{Stands};
-ghost use Rattle.engine_world.specs.Systems.{first_world};
+ghost use Rattle.engine.specs.Openings.{first_world};
 ghost use Rattle.engine_start.specs.declared.table_leaf.TableLeaf.{TableLeaf};
 ghost use Rattle.engine_start.specs.Contents.{kept_leaves, leaves_content, leaves_content_with, seen_leaves, tables_in};
 

@@ -23,7 +23,7 @@ use Rattle.tree_open.specs.declared.place.TreePlace.{TreePlace}
 use Rattle.recover_open.specs.Bare.{bare_stored, kept_of, marks_of, tree_rows}
 use Rattle.recover_open.specs.Recoveries.{IsRecovered, Keeps, KeepsNone, KeepsOr, KeptInForm, placed_roots, table_roots}
 use Rattle.engine_world.specs.Stands.{Engine, Stands}
-use Rattle.engine_world.specs.Systems.{first_world}
+use Rattle.engine.specs.Openings.{first_world}
 use Rattle.engine_start.specs.Contents.{leaves_content_with, seen_leaves}
 use Rattle.ckpt_step.specs.Grounds.{AreRoots}
 use Rattle.ckpt_step.specs.Trees.{AreLow}

@@ -21,7 +21,7 @@ use Rattle.recover_open.specs.Damage.{IsDamage}
 use Rattle.tree_open.specs.declared.place.TreePlace.{TreePlace}
 use Rattle.recover_open.specs.Bare.{IsBare}
 use Rattle.recover_open.proofs.Devices.{damage_no_content}
-use Rattle.engine_world.specs.Systems.{first_world}
+use Rattle.engine.specs.Openings.{first_world}
 use Rattle.engine_world.specs.Worlds.{World}
 use Rattle.ckpt_step.specs.declared.ground.Ground.{Ground}
 use Rattle.ckpt_step.specs.Floors.{Follows}

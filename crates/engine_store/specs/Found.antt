@@ -14,7 +14,7 @@ use Rattle.device_leaf.specs.Openings.{Serves}
 use Rattle.recover_open.specs.declared.opening.Kept.{Kept}
 use Rattle.recover_open.specs.Recoveries.{Counts}
 use Rattle.engine_world.specs.Stands.{Stands}
-use Rattle.engine_world.specs.Systems.{first_world}
+use Rattle.engine.specs.Openings.{first_world}
 use Rattle.ckpt_step.specs.declared.ground.Ground.{Ground}
 use Rattle.ckpt_step.specs.Grounds.{AreRoots, found_in, number_of}
 use Rattle.engine_store.specs.declared.store.Store.{Store}

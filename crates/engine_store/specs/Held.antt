@@ -11,7 +11,8 @@ use Rattle.kv_model.specs.Machine.{Machine, Completed}
 use Rattle.stored.specs.Stored.{Stored, Reads}
 use Rattle.device_leaf.specs.Closings.{content_was}
 use Rattle.engine_world.specs.Stands.{Stands}
-use Rattle.engine_world.specs.Systems.{checkpointed, first_world}
+use Rattle.engine_world.specs.Systems.{checkpointed}
+use Rattle.engine.specs.Openings.{first_world}
 use Rattle.engine_world.specs.Worlds.{World}
 use Rattle.ckpt_step.specs.Floors.{Follows}
 use Rattle.ckpt_step.specs.Grounds.{StandsOn}

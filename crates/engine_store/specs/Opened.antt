@@ -8,7 +8,7 @@ use Rattle.wt_code.specs.declared.refusals.Refusal.TheVariants.{Limit as Refusal
 use Rattle.wt_code.specs.declared.refusals.Limit.TheVariants.{Tables}
 use Rattle.row_page.specs.Greatest.{no_name}
 use Rattle.engine_world.specs.Stands.{Stands}
-use Rattle.engine_world.specs.Systems.{first_world}
+use Rattle.engine.specs.Openings.{first_world}
 use Rattle.stored.specs.Stored.{Stored, IsOn}
 use Rattle.recover_open.specs.Recoveries.{RecoveryRefused}
 use Rattle.device_leaf.specs.Openings.{last_number}

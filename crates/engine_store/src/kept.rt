@@ -6,7 +6,7 @@ ghost use Rattle.kv_model.specs.Content.{Content};
 ghost use Rattle.recover_open.specs.Bare.{marks_of};
 ghost use Rattle.recover_open.specs.Recoveries.{Keeps, KeptInForm};
 ghost use Rattle.engine_world.specs.Stands.{Stands};
-ghost use Rattle.engine_world.specs.Systems.{first_world};
+ghost use Rattle.engine.specs.Openings.{first_world};
 ghost use Rattle.engine_store.specs.Found.{IsFound, LacksNumbers, RefusesBegin};
 ghost use Rattle.engine_store.specs.Opened.{IsReady};
 

@@ -4,7 +4,7 @@ ghost use Rattle.disk_model.specs.Crash.{Looked};
 ghost use Rattle.kv_model.specs.Content.{Content};
 ghost use Rattle.recover_open.specs.Recoveries.{InForm, IsRecovered, KeepsNone};
 ghost use Rattle.engine_world.specs.Stands.{Stands};
-ghost use Rattle.engine_world.specs.Systems.{first_world};
+ghost use Rattle.engine.specs.Openings.{first_world};
 ghost use Rattle.engine_store.specs.Found.{HasLack, IsFound, RefusesBegin};
 ghost use Rattle.engine_store.specs.Opened.{IsOpened, IsReady, RefusesOpen};
 

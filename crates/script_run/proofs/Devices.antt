@@ -22,7 +22,7 @@ use Rattle.script_text.specs.declared.replies.Reply.{Reply}
 use Rattle.script_text.specs.declared.replies.Reply.TheVariants.{Answered}
 use Rattle.wt_calls.specs.declared.system_call.SystemCall.{SystemCall}
 use Rattle.engine_world.specs.Stands.{Engine, Stands}
-use Rattle.engine_world.specs.Systems.{first_world}
+use Rattle.engine.specs.Openings.{first_world, no_shelf}
 use Rattle.engine_world.specs.Worlds.{World, Doing}
 use Rattle.ckpt_step.specs.Calm.{IsCalm, StartsCalm}
 use Rattle.ckpt_step.specs.Plain.{IsPlain}
@@ -185,7 +185,7 @@ four (a ∷ b ∷ c ∷ d ∷ e ∷ systems) is = absurd (omega (arith, is))
 
 opened_is : (content : Content) (e : Engine) → length e.systems ≡ 4 → first_world content e ≡ opened_world (start content)
 opened_is content e is = let Systems : Type 0 = List (Option Call) in
-    ap (λ (l : Systems). let w : World = record { machine = start content; sessions = []; systems = l } in w) (four e.systems is)
+    ap (λ (l : Systems). let w : World = record { machine = start content; sessions = []; systems = l; shelf = no_shelf } in w) (four e.systems is)
 
 module _ {D : Type 0} (g : Ghosts D) (first : D) (stamped : Bool) (s : Script) (store store' : Store) (disk disk' : D) (at : IsAt g first stamped store disk s) where
   pub reopened : (law : StartsCalm) (told : Told) (kept : List Formats) → length store'.engine.systems ≡ 4 → held.Reopens g first s.world s.first s.made store store' disk disk' → told.reply ≡ Answered Done → told.formats ≡ plain → kept ≡ replicate SESSIONS_MAX plain

@@ -44,6 +44,7 @@ use Rattle.tree_dir.specs.declared.leaf.Leaf.{Leaf}
 use Rattle.engine_world.specs.Doings.{doing_at, landing, stamping, undoing}
 use Rattle.engine_world.specs.Stands.{Engine, Stands}
 use Rattle.engine_world.specs.Steps.{BeginsIn, EndsIn, EndsUnless, EndsWith, Finds, Finishes, FoundBy, GoesOn, GoesTo, JudgedBy, Judges, LookAnswer, LooksOn, Made, SettledBy, Settles, TellsFault}
+use Rattle.engine_world.proofs.KeepingOut.{none_out}
 use Rattle.engine_world.specs.Whole.{nothing_around}
 use Rattle.engine_world.specs.Worlds.{Doing, Resting, Asked, Placed, Decided, Ending, World, doing_of}
 use Rattle.engine.specs.declared.step.Actor.{Actor}
@@ -330,7 +331,7 @@ keeps-short : (m : Machine) (answer : Answer (List ℕ)) (next : Machine) → Is
 keeps-short m answer next (told, same) = keeps-as m m next same (keeps-none m)
 
 keeps-out : (m : Machine) (answer : Answer (List ℕ)) (next : Machine) → IsKeptOut nothing_around m answer next → Keeps m next
-keeps-out m answer next (r, may, told, left) = absurd may
+keeps-out m answer next (r, may, told, left) = absurd (none_out r may)
 
 keeps-held : (m : Machine) (session : ℕ) (request : Request) (answer : Answer (List ℕ)) (next : Machine) → IsAsked request → IsHeldUp nothing_around m session request answer next → Keeps m next
 keeps-held m session request answer next asked (inl short) = keeps-short m answer next short

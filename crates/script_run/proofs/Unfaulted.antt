@@ -31,6 +31,7 @@ use Rattle.call_steps.specs.declared.reply.Reply.TheVariants as tell
 use Rattle.engine_world.specs.Worlds as doing
 use Rattle.engine_world.specs.Worlds.{World, Doing, doing_of}
 use Rattle.engine_world.specs.Steps.{Made, GoesTo, EndsWith, Finishes, JudgedBy, FoundBy, EndsIn, SettledBy, Judges, LookAnswer, LooksOn, TellsFault, EndsUnless, GoesOn, BeginsIn, MayGo}
+use Rattle.engine_world.proofs.KeepingOut.{none_out}
 use Rattle.engine_world.specs.Whole.{nothing_around}
 use Rattle.engine.specs.declared.step.Actor.{Actor as EngineActor}
 use Rattle.engine.specs.declared.step.Actor.TheVariants as by
@@ -220,7 +221,7 @@ decided_mild m session _ o next is = absurd is
 held_quiet : (m : Machine) (session : ℕ) (request : Request) (a : Answer (List ℕ)) (next : Machine) → IsHeldUp nothing_around m session request a next → IsQuiet a
 held_quiet m session request a next (inl (is, at)) = subst IsQuiet (sym is) tt
 held_quiet m session request a next (inr (e, decided, inl (is, at))) = subst IsQuiet (sym is) tt
-held_quiet m session request a next (inr (e, decided, inr (r, keeps, is, at))) = absurd keeps
+held_quiet m session request a next (inr (e, decided, inr (r, keeps, is, at))) = absurd (none_out r keeps)
 
 kept_quiet : (m : Machine) (session : ℕ) (c : Call) (a : Answer (List ℕ)) (next : Machine) → HeldUp nothing_around m session c a next → IsQuiet a
 kept_quiet m session (GetKey name key) a next is = held_quiet m session (FindKey name key) a next is

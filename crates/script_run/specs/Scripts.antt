@@ -41,6 +41,7 @@ use Rattle.engine_world.specs.Systems.{checkpointed}
 use Rattle.engine.specs.declared.step.Actor.{Actor as EngineActor}
 use Rattle.engine.specs.declared.step.Actor.TheVariants as by
 use Rattle.engine.specs.declared.step.Step.TheVariants as step
+use Rattle.engine.specs.Openings.{no_shelf}
 use Rattle.engine.specs.Runs.{MayStep, StepsOut, IsBuilt}
 use Rattle.engine.specs.Whole.{MayAnswer, with_session_more}
 use Rattle.engine_store.specs.Answers.{CheckpointTakes, CloseTakes, Installs, IsLeft, RefusesReopening}
@@ -192,7 +193,7 @@ pub record Ends (who : EngineActor) (s : Script) (formats : Formats) (reply : Re
 
 -- the world of an engine as an opening makes it: no session, and nothing started
 abbrev pub opened_world : Machine → World
-opened_world m = record { machine = m; sessions = []; systems = None ∷ None ∷ None ∷ None ∷ [] }
+opened_world m = record { machine = m; sessions = []; systems = None ∷ None ∷ None ∷ None ∷ []; shelf = no_shelf }
 
 -- a line of `sys` that is no call: refused where `sys` has a call that is not finished
 abbrev pub BySystem : Script → Reply → Script → Type 0 → Type 0

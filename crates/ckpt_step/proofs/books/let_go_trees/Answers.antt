@@ -1,5 +1,4 @@
-use Rattle.std.proofs.Common.{◌≡◌, ◌∙◌, ◌<◌, [], Some, None, length, ap, slice_get, arith, subst, sym}
-use Rattle.std.specs.declared.alloc.Global.{Global}
+use Rattle.std.proofs.Common.{◌∙◌, ◌<◌, length, ap, arith, subst, sym}
 use Rattle.block_mgr.specs.Blocks.{Books}
 use Rattle.block_mgr.specs.Cells.{AreUnits, cell_at}
 use Rattle.extent_list.specs.Space.{end_of}

@@ -4,7 +4,7 @@ use Rattle.std.proofs.lemmas.Result.{IfOk-weaker}
 use Rattle.kv_model.specs.Content.{descending, table_lt}
 use Rattle.leaf_frame.specs.Leaf.{HeldLeaf}
 use Rattle.engine_world.specs.Stands.{Engine, Stands}
-use Rattle.engine_world.specs.Systems.{first_world}
+use Rattle.engine.specs.Openings.{first_world}
 use Rattle.engine_world.specs.Worlds.{World}
 use Rattle.engine_start.specs.declared.by_number.NumberedRows.{NumberedRows}
 use Rattle.engine_start.specs.declared.table_leaf.TableLeaf.{TableLeaf}

@@ -8,7 +8,7 @@ use Rattle.stored.specs.Stored.{tables_of}
 use Rattle.catalog.specs.Opens.{AreRecorded}
 use Rattle.recover_open.specs.Bare.{marks_of, tree_rows}
 use Rattle.engine_world.specs.Stands.{Stands}
-use Rattle.engine_world.specs.Systems.{first_world}
+use Rattle.engine.specs.Openings.{first_world}
 use Rattle.engine_start.specs.declared.table_leaf.TableLeaf.{TableLeaf}
 use Rattle.engine_start.specs.Contents.{kept_leaves, leaves_content, leaves_content_with, seen_leaves, tables_in}
 use Rattle.engine_store.specs.declared.store.Store.{Store}

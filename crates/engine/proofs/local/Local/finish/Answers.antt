@@ -5,7 +5,7 @@ use Rattle.engine.proofs.Ending.{ends-length}
 use Rattle.engine.proofs.local.Local.finish.Goals as goal
 
 pub returns-in-Session-clause-sessions : goal.returns-in-Session-clause-sessions
-returns-in-Session-clause-sessions c = let world = c.self.invariant.world in
+returns-in-Session-clause-sessions c = let world = c.self.invariant.running.world in
     ends-length c.self.inside.parts c.finish.new.self world.0 c.in-Session.session c.finish.result world.1 (c.finish.ensures.answer world.0 world.1) ∙ ap (λ (e : Engine). length e.sessions) c.self.view_is
 
 pub returns-in-System-clause-steps : goal.returns-in-System-clause-steps

@@ -7,7 +7,7 @@ use Rattle.engine.proofs.local.Local.go.Goals as goal
 
 pub invariant_of-self : goal.invariant_of-self
 invariant_of-self c =
-    let world = c.self.invariant.world in
+    let world = c.self.invariant.running.world in
     let after = c.go.ensures.step world.0 world.1 in
     keeps-sound c.self.inside.parts c.go.new.self c.self.invariant (after.0, after.2) c.go.ensures.kept
 

@@ -5,4 +5,4 @@ use Rattle.engine.proofs.Idle.{has_idle}
 use Rattle.engine.proofs.local.Local.has_world.Goals as goal
 
 pub returns : goal.returns
-returns c = subst (λ (e : Engine). (w : World) × Stands e w × (w.machine.checkpoint ≡ None)) c.self.view_is (has_idle c.chains_go_on.ensures c.self.inside.parts c.self.invariant.world)
+returns c = subst (λ (e : Engine). (w : World) × Stands e w × (w.machine.checkpoint ≡ None)) c.self.view_is (has_idle c.chains_go_on.ensures c.self.inside.parts c.self.invariant.running.world)

@@ -53,7 +53,7 @@ returns-in-Ok-Same-clause-makes c = λ w st. subst (λ (k : Known). Makes (recor
 
 pub add_leaf-requires : goal.add_leaf-requires
 add_leaf-requires c = λ i d within. subst (λ (n : ℕ). (get_or c.self.inside.hub.dir.leaves i d).table ≢ n) (sym c.next_number-number.ensures)
-    (none-yet e sound.world.0 sound.world.1 sound.placed (get_or e.hub.dir.leaves i d) (Contains-get_or e.hub.dir.leaves i d within)) where
+    (none-yet e sound.running.world.0 sound.running.world.1 sound.placed (get_or e.hub.dir.leaves i d) (Contains-get_or e.hub.dir.leaves i d within)) where
       e : Engine
       e = record { hub = c.self.inside.hub; pieces = c.self.inside.pieces.items; states = c.self.inside.states.items; hazards = c.self.inside.hazards.items; sessions = c.self.inside.sessions.items; systems = c.self.inside.systems.items }
 

@@ -41,7 +41,7 @@ returns-then-frame-len c = absurd (let there = ready.there in let long = c.len.e
   on = c.requires.next here (subst (λ (x : Engine). slice_get x.sessions c.args.session ≡ Some here) c.self.view_is at)
 
   world : HasWorld e
-  world = subst HasWorld (sym c.self.view_is) c.requires.world
+  world = subst HasWorld (sym c.self.view_is) c.requires.running.world
 
   ready : IsReady e c.args.session c.args.frame
   ready = is-ready e world.0 c.args.session c.args.frame here world.1 at on
@@ -64,7 +64,7 @@ returns-in-None c = absurd (ready.busy (c.view.ensures.none.0 (subst (λ o. IsNo
   on = c.requires.next here (subst (λ (x : Engine). slice_get x.sessions c.args.session ≡ Some here) c.self.view_is at)
 
   world : HasWorld e
-  world = subst HasWorld (sym c.self.view_is) c.requires.world
+  world = subst HasWorld (sym c.self.view_is) c.requires.running.world
 
   ready : IsReady e c.args.session c.args.frame
   ready = is-ready e world.0 c.args.session c.args.frame here world.1 at on
@@ -105,7 +105,7 @@ returns-in-Some c = record {
       (subst (λ (ss : List State). IsFrameEvent c.in-Some.view c.args.session c.args.frame c.as_mut_slice.result.now ss c.frame_step.new.pieces c.frame_step.new.sessions) c.as_mut_slice-in-Some.ensures.value c.frame_step.ensures)
 
   world : HasWorld e
-  world = subst HasWorld (sym c.self.view_is) c.requires.world
+  world = subst HasWorld (sym c.self.view_is) c.requires.running.world
 
   is-view : IsViewOf e.hub c.args.session c.in-Some.view
   is-view = record { own = c.in-Some.ensures.own; read = c.in-Some.ensures.read; sight = c.in-Some.ensures.sight }

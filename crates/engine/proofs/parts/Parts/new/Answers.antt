@@ -6,13 +6,13 @@ use Rattle.limits.specs.declared.TheConstants.{TABLES_MAX}
 use Rattle.txn_table.specs.Tabled.{Table}
 use Rattle.call_steps.specs.declared.frame.FramePiece.{FramePiece}
 use Rattle.engine_world.specs.Stands.{Engine}
-use Rattle.engine.specs.Openings.{AreBare, AreLaid}
+use Rattle.engine.specs.Openings.{AreBare, AreLaid, no_shelf}
 use Rattle.engine.specs.Sizes.{LeavesFit}
 use Rattle.engine.proofs.Beginning.{IsOpened, begins-on, opened-sound}
 use Rattle.engine.proofs.parts.Parts.new.Goals as goal
 
 pub returns-clause-stands : goal.returns-clause-stands
-returns-clause-stands c = λ content regular base. c.engines_start.ensures content e regular (begins-on e c.args.run c.args.oldest c.args.stable c.args.tables c.args.leaves.items c.lay_leaves.new.dir opened content base) where
+returns-clause-stands c = λ content regular base. c.engines_start.ensures content no_shelf e regular (begins-on e c.args.run c.args.oldest c.args.stable c.args.tables c.args.leaves.items c.lay_leaves.new.dir opened content base no_shelf) where
   e : Engine
   e = record {
     hub = record { txns = c.in_ok-txns.txns; stamps = record { oldest = c.args.oldest; stable = c.args.stable }; tables = c.args.tables; dir = c.lay_leaves.new.dir; fault = None };

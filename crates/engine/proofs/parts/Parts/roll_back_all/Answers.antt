@@ -3,13 +3,13 @@ use Rattle.engine.proofs.RollingBack.{keeps-sound, rolls-all, rolls-none, rolls-
 use Rattle.engine.proofs.parts.Parts.roll_back_all.Goals as goal
 
 pub loop-session-init : goal.loop-session-init
-loop-session-init c = rolls-none c.args.self.now c.requires.world
+loop-session-init c = rolls-none c.args.self.now c.requires.running
 
 pub call-requires-clause-open : goal.call-requires-clause-open
 call-requires-clause-open c = let count = c.count-sessions.ensures in let same = c.loop-session.invariant.count in let below = c.loop-session-test.true in omega arith
 
-pub call-requires-clause-world : goal.call-requires-clause-world
-call-requires-clause-world c = c.loop-session.invariant.world
+pub call-requires-clause-running : goal.call-requires-clause-running
+call-requires-clause-running c = c.loop-session.invariant.running
 
 pub loop-session-preserved : goal.loop-session-preserved
 loop-session-preserved c = rolls-one c.args.self.now c.loop-session.self c.call.new.self c.loop-session.session c.call.result c.loop-session.invariant
@@ -20,4 +20,4 @@ returns-clause-rolled_back c = rolls-all c.args.self.now c.loop-session.self c.l
     (let count = c.count-sessions.ensures in let same = c.loop-session.invariant.count in let end = c.loop-session-test.false in omega arith)
 
 pub returns-clause-sound : goal.returns-clause-sound
-returns-clause-sound c = keeps-sound c.args.self.now c.loop-session.self c.requires c.loop-session.invariant.world c.loop-session.invariant.kept
+returns-clause-sound c = keeps-sound c.args.self.now c.loop-session.self c.requires c.loop-session.invariant.running.world c.loop-session.invariant.kept
