@@ -18,14 +18,14 @@ pub(crate) fn push_line(
     alloc: Global,
     out: &mut Vec<u8>,
     form: Form,
-    item: &Item,
+    item: &[u8],
 ) -> Result<(), NoMemory>
     ensures line { OnOk result (out.new.items ≡ out.old.items ++ item_line form item.now ++ 10 ∷ []) }
     ensures more { HasMore out.old.items out.new.items }
 {
     match form {
-        Form::Print => push_escaped(out, item.as_bytes())?,
-        Form::Hex => out.extend_from_slice(hex::encode(alloc, item.as_bytes())?.as_bytes())?,
+        Form::Print => push_escaped(out, item)?,
+        Form::Hex => out.extend_from_slice(hex::encode(alloc, item)?.as_bytes())?,
     }
     out.extend_from_slice(b"\n")?;
     Ok(())

@@ -30,4 +30,4 @@ pub use laws::{
 pub use reader::{DumpReader, Step, Table};
 pub use rows::DumpRows;
 pub use whole::{Dumped, read_dump};
-pub use write::{dump_head, push_row};
+pub use write::{dump_head, push_pair, push_row};

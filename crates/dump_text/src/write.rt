@@ -65,8 +65,8 @@ fn push_lines(
     alloc: Global,
     out: &mut Vec<u8>,
     form: Form,
-    key: &Item,
-    value: &Item,
+    key: &[u8],
+    value: &[u8],
 ) -> Result<(), NoMemory>
     ensures row { OnOk result (out.new.items ≡ out.old.items ++ text_of (row_lines form (key.now, value.now))) }
     ensures more { HasMore out.old.items out.new.items }
@@ -87,6 +87,24 @@ pub fn push_row(
     form: Form,
     key: &Item,
     value: &Item,
+) -> Result<(), NoMemory>
+    ensures row { OnOk result (out.new.items ≡ out.old.items ++ text_of (row_lines form (key.now, value.now))) }
+    ensures same { OnErr result (out.new.items ≡ out.old.items) }
+{
+    push_pair(alloc, out, form, key.as_bytes(), value.as_bytes())
+}
+
+/// The same of a key and a value that are lent.
+///
+/// # Errors
+///
+/// Memory is wanted.
+pub fn push_pair(
+    alloc: Global,
+    out: &mut Vec<u8>,
+    form: Form,
+    key: &[u8],
+    value: &[u8],
 ) -> Result<(), NoMemory>
     ensures row { OnOk result (out.new.items ≡ out.old.items ++ text_of (row_lines form (key.now, value.now))) }
     ensures same { OnErr result (out.new.items ≡ out.old.items) }

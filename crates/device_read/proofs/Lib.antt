@@ -1,0 +1,12 @@
+pub mod Lists
+pub mod Between
+pub mod Keyed
+pub mod Turned
+pub mod Walks
+pub mod Values
+pub mod ByName
+pub mod Tables
+pub mod Readings
+pub mod Refused
+pub mod LeafPlaces
+pub mod Numbers

@@ -1,0 +1,22 @@
+//! The last completed checkpoint of a device, read leaf by leaf.
+//!
+//! Stands for the content that the device reads as (`stored`): the tables and the rows of the machine
+//! that an opening makes of it. Promises that a reader has just those tables, by name; that the pages
+//! of a table's leaves, one after the other, have all its rows in order; that a key's value is that of
+//! a read of all; and that damage is told only where the device has it. An opening of a reader reads
+//! all but the leaves, and is refused as that of an engine is, but for what the leaves have. Nothing
+//! is written, and no engine is made. Leaves to the callers that the device stays as it is while they
+//! read.
+#![tactic(auto)]
+
+mod find;
+mod laws;
+mod leaves;
+mod lookup;
+mod opening;
+mod reader;
+
+pub use laws::{faulty_leaves_do_not_read, readers_have_pages, readers_have_tables};
+pub use lookup::Lookup;
+pub use opening::open;
+pub use reader::Reader;

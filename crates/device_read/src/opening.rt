@@ -1,0 +1,136 @@
+//! How a reader is opened.
+
+ghost use Rattle.std.specs.Prelude.{◌≡◌, ◌+◌, ◌^◌, ◌<◌, length, false, IfOk, IfErr, IsTrue, OnOk};
+ghost use Rattle.limits.specs.declared.TheConstants.{TABLES_MAX};
+ghost use Rattle.disk_model.specs.Crash.{Looked};
+ghost use Rattle.stored.specs.Stored.{IsOn, Stored};
+ghost use Rattle.recover_open.specs.Bare.{marks_of};
+ghost use Rattle.recover_open.specs.Surveys.{AboveInForm};
+ghost use Rattle.device_read.specs.Readers.{HoldsNothing, IsReaderOf, held_of};
+ghost use Rattle.device_read.specs.Refusals.{HasNumbers, LacksNumbers, RefusesOpen};
+ghost use Rattle.device_read.specs.Steps.{RefusesNumbers};
+
+use crate::reader::Reader;
+use checkpoint_record::{Record, Snapshot, TableRoot};
+use disk_model::Disk;
+use leaf_rows::Marks;
+use limits::{NUMBER_MAX, TABLES_MAX};
+use recover_open::{Above, Surveyed, survey};
+use std::alloc::Global;
+use wt_code::{Limit, Refusal};
+
+/// A reader of the last completed checkpoint of a device, of no tables where there is none. No leaf
+/// is read, and nothing is written. Refused as `recover_open::survey` says, as `75 limit checkpoints`
+/// where no run may follow the one that made the checkpoint, and as `75 limit tables` where the
+/// record's next number leaves none for as many tables as an engine may have. `O(bytes)` of the
+/// record and the inner pages, each read once, and `O(n)` in the blocks.
+pub fn open<D: Disk>(alloc: Global, disk: &mut D) -> Result<Reader, Refusal>
+    ensures ok { IsTrue (D.honest disk.old) → IfOk result (IsReaderOf (D.seen disk.old)) }
+    ensures numbers { IsTrue (D.honest disk.old) → OnOk result ((s : Stored) → IsOn (D.seen disk.old) s → HasNumbers s.kept) }
+    ensures err { IfErr result (RefusesOpen D.Disk (IsTrue (D.honest disk.old)) disk.old disk.new) }
+    ensures looked { Looked D.Disk disk.old disk.new }
+    ensures home { D.home disk.new ≡ D.home disk.old }
+{
+    let Surveyed { place: _, above } = match survey(alloc, disk) {
+        Ok(found) => found,
+        Err(refusal) => return Err(refusal),
+    };
+    match above {
+        Some(above) => match check_numbers(&above.record) {
+            Ok(()) => Ok(reader_of(above)),
+            Err(refusal) => Err(refusal),
+        },
+        None => Ok(nothing(alloc)),
+    }
+}
+
+// Whether an engine could begin with this record.
+fn check_numbers(found: &Record) -> Result<(), Refusal>
+    ensures ok { OnOk result (HasNumbers found.now) }
+    ensures err { IfErr result (RefusesNumbers found.now) }
+{
+    if found.run >= NUMBER_MAX {
+        return Err(Refusal::Limit(Limit::Checkpoints));
+    }
+    if has_numbers(found) {
+        Ok(())
+    } else {
+        Err(Refusal::Limit(Limit::Tables))
+    }
+}
+
+// Whether the next number leaves some for as many tables as an engine may have.
+fn has_numbers(found: &Record) -> bool
+    ensures yes { IsTrue result → found.now.next_table + TABLES_MAX < 2 ^ 32 + length found.now.tables }
+    ensures no { result ≡ false → LacksNumbers found.now }
+{
+    let next = next_table_of(found) as u64;
+    let count = tables_of(found).len() as u64;
+    next + (TABLES_MAX as u64) < (1 << 32) + count
+}
+
+fn next_table_of(found: &Record) -> u32
+    ensures { result ≡ found.now.next_table }
+{
+    found.next_table
+}
+
+fn tables_of(found: &Record) -> &[TableRoot]
+    ensures { result.now ≡ found.now.tables }
+{
+    &found.tables
+}
+
+// Where no checkpoint was completed.
+fn nothing(alloc: Global) -> Reader
+    ensures { HoldsNothing result }
+{
+    Reader {
+        tables: Vec::new(alloc),
+        uppers: Vec::new(alloc),
+        marks: Marks {
+            run: 0,
+            oldest: 0,
+            stable: 0,
+            min: 0,
+            max: 0,
+        },
+        ids: Vec::new(alloc),
+    }
+}
+
+fn reader_of(above: Above) -> Reader
+    requires { AboveInForm above }
+    ensures { result ≡ held_of above }
+{
+    let Above {
+        record: found,
+        uppers,
+    } = above;
+    let marks = marks_of(&found);
+    let Record {
+        tables,
+        snapshot,
+        ..
+    } = found;
+    let Snapshot { ids, .. } = snapshot;
+    Reader {
+        tables,
+        uppers,
+        marks,
+        ids,
+    }
+}
+
+fn marks_of(found: &Record) -> Marks
+    ensures { result ≡ marks_of found.now }
+{
+    let snapshot = &found.snapshot;
+    Marks {
+        run: found.run,
+        oldest: found.oldest,
+        stable: found.stable,
+        min: snapshot.min,
+        max: snapshot.max,
+    }
+}
