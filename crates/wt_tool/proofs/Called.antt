@@ -8,7 +8,7 @@ use Rattle.item.specs.declared.Formats.{Formats}
 use Rattle.wt_code.specs.declared.answers.Answer.{Answer}
 use Rattle.wt_code.specs.declared.answers.Answer.TheVariants as answers
 use Rattle.wt_code.specs.declared.refusals.Refusal.{Refusal}
-use Rattle.wt_code.specs.declared.refusals.Refusal.TheVariants.{DuplicateKey, NotFound, NoMemory, Panic, PrepareConflict, Exists, Rollback as Conflicts, Invalid as Refusal_Invalid, Limit as Refusal_Limit}
+use Rattle.wt_code.specs.declared.refusals.Refusal.TheVariants.{DuplicateKey, NotFound, NoMemory, Panic, Exists, Rollback as Conflicts, Invalid as Refusal_Invalid, Limit as Refusal_Limit}
 use Rattle.wt_code.specs.declared.refusals.Invalid.{Invalid}
 use Rattle.wt_code.specs.declared.refusals.Invalid.TheVariants as why
 use Rattle.wt_code.specs.declared.refusals.Limit.TheVariants as counted
@@ -20,6 +20,7 @@ use Rattle.kv_model.specs.Decisions as kv
 use Rattle.kv_model.specs.Decisions.{Outcome, Demand, Anything, Vacant, Occupied, Request, BeginCall, CommitCall, EndCall, FindKey, FindToWrite, CreateCall, GetAnswer, WriteAnswer, judged, decision, while_up, checked, ruled, refused, in_state, running_session, is_on_page, commit_decision, create_decision, same_formats, id_drawn, is_name, key_checks, write_checks, unmet}
 use Rattle.kv_model.specs.Told.{Tells}
 use Rattle.kv_model.specs.Calls.{Session, Call, Begin, GetKey, PutKey, RemoveKey, SeekKey, NextRow, Commit, Create, Around, Judged, Settled, AtPlace, IsHeldUp, HeldUp, SessionAnswers, SystemAnswers, settled, ended}
+use Rattle.engine_world.proofs.KeepingOut.{none_out}
 use Rattle.engine_world.specs.Whole.{nothing_around}
 use Rattle.ckpt_step.specs.Plain.{IsUnstamped}
 use Rattle.wt_tool.specs.Points.{Did, around}
@@ -160,9 +161,6 @@ commit_plain m session = plain_of Spares tt (refused (Refusal_Invalid why.NoTxn)
     by_phase t Resolving = (tt, tt)
     by_phase t Leaving = (tt, tt)
 
-find_plain : (m : Machine) (session : ℕ) (name key : List ℕ) → IsPlainStep (judged m session (FindKey name key))
-find_plain m session name key = plain_running Spares tt m session _ (λ t. plain_checked Spares tt (key_checks m name key) (kv.Done, Nothing) (tt, (tt, (tt, tt))) (tt, tt))
-
 write_plain : (m : Machine) (session : ℕ) (name key : List ℕ) (change : Change) → IsPlainStep (judged m session (FindToWrite name key change))
 write_plain m session name key change =
     plain_running Spares tt m session _ (λ t. plain_checked Spares tt (write_checks m name key change) (id_drawn m session t) (tt, (tt, (tt, (tt, tt))))
@@ -195,18 +193,6 @@ write_looks m session t table key change demand kv.Done event may = (tt, spares_
 write_looks m session t table key change demand (kv.Refused (Conflicts run id)) event must = (tt, spares_is event (RefuseWrite session) must.1 tt)
 write_looks m session t table key change demand (kv.Refused r) event may = (unmet_mild demand _ r may.1, spares_is event Nothing may.2 tt)
 write_looks m session t table key change demand _ event there = absurd there
-
--- a read gives a value, or is refused by none of the disk
-abbrev pub IsGot : Outcome → Type 0
-IsGot (kv.Gives v) = Unit {0}
-IsGot (kv.Refused r) = IsMild r
-IsGot _ = ⊥
-
-get_looks : (m : Machine) (session : ℕ) (t : Transaction) (table : ℕ) (key : List ℕ) (o : Outcome) → GetAnswer m session t table key o → IsGot o
-get_looks m session t table key (kv.Gives v) is = tt
-get_looks m session t table key (kv.Refused NotFound) is = tt
-get_looks m session t table key (kv.Refused (PrepareConflict id)) is = tt
-get_looks m session t table key _ is = absurd is
 
 -- ---- whole calls
 
@@ -258,7 +244,7 @@ held_leaves m session request a next plain (inl short) = (short.0, keeps_is m m 
 held_leaves m session request a next plain (inr (e, decides, inl short)) =
     let p : IsPlainStep (kv.Done, e) = subst IsPlainStep decides (plain_decision Spares tt m session request plain) in
     (short.0, keeps_is m (after m e) next short.1 (keeps_after m e p.1))
-held_leaves m session request a next plain (inr (e, decides, inr out)) = absurd out.1
+held_leaves m session request a next plain (inr (e, decides, inr out)) = absurd (none_out out.0 out.1)
 
 -- ---- what they answer
 
@@ -268,28 +254,14 @@ IsDone answers.Done = Unit {0}
 IsDone (answers.Refused r) = IsMild r
 IsDone _ = ⊥
 
--- a value, or refused so
-abbrev pub IsValue : Answer (List ℕ) → Type 0
-IsValue (answers.Value v) = Unit {0}
-IsValue (answers.Refused r) = IsMild r
-IsValue _ = ⊥
-
 tells_done : (o : Outcome) (a : Answer (List ℕ)) → IsStep o → Tells o a → IsDone a
 tells_done kv.Done a step is = subst IsDone (sym is) tt
 tells_done kv.Resumes a step is = absurd is
 tells_done (kv.Refused r) a step is = subst IsDone (sym is) step
 tells_done _ a step is = absurd step
 
-tells_value : (o : Outcome) (a : Answer (List ℕ)) → IsGot o → Tells o a → IsValue a
-tells_value (kv.Gives v) a got is = subst IsValue (sym is) tt
-tells_value (kv.Refused r) a got is = subst IsValue (sym is) got
-tells_value _ a got is = absurd got
-
 refuses_step : (r : Refusal) → IsMild r → IsStep (kv.Refused r)
 refuses_step r mild = mild
-
-refuses_got : (r : Refusal) → IsMild r → IsGot (kv.Refused r)
-refuses_got r mild = mild
 
 pub word_leaves : (m : Machine) (session : ℕ) (c : Call) (a : Answer (List ℕ)) (next : Machine) → IsWord c → SessionAnswers nothing_around m session c a next → IsDone a × KeepsAll m next
 word_leaves m session (Begin None) a next word (inl (o, decides, told)) = let l = judged_leaves m session (BeginCall None) o next (begin_plain m session) decides in (tells_done o a l.0 told, l.1)
@@ -304,15 +276,6 @@ word_leaves m session (PutKey name key value demand) a next word (inr held) =
     let l = held_leaves m session (FindToWrite name key (PutOf value)) a next (write_plain m session name key (PutOf value)) held in
     (subst IsDone (sym l.0) tt, l.1)
 word_leaves m session _ a next word answered = absurd word
-
-pub get_leaves : (m : Machine) (session : ℕ) (name key : List ℕ) (a : Answer (List ℕ)) (next : Machine) → SessionAnswers nothing_around m session (GetKey name key) a next → IsValue a × KeepsAll m next
-get_leaves m session name key a next (inl (o, decides, told)) =
-    let l = placed_leaves IsGot refuses_got m session name (FindKey name key) (λ n t table o event. GetAnswer n session t table.number key o × (event ≡ Nothing)) o next (find_plain m session name key)
-    (λ n t table event looks. (get_looks n session t table.number key o looks.0, spares_is event Nothing looks.1 tt)) decides in
-    (tells_value o a l.0 told, l.1)
-get_leaves m session name key a next (inr held) =
-    let l = held_leaves m session (FindKey name key) a next (find_plain m session name key) held in
-    (subst IsValue (sym l.0) tt, l.1)
 
 pub word_unstamped : (c : Call) → IsWord c → IsUnstamped c
 word_unstamped (Begin None) word = tt
@@ -370,7 +333,7 @@ wider_up a b more m session _ answer next held = absurd held
 
 wider : (d : Device) (m : Machine) (session : ℕ) (c : Call) (answer : Answer (List ℕ)) (next : Machine) → SessionAnswers nothing_around m session c answer next → SessionAnswers (around d d) m session c answer next
 wider d m session c answer next (inl decides) = inl decides
-wider d m session c answer next (inr held) = inr (wider_up nothing_around (around d d) (λ r no. absurd no) m session c answer next held)
+wider d m session c answer next (inr held) = inr (wider_up nothing_around (around d d) (λ r no. absurd (none_out r no)) m session c answer next held)
 
 -- a call of the session, of which the device knows nothing
 pub did : (d : Device) (m next : Machine) (c : Call) (answer : Answer (List ℕ)) → SessionAnswers nothing_around m 0 c answer next → Did (at d m) (Session 0) c answer (at d next)

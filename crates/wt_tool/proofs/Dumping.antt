@@ -1,54 +1,55 @@
--- The runs of `dump`, by what its walk gave and what was written.
-use Rattle.std.proofs.Common.{◌≡◌, ◌≢◌, ◌⊎◌, ◌≤◌, ◌∙◌, ◌++◌, ℕ, List, [], ◌∷◌, Option, Some, None, Ok, Err, MatchOption, inl, inr, refl, sym, ap, subst, length, length-append, append_assoc, arith}
+-- How far a dump is printed, and the runs that it makes.
+use Rattle.std.proofs.Common.{◌≡◌, ◌≤◌, ◌+◌, ◌∙◌, ◌++◌, ℕ, suc, List, [], ◌∷◌, take, drop, Option, Some, None, Result, Ok, Err, MatchOption, inl, inr, refl, sym, ap, subst, length, length-append, append_assoc, arith}
 use Rattle.std.specs.List.{AllByRecursion, flat_map}
-use Rattle.std.specs.Prelude.{option_map}
-use Rattle.std.proofs.lemmas.Option.{same_Some}
-use Rattle.std.proofs.lemmas.Grind.{flat_map-append}
+use Rattle.std.specs.Prelude.{slice_get, IfErr, IsTrue}
 use Rattle.std.proofs.lemmas.List.{append-nil, take-append-le}
+use Rattle.failure.specs.Counts.{Rose}
+use Rattle.disk_model.specs.declared.disk.Disk.{Ghosts}
+use Rattle.disk_model.specs.Crash.{Looked}
 use Rattle.wt_code.specs.declared.refusals.Refusal.{Refusal}
-use Rattle.wt_code.specs.declared.refusals.Refusal.TheVariants.{NoMemory, NoTable, Invalid as Refusal_Invalid}
+use Rattle.wt_code.specs.declared.refusals.Refusal.TheVariants.{NoMemory, NoTable, DiskFault, Corrupt, Invalid as Refusal_Invalid}
 use Rattle.wt_code.specs.declared.refusals.Invalid.TheVariants.{BadName}
 use Rattle.wt_io.specs.Streams.{Took, TookFront}
 use Rattle.wt_io.specs.StreamLemmas.{took_more, took_none}
-use Rattle.item.specs.declared.Formats.{Formats}
 use Rattle.kv_model.specs.Content.{Content, start}
 use Rattle.kv_model.specs.History.{Table, tables, named}
 use Rattle.kv_model.specs.Rows.{Way}
+use Rattle.item.specs.declared.formats.Formats.{Formats}
+use Rattle.row_page.specs.Rows.{Row as PageRow}
+use Rattle.checkpoint_core.specs.Stands.{HasStill}
+use Rattle.tree_open.specs.Damage.{Refused}
+use Rattle.device_read.specs.Laws.{AreWholePages, FaultyLeavesDoNotRead}
+use Rattle.device_read.specs.Readers.{Held}
+use Rattle.device_read.specs.Refusals.{LeafIsAtFault}
 use Rattle.dump_text.specs.declared.form.Form.{Form}
 use Rattle.dump_text.specs.Grammar.{Row}
 use Rattle.dump_text.specs.Written.{dump_lines, head_lines, row_lines, text_of}
-use Rattle.engine_store.specs.Devices.{Device}
-use Rattle.engine_world.specs.Stands.{Engine}
+use Rattle.engine_store.specs.Devices.{Device, IsLater, KeepsCheckpoint, device_of}
 use Rattle.script_run.specs.declared.script.End.{End}
 use Rattle.script_run.specs.declared.script.End.TheVariants.{Through, Stopped, InputFailed, OutputFailed}
 use Rattle.wt_tool.specs.Dumps.{DumpsTable}
 use Rattle.wt_tool.specs.Openings.{Named}
-use Rattle.wt_tool.specs.Parts.{NoDamage, Reading, TellsEnd, at}
+use Rattle.wt_tool.specs.Pages.{CutsOff, EndsBy, EndsSoundly, IsLeft, PutsBehind, RowsEndBy, TableEndsBy, UriEndsBy, rows_on, rows_text}
+use Rattle.wt_tool.specs.Parts.{IsReadStatus, IsSoOfLeaves, NoDamage, Reading, TellsEnd, at}
 use Rattle.wt_tool.specs.Points.{Point, Ran, ends, prints, stops}
 use Rattle.wt_tool.specs.Scripts.{told_at}
-use Rattle.wt_tool.specs.Top.{Errors, Printed, Telling}
-use Rattle.wt_tool.specs.Walks.{EndsBy, EndsMildly, IsLastRow, IsWalking, RowPrinted, RowsEndBy, StepsTo, TableEndsBy, UriEndsBy}
+use Rattle.wt_tool.specs.Top.{Errors, IsOpenable, IsSo, Printed, Telling, status_of}
 use Rattle.wt_tool.specs.Words.{name_in}
-use Rattle.wt_tool.proofs.Called.{keeps_same, same_device}
-use Rattle.wt_tool.proofs.Gets.{front_more}
-use Rattle.wt_tool.proofs.Leading.{mild_sound, mild_status}
-use Rattle.wt_tool.proofs.RowLists.{HasPassed, none_left, passed_more, passed_none, rest_of}
+use Rattle.wt_tool.proofs.Gets.{front_more, rose_before}
+use Rattle.wt_tool.proofs.Ways.{front_all, front_more as map_more, front_rest, rows_append, text_append, whole_rows}
 
--- ---- texts
+-- ---- a disk that is looked at
 
-text_append : (xs ys : List (List ℕ)) → text_of (xs ++ ys) ≡ text_of xs ++ text_of ys
-text_append [] ys = refl
-text_append (x ∷ xs) ys = ap (λ (l : List ℕ). x ++ 10 ∷ l) (text_append xs ys) ∙ sym (append_assoc x (10 ∷ text_of xs) (text_of ys))
+pub looked_self : {D : Type 0} (g : Ghosts D) (disk : D) → Looked g disk disk
+looked_self g disk = record { same = refl; content = refl; images = λ c left. left; capacity = refl; count = omega arith; later = omega arith; since = λ t c le left. left }
 
--- the text of rows, and of others behind them
-both_texts : (form : Form) (name : List ℕ) (formats : Formats) (rows others : List Row)
-    → text_of (dump_lines form name formats (rows ++ others)) ≡ text_of (dump_lines form name formats rows) ++ text_of (flat_map (row_lines form) others)
-both_texts form name formats rows others =
-    ap (λ (l : List (List ℕ)). text_of (head_lines form name formats ++ l)) (flat_map-append (row_lines form) rows others)
-    ∙ ap text_of (sym (append_assoc (head_lines form name formats) (flat_map (row_lines form) rows) (flat_map (row_lines form) others)))
-    ∙ text_append (dump_lines form name formats rows) (flat_map (row_lines form) others)
+pub looked_later : {D : Type 0} (g : Ghosts D) (old new : D) → Looked g old new → IsLater (device_of g old) (device_of g new)
+looked_later g old new looked = record { faults = looked.count; moment = looked.later }
 
--- ---- how a run ends
+pub looked_keeps : {D : Type 0} (g : Ghosts D) (old new : D) → Looked g old new → KeepsCheckpoint (device_of g old) (device_of g new)
+looked_keeps g old new looked = record { capacity = looked.capacity; checkpoint = λ s has. subst (λ (l : List ℕ). HasStill s l) (sym looked.content) has }
+
+-- ---- how a run is cut off
 
 front_longer : (before now : Option (List ℕ)) (text more : List ℕ) → TookFront before now text → TookFront before now (text ++ more)
 front_longer before now text more front =
@@ -56,138 +57,224 @@ front_longer before now text more front =
     (front.0, omega (arith, short, length-append text more), subst (λ (l : List ℕ). Took before now l) (sym (take-append-le front.0 text more short)) front.2)
 
 -- behind a text that was printed
-ends_behind : (failed : Type 0) (before mid now : Option (List ℕ)) (printed text : List ℕ) (end : End) → Took before mid printed → EndsBy failed mid now text end → EndsBy failed before now (printed ++ text) end
-ends_behind failed before mid now printed text Through took ended = took_more before mid now printed text took ended
-ends_behind failed before mid now printed text OutputFailed took ended = (front_more before mid now printed text took ended.0, ended.1)
-ends_behind failed before mid now printed text (Stopped r) took (is, (front, rest, all, more)) =
-    (is, (printed ++ front, rest, ap (λ (l : List ℕ). printed ++ l) all ∙ sym (append_assoc printed front rest), took_more before mid now printed front took more))
-ends_behind failed before mid now printed text InputFailed took ended = absurd ended
+cut_behind : (failed disk : Type 0) (before mid now : Option (List ℕ)) (printed text : List ℕ) (end : End) → Took before mid printed → CutsOff failed disk mid now text end → CutsOff failed disk before now (printed ++ text) end
+cut_behind failed disk before mid now printed text Through took cut = cut
+cut_behind failed disk before mid now printed text InputFailed took cut = cut
+cut_behind failed disk before mid now printed text OutputFailed took cut = (front_more before mid now printed text took cut.0, cut.1)
+cut_behind failed disk before mid now printed text (Stopped r) took (why, (front, rest, all, more)) =
+    (why, (printed ++ front, rest, ap (λ (l : List ℕ). printed ++ l) all ∙ sym (append_assoc printed front rest), took_more before mid now printed front took more))
 
--- of a longer text, where not all was printed
-ends_longer : (failed : Type 0) (before now : Option (List ℕ)) (text more : List ℕ) (end : End) → end ≢ Through → EndsBy failed before now text end → EndsBy failed before now (text ++ more) end
-ends_longer failed before now text more Through cut ended = absurd (cut refl)
-ends_longer failed before now text more OutputFailed cut ended = (front_longer before now text more ended.0, ended.1)
-ends_longer failed before now text more (Stopped r) cut (is, (front, rest, all, took)) = (is, (front, rest ++ more, ap (λ (l : List ℕ). l ++ more) all ∙ append_assoc front rest more, took))
-ends_longer failed before now text more InputFailed cut ended = absurd ended
+-- of a longer text
+pub cut_longer : (failed disk : Type 0) (before now : Option (List ℕ)) (text more : List ℕ) (end : End) → CutsOff failed disk before now text end → CutsOff failed disk before now (text ++ more) end
+cut_longer failed disk before now text more Through cut = cut
+cut_longer failed disk before now text more InputFailed cut = cut
+cut_longer failed disk before now text more OutputFailed cut = (front_longer before now text more cut.0, cut.1)
+cut_longer failed disk before now text more (Stopped r) (why, (front, rest, all, took)) = (why, (front, rest ++ more, ap (λ (l : List ℕ). l ++ more) all ∙ append_assoc front rest more, took))
 
--- by what else a write of the output has failed
-pub ends_wider : (failed wider : Type 0) (before now : Option (List ℕ)) (text : List ℕ) (end : End) → (failed → wider) → EndsBy failed before now text end → EndsBy wider before now text end
-ends_wider failed wider before now text Through why ended = ended
-ends_wider failed wider before now text OutputFailed why ended = (ended.0, why ended.1)
-ends_wider failed wider before now text (Stopped r) why ended = ended
-ends_wider failed wider before now text InputFailed why ended = absurd ended
+-- by what else the output or the disk has failed
+pub cut_wider : (failed wider disk more : Type 0) (before now : Option (List ℕ)) (text : List ℕ) (end : End) → (failed → wider) → (disk → more) → CutsOff failed disk before now text end → CutsOff wider more before now text end
+cut_wider failed wider disk more before now text Through out why cut = cut
+cut_wider failed wider disk more before now text InputFailed out why cut = cut
+cut_wider failed wider disk more before now text OutputFailed out why cut = (cut.0, out cut.1)
+cut_wider failed wider disk more before now text (Stopped r) out why (inl short, rest) = (inl short, rest)
+cut_wider failed wider disk more before now text (Stopped r) out why (inr (is, fault), rest) = (inr (is, why fault), rest)
 
--- ---- a walk, and its text
+pub cut_ends : (failed disk : Type 0) (before now : Option (List ℕ)) (text : List ℕ) (end : End) → CutsOff failed disk before now text end → EndsBy failed disk before now text end
+cut_ends failed disk before now text Through cut = absurd cut
+cut_ends failed disk before now text InputFailed cut = cut
+cut_ends failed disk before now text OutputFailed cut = cut
+cut_ends failed disk before now text (Stopped r) cut = cut
 
--- rows were passed, and of their text a front was printed and the rest is still to be
-pub record Dumping (c : Content) (t : Table) (form : Form) (way : Way) (name : List ℕ) (before now : Option (List ℕ)) (text : List ℕ) (e : Engine) : Type 0 where
-  pub from : Option (List ℕ)
-  pub rows : List Row
-  pub walks : IsWalking c t.number from e
-  pub passed : HasPassed c t.number way from rows
-  pub printed : List ℕ
-  pub took : Took before now printed
-  pub is : printed ++ text ≡ text_of (dump_lines form name t.formats rows)
+pub cut_sound : (failed disk honest : Type 0) (bytes : List ℕ) (before now : Option (List ℕ)) (text : List ℕ) (end : End) → CutsOff failed disk before now text end → EndsSoundly failed disk honest bytes end
+cut_sound failed disk honest bytes before now text Through cut = absurd cut
+cut_sound failed disk honest bytes before now text InputFailed cut = cut
+cut_sound failed disk honest bytes before now text OutputFailed cut = cut.1
+cut_sound failed disk honest bytes before now text (Stopped r) (inl is, rest) = (subst (IsSoOfLeaves honest bytes) (sym is) tt, λ fault. absurd (no_fault (sym is ∙ fault)))
+  where
+    no_fault : NoMemory ≡ DiskFault → ⊥
+    no_fault e = cc
+cut_sound failed disk honest bytes before now text (Stopped r) (inr (is, why), rest) = (subst (IsSoOfLeaves honest bytes) (sym is) tt, λ fault. why)
 
-module _ (c : Content) (t : Table) (form : Form) (way : Way) (name : List ℕ) (before : Option (List ℕ)) where
-  pub dumping_first : (head : List ℕ) (e : Engine) → head ≡ text_of (head_lines form name t.formats) → IsWalking c t.number None e → Dumping c t form way name before before head e
-  dumping_first head e is walks = record { from = None; rows = []; walks = walks; passed = passed_none c t.number way; printed = []; took = took_none before; is = is }
+-- ---- a text of which a front is printed
 
-  module _ (now : Option (List ℕ)) (text : List ℕ) (e : Engine) (d : Dumping c t form way name before now text e) where
-    -- the text so far, with a row behind it
-    row_text : (row : Row) → d.printed ++ (text ++ text_of (row_lines form row)) ≡ text_of (dump_lines form name t.formats (d.rows ++ row ∷ []))
-    row_text row =
-        sym (append_assoc d.printed text (text_of (row_lines form row)))
-        ∙ ap (λ (l : List ℕ). l ++ text_of (row_lines form row)) d.is
-        ∙ sym (both_texts form name t.formats d.rows (row ∷ []))
+pub left_first : (before : Option (List ℕ)) (text : List ℕ) → IsLeft before before text text
+left_first before text = ([], refl, took_none before)
 
-    pub dumping_more : (row : Row) (e' : Engine) (failed : Type 0) (now' : Option (List ℕ)) (text' : List ℕ) → StepsTo c t.number way d.from e' (Ok (Some row)) → RowPrinted failed now now' text text' (text_of (row_lines form row)) (Ok tt) → Dumping c t form way name before now' text' e'
-    dumping_more row e' failed now' text' step (more, all, took) = record {
-      from = Some row.0;
-      rows = d.rows ++ row ∷ [];
-      walks = step.1;
-      passed = passed_more c t.number way d.from d.rows d.passed row step.0;
-      printed = d.printed ++ more;
-      took = took_more before now now' d.printed more d.took took;
-      is = append_assoc d.printed more text' ∙ ap (λ (l : List ℕ). d.printed ++ l) all ∙ row_text row;
-    }
+pub left_on : (before mid now : Option (List ℕ)) (rest all more next : List ℕ) → IsLeft before mid rest all → IsLeft mid now next (rest ++ more) → IsLeft before now next (all ++ more)
+left_on before mid now rest all more next (printed, is, took) (further, same, also) = (
+  printed ++ further,
+  append_assoc printed further next ∙ ap (λ (l : List ℕ). printed ++ l) same ∙ sym (append_assoc printed rest more) ∙ ap (λ (l : List ℕ). l ++ more) is,
+  took_more before mid now printed further took also,
+)
 
-    -- memory was too short, or a write failed
-    pub dumping_stopped : (failed : Type 0) (now' : Option (List ℕ)) (end : End) → end ≢ Through → EndsBy failed now now' text end → RowsEndBy failed c t form way name before now' end
-    dumping_stopped failed now' end cut ended =
-        let all = rest_of c t way d.from d.rows d.passed in
-        let rest = text_of (flat_map (row_lines form) all.0) in (
-          d.rows ++ all.0,
-          all.1,
-          subst (λ (l : List ℕ). EndsBy failed before now' l end) (ap (λ (l : List ℕ). l ++ rest) d.is ∙ sym (both_texts form name t.formats d.rows all.0))
-              (ends_longer failed before now' (d.printed ++ text) rest end cut (ends_behind failed before now now' d.printed text end d.took ended)),
-        )
+pub left_cut : (failed disk : Type 0) (before mid now : Option (List ℕ)) (rest all more : List ℕ) (end : End) → IsLeft before mid rest all → CutsOff failed disk mid now (rest ++ more) end → CutsOff failed disk before now (all ++ more) end
+left_cut failed disk before mid now rest all more end (printed, is, took) cut =
+    subst (λ (l : List ℕ). CutsOff failed disk before now l end) (sym (append_assoc printed rest more) ∙ ap (λ (l : List ℕ). l ++ more) is)
+    (cut_behind failed disk before mid now printed (rest ++ more) end took cut)
 
-    pub dumping_short : (failed : Type 0) (r : Refusal) → r ≡ NoMemory → RowsEndBy failed c t form way name before now (Stopped r)
-    dumping_short failed r is = dumping_stopped failed now (Stopped r) (λ e. cc) (is, ([], text, refl, took_none now))
+-- what is left is printed, or is not
+pub left_ends : (failed disk : Type 0) (before mid now : Option (List ℕ)) (rest all : List ℕ) (end : End) → IsLeft before mid rest all → EndsBy failed disk mid now rest end → EndsBy failed disk before now all end
+left_ends failed disk before mid now rest all Through (printed, is, took) ended = subst (λ (l : List ℕ). Took before now l) is (took_more before mid now printed rest took ended)
+left_ends failed disk before mid now rest all InputFailed (printed, is, took) ended = ended
+left_ends failed disk before mid now rest all OutputFailed (printed, is, took) ended =
+    subst (λ (l : List ℕ). CutsOff failed disk before now l OutputFailed) is (cut_behind failed disk before mid now printed rest OutputFailed took ended)
+left_ends failed disk before mid now rest all (Stopped r) (printed, is, took) ended =
+    subst (λ (l : List ℕ). CutsOff failed disk before now l (Stopped r)) is (cut_behind failed disk before mid now printed rest (Stopped r) took ended)
 
-    -- the row that was not printed whole
-    pub dumping_failed : (row : Row) (e' : Engine) (failed : Type 0) (now' : Option (List ℕ)) (text' : List ℕ) (end : End) → StepsTo c t.number way d.from e' (Ok (Some row)) → RowPrinted failed now now' text text' (text_of (row_lines form row)) (Err end) → RowsEndBy failed c t form way name before now' end
-    dumping_failed row e' failed now' text' (Stopped r) step (is, took) = dumping_stopped failed now' (Stopped r) (λ e. cc) (is, ([], text, refl, took))
-    dumping_failed row e' failed now' text' OutputFailed step (front, why) =
-        let passed = passed_more c t.number way d.from d.rows d.passed row step.0 in
-        let all = rest_of c t way (Some row.0) (d.rows ++ row ∷ []) passed in
-        let rest = text_of (flat_map (row_lines form) all.0) in
-        let both : EndsBy failed before now' (d.printed ++ (text ++ text_of (row_lines form row))) OutputFailed =
-        ends_behind failed before now now' d.printed (text ++ text_of (row_lines form row)) OutputFailed d.took (front, why) in (
-          (d.rows ++ row ∷ []) ++ all.0,
-          all.1,
-          subst (λ (l : List ℕ). EndsBy failed before now' l OutputFailed) (ap (λ (l : List ℕ). l ++ rest) (row_text row) ∙ sym (both_texts form name t.formats (d.rows ++ row ∷ []) all.0))
-              (ends_longer failed before now' (d.printed ++ (text ++ text_of (row_lines form row))) rest OutputFailed (λ e. cc) both),
-        )
-    dumping_failed row e' failed now' text' Through step printed = absurd printed
-    dumping_failed row e' failed now' text' InputFailed step printed = absurd printed
+pub ends_wider : (failed wider disk more : Type 0) (before now : Option (List ℕ)) (text : List ℕ) (end : End) → (failed → wider) → (disk → more) → EndsBy failed disk before now text end → EndsBy wider more before now text end
+ends_wider failed wider disk more before now text Through out why ended = ended
+ends_wider failed wider disk more before now text InputFailed out why ended = ended
+ends_wider failed wider disk more before now text OutputFailed out why ended = cut_wider failed wider disk more before now text OutputFailed out why ended
+ends_wider failed wider disk more before now text (Stopped r) out why ended = cut_wider failed wider disk more before now text (Stopped r) out why ended
 
-    -- no row is left
-    pub dumping_last : (failed : Type 0) (now' : Option (List ℕ)) (end : End) → IsLastRow c t.number way d.from → EndsBy failed now now' text end → RowsEndBy failed c t form way name before now' end
-    dumping_last failed now' end last ended = (
-      d.rows,
-      none_left c t way d.from d.rows d.passed last,
-      subst (λ (l : List ℕ). EndsBy failed before now' l end) d.is (ends_behind failed before now now' d.printed text end d.took ended),
-    )
+pub sound_wider : (failed wider disk more honest : Type 0) (bytes : List ℕ) (end : End) → (failed → wider) → (disk → more) → EndsSoundly failed disk honest bytes end → EndsSoundly wider more honest bytes end
+sound_wider failed wider disk more honest bytes Through out why sound = sound
+sound_wider failed wider disk more honest bytes InputFailed out why sound = sound
+sound_wider failed wider disk more honest bytes OutputFailed out why sound = out sound
+sound_wider failed wider disk more honest bytes (Stopped r) out why sound = (sound.0, λ is. why (sound.1 is))
 
-  -- nothing was printed, for want of memory
-  pub nothing_printed : (failed : Type 0) (r : Refusal) → r ≡ NoMemory → RowsEndBy failed c t form way name before before (Stopped r)
-  nothing_printed failed r is =
-      let all = rest_of c t way None [] (passed_none c t.number way) in
-      (all.0, all.1, (is, ([], text_of (dump_lines form name t.formats all.0), refl, took_none before)))
+-- ---- rows that are printed one behind the other
 
-pub rows_wider : (failed wider : Type 0) (c : Content) (t : Table) (form : Form) (way : Way) (name : List ℕ) (before now : Option (List ℕ)) (end : End) → (failed → wider) → RowsEndBy failed c t form way name before now end → RowsEndBy wider c t form way name before now end
-rows_wider failed wider c t form way name before now end why (rows, are, ended) = (rows, are, ends_wider failed wider before now (text_of (dump_lines form name t.formats rows)) end why ended)
+-- Of a list each of whose elements gives rows, those in front of one are behind the text, and a front of that is printed.
+module _ {A : Type 0} (f : A → List Row) (form : Form) (xs : List A) (old : List ℕ) where
+  abbrev pub so_far : ℕ → List ℕ
+  so_far i = old ++ rows_text form (flat_map f (take i xs))
 
--- a table by the formats that an engine tells of a name
-pub no_table : (o : Option Table) → (let none : Option Formats = None in none ≡ option_map (λ (t : Table). t.formats) o) → o ≡ None
-no_table None is = refl
-no_table (Some t) is = cc
+  abbrev pub whole : List ℕ
+  whole = old ++ rows_text form (flat_map f xs)
 
-pub some_table : (o : Option Table) (formats : Formats) → Some formats ≡ option_map (λ (t : Table). t.formats) o → (t : Table) × (o ≡ Some t) × (formats ≡ t.formats)
-some_table None formats is = absurd cc
-some_table (Some t) formats is = (t, refl, same_Some formats t.formats is)
+  none_yet : so_far 0 ≡ old
+  none_yet = append-nil old
 
--- the table that a uri names
-module _ (failed : Type 0) (c : Content) (form : Form) (way : Way) (uri : List ℕ) (before : Option (List ℕ)) where
-  pub uri_named : (now : Option (List ℕ)) (end : End) (name : List ℕ) → name_in uri ≡ Some name → TableEndsBy failed c form way name before now end → UriEndsBy failed c form way uri before now end
-  uri_named now end name is ended = subst (λ (o : Option (List ℕ)). MatchOption o ((end ≡ Stopped (Refusal_Invalid BadName)) × Took before now []) (λ name. TableEndsBy failed c form way name before now end)) (sym is) ended
+  pub first_left : (before : Option (List ℕ)) → IsLeft before before old (so_far 0)
+  first_left before = subst (λ (l : List ℕ). IsLeft before before old l) (sym none_yet) (left_first before old)
 
-  pub uri_unnamed : name_in uri ≡ None → UriEndsBy failed c form way uri before before (Stopped (Refusal_Invalid BadName))
-  uri_unnamed none = subst (λ (o : Option (List ℕ)). MatchOption o ((Stopped (Refusal_Invalid BadName) ≡ Stopped (Refusal_Invalid BadName)) × Took before before []) (λ name. TableEndsBy failed c form way name before before (Stopped (Refusal_Invalid BadName)))) (sym none) (refl, took_none before)
+  pub last_left : (before now : Option (List ℕ)) (text : List ℕ) (i : ℕ) → length xs ≤ i → IsLeft before now text (so_far i) → IsLeft before now text whole
+  last_left before now text i le left = subst (λ (l : List Row). IsLeft before now text (old ++ rows_text form l)) (front_all f xs i le) left
+
+  module _ (before mid now : Option (List ℕ)) (text : List ℕ) (i : ℕ) (x : A) (there : slice_get xs i ≡ Some x) (left : IsLeft before mid text (so_far i)) where
+    one_more : so_far i ++ rows_text form (f x) ≡ so_far (i + 1)
+    one_more =
+        append_assoc old (rows_text form (flat_map f (take i xs))) (rows_text form (f x))
+        ∙ ap (λ (l : List ℕ). old ++ l) (sym (rows_append form (flat_map f (take i xs)) (f x)) ∙ ap (rows_text form) (sym (map_more f xs i x there) ∙ ap (λ (n : ℕ). flat_map f (take n xs)) (next i)))
+      where
+        next : (n : ℕ) → suc n ≡ n + 1
+        next n = omega arith
+
+    pub next_left : (next : List ℕ) → IsLeft mid now next (text ++ rows_text form (f x)) → IsLeft before now next (so_far (i + 1))
+    next_left next more = subst (λ (l : List ℕ). IsLeft before now next l) one_more (left_on before mid now text (so_far i) (rows_text form (f x)) next left more)
+
+    pub next_cut : (failed disk : Type 0) (end : End) → CutsOff failed disk mid now (text ++ rows_text form (f x)) end → CutsOff failed disk before now whole end
+    next_cut failed disk end cut =
+        let rest : List ℕ = rows_text form (flat_map f (drop (i + 1) xs)) in
+        subst (λ (l : List ℕ). CutsOff failed disk before now l end)
+        (append_assoc old (rows_text form (flat_map f (take (i + 1) xs))) rest ∙ ap (λ (l : List ℕ). old ++ l) (sym (rows_append form (flat_map f (take (i + 1) xs)) (flat_map f (drop (i + 1) xs))) ∙ ap (rows_text form) (sym (front_rest f xs (i + 1)))))
+        (cut_longer failed disk before now (so_far (i + 1)) rest end
+        (subst (λ (l : List ℕ). CutsOff failed disk before now l end) one_more (left_cut failed disk before mid now text (so_far i) (rows_text form (f x)) end left cut)))
+
+-- by its result
+pub behind_wider : (failed wider disk more : Type 0) (before now : Option (List ℕ)) (old new text : List ℕ) (result : Result (Unit {0}) End) → (failed → wider) → (disk → more) → PutsBehind failed disk before now old new text result → PutsBehind wider more before now old new text result
+behind_wider failed wider disk more before now old new text (Ok done) out why puts = puts
+behind_wider failed wider disk more before now old new text (Err end) out why puts = cut_wider failed wider disk more before now (old ++ text) end out why puts
+
+pub behind_sound : (failed disk honest : Type 0) (bytes : List ℕ) (before now : Option (List ℕ)) (old new text : List ℕ) (result : Result (Unit {0}) End) → PutsBehind failed disk before now old new text result → IfErr result (EndsSoundly failed disk honest bytes)
+behind_sound failed disk honest bytes before now old new text (Ok done) puts = tt
+behind_sound failed disk honest bytes before now old new text (Err end) puts = cut_sound failed disk honest bytes before now (old ++ text) end puts
+
+-- nothing was put
+pub nothing_behind : (before : Option (List ℕ)) (text : List ℕ) → IsLeft before before text (text ++ [])
+nothing_behind before text = subst (λ (l : List ℕ). IsLeft before before text l) (sym (append-nil text)) (left_first before text)
+
+pub err_wider : (failed disk more honest : Type 0) (bytes : List ℕ) (result : Result (Unit {0}) End) → (disk → more) → IfErr result (EndsSoundly failed disk honest bytes) → IfErr result (EndsSoundly failed more honest bytes)
+err_wider failed disk more honest bytes (Ok done) why sound = tt
+err_wider failed disk more honest bytes (Err end) why sound = sound_wider failed failed disk more honest bytes end (λ x. x) why sound
+
+pub ends_sound : (failed disk honest : Type 0) (bytes : List ℕ) (before now : Option (List ℕ)) (text : List ℕ) (end : End) → EndsBy failed disk before now text end → EndsSoundly failed disk honest bytes end
+ends_sound failed disk honest bytes before now text Through ended = tt
+ends_sound failed disk honest bytes before now text InputFailed ended = ended
+ends_sound failed disk honest bytes before now text OutputFailed ended = cut_sound failed disk honest bytes before now text OutputFailed ended
+ends_sound failed disk honest bytes before now text (Stopped r) ended = cut_sound failed disk honest bytes before now text (Stopped r) ended
+
+so_before : (honest : Type 0) (h : Type 0) (bytes : List ℕ) (r : Refusal) → (h → honest) → IsSoOfLeaves honest bytes r → IsSoOfLeaves h bytes r
+so_before honest h bytes (Corrupt at want found) to so = λ x. so (to x)
+so_before honest h bytes _ to so = tt
+
+-- what a refusal says on a disk that was looked at before
+pub so_further : {D : Type 0} (g : Ghosts D) (old mid : D) (r : Refusal) → Looked g old mid → IsSoOfLeaves (IsTrue (g.honest mid)) (g.seen mid) r → IsSoOfLeaves (IsTrue (g.honest old)) (g.seen old) r
+so_further g old mid r looked so = so_before (IsTrue (g.honest mid)) (IsTrue (g.honest old)) (g.seen old) r (λ h. looked.same ∙ h) (subst (λ (l : List ℕ). IsSoOfLeaves (IsTrue (g.honest mid)) l r) looked.content so)
+
+-- on a disk that was looked at before
+pub sound_further : {D : Type 0} (g : Ghosts D) (failed wider : Type 0) (old mid new : D) (end : End) → Looked g old mid → (failed → wider)
+    → EndsSoundly failed (Rose (g.faults mid) (g.faults new)) (IsTrue (g.honest mid)) (g.seen mid) end → EndsSoundly wider (Rose (g.faults old) (g.faults new)) (IsTrue (g.honest old)) (g.seen old) end
+sound_further g failed wider old mid new Through looked out sound = sound
+sound_further g failed wider old mid new InputFailed looked out sound = sound
+sound_further g failed wider old mid new OutputFailed looked out sound = out sound
+sound_further g failed wider old mid new (Stopped r) looked out sound = (
+  so_further g old mid r looked sound.0,
+  λ is. rose_before (g.faults old) (g.faults mid) (g.faults new) looked.count (sound.1 is),
+)
+
+-- ---- a leaf that is not read
+
+pub leaf_so : (fault known honest : Type 0) (bytes : List ℕ) (r : Refusal) → (honest → known) → Refused fault known (LeafIsAtFault bytes) r → IsSoOfLeaves honest bytes r × (r ≡ DiskFault → fault)
+leaf_so fault known honest bytes r to (inl (is, failed)) = (subst (IsSoOfLeaves honest bytes) (sym is) tt, λ also. failed)
+leaf_so fault known honest bytes r to (inr (inl is)) = (subst (IsSoOfLeaves honest bytes) (sym is) tt, λ also. absurd (no_fault (sym is ∙ also)))
+  where
+    no_fault : NoMemory ≡ DiskFault → ⊥
+    no_fault e = cc
+leaf_so fault known honest bytes r to (inr (inr (at, want, found, is, why))) = (subst (IsSoOfLeaves honest bytes) (sym is) (λ h. why (to h)), λ also. absurd (no_fault at want found (sym is ∙ also)))
+  where
+    no_fault : (at want found : ℕ) → Corrupt at want found ≡ DiskFault → ⊥
+    no_fault at want found e = cc
+
+-- of a device that reads
+pub leaf_cut : (failed fault known : Type 0) (bytes : List ℕ) (now : Option (List ℕ)) (text : List ℕ) (r : Refusal) → known → ((at want found : ℕ) → LeafIsAtFault bytes at want found → ⊥) → Refused fault known (LeafIsAtFault bytes) r → CutsOff failed fault now now text (Stopped r)
+leaf_cut failed fault known bytes now text r k sound (inl (is, why)) = (inr (is, why), ([], text, refl, took_none now))
+leaf_cut failed fault known bytes now text r k sound (inr (inl is)) = (inl is, ([], text, refl, took_none now))
+leaf_cut failed fault known bytes now text r k sound (inr (inr (at, want, found, is, why))) = absurd (sound at want found (why k))
+
+-- ---- a table
+
+module _ (failed fault : Type 0) (bytes : List ℕ) (c : Content) (h : Held) (place : ℕ) (t : Table) (form : Form) (way : Way) (name : List ℕ) (before now : Option (List ℕ)) (end : End) (pages : List (List PageRow)) (are : AreWholePages bytes c h place t.number pages) where
+  pub rows_printed : (head : List ℕ) (formats : Formats) → head ≡ text_of (head_lines form name formats) → formats ≡ t.formats → EndsBy failed fault before now (head ++ rows_text form (rows_on way pages)) end → RowsEndBy failed fault c t form way name before now end
+  rows_printed head formats is same ended = (
+    rows_on way pages,
+    whole_rows way bytes c h place t pages are,
+    subst (λ (l : List ℕ). EndsBy failed fault before now l end)
+        (ap (λ (l : List ℕ). l ++ rows_text form (rows_on way pages)) (is ∙ ap (λ (f : Formats). text_of (head_lines form name f)) same) ∙ sym (text_append (head_lines form name t.formats) (flat_map (row_lines form) (rows_on way pages))))
+        ended,
+  )
+
+-- for want of memory nothing is printed
+pub none_printed : (failed fault : Type 0) (bytes : List ℕ) (c : Content) (h : Held) (place : ℕ) (t : Table) (form : Form) (way : Way) (name : List ℕ) (before : Option (List ℕ)) (pages : List (List PageRow)) → AreWholePages bytes c h place t.number pages
+    → RowsEndBy failed fault c t form way name before before (Stopped NoMemory)
+none_printed failed fault bytes c h place t form way name before pages are =
+    (rows_on way pages, whole_rows way bytes c h place t pages are, (inl refl, ([], text_of (dump_lines form name t.formats (rows_on way pages)), refl, took_none before)))
 
 -- ---- the run
 
-module _ (failed : Type 0) (c : Content) (form : Form) (way : Way) (d : Device) (before now : Option (List ℕ)) (e : Errors) (status : ℕ) where
+module _ (failed : Type 0) (d d' : Device) (c : Content) (form : Form) (way : Way) (uri : List ℕ) (before now : Option (List ℕ)) (end : End) where
+  pub uri_named : (name : List ℕ) → name_in uri ≡ Some name → TableEndsBy failed d d' c form way name before now end → UriEndsBy failed d d' c form way uri before now end
+  uri_named name is ended = subst (λ (o : Option (List ℕ)). MatchOption o ((end ≡ Stopped (Refusal_Invalid BadName)) × (d' ≡ d) × Took before now []) (λ name. TableEndsBy failed d d' c form way name before now end)) (sym is) ended
+
+  pub uri_unnamed : name_in uri ≡ None → (end ≡ Stopped (Refusal_Invalid BadName)) × (d' ≡ d) × Took before now [] → UriEndsBy failed d d' c form way uri before now end
+  uri_unnamed none ended = subst (λ (o : Option (List ℕ)). MatchOption o ((end ≡ Stopped (Refusal_Invalid BadName)) × (d' ≡ d) × Took before now []) (λ name. TableEndsBy failed d d' c form way name before now end)) (sym none) ended
+
+module _ (failed : Type 0) (c : Content) (form : Form) (way : Way) (d d' : Device) (later : IsLater d d') (keeps : KeepsCheckpoint d d') (before now : Option (List ℕ)) (e : Errors) (status : ℕ) where
   abbrev here : Point
   here = at d (start c)
 
+  abbrev there : Point
+  there = at d' (start c)
+
+  abbrev fault : Type 0
+  fault = Rose d.faults d'.faults
+
   -- what was printed, and how it ended
   module _ (Allowed : Point → Ran → Type 0) where
-    ended_so : (text : List ℕ) (end : End) → Allowed here (record (ends end here) { text = text ++ []; refusals = told_at end }) → Printed before now end text → TellsEnd e end None status → Reading Allowed here before now e status
+    ended_so : (text : List ℕ) (end : End) → Allowed here (record (ends end there) { text = text ++ []; refusals = told_at end }) → Printed before now end text → TellsEnd e end None status → Reading Allowed here d' before now e status
     ended_so text end run printed told = record {
-      ran = record (ends end here) { text = text ++ []; refusals = told_at end };
+      ran = record (ends end there) { text = text ++ []; refusals = told_at end };
       run = run;
       printed = subst (λ (l : List ℕ). Printed before now end l) (sym (append-nil text)) printed;
       told = told;
@@ -197,62 +284,109 @@ module _ (failed : Type 0) (c : Content) (form : Form) (way : Way) (d : Device) 
       same = refl;
     }
 
+    -- before the disk was looked at
+    ended_here : (end : End) → d' ≡ d → Allowed here (record (ends end here) { text = [] ++ []; refusals = told_at end }) → Took before now [] → TellsEnd e end None status → Reading Allowed here d' before now e status
+    ended_here end same run took told = record {
+      ran = record (ends end here) { text = [] ++ []; refusals = told_at end };
+      run = run;
+      printed = inl took;
+      told = told;
+      silent = refl;
+      none = refl;
+      there = sym same;
+      same = refl;
+    }
+
   module _ (name : List ℕ) where
     abbrev Dumped : Type 0
-    Dumped = Reading (DumpsTable failed form way name) here before now e status
+    Dumped = Reading (DumpsTable failed form way name) here d' before now e status
 
-    by_rows : (t : Table) (end : End) → named name (tables (start c).history) ≡ Some t → RowsEndBy failed c t form way name before now end → TellsEnd e end None status → Dumped
-    by_rows t Through there (rows, are, took) told =
+    by_rows : (t : Table) (end : End) → named name (tables (start c).history) ≡ Some t → RowsEndBy failed fault c t form way name before now end → TellsEnd e end None status → Dumped
+    by_rows t Through is (rows, are, took) told =
         let text = text_of (dump_lines form name t.formats rows) in
-        ended_so (DumpsTable failed form way name) text Through (inr (t, rows, there, are, (here, same_device d, keeps_same d, refl, inl refl))) (inl took) told
-    by_rows t OutputFailed there (rows, are, (front, why)) told =
+        ended_so (DumpsTable failed form way name) text Through (inr (t, rows, is, are, (there, later, keeps, refl, inl refl))) (inl took) told
+    by_rows t OutputFailed is (rows, are, (front, why)) told =
         let text = text_of (dump_lines form name t.formats rows) in
-        ended_so (DumpsTable failed form way name) text OutputFailed (inr (t, rows, there, are, (here, same_device d, keeps_same d, refl, inr (inl (refl, why))))) (inr (front, refl)) told
-    by_rows t (Stopped r) there (rows, are, (is, (front, rest, all, took))) told =
+        ended_so (DumpsTable failed form way name) text OutputFailed (inr (t, rows, is, are, (there, later, keeps, refl, inr (inl (refl, why))))) (inr (front, refl)) told
+    by_rows t (Stopped r) is (rows, are, (inl short, (front, rest, all, took))) told =
         ended_so (DumpsTable failed form way name) front (Stopped r)
-        (inr (t, rows, there, are, (here, same_device d, keeps_same d, refl, inr (inr (front, rest, all, inl (ap (λ (x : Refusal). prints front (stops x here)) is)))))) (inl took) told
-    by_rows t InputFailed there (rows, are, none) told = absurd none
+        (inr (t, rows, is, are, (there, later, keeps, refl, inr (inr (front, rest, all, inl (ap (λ (x : Refusal). prints front (stops x there)) short)))))) (inl took) told
+    by_rows t (Stopped r) is (rows, are, (inr (fault_is, why), (front, rest, all, took))) told =
+        ended_so (DumpsTable failed form way name) front (Stopped r)
+        (inr (t, rows, is, are, (there, later, keeps, refl, inr (inr (front, rest, all, inr (ap (λ (x : Refusal). prints front (stops x there)) fault_is, why)))))) (inl took) told
+    by_rows t InputFailed is (rows, are, none) told = absurd none
 
-    by_table : (end : End) → TableEndsBy failed c form way name before now end → TellsEnd e end None status → Dumped
-    by_table end (inl (none, is, took)) told =
-        ended_so (DumpsTable failed form way name) [] (Stopped NoTable) (inl (none, refl)) (inl took) (subst (λ (x : End). TellsEnd e x None status) is told)
-    by_table end (inr (t, there, rows)) told = by_rows t end there rows told
+    by_table : (end : End) → TableEndsBy failed d d' c form way name before now end → TellsEnd e end None status → Dumped
+    by_table end (inl (none, is, still, took)) told = ended_here (DumpsTable failed form way name) (Stopped NoTable) still (inl (none, refl)) took (subst (λ (x : End). TellsEnd e x None status) is told)
+    by_table end (inr (t, is, rows)) told = by_rows t end is rows told
 
-  pub dumped : (uri : List ℕ) (end : End) → UriEndsBy failed c form way uri before now end → TellsEnd e end None status → Reading (Named uri (DumpsTable failed form way)) here before now e status
+  pub dumped : (uri : List ℕ) (end : End) → UriEndsBy failed d d' c form way uri before now end → TellsEnd e end None status → Reading (Named uri (DumpsTable failed form way)) here d' before now e status
   dumped uri end ended told = by_name (name_in uri) ended
     where
-      by_name : (o : Option (List ℕ)) → MatchOption o ((end ≡ Stopped (Refusal_Invalid BadName)) × Took before now []) (λ name. TableEndsBy failed c form way name before now end)
-          → Reading (λ p ran. MatchOption o (ran ≡ stops (Refusal_Invalid BadName) p) (λ name. DumpsTable failed form way name p ran)) here before now e status
-      by_name None (is, took) =
-          ended_so (λ p ran. ran ≡ stops (Refusal_Invalid BadName) p) [] (Stopped (Refusal_Invalid BadName)) refl (inl took) (subst (λ (x : End). TellsEnd e x None status) is told)
+      by_name : (o : Option (List ℕ)) → MatchOption o ((end ≡ Stopped (Refusal_Invalid BadName)) × (d' ≡ d) × Took before now []) (λ name. TableEndsBy failed d d' c form way name before now end)
+          → Reading (λ p ran. MatchOption o (ran ≡ stops (Refusal_Invalid BadName) p) (λ name. DumpsTable failed form way name p ran)) here d' before now e status
+      by_name None (is, still, took) =
+          ended_here (λ p ran. ran ≡ stops (Refusal_Invalid BadName) p) (Stopped (Refusal_Invalid BadName)) still refl took (subst (λ (x : End). TellsEnd e x None status) is told)
       by_name (Some name) ended = by_table name end ended told
 
 -- ---- whatever the disk
 
-pub dump_tells : (e : Errors) (end : End) (status : ℕ) → EndsMildly end → TellsEnd e end None status → Telling NoDamage e status
-dump_tells e end status mild told = record { refusals = told_at end; each = each end mild; replies = []; end = end; told = told }
-  where
-    each : (end : End) → EndsMildly end → AllByRecursion NoDamage (told_at end)
-    each Through mild = tt
-    each (Stopped r) mild = (mild_sound r mild, tt)
-    each InputFailed mild = absurd mild
-    each OutputFailed mild = tt
+leaves_so : (honest : Type 0) (before now : List ℕ) (r : Refusal) → FaultyLeavesDoNotRead → (honest → IsOpenable before) → IsSoOfLeaves honest before r → IsSo honest before now r
+leaves_so honest before now (Corrupt at want found) law reads so = λ h. let read = reads h in absurd (law before at want found read.0 (so h) read.1)
+leaves_so honest before now _ law reads so = tt
 
-pub dump_status : (e : Errors) (end : End) (status : ℕ) → EndsMildly end → TellsEnd e end None status → (status ≡ 0) ⊎ ((status ≡ 1) ⊎ ((status ≡ 6) ⊎ (status ≡ 12)))
-dump_status e end status mild (inr (cut, is)) = inr (inr (inr is))
-dump_status e Through status mild (inl (told, is)) = inl is
-dump_status e OutputFailed status mild (inl (told, is)) = inr (inr (inl is))
-dump_status e InputFailed status mild (inl (told, is)) = absurd mild
-dump_status e (Stopped r) status mild (inl (told, is)) = elim (mild_status r mild) [
-  | inl one ↦ inr (inl (is ∙ one))
-  | inr twelve ↦ inr (inr (inr (is ∙ twelve)))
-]
-
--- a write failed where the dump ended so
-pub dump_failed : (failed : Type 0) (c : Content) (form : Form) (way : Way) (uri : List ℕ) (before now : Option (List ℕ)) (end : End) → end ≡ OutputFailed → UriEndsBy failed c form way uri before now end → failed
-dump_failed failed c form way uri before now end is ended = by_name (name_in uri) (subst (λ (x : End). UriEndsBy failed c form way uri before now x) is ended)
+-- where the device reads no leaf is at fault
+pub told_leaves : (honest : Type 0) (before now : List ℕ) (e : Errors) (status : ℕ) → FaultyLeavesDoNotRead → (honest → IsOpenable before) → Telling (IsSoOfLeaves honest before) e status → Telling (IsSo honest before now) e status
+told_leaves honest before now e status law reads t = record { refusals = t.refusals; each = each t.refusals t.each; replies = t.replies; end = t.end; told = t.told }
   where
-    by_name : (o : Option (List ℕ)) → MatchOption o ((OutputFailed ≡ Stopped (Refusal_Invalid BadName)) × Took before now []) (λ name. TableEndsBy failed c form way name before now OutputFailed) → failed
-    by_name None (bad, took) = absurd cc
-    by_name (Some name) (inl (none, bad, took)) = absurd cc
-    by_name (Some name) (inr (t, there, (rows, are, (front, why)))) = why
+    each : (met : List Refusal) → AllByRecursion (IsSoOfLeaves honest before) met → AllByRecursion (IsSo honest before now) met
+    each [] so = tt
+    each (r ∷ met) so = (leaves_so honest before now r law reads so.0, each met so.1)
+
+-- the same, seen from further back
+pub leaves_further : {D : Type 0} (g : Ghosts D) (old mid : D) (e : Errors) (status : ℕ) → Looked g old mid → Telling (IsSoOfLeaves (IsTrue (g.honest mid)) (g.seen mid)) e status → Telling (IsSoOfLeaves (IsTrue (g.honest old)) (g.seen old)) e status
+leaves_further g old mid e status looked t = record { refusals = t.refusals; each = each t.refusals t.each; replies = t.replies; end = t.end; told = t.told }
+  where
+    each : (met : List Refusal) → AllByRecursion (IsSoOfLeaves (IsTrue (g.honest mid)) (g.seen mid)) met → AllByRecursion (IsSoOfLeaves (IsTrue (g.honest old)) (g.seen old)) met
+    each [] so = tt
+    each (r ∷ met) so = (so_further g old mid r looked so.0, each met so.1)
+
+-- a refusal that tells of no damage
+no_damage_of_leaves : (honest : Type 0) (bytes : List ℕ) (r : Refusal) → NoDamage r → IsSoOfLeaves honest bytes r
+no_damage_of_leaves honest bytes (Corrupt at want found) none = absurd none
+no_damage_of_leaves honest bytes _ none = tt
+
+pub told_undamaged : (honest : Type 0) (bytes : List ℕ) (e : Errors) (status : ℕ) → Telling NoDamage e status → Telling (IsSoOfLeaves honest bytes) e status
+told_undamaged honest bytes e status t = record { refusals = t.refusals; each = each t.refusals t.each; replies = t.replies; end = t.end; told = t.told }
+  where
+    each : (met : List Refusal) → AllByRecursion NoDamage met → AllByRecursion (IsSoOfLeaves honest bytes) met
+    each [] none = tt
+    each (r ∷ met) none = (no_damage_of_leaves honest bytes r none.0, each met none.1)
+
+module _ (failed disk honest : Type 0) (bytes : List ℕ) where
+  pub dump_tells : (e : Errors) (end : End) (status : ℕ) → EndsSoundly failed disk honest bytes end → TellsEnd e end None status → Telling (IsSoOfLeaves honest bytes) e status
+  dump_tells e end status sound told = record { refusals = told_at end; each = each end sound; replies = []; end = end; told = told }
+    where
+      each : (end : End) → EndsSoundly failed disk honest bytes end → AllByRecursion (IsSoOfLeaves honest bytes) (told_at end)
+      each Through sound = tt
+      each (Stopped r) sound = (sound.0, tt)
+      each InputFailed sound = absurd sound
+      each OutputFailed sound = tt
+
+  -- what a status says
+  pub record SaysOf (status : ℕ) : Type 0 where
+    pub is : IsReadStatus status
+    pub of_disk : status ≡ 4 → disk
+    pub of_output : status ≡ 6 → failed
+
+  stopped_says : (r : Refusal) (status : ℕ) → status ≡ status_of r → (r ≡ DiskFault → disk) → SaysOf status
+  stopped_says DiskFault status is why = record { is = inr (inr (inl is)); of_disk = λ four. why refl; of_output = λ six. absurd (omega (arith, is, six)) }
+  stopped_says NoMemory status is why = record { is = inr (inr (inr (inr is))); of_disk = λ four. absurd (omega (arith, is, four)); of_output = λ six. absurd (omega (arith, is, six)) }
+  stopped_says _ status is why = record { is = inr (inl is); of_disk = λ four. absurd (omega (arith, is, four)); of_output = λ six. absurd (omega (arith, is, six)) }
+
+  pub dump_says : (e : Errors) (end : End) (status : ℕ) → EndsSoundly failed disk honest bytes end → TellsEnd e end None status → SaysOf status
+  dump_says e end status sound (inr (cut, is)) = record { is = inr (inr (inr (inr is))); of_disk = λ four. absurd (omega (arith, is, four)); of_output = λ six. absurd (omega (arith, is, six)) }
+  dump_says e Through status sound (inl (told, is)) = record { is = inl is; of_disk = λ four. absurd (omega (arith, is, four)); of_output = λ six. absurd (omega (arith, is, six)) }
+  dump_says e OutputFailed status sound (inl (told, is)) = record { is = inr (inr (inr (inl is))); of_disk = λ four. absurd (omega (arith, is, four)); of_output = λ six. sound }
+  dump_says e InputFailed status sound (inl (told, is)) = absurd sound
+  dump_says e (Stopped r) status sound (inl (told, is)) = stopped_says r status is sound.1

@@ -8,7 +8,7 @@ use Rattle.std.proofs.Math.Seq.{take-append-add}
 use Rattle.failure.specs.Counts.{Rose}
 use Rattle.kv_model.specs.Machine.{Machine}
 use Rattle.kv_model.specs.Calls.{Session}
-use Rattle.wt_code.specs.declared.answers.Answer.TheVariants.{Value, Refused}
+use Rattle.wt_code.specs.declared.answers.Answer.TheVariants.{Refused}
 use Rattle.wt_code.specs.declared.refusals.Refusal.{Refusal}
 use Rattle.wt_code.specs.declared.refusals.Refusal.TheVariants.{NoMemory, NotFound}
 use Rattle.wt_code.specs.Text.{text_of_refusal}
@@ -16,11 +16,11 @@ use Rattle.wt_io.specs.Streams.{Took, TookFront}
 use Rattle.wt_io.specs.StreamLemmas.{took_more}
 use Rattle.item_forms.specs.Forms.{stored_as}
 use Rattle.script_run.specs.declared.script.End.{End}
-use Rattle.script_run.specs.declared.script.End.TheVariants.{Through, Stopped, OutputFailed}
-use Rattle.wt_tool.specs.Points.{Point, Ran, Did, ends, stops, prints, tells}
+use Rattle.script_run.specs.declared.script.End.TheVariants.{Through, Stopped}
+use Rattle.wt_tool.specs.Points.{Point, Ran, Did, ends, stops, tells}
 use Rattle.engine_store.specs.Devices.{Device}
 use Rattle.wt_tool.specs.Openings.{formats_at}
-use Rattle.wt_tool.specs.Reads.{GetsKeys, ReadsKeys, the_get, printed_of}
+use Rattle.wt_tool.specs.Reads.{GetsKeys, ReadsKeys, the_get}
 use Rattle.wt_tool.specs.Parts.{NoDamage, Reading, at}
 use Rattle.wt_tool.specs.Top.{Errors, Printed, Telling, Tells, IsCut, lines, last_line, status_of, status_by}
 use Rattle.wt_tool.proofs.Called.{short_get}
@@ -31,45 +31,34 @@ use Rattle.wt_tool.proofs.Called.{short_get}
 abbrev pub behind : List ℕ → List Refusal → Ran → Ran
 behind printed met ran = record ran { text = printed ++ ran.text; refusals = met ++ ran.refusals }
 
--- a get of a word has this answer
-abbrev pub Gave : Device → Machine → List ℕ → List ℕ → List ℕ → Machine → Type 0
-Gave d m name key value next = Did (at d m) (Session 0) (the_get m name key) (Value value) (at d next)
+-- a get of a word is refused
+abbrev pub RefusedAt : Point → List ℕ → List ℕ → Refusal → Point → Type 0
+RefusedAt p name key r q = Did p (Session 0) (the_get p.machine name key) (Refused r) q
 
-abbrev pub RefusedAt : Device → Machine → List ℕ → List ℕ → Refusal → Machine → Type 0
-RefusedAt d m name key r next = Did (at d m) (Session 0) (the_get m name key) (Refused r) (at d next)
-
-module _ (output : Type 0) (name key : List ℕ) (keys : List (List ℕ)) (d : Device) (m next : Machine) where
-  -- a key with a value, whose text was printed
-  pub more_value : (value printed : List ℕ) (rest : Ran) → Gave d m name key value next → printed ≡ printed_of m name value → GetsKeys output name keys (at d next) rest → GetsKeys output name (key ∷ keys) (at d m) (prints printed rest)
-  more_value value printed rest gave is gets = inl (value, at d next, rest, gave, ap (λ (x : List ℕ). prints x rest) is, inl gets)
-
-  -- or was not
-  pub failed_value : (value printed : List ℕ) → Gave d m name key value next → printed ≡ printed_of m name value → output → GetsKeys output name (key ∷ keys) (at d m) (prints printed (ends OutputFailed (at d next)))
-  failed_value value printed gave is why = inl (value, at d next, ends OutputFailed (at d next), gave, ap (λ (x : List ℕ). prints x (ends OutputFailed (at d next))) is, inr (refl, why))
-
+module _ (output : Type 0) (name key : List ℕ) (keys : List (List ℕ)) (p q : Point) where
   -- an absent key
-  pub more_absent : (r : Refusal) (rest : Ran) → RefusedAt d m name key r next → r ≡ NotFound → GetsKeys output name keys (at d next) rest → GetsKeys output name (key ∷ keys) (at d m) (tells r rest)
-  more_absent r rest refused is gets = inr (r, at d next, refused, inr (rest, is, refl, gets))
+  pub more_absent : (r : Refusal) (rest : Ran) → RefusedAt p name key r q → r ≡ NotFound → GetsKeys output name keys q rest → GetsKeys output name (key ∷ keys) p (tells r rest)
+  more_absent r rest refused is gets = inr (r, q, refused, inr (rest, is, refl, gets))
 
   -- another refusal
-  pub last_refused : (r : Refusal) → RefusedAt d m name key r next → r ≢ NotFound → GetsKeys output name (key ∷ keys) (at d m) (stops r (at d next))
-  last_refused r refused other = inr (r, at d next, refused, inl (other, refl))
+  pub last_refused : (r : Refusal) → RefusedAt p name key r q → r ≢ NotFound → GetsKeys output name (key ∷ keys) p (stops r q)
+  last_refused r refused other = inr (r, q, refused, inl (other, refl))
 
 no_absence : NoMemory ≢ NotFound
 no_absence is = cc
 
 last_memory : (output : Type 0) (name key : List ℕ) (keys : List (List ℕ)) (d : Device) (m : Machine) → GetsKeys output name (key ∷ keys) (at d m) (stops NoMemory (at d m))
-last_memory output name key keys d m = last_refused output name key keys d m m NoMemory (short_get d m name (stored_as (formats_at m name).key key)) no_absence
+last_memory output name key keys d m = last_refused output name key keys (at d m) (at d m) NoMemory (short_get d m name (stored_as (formats_at m name).key key)) no_absence
 
 pub absent_or : (r : Refusal) → (r ≡ NotFound) ⊎ (r ≢ NotFound)
 absent_or NotFound = inl refl
 absent_or _ = inr (λ is. cc)
 
--- a run of `read` from the machine that was opened
-pub reading : (output : Type 0) (name : List ℕ) (keys : List (List ℕ)) (p : Point) (out_before out_now : Option (List ℕ)) (e : Errors) (status : ℕ) (ran : Ran)
+-- a run of `read` from this point on
+pub reading : (output : Type 0) (name : List ℕ) (keys : List (List ℕ)) (p : Point) (d : Device) (out_before out_now : Option (List ℕ)) (e : Errors) (status : ℕ) (ran : Ran)
     → ReadsKeys output name keys p ran → Printed out_before out_now ran.end ran.text → Tells e (lines ran.refusals ++ last_line ran.end) (status_by ran) status
-    → ran.input ≡ [] → ran.made ≡ [] → ran.next.device ≡ p.device → ran.next.machine.completed ≡ p.machine.completed → Reading (ReadsKeys output name keys) p out_before out_now e status
-reading output name keys p out_before out_now e status ran reads printed told silent none there same = record { ran = ran; run = reads; printed = printed; told = told; silent = silent; none = none; there = there; same = same }
+    → ran.input ≡ [] → ran.made ≡ [] → ran.next.device ≡ d → ran.next.machine.completed ≡ p.machine.completed → Reading (ReadsKeys output name keys) p d out_before out_now e status
+reading output name keys p d out_before out_now e status ran reads printed told silent none there same = record { ran = ran; run = reads; printed = printed; told = told; silent = silent; none = none; there = there; same = same }
 
 -- ---- what was written
 
@@ -138,15 +127,15 @@ tells_more before mid now first second third text line wanted status told low hi
     inr (subst (λ (l : List ℕ). IsCut (record { before = before; now = now; faults = first; faults_now = third }) (text ++ l)) (append-nil line) (cut_more before mid now first second third text line [] told low high cut), is)
 
 -- the run that a refusal ended; where memory was short to tell an absent key, the next get ends it
-module _ (output : Type 0) (name key : List ℕ) (keys all : List (List ℕ)) (d : Device) (start m next : Machine) (r : Refusal) (printed : List ℕ) (met : List Refusal) (out_before out_now before mid now : Option (List ℕ)) (first second third told : ℕ)
-    (goes : (rest : Ran) → GetsKeys output name (key ∷ keys) (at d m) rest → ReadsKeys output name all (at d start) (behind printed met rest)) (same : next.completed ≡ start.completed)
+module _ (output : Type 0) (name key : List ℕ) (keys all : List (List ℕ)) (d0 d d1 : Device) (start m next : Machine) (r : Refusal) (printed : List ℕ) (met : List Refusal) (out_before out_now before mid now : Option (List ℕ)) (first second third told : ℕ)
+    (goes : (rest : Ran) → GetsKeys output name (key ∷ keys) (at d m) rest → ReadsKeys output name all (at d0 start) (behind printed met rest)) (same : next.completed ≡ start.completed)
     (out : Took out_before out_now printed) (lines_told : Took before mid (lines met) ⊎ Rose first second) (low : first ≤ second) (high : second ≤ third)
     (reported : Tells (record { before = mid; now = now; faults = second; faults_now = third }) (lines (r ∷ [])) (status_of r) told) where
   abbrev errs : Errors
   errs = record { before = before; now = now; faults = first; faults_now = third }
 
   abbrev Ends : Type 0
-  Ends = Reading (ReadsKeys output name all) (at d start) out_before out_now errs told
+  Ends = Reading (ReadsKeys output name all) (at d0 start) d1 out_before out_now errs told
 
   took : Printed out_before out_now Through (printed ++ [])
   took = inl (subst (λ (l : List ℕ). Took out_before out_now l) (sym (append-nil printed)) out)
@@ -154,9 +143,9 @@ module _ (output : Type 0) (name key : List ℕ) (keys all : List (List ℕ)) (d
   line_behind : lines met ++ lines (r ∷ []) ≡ lines (met ++ r ∷ []) ++ []
   line_behind = sym (lines_behind met (r ∷ [])) ∙ sym (append-nil (lines (met ++ r ∷ [])))
 
-  stopped_by : GetsKeys output name (key ∷ keys) (at d m) (stops r (at d next)) → Ends
+  stopped_by : GetsKeys output name (key ∷ keys) (at d m) (stops r (at d1 next)) → Ends
   stopped_by gets =
-      reading output name all (at d start) out_before out_now errs told (behind printed met (stops r (at d next))) (goes (stops r (at d next)) gets) (inl (subst (λ (l : List ℕ). Took out_before out_now l) (sym (append-nil printed)) out))
+      reading output name all (at d0 start) d1 out_before out_now errs told (behind printed met (stops r (at d1 next))) (goes (stops r (at d1 next)) gets) (inl (subst (λ (l : List ℕ). Took out_before out_now l) (sym (append-nil printed)) out))
       (subst (λ (l : List ℕ). Tells errs l (status_of r) told) line_behind (tells_more before mid now first second third (lines met) (lines (r ∷ [])) (status_of r) told lines_told low high reported)) refl refl refl same
 
   cut_only : r ≡ NotFound → told ≡ 12 → IsCut (record { before = mid; now = now; faults = second; faults_now = third }) (lines (r ∷ []))
@@ -166,30 +155,30 @@ module _ (output : Type 0) (name key : List ℕ) (keys all : List (List ℕ)) (d
       of (inl (whole, status)) = absurd (omega (arith, sym twelve ∙ status ∙ ap status_of is))
       of (inr (cut, _)) = cut
 
-  absent_by : (more : List Refusal) (end : End) → last_line end ≡ [] → r ≡ NotFound → told ≡ 12 → GetsKeys output name (key ∷ keys) (at d m) (record (ends end (at d next)) { refusals = r ∷ more }) → Printed out_before out_now end (printed ++ []) → Ends
+  absent_by : (more : List Refusal) (end : End) → last_line end ≡ [] → r ≡ NotFound → told ≡ 12 → GetsKeys output name (key ∷ keys) (at d m) (record (ends end (at d1 next)) { refusals = r ∷ more }) → Printed out_before out_now end (printed ++ []) → Ends
   absent_by more end quiet is twelve gets printed_so =
-      reading output name all (at d start) out_before out_now errs told (behind printed met (record (ends end (at d next)) { refusals = r ∷ more })) (goes (record (ends end (at d next)) { refusals = r ∷ more }) gets) printed_so
+      reading output name all (at d0 start) d1 out_before out_now errs told (behind printed met (record (ends end (at d1 next)) { refusals = r ∷ more })) (goes (record (ends end (at d1 next)) { refusals = r ∷ more }) gets) printed_so
       (inr (subst (λ (l : List ℕ). IsCut errs l) bytes (cut_more before mid now first second third (lines met) (lines (r ∷ [])) (lines more) lines_told low high (cut_only is twelve)), twelve)) refl refl refl same
     where
       bytes : lines met ++ (lines (r ∷ []) ++ lines more) ≡ lines (met ++ r ∷ more) ++ last_line end
       bytes = ap (λ (l : List ℕ). lines met ++ l) (sym (lines_behind (r ∷ []) more)) ∙ sym (lines_behind met (r ∷ more)) ∙ sym (append-nil (lines (met ++ r ∷ more))) ∙ ap (λ (l : List ℕ). lines (met ++ r ∷ more) ++ l) (sym quiet)
 
 -- its run, by why the get gave no value
-pub reading_stopped : (output : Type 0) (name key : List ℕ) (keys all : List (List ℕ)) (d : Device) (start m next : Machine) (r : Refusal) (printed : List ℕ) (met : List Refusal) (out_before out_now before mid now : Option (List ℕ)) (first second third told : ℕ)
-    → ((rest : Ran) → GetsKeys output name (key ∷ keys) (at d m) rest → ReadsKeys output name all (at d start) (behind printed met rest)) → next.completed ≡ start.completed
+pub reading_stopped : (output : Type 0) (name key : List ℕ) (keys all : List (List ℕ)) (d0 d d1 : Device) (start m next : Machine) (r : Refusal) (printed : List ℕ) (met : List Refusal) (out_before out_now before mid now : Option (List ℕ)) (first second third told : ℕ)
+    → ((rest : Ran) → GetsKeys output name (key ∷ keys) (at d m) rest → ReadsKeys output name all (at d0 start) (behind printed met rest)) → next.completed ≡ start.completed
     → Took out_before out_now printed → Took before mid (lines met) ⊎ Rose first second → first ≤ second → second ≤ third
     → Tells (record { before = mid; now = now; faults = second; faults_now = third }) (lines (r ∷ [])) (status_of r) told → (r ≡ NotFound → told ≡ 12)
-    → RefusedAt d m name key r next → (r ≡ NotFound) ⊎ (r ≢ NotFound)
-    → Reading (ReadsKeys output name all) (at d start) out_before out_now (record { before = before; now = now; faults = first; faults_now = third }) told
-reading_stopped output name key keys all d start m next r printed met ob on before mid now first second third told goes same out prior low high reported twelve refused (inr other) =
-    stopped_by output name key keys all d start m next r printed met ob on before mid now first second third told goes same out prior low high reported (last_refused output name key keys d m next r refused other)
-reading_stopped output name key [] all d start m next r printed met ob on before mid now first second third told goes same out prior low high reported twelve refused (inl absent) =
-    absent_by output name key [] all d start m next r printed met ob on before mid now first second third told goes same out prior low high reported [] Through refl absent (twelve absent)
-    (more_absent output name key [] d m next r (ends Through (at d next)) refused absent refl)
-    (took output name key [] all d start m next r printed met ob on before mid now first second third told goes same out prior low high reported)
-reading_stopped output name key (k ∷ keys) all d start m next r printed met ob on before mid now first second third told goes same out prior low high reported twelve refused (inl absent) =
-    absent_by output name key (k ∷ keys) all d start m next r printed met ob on before mid now first second third told goes same out prior low high reported (NoMemory ∷ []) (Stopped NoMemory) refl absent (twelve absent)
-    (more_absent output name key (k ∷ keys) d m next r (stops NoMemory (at d next)) refused absent (last_memory output name k keys d next))
+    → RefusedAt (at d m) name key r (at d1 next) → (r ≡ NotFound) ⊎ (r ≢ NotFound)
+    → Reading (ReadsKeys output name all) (at d0 start) d1 out_before out_now (record { before = before; now = now; faults = first; faults_now = third }) told
+reading_stopped output name key keys all d0 d d1 start m next r printed met ob on before mid now first second third told goes same out prior low high reported twelve refused (inr other) =
+    stopped_by output name key keys all d0 d d1 start m next r printed met ob on before mid now first second third told goes same out prior low high reported (last_refused output name key keys (at d m) (at d1 next) r refused other)
+reading_stopped output name key [] all d0 d d1 start m next r printed met ob on before mid now first second third told goes same out prior low high reported twelve refused (inl absent) =
+    absent_by output name key [] all d0 d d1 start m next r printed met ob on before mid now first second third told goes same out prior low high reported [] Through refl absent (twelve absent)
+    (more_absent output name key [] (at d m) (at d1 next) r (ends Through (at d1 next)) refused absent refl)
+    (took output name key [] all d0 d d1 start m next r printed met ob on before mid now first second third told goes same out prior low high reported)
+reading_stopped output name key (k ∷ keys) all d0 d d1 start m next r printed met ob on before mid now first second third told goes same out prior low high reported twelve refused (inl absent) =
+    absent_by output name key (k ∷ keys) all d0 d d1 start m next r printed met ob on before mid now first second third told goes same out prior low high reported (NoMemory ∷ []) (Stopped NoMemory) refl absent (twelve absent)
+    (more_absent output name key (k ∷ keys) (at d m) (at d1 next) r (stops NoMemory (at d1 next)) refused absent (last_memory output name k keys d1 next))
     (inl (subst (λ (l : List ℕ). Took ob on l) (sym (append-nil printed)) out))
 
 -- a refusal is all that is told

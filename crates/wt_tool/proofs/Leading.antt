@@ -1,7 +1,6 @@
 -- To what calls lead an engine, and the runs that they make.
 use Rattle.std.specs.Prelude.{◌≡◌, ◌≢◌, ◌⊎◌, ◌≤◌, ℕ, zero, suc, List, [], ◌∷◌, ◌++◌, length, map, reverse, Option, None, Result, Ok, Err, IfErr, slice_index_or}
 use Rattle.std.proofs.Common.{inl, inr, refl, sym, ap, subst, ◌∙◌, append_assoc, arith}
-use Rattle.std.specs.Option.{option_map_or}
 use Rattle.std.proofs.lemmas.List.{append-nil, reverse-append, reverse-reverse}
 use Rattle.limits.specs.declared.TheConstants.{SESSIONS_MAX}
 use Rattle.item.specs.declared.Formats.{Formats}
@@ -11,17 +10,17 @@ use Rattle.wt_code.specs.declared.refusals.Refusal.{Refusal}
 use Rattle.wt_code.specs.declared.refusals.Refusal.TheVariants.{Corrupt, DiskFault, NoMemory, Limit as Refusal_Limit}
 use Rattle.wt_code.specs.declared.refusals.Limit.TheVariants.{Sessions}
 use Rattle.kv_model.specs.Content.{Content}
-use Rattle.kv_model.specs.History.{Table, named}
+use Rattle.kv_model.specs.History.{Table}
 use Rattle.kv_model.specs.Machine.{Machine, OpenSession, after}
 use Rattle.kv_model.specs.Decisions as kv
 use Rattle.kv_model.specs.Decisions.{OpenCall, Demand, decision}
-use Rattle.kv_model.specs.Calls.{Session, System, Call, GetKey, Create, OpensSession, SessionAnswers, SystemAnswers}
+use Rattle.kv_model.specs.Calls.{Session, System, Call, Create, OpensSession, SessionAnswers, SystemAnswers}
 use Rattle.wt_calls.specs.declared.call.Call.TheVariants as call
 use Rattle.wt_calls.specs.declared.session_call.SessionCall.{SessionCall}
 use Rattle.wt_calls.specs.declared.system_call.SystemCall.TheVariants as system
 use Rattle.wt_calls.specs.Calls.{session_call_in}
 use Rattle.engine_world.specs.Stands.{Engine, Stands}
-use Rattle.engine_world.specs.Systems.{first_world}
+use Rattle.engine.specs.Openings.{first_world}
 use Rattle.engine_world.specs.Whole.{nothing_around}
 use Rattle.engine_world.specs.Worlds.{World, Doing, Resting, doing_of}
 use Rattle.engine.specs.Whole.{CallsIn, MakesAt, MayAnswer, with_session_more}
@@ -29,11 +28,9 @@ use Rattle.ckpt_step.specs.Plain.{IsPlain, GoesPlain, IsUnstamped, OpensPlain, S
 use Rattle.wt_tool.specs.Points.{Point, Ran, Did, WithSession, Calls, stops, Closes}
 use Rattle.engine_store.specs.Devices.{Device}
 use Rattle.wt_tool.specs.Creates.{MakesTable}
-use Rattle.wt_tool.specs.Words.{plain_formats}
 use Rattle.wt_tool.specs.Parts.{HasStarted, IsQuiet, IsPlainOn, Makes, NoDamage, at}
-use Rattle.wt_tool.specs.Top.{status_of}
-use Rattle.wt_tool.specs.Led.{IsMild, Grows, Leads, LedBy, IsWord, MadeBy, OpenedBy, DoneBy, GotBy, IsSteady}
-use Rattle.wt_tool.proofs.Called.{Keeps, KeepsAll, IsDone, IsValue, keeps_all, word_leaves, get_leaves, create_leaves, word_unstamped, did, same_device, keeps_same}
+use Rattle.wt_tool.specs.Led.{IsMild, Grows, Leads, LedBy, IsWord, MadeBy, OpenedBy, DoneBy}
+use Rattle.wt_tool.proofs.Called.{Keeps, KeepsAll, IsDone, keeps_all, word_leaves, create_leaves, word_unstamped, did, same_device, keeps_same}
 
 -- ---- refusals
 
@@ -43,11 +40,6 @@ mild_sound _ mild = tt
 
 pub mild_calm : (r : Refusal) → IsMild r → r ≢ DiskFault
 mild_calm r mild is = subst IsMild is mild
-
-pub mild_status : (r : Refusal) → IsMild r → (status_of r ≡ 1) ⊎ (status_of r ≡ 12)
-mild_status NoMemory mild = inr refl
-mild_status DiskFault mild = absurd mild
-mild_status _ mild = inl refl
 
 -- ---- an engine that has just started
 
@@ -119,20 +111,6 @@ module _ (stays : StaysPlain) (e e' : Engine) (w later : World) (stands : Stands
   pub word_made : IsWord asked → IsDone a × Calling e e' w later asked a
   word_made word = let l = word_leaves w.machine 0 asked a later.machine word answered.0 in (l.0, calling (word_unstamped asked word) l.1)
 
-pub get_made : (stays : StaysPlain) (e e' : Engine) (w later : World) (stands : Stands e w) (quiet : IsQuiet w) (stands' : Stands e' later) (name key : List ℕ) (a : Answer (List ℕ)) (made : SessionCall) → session_call_in made ≡ GetKey name key
-    → MayAnswer w (call.Session 0 made) a later → IsValue a × Calling e e' w later (GetKey name key) a
-get_made stays e e' w later stands quiet stands' name key a made is may =
-    let answered = session_answered (doing_of w 0) w (session_call_in made) a later (quiet.sessions 0) may in
-    let got : SessionAnswers nothing_around w.machine 0 (GetKey name key) a later.machine = subst (λ (c : Call). SessionAnswers nothing_around w.machine 0 c a later.machine) is answered.0 in
-    let l = get_leaves w.machine 0 name key a later.machine got in (
-      l.0,
-      record {
-        leads = leads_by e e' w later stands stands' (quiet_on w later quiet answered.1) (keeps_all w.machine later.machine l.1) (λ plain. stays w.machine later.machine (Session 0) (GetKey name key) a stands.valid plain tt got);
-        keeps = l.1;
-        did = λ d. did d w.machine later.machine (GetKey name key) a got;
-      },
-    )
-
 -- by what the call answered
 pub word_done : (e e' : Engine) (w later : World) (c : Call) (a : Answer (List ℕ)) → IsDone a × Calling e e' w later c a → ((r : Refusal) → a ≡ answers.Refused r → ⊥) → (later' : World) × Leads e e' w later' × DoneBy c w.machine later'.machine (Ok tt)
 word_done e e' w later c answers.Done made none = (later, made.1.leads, made.1.did)
@@ -142,27 +120,6 @@ word_done e e' w later c _ made none = absurd made.0
 pub word_refused : (e e' : Engine) (w later : World) (c : Call) (a : Answer (List ℕ)) (r : Refusal) → IsDone a × Calling e e' w later c a → a ≡ answers.Refused r → (later' : World) × Leads e e' w later' × DoneBy c w.machine later'.machine (Err r)
 word_refused e e' w later c a r made is =
     (later, made.1.leads, (subst IsDone is made.0, λ d. subst (λ (x : Answer (List ℕ)). Did (at d w.machine) (Session 0) c x (at d later.machine)) is (made.1.did d)))
-
-same_formats : (name : List ℕ) (w later : World) → KeepsAll w.machine later.machine → IsSteady name w later
-same_formats name w later keeps = ap (λ (l : List Table). formats_of l) keeps.2
-  where
-    formats_of : List Table → Formats
-    formats_of l = option_map_or (λ (t : Table). t.formats) (named name l) plain_formats
-
-pub get_value : (e e' : Engine) (w later : World) (name : List ℕ) (c : Call) (a : Answer (List ℕ)) (v : List ℕ) → IsValue a × Calling e e' w later c a → a ≡ answers.Value v
-    → (later' : World) × Leads e e' w later' × IsSteady name w later' × GotBy c w.machine later'.machine (Ok v)
-get_value e e' w later name c a v made is =
-    (later, made.1.leads, same_formats name w later made.1.keeps, λ d. subst (λ (x : Answer (List ℕ)). Did (at d w.machine) (Session 0) c x (at d later.machine)) is (made.1.did d))
-
-pub get_refused : (e e' : Engine) (w later : World) (name : List ℕ) (c : Call) (a : Answer (List ℕ)) (r : Refusal) → IsValue a × Calling e e' w later c a → a ≡ answers.Refused r
-    → (later' : World) × Leads e e' w later' × IsSteady name w later' × GotBy c w.machine later'.machine (Err r)
-get_refused e e' w later name c a r made is =
-    (later, made.1.leads, same_formats name w later made.1.keeps, (subst IsValue is made.0, λ d. subst (λ (x : Answer (List ℕ)). Did (at d w.machine) (Session 0) c x (at d later.machine)) is (made.1.did d)))
-
-pub no_other : (a : Answer (List ℕ)) → IsValue a → ((v : List ℕ) → a ≡ answers.Value v → ⊥) → ((r : Refusal) → a ≡ answers.Refused r → ⊥) → ⊥
-no_other (answers.Value v) is value refused = value v refl
-no_other (answers.Refused r) is value refused = refused r refl
-no_other _ is value refused = is
 
 -- nothing was called
 pub stands_still : (e : Engine) (w : World) → Stands e w → IsQuiet w → Leads e e w w

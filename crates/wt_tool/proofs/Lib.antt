@@ -1,6 +1,9 @@
 mod Called
 mod Closings
 mod Dumping
+mod Finding
+mod Fresh
+mod FreshRuns
 mod Gets
 mod Going
 mod Leading
@@ -10,8 +13,7 @@ mod Listing
 mod Naming
 mod Pieces
 mod Putting
-mod RowLists
 mod ScriptRuns
 mod Running
 mod Verifying
-mod Walking
+mod Ways

@@ -1,16 +1,16 @@
 -- The runs of `list`.
-use Rattle.std.proofs.Common.{◌≡◌, ◌∙◌, ◌++◌, ℕ, zero, suc, true, false, List, [], ◌∷◌, append_assoc, map, take, reverse, Option, Some, None, inl, inr, refl, sym, ap, subst}
+use Rattle.std.proofs.Common.{◌≡◌, ◌≤◌, ◌<◌, ◌∙◌, ◌++◌, ℕ, zero, suc, true, false, List, [], ◌∷◌, append_assoc, map, take, Option, Some, None, inl, inr, refl, sym, ap, subst, length, arith}
 use Rattle.std.specs.Prelude.{slice_get, bytes_eq, codes}
 use Rattle.std.proofs.lemmas.Bool.{cases_Bool}
 use Rattle.std.proofs.lemmas.List.{append-nil}
 use Rattle.std.proofs.lemmas.Option.{same_Some}
 use Rattle.std.proofs.lemmas.Slice.Eq.{bytes_eq-Decides}
 use Rattle.kv_model.specs.Holds.{Member}
-use Rattle.kv_model.specs.History.{Table, tables, named}
+use Rattle.kv_model.specs.History.{Table, named}
 use Rattle.kv_model.specs.Machine.{Machine}
-use Rattle.catalog.specs.Known.{AreDistinct, NamesAscend, by_name}
-use Rattle.catalog.proofs.InOrder.{order_ascends, order_keeps}
-use Rattle.ckpt_step.proofs.ByPlace.{turned_there, there_turned}
+use Rattle.kv_model.specs.Content.{Content, start}
+use Rattle.catalog.specs.Known.{NamesAscend}
+use Rattle.device_read.specs.Rows.{HasTables}
 use Rattle.engine_store.specs.Devices.{Device}
 use Rattle.wt_code.specs.declared.refusals.Refusal.TheVariants.{NoMemory}
 use Rattle.wt_io.specs.Streams.{Took, TookFront}
@@ -33,11 +33,17 @@ lines_more [] i t is = absurd cc
 lines_more (u ∷ xs) zero t is = append-nil (line_of u) ∙ ap line_of (same_Some u t is)
 lines_more (u ∷ xs) (suc i) t is = ap (λ (l : List ℕ). line_of u ++ l) (lines_more xs i t is) ∙ sym (append_assoc (line_of u) (names_text (names_of (take i xs))) (line_of t))
 
-pub lines_all : (xs : List Table) (i : ℕ) → slice_get xs i ≡ None → names_text (names_of (take i xs)) ≡ names_text (names_of xs)
-lines_all [] zero is = refl
-lines_all [] (suc i) is = refl
-lines_all (u ∷ xs) zero is = absurd cc
-lines_all (u ∷ xs) (suc i) is = ap (λ (l : List ℕ). line_of u ++ l) (lines_all xs i is)
+pub lines_all : (xs : List Table) (i : ℕ) → length xs ≤ i → names_text (names_of (take i xs)) ≡ names_text (names_of xs)
+lines_all [] zero le = refl
+lines_all [] (suc i) le = refl
+lines_all (u ∷ xs) zero le = absurd (omega (arith, le))
+lines_all (u ∷ xs) (suc i) le = ap (λ (l : List ℕ). line_of u ++ l) (lines_all xs i (omega (arith, le)))
+
+-- one is at each place
+pub one_there : (xs : List Table) (i : ℕ) → i < length xs → slice_get xs i ≡ None → ⊥
+one_there [] i within none = omega (arith, within)
+one_there (u ∷ xs) zero within none = cc
+one_there (u ∷ xs) (suc i) within none = one_there xs i (omega (arith, within)) none
 
 -- ---- the names
 
@@ -84,27 +90,25 @@ member_name [] t there = there
 member_name (u ∷ later) t (inl is) = inl (ap (λ (x : Table). x.name) is)
 member_name (u ∷ later) t (inr there) = inr (member_name later t there)
 
--- the names of a catalog in their order are those of its machine
-pub are_names : (known : List Table) (m : Machine) → AreDistinct known → reverse known ≡ tables m.history → AreNames m (names_of (by_name known))
-are_names known m distinct made = record {
+-- the names of a reader's tables are those of the machine
+pub are_names : (c : Content) (known : List Table) → HasTables c known → AreNames (start c) (names_of known)
+are_names c known has = record {
   all = λ name. (
     (λ there.
-        let at = name_member (by_name known) name there in
-        let turned : Member at.0 (tables m.history) = subst (λ (l : List Table). Member at.0 l) made (there_turned at.0 known ((order_keeps known at.0).0 at.1)) in
-        subst (λ (n : List ℕ). (t : Table) × (named n (tables m.history) ≡ Some t)) at.2 (member_named (tables m.history) at.0 turned)),
+        let at = name_member known name there in
+        let found = subst (λ (n : List ℕ). (t : Table) × (named n known ≡ Some t)) at.2 (member_named known at.0 at.1) in
+        (found.0, has.named_alike name ∙ found.1)),
     (λ found.
-        let t = found.0 in
-        let is = named_member name (tables m.history) t found.1 in
-        let here : Member t known = turned_there t known (subst (λ (l : List Table). Member t l) (sym made) is.0) in
-        subst (λ (n : List ℕ). Member n (names_of (by_name known))) is.1 (member_name (by_name known) t ((order_keeps known t).1 here))),
+        let is = named_member name known found.0 (sym (has.named_alike name) ∙ found.1) in
+        subst (λ (n : List ℕ). Member n (names_of known)) is.1 (member_name known found.0 is.0)),
   );
-  ascend = sorted_of (by_name known) (order_ascends known distinct);
+  ascend = sorted_of known has.ascend;
 }
 
 -- ---- the run
 
 module _ (output : Type 0) (d : Device) (m : Machine) (names : List (List ℕ)) (are : AreNames m names) (before now : Option (List ℕ)) (e : Errors) where
-  pub listed_through : (text : List ℕ) → text ≡ names_text names → Took before now text → Took e.before e.now [] → Reading (RunsList output) (at d m) before now e 0
+  pub listed_through : (text : List ℕ) → text ≡ names_text names → Took before now text → Took e.before e.now [] → Reading (RunsList output) (at d m) d before now e 0
   listed_through text is took quiet = record {
     ran = prints (names_text names) (ends Through (at d m));
     run = (names, are, inl refl);
@@ -116,7 +120,7 @@ module _ (output : Type 0) (d : Device) (m : Machine) (names : List (List ℕ)) 
     same = refl;
   }
 
-  pub listed_cut : (text : List ℕ) → text ≡ names_text names → TookFront before now text → output → IsTold e (last_line OutputFailed) → Reading (RunsList output) (at d m) before now e 6
+  pub listed_cut : (text : List ℕ) → text ≡ names_text names → TookFront before now text → output → IsTold e (last_line OutputFailed) → Reading (RunsList output) (at d m) d before now e 6
   listed_cut text is front why told = record {
     ran = prints (names_text names) (ends OutputFailed (at d m));
     run = (names, are, inr (inl (refl, why)));
@@ -128,7 +132,7 @@ module _ (output : Type 0) (d : Device) (m : Machine) (names : List (List ℕ)) 
     same = refl;
   }
 
-  pub listed_short : (status : ℕ) → Took before now [] → Tells e (lines (NoMemory ∷ [])) 12 status → Reading (RunsList output) (at d m) before now e status
+  pub listed_short : (status : ℕ) → Took before now [] → Tells e (lines (NoMemory ∷ [])) 12 status → Reading (RunsList output) (at d m) d before now e status
   listed_short status quiet told = record {
     ran = stops NoMemory (at d m);
     run = (names, are, inr (inr refl));

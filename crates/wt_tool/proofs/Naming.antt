@@ -7,6 +7,7 @@ use Rattle.wt_code.specs.declared.refusals.Refusal.{Refusal}
 use Rattle.wt_code.specs.declared.refusals.Refusal.TheVariants.{DiskFault, NoMemory, Invalid as Refusal_Invalid}
 use Rattle.wt_code.specs.declared.refusals.Invalid.TheVariants.{BadName, BadConfig}
 use Rattle.wt_io.specs.Streams.{Took}
+use Rattle.engine_store.specs.Devices.{Device}
 use Rattle.wt_tool.specs.Words.{AsksFor, name_in}
 use Rattle.wt_tool.specs.Points.{Point, Ran, stops}
 use Rattle.wt_tool.specs.Openings.{Named, Configured}
@@ -39,11 +40,11 @@ unconfigured_sound config r (inl is) = subst (λ (x : Refusal). NoDamage x) (sym
 unconfigured_sound config r (inr (is, none)) = subst (λ (x : Refusal). NoDamage x) (sym is) tt
 
 module _ (uri : List ℕ) (Goes : List ℕ → Point → Ran → Type 0) where
-  pub reading_named : (p : Point) (before now : Option (List ℕ)) (e : Errors) (status : ℕ) (name : List ℕ) → name_in uri ≡ Some name → Reading (Goes name) p before now e status → Reading (λ q ran. Named uri Goes q ran) p before now e status
-  reading_named p before now e status name is r =
+  pub reading_named : (p : Point) (d : Device) (before now : Option (List ℕ)) (e : Errors) (status : ℕ) (name : List ℕ) → name_in uri ≡ Some name → Reading (Goes name) p d before now e status → Reading (λ q ran. Named uri Goes q ran) p d before now e status
+  reading_named p d before now e status name is r =
       record { ran = r.ran; run = named_goes uri Goes name is p r.ran r.run; printed = r.printed; told = r.told; silent = r.silent; none = r.none; there = r.there; same = r.same }
 
-  pub reading_unnamed : (p : Point) (before now : Option (List ℕ)) (e : Errors) (status : ℕ) → name_in uri ≡ None → Took before now [] → Tells e (lines (Refusal_Invalid BadName ∷ [])) 1 status → Reading (λ q ran. Named uri Goes q ran) p before now e status
+  pub reading_unnamed : (p : Point) (before now : Option (List ℕ)) (e : Errors) (status : ℕ) → name_in uri ≡ None → Took before now [] → Tells e (lines (Refusal_Invalid BadName ∷ [])) 1 status → Reading (λ q ran. Named uri Goes q ran) p p.device before now e status
   reading_unnamed p before now e status none took told = record {
     ran = stops (Refusal_Invalid BadName) p;
     run = named_none uri Goes none p;

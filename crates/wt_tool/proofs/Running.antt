@@ -19,21 +19,24 @@ use Rattle.checkpoint_core.specs.Stands.{HasStill}
 use Rattle.device_leaf.specs.Closings.{content_was}
 use Rattle.tree_open.specs.declared.place.TreePlace.{TreePlace}
 use Rattle.recover_open.specs.Bare.{IsBare}
-use Rattle.recover_open.proofs.Devices.{damage_no_content}
+use Rattle.stored.specs.Records.{Record}
+use Rattle.recover_open.proofs.Devices.{damage_no_content, kept_is}
 use Rattle.recover_open.proofs.Steps.{refused_further}
 use Rattle.ckpt_step.specs.Grounds.{AreRoots}
 use Rattle.engine_store.specs.declared.store.Store.{Store}
 use Rattle.engine_store.specs.Opened.{HasNumbers, IsOpened, OpenRefused}
 use Rattle.stored.proofs.Device.{one_content, one_stored}
+use Rattle.device_read.specs.Readers.{Held, IsReaderOf}
+use Rattle.device_read.specs.Refusals.{HasNumbers as HasNumbersLeft, OpenRefused as ReaderRefused}
 use Rattle.wt_line.specs.Line.{Asked, create, write, read, list, verify, script, dump, load}
 use Rattle.script_run.specs.Scripts.{Outside, counts}
 use Rattle.wt_tool.specs.Points.{Point, Ran, point_of, stops}
 use Rattle.engine_store.specs.Devices.{Installed, device_of, last_number, IsWide}
 use Rattle.wt_tool.specs.Openings.{RefusesOpening, MayOpen, Opens, Opened}
-use Rattle.wt_tool.specs.Commands.{Runs, IsOnEngine}
+use Rattle.wt_tool.specs.Commands.{Runs, IsOnEngine, IsByReader}
 use Rattle.wt_tool.specs.Parts.{NoDamage, IsOpenedOn, Starts, Leaves, Loading, Reading, Scripting, met_of, end_of, silent_run}
 use Rattle.wt_tool.specs.Loads.{RunsLoad}
-use Rattle.wt_tool.specs.Top.{Went, Telling, IsSo, IsStatus, Tells, IsTold, IsCut, IsOpenable, Streams, Errors, lines, last_line, status_of, first_status, status_at}
+use Rattle.wt_tool.specs.Top.{Went, Telling, IsSo, IsStatus, Tells, IsTold, IsCut, Streams, Errors, lines, last_line, status_of, first_status, status_at}
 use Rattle.engine_store.specs.Images.{OpensToLast, Stays}
 use Rattle.wt_tool.proofs.Closings.{still_reads, start_opens}
 
@@ -59,7 +62,7 @@ module _ {D : Type 0} (g : Ghosts D) (old mid : D) (s : Store) (looked : Looked 
   one_there : (t : Stored) → IsOn (g.seen old) t → opened.old ≡ Some t
   one_there t on = one_still (g.seen old) opened.old t still_there on
 
-  pub opened_reads : IsOpenable (g.seen old)
+  pub opened_reads : (content : Content) × Reads (g.seen old) content
   opened_reads = (content_was opened.old, still_reads opened.old (g.seen old) still_there)
 
   module _ (content : Content) (reads : Reads (g.seen old) content) where
@@ -104,6 +107,31 @@ refused_open g old new known content r k reads (inl (inr (inr (inr (inl (is, why
 refused_open g old new known content r k reads (inl (inr (inr (inr (inr (at, want, found, is, why)))))) = absurd (damage_no_content (g.seen old) at want found content (why k) reads)
 refused_open g old new known content r k reads (inr (is, why)) = inr (inr (inr (inl (is, why k))))
 
+-- why a device that reads is not read by a reader
+pub refused_reader : {D : Type 0} (g : Ghosts D) (old new : D) (known : Type 0) (content : Content) (r : Refusal) → known → Reads (g.seen old) content → ReaderRefused (Rose (g.faults old) (g.faults new)) known (g.seen old) r
+    → RefusesOpening (point_of g (start content) old) (device_of g new) r
+refused_reader g old new known content r k reads (inl why) = refused_open g old new known content r k reads (inl why)
+refused_reader g old new known content r k (inl (blank, none)) (inr (is, lacks, shut)) = absurd (shut k blank)
+refused_reader g old new known content r k (inr (s, on, same)) (inr (is, lacks, shut)) = inr (inr (inr (inl (is, (s, on, lacks k s on)))))
+
+-- the same of a device that a reader was opened on
+pub reader_may_open : {D : Type 0} (g : Ghosts D) (old : D) (h : Held) (content : Content) → IsReaderOf (g.seen old) h → ((s : Stored) → IsOn (g.seen old) s → HasNumbersLeft s.kept) → Reads (g.seen old) content → MayOpen (point_of g (start content) old)
+reader_may_open g old h content reader numbers reads = record {
+  narrow = λ wide. wide_not wide.0 wide.1 wide.2 reader;
+  numbers = λ used. absurd (omega (arith, used.2, (numbers used.0 used.1).1));
+  run = λ same. by_content reads same;
+}
+  where
+    wide_not : (s : Stored) → IsOn (g.seen old) s → (IsBare s.kept → ⊥) → IsReaderOf (g.seen old) h → ⊥
+    wide_not s on wide (inl (blank, none)) = let e : None ≡ Some s.slot = chooses_one (g.seen old) None (Some s.slot) blank.shut on.chosen in absurd cc
+    wide_not s on wide (inr (place, a, surveyed, is)) =
+        let names = surveyed.names in
+        wide (subst (λ (x : Record). IsBare x) (sym (kept_is (g.seen old) surveyed.slot s a.record names.chosen names.is_record names.is on)) surveyed.bare)
+
+    by_content : Reads (g.seen old) content → (start content).run ≡ last_number + 1 → ⊥
+    by_content (inl (blank, is)) same = let none : content.run ≡ 0 = ap (λ (c : Content). c.run) is in omega (arith, same, none)
+    by_content (inr (s, on, is)) same = let run : content.run ≡ s.kept.run = ap (λ (c : Content). c.run) is in omega (arith, same, run, (numbers s on).0)
+
 -- a disk that was only looked at
 pub opens_of : {D : Type 0} (g : Ghosts D) (m : Machine) (old mid : D) → Looked g old mid → Opens (point_of g m old) (point_of g m mid)
 opens_of g m old mid looked = record { later = record { faults = looked.count; moment = looked.later }; machine = refl; seen = looked.content; capacity = looked.capacity }
@@ -115,12 +143,23 @@ opens_same g m disk = record { later = record { faults = omega arith; moment = o
 pub not_opened : (o : Outside) (asked : Asked) (p : Point) (ran : Ran) → IsOnEngine asked → (r : Refusal) × (q : Point) × Opens p q × RefusesOpening p q.device r × (ran ≡ stops r q) → Runs o asked p ran
 not_opened o (create config uri) p ran on why = inl why
 not_opened o (write overwrite uri pairs) p ran on why = inl why
-not_opened o (read uri keys) p ran on why = inl why
-not_opened o list p ran on why = inl why
+not_opened o (read uri keys) p ran on why = absurd on
+not_opened o list p ran on why = absurd on
 not_opened o (verify uri) p ran on why = absurd on
 not_opened o script p ran on why = inl why
-not_opened o (dump hex reverse uri) p ran on why = inl why
+not_opened o (dump hex reverse uri) p ran on why = absurd on
 not_opened o (load no_overwrite name) p ran on why = inl why
+
+-- a command that answers from the device itself
+pub not_read : (o : Outside) (asked : Asked) (p : Point) (ran : Ran) → IsByReader asked → (r : Refusal) × (q : Point) × Opens p q × RefusesOpening p q.device r × (ran ≡ stops r q) → Runs o asked p ran
+not_read o (read uri keys) p ran by why = inl why
+not_read o list p ran by why = inl why
+not_read o (dump hex reverse uri) p ran by why = inl why
+not_read o (create config uri) p ran by why = absurd by
+not_read o (write overwrite uri pairs) p ran by why = absurd by
+not_read o (verify uri) p ran by why = absurd by
+not_read o script p ran by why = absurd by
+not_read o (load no_overwrite name) p ran by why = absurd by
 
 -- any command, where memory is too short to begin
 pub not_begun : (o : Outside) (asked : Asked) (p : Point) → Opens p p → Runs o asked p (stops NoMemory p)
@@ -181,6 +220,20 @@ opening_so fault known bytes now r (inl (inr (inr (inl (is, why))))) = subst (Is
 opening_so fault known bytes now r (inl (inr (inr (inr (inl (is, why, shut)))))) = subst (IsSo known bytes now) (sym is) tt
 opening_so fault known bytes now r (inl (inr (inr (inr (inr (at, want, found, is, why)))))) = subst (IsSo known bytes now) (sym is) (λ k. inl (why k))
 opening_so fault known bytes now r (inr (is, why)) = subst (IsSo known bytes now) (sym is) tt
+
+-- why a reader is not opened, seen from further back
+pub reader_further : (fault more known honest : Type 0) (bytes : List ℕ) (r : Refusal) → (fault → more) → (honest → known) → ReaderRefused fault known bytes r → ReaderRefused more honest bytes r
+reader_further fault more known honest bytes r to from (inl (inl (is, failed))) = inl (inl (is, to failed))
+reader_further fault more known honest bytes r to from (inl (inr (inl is))) = inl (inr (inl is))
+reader_further fault more known honest bytes r to from (inl (inr (inr (inl (is, why))))) = inl (inr (inr (inl (is, λ h. why (from h)))))
+reader_further fault more known honest bytes r to from (inl (inr (inr (inr (inl (is, why, shut)))))) = inl (inr (inr (inr (inl (is, (λ h. why (from h)), λ h. shut (from h))))))
+reader_further fault more known honest bytes r to from (inl (inr (inr (inr (inr (at, want, found, is, why)))))) = inl (inr (inr (inr (inr (at, want, found, is, λ h. why (from h))))))
+reader_further fault more known honest bytes r to from (inr (is, lacks, shut)) = inr (is, (λ h. lacks (from h)), λ h. shut (from h))
+
+-- damage that the opening of a reader tells is there
+pub reader_so : (fault known : Type 0) (bytes now : List ℕ) (r : Refusal) → ReaderRefused fault known bytes r → IsSo known bytes now r
+reader_so fault known bytes now r (inl why) = opening_so fault known bytes now r (inl why)
+reader_so fault known bytes now r (inr (is, lacks, shut)) = subst (IsSo known bytes now) (sym is) tt
 
 pub status_some : (r : Refusal) (status : ℕ) → (status ≡ status_of r) ⊎ (status ≡ 12) → status ≡ 0 → ⊥
 status_some r status (inr twelve) none = omega (arith, twelve, none)
@@ -254,14 +307,14 @@ module _ {D : Type 0} (g : Ghosts D) (old new : D) (content : Content) (layered 
     stays = left.stays;
   }
 
-  -- a run of `read`
-  pub reading_went : (Allowed : Point → Ran → Type 0) (status : ℕ) → Opens (point_of g (start content) old) (point_of g (start content) new) → MayOpen (point_of g (start content) old)
+  -- a run on the device itself, which was opened at this point
+  pub reading_went : (mid : D) (Allowed : Point → Ran → Type 0) (status : ℕ) → Opens (point_of g (start content) old) (point_of g (start content) mid) → MayOpen (point_of g (start content) old)
       → ((ran : Ran) → Opened Allowed (point_of g (start content) old) ran → Runs o asked (point_of g (start content) old) ran)
       → ((c : List ℕ) → g.may_leave new c → Reads c content) → ((c : List ℕ) → g.left_since new (g.moment old) c → Reads c content)
-      → Reading Allowed (point_of g (start content) new) w.out_before w.out_now w.errors status → Ends status
-  reading_went Allowed status opened may as_command images since went = record {
+      → Reading Allowed (point_of g (start content) mid) (device_of g new) w.out_before w.out_now w.errors status → Ends status
+  reading_went mid Allowed status opened may as_command images since went = record {
     ran = went.ran;
-    run = as_command went.ran (inr (point_of g (start content) new, opened, may, went.run));
+    run = as_command went.ran (inr (point_of g (start content) mid, opened, may, went.run));
     there = went.there;
     taken = subst (λ (l : List ℕ). Gave w.in_before w.in_now l) (sym went.silent) taken;
     printed = went.printed;

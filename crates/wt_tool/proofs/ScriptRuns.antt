@@ -11,7 +11,7 @@ use Rattle.recover_open.specs.Damage.{IsDamage}
 use Rattle.kv_model.specs.Content.{Content, start, OpensAs}
 use Rattle.device_leaf.specs.Closings.{content_was}
 use Rattle.engine_world.specs.Stands.{Engine, Stands}
-use Rattle.engine_world.specs.Systems.{first_world}
+use Rattle.engine.specs.Openings.{first_world}
 use Rattle.engine_world.specs.Worlds.{World}
 use Rattle.ckpt_step.specs.Calm.{IsCalm, StartsCalm}
 use Rattle.ckpt_step.specs.Plain.{IsPlain, StartsPlain}

@@ -23,10 +23,10 @@ use Rattle.recover_open.specs.Surveys.{SurveyRefused}
 use Rattle.recover_open.proofs.Devices.{damage_no_content}
 use Rattle.engine_store.specs.Devices.{device_of}
 use Rattle.verify_dev.specs.declared.report.Report.{Report}
-use Rattle.verify_dev.specs.Reports.{ReportsOr}
+use Rattle.verify_dev.specs.Reports.{IsVerified, ReportsOr}
 use Rattle.wt_tool.specs.Points.{point_of}
 use Rattle.wt_tool.specs.Parts.{IsOfAttach, met_of}
-use Rattle.wt_tool.specs.Top.{IsAt, IsOpenable, IsSo, IsStatus, status_of, first_status}
+use Rattle.wt_tool.specs.Top.{IsAt, IsSo, IsStatus, status_of, first_status}
 use Rattle.wt_tool.specs.Verifies.{RefusesVerify, AreTablesOf, tables_in}
 use Rattle.wt_tool.proofs.Listing.{member_named, named_member}
 use Rattle.wt_tool.proofs.Running.{wide_of, status_some, untold_at}
@@ -91,13 +91,22 @@ start_tables bytes content (Some r) o reads reports =
     subst (λ (c : Content). AreTablesOf (start c) (tables_of r.tables)) (one_content bytes (content_of s) content (inr (s, reports.on, refl)) reads) (started (content_of s))
 
 -- a device that was read through reads as a content
-pub examined_reads : (bytes : List ℕ) (x : Option Record) (o : Report) → ReportsOr bytes x o → IsOpenable bytes
+pub examined_reads : (bytes : List ℕ) (x : Option Record) (o : Report) → ReportsOr bytes x o → (content : Content) × Reads bytes content
 examined_reads bytes None o (blank, counts) = (nothing, inl (blank, refl))
 examined_reads bytes (Some r) o reports =
     let s = bare_stored reports.slot r reports.trees in
     (content_of s, inr (s, reports.on, refl))
 
+-- so does one that was counted
+pub verified_reads : (bytes : List ℕ) (o : Report) → IsVerified bytes o → (content : Content) × Reads bytes content
+verified_reads bytes o (inl (blank, counts)) = (nothing, inl (blank, refl))
+verified_reads bytes o (inr (r, reports)) = examined_reads bytes (Some r) o reports
+
 -- what holds in any case
+pub in_any : {T E P : Type 0} (result : Result T E) → P → IfOk result (λ x. P)
+in_any (Ok x) p = p
+in_any (Err e) p = tt
+
 pub ok_of : {P : Type 0} (result : Result (Unit {0}) Refusal) → P → IfOk result (λ done. P)
 ok_of (Ok done) p = p
 ok_of (Err r) p = tt

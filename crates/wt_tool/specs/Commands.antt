@@ -24,7 +24,17 @@ Runs o script p ran = Opened (RunsScript o) p ran
 Runs o (dump hex reverse uri) p ran = Opened (RunsDump o.output_failed hex reverse uri) p ran
 Runs o (load no_overwrite name) p ran = Opened (RunsLoad o.input_failed o.input_ended (not no_overwrite) name) p ran
 
--- the command runs on an engine
+-- the command runs on an engine; else it answers from the device itself
 abbrev pub IsOnEngine : Asked → Type 0
 IsOnEngine (verify uri) = ⊥
+IsOnEngine (read uri keys) = ⊥
+IsOnEngine list = ⊥
+IsOnEngine (dump hex reverse uri) = ⊥
 IsOnEngine _ = Unit {0}
+
+-- it answers from the tables that it names
+abbrev pub IsByReader : Asked → Type 0
+IsByReader (read uri keys) = Unit {0}
+IsByReader list = Unit {0}
+IsByReader (dump hex reverse uri) = Unit {0}
+IsByReader _ = ⊥

@@ -1,7 +1,7 @@
 -- To what the calls of a command lead an engine, whatever the disk.
-use Rattle.std.specs.Prelude.{◌≡◌, ◌⊎◌, ℕ, List, ◌++◌, None, Result, Ok, Err}
+use Rattle.std.specs.Prelude.{◌≡◌, ℕ, List, ◌++◌, None, Result, Ok, Err}
 use Rattle.item.specs.declared.formats.Formats.{Formats}
-use Rattle.wt_code.specs.declared.answers.Answer.TheVariants.{Done, Value, Refused}
+use Rattle.wt_code.specs.declared.answers.Answer.TheVariants.{Done, Refused}
 use Rattle.wt_code.specs.declared.refusals.Refusal.{Refusal}
 use Rattle.wt_code.specs.declared.refusals.Refusal.TheVariants.{Corrupt, DiskFault}
 use Rattle.kv_model.specs.History.{Table}
@@ -13,7 +13,6 @@ use Rattle.ckpt_step.specs.Plain.{IsPlain, GoesPlain}
 use Rattle.kv_model.specs.Decisions.{Demand}
 use Rattle.wt_tool.specs.Points.{Point, Ran, Did, Calls, stops}
 use Rattle.engine_store.specs.Devices.{Device}
-use Rattle.wt_tool.specs.Openings.{formats_at}
 use Rattle.wt_tool.specs.Writes.{PutsPairs, the_put}
 use Rattle.wt_tool.specs.Parts.{IsQuiet, at}
 
@@ -63,20 +62,6 @@ MadeBy name formats m next (Err r) = IsMild r × ((d : Device) → Did (at d m) 
 abbrev pub OpenedBy : Machine → Machine → Result (Unit {0}) Refusal → Type 0
 OpenedBy m next (Ok done) = OpensSession m Done next
 OpenedBy m next (Err r) = IsMild r × OpensSession m (Refused r) next
-
--- a session is opened and its transaction begins, or one of the two is refused
-abbrev pub BegunBy : Machine → Machine → Result (Unit {0}) Refusal → Type 0
-BegunBy m next (Ok done) = (middle : Machine) × OpensSession m Done middle × DoneBy (Begin None) middle next (Ok done)
-BegunBy m next (Err r) = IsMild r × (OpensSession m (Refused r) next ⊎ ((middle : Machine) × OpensSession m Done middle × DoneBy (Begin None) middle next (Err r)))
-
--- the table of this name is the one that it was
-abbrev pub IsSteady : List ℕ → World → World → Type 0
-IsSteady name w later = formats_at later.machine name ≡ formats_at w.machine name
-
--- such a call gives a value, or is refused
-abbrev pub GotBy : Call → Machine → Machine → Result (List ℕ) Refusal → Type 0
-GotBy call m next (Ok value) = (d : Device) → Did (at d m) (Session 0) call (Value value) (at d next)
-GotBy call m next (Err r) = IsMild r × ((d : Device) → Did (at d m) (Session 0) call (Refused r) (at d next))
 
 -- what is run of a pair once its transaction has begun
 abbrev pub PutsBegun : List ℕ → Demand → List ℕ × List ℕ → List (List ℕ × List ℕ) → Point → Ran → Type 0

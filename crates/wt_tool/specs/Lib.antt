@@ -14,5 +14,6 @@ pub mod Commands
 pub mod Top
 pub mod Parts
 pub mod Led
-pub mod Walks
+pub mod Pages
+pub mod Fresh
 pub mod Later

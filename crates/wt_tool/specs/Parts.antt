@@ -13,17 +13,18 @@ use Rattle.wt_io.specs.declared.streams.Source.{Ghosts as SourceGhosts}
 use Rattle.wt_io.specs.declared.streams.Sink.{Ghosts as SinkGhosts}
 use Rattle.row_page.specs.Greatest.{no_name}
 use Rattle.engine_world.specs.Stands.{Engine, Stands}
-use Rattle.engine_world.specs.Systems.{first_world}
+use Rattle.engine.specs.Openings.{first_world}
 use Rattle.script_run.specs.declared.script.End.{End}
 use Rattle.script_run.specs.declared.script.End.TheVariants.{Through, Stopped, InputFailed, OutputFailed}
 use Rattle.script_run.specs.Scripts.{Outside, outside, counts}
 use Rattle.engine_world.specs.Worlds.{World, Resting, doing_of}
-use Rattle.stored.specs.Stored.{Stored}
+use Rattle.stored.specs.Stored.{Stored, Reads}
 use Rattle.device_leaf.specs.Closings.{content_was}
 use Rattle.ckpt_step.specs.Grounds.{StandsOn}
 use Rattle.ckpt_step.specs.Plain.{IsPlain}
 use Rattle.engine_store.specs.declared.store.Store.{Store}
 use Rattle.engine_store.specs.Opened.{HasNumbers}
+use Rattle.device_read.specs.Refusals.{LeafIsAtFault}
 use Rattle.wt_line.specs.Line.{Asked}
 use Rattle.wt_tool.specs.Points.{Point, Ran, point_of, stops, Closes}
 use Rattle.engine_store.specs.Devices.{Device, Installed, device_of}
@@ -77,15 +78,15 @@ WentFrom g s k e asked input input_now out out_now err err_now old new status =
     IsTrue (g.honest old) → (content : Content) → EachReads (g.may_leave old) content
     → Went g (outside s k input input_now out out_now) asked content (streams_of s k e input input_now out out_now err err_now) old new status
 
--- a run of `read` that makes no call of the disk
-pub record Reading (Allowed : Point → Ran → Type 0) (p : Point) (out_before out_now : Option (List ℕ)) (e : Errors) (status : ℕ) : Type 0 where
+-- a run that only looks at the disk, and leaves the device so
+pub record Reading (Allowed : Point → Ran → Type 0) (p : Point) (now : Device) (out_before out_now : Option (List ℕ)) (e : Errors) (status : ℕ) : Type 0 where
   pub ran : Ran
   pub run : Allowed p ran
   pub printed : Printed out_before out_now ran.end ran.text
   pub told : Tells e (lines ran.refusals ++ last_line ran.end) (status_by ran) status
   pub silent : ran.input ≡ []
   pub none : ran.made ≡ []
-  pub there : ran.next.device ≡ p.device
+  pub there : ran.next.device ≡ now
   pub same : ran.next.machine.completed ≡ p.machine.completed
 
 -- the engine stands for the world with which the content begins
@@ -127,11 +128,22 @@ abbrev pub Makes : Content → (Point → Ran → Type 0) → World → Engine �
 Makes content Run w e (Ok done) = (later : World) × IsPlainOn content e later × ((d : Device) (ran : Ran) → Closes (at d later.machine) ran → Run (at d w.machine) ran)
 Makes content Run w e (Err r) = (later : World) × IsPlainOn content e later × NoDamage r × (r ≢ DiskFault) × ((d : Device) → Run (at d w.machine) (stops r (at d later.machine)))
 
--- what `read` gives and tells, on an engine that has just started: what is allowed where a write of the output fails, or does not
-abbrev pub ReadsOn : {K E : Type 0} (k : SinkGhosts K) (e : SinkGhosts E) → Engine → (Type 0 → Point → Ran → Type 0) → K → K → E → E → ℕ → Type 0
-ReadsOn k e engine Allowed out out_now err err_now status =
-    (content : Content) → Starts content engine → (device : Device)
-    → Reading (Allowed (Rose (k.fault_count out) (k.fault_count out_now))) (record { machine = start content; device = device }) (k.written out) (k.written out_now) (errors_of e err err_now) status
+-- ---- commands that read
+
+-- from an honest disk that reads as a content, such a run: what is allowed where a write of the output fails, or does not
+abbrev pub ReadsFrom : {D K E : Type 0} (g : Ghosts D) (k : SinkGhosts K) (e : SinkGhosts E) → (Type 0 → Point → Ran → Type 0) → D → D → K → K → E → E → ℕ → Type 0
+ReadsFrom g k e Allowed old new out out_now err err_now status =
+    IsTrue (g.honest old) → (content : Content) → Reads (g.seen old) content
+    → Reading (Allowed (Rose (k.fault_count out) (k.fault_count out_now))) (point_of g (start content) old) (device_of g new) (k.written out) (k.written out_now) (errors_of e err err_now) status
+
+-- what a refusal says of the leaves is so
+abbrev pub IsSoOfLeaves : (honest : Type 0) → List ℕ → Refusal → Type 0
+IsSoOfLeaves honest bytes (Corrupt at want found) = honest → LeafIsAtFault bytes at want found
+IsSoOfLeaves honest bytes _ = Unit {0}
+
+-- the statuses of such a run
+abbrev pub IsReadStatus : ℕ → Type 0
+IsReadStatus status = (status ≡ 0) ⊎ ((status ≡ 1) ⊎ ((status ≡ 4) ⊎ ((status ≡ 6) ⊎ (status ≡ 12))))
 
 -- ---- a load
 

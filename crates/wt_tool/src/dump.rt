@@ -1,53 +1,73 @@
-// `dump`: the rows of a table are printed.
-ghost use Rattle.std.specs.Prelude.{◌≡◌, ◌⊎◌, ◌≤◌, ◌<◌, ℕ, List, Option, None, Some, length, IsTrue};
+// `dump`: the rows of a table are printed, leaf by leaf.
+ghost use Rattle.std.specs.Prelude.{◌≡◌, ◌⊎◌, ◌≤◌, ◌<◌, ◌∷◌, ◌++◌, [], ℕ, List, Some, slice_get, length, IsTrue, OnErr, IfErr};
 ghost use Rattle.failure.specs.Counts.{Rose};
-ghost use Rattle.kv_model.specs.Content.{Content, start};
-ghost use Rattle.kv_model.specs.Decisions.{is_name};
-ghost use Rattle.kv_model.specs.History.{Table, tables, named};
-ghost use Rattle.dump_text.specs.Written.{head_lines, row_lines, text_of};
-ghost use Rattle.wt_calls.specs.Calls.{way_in};
+ghost use Rattle.disk_model.specs.Crash.{Looked};
+ghost use Rattle.kv_model.specs.Content.{Content};
+ghost use Rattle.row_page.specs.Rows.{Row};
+ghost use Rattle.row_page.specs.Views.{row_seen};
+ghost use Rattle.reconcile.specs.Held.{page_rows};
+ghost use Rattle.stored.specs.Stored.{Reads};
+ghost use Rattle.device_read.specs.Readers.{IsReaderOf, HasPages, leaf_count, tables_in};
+ghost use Rattle.device_read.specs.Rows.{HasTables, put_row, put_rows};
+ghost use Rattle.dump_text.specs.Written.{row_lines, text_of};
+ghost use Rattle.engine_store.specs.Devices.{device_of};
 ghost use Rattle.wt_tool.specs.Dumps.{RunsDump, form_of, way_of};
-ghost use Rattle.wt_tool.specs.Parts.{HasStarted, NoDamage, ReadsOn, Starts};
+ghost use Rattle.wt_tool.specs.Pages.{CutsOff, EndsBy, EndsSoundly, IsLeft, PutsBehind, TableEndsBy, UriEndsBy, along, place_on, rows_on, rows_text};
+ghost use Rattle.wt_tool.specs.Parts.{IsReadStatus, IsSoOfLeaves, ReadsFrom};
 ghost use Rattle.wt_tool.specs.Top.{Telling, errors_of};
-ghost use Rattle.wt_tool.specs.Walks.{EndsBy, EndsMildly, IsWalking, RowPrinted, RowsEndBy, StepsTo, TableEndsBy, UriEndsBy};
 
-use crate::names::{item_of, name_of};
-use crate::sessions::{begin, is_absence};
+use crate::names::name_of;
+use crate::tables::table_named;
 use crate::telling::tell;
-use dump_text::{Form, dump_head, push_row};
-use engine::Local;
-use item::Item;
+use device_read::{Reader, faulty_leaves_do_not_read, readers_have_pages, readers_have_tables};
+use disk_model::Disk;
+use dump_text::{Form, dump_head, push_pair};
+use row_page::{Cell, CellChange, Leaf};
 use script_run::End;
 use std::alloc::Global;
 use std::mem::forget;
-use wt_calls::{Call, SessionCall, Way};
-use wt_code::{Answer, Invalid, Refusal};
+use wt_code::{Invalid, Refusal};
 use wt_io::{Sink, write_all};
 
 // The text is written once it has so many bytes; with the row that reaches them it has 64 KB at most.
 const PIECE: usize = 8_192;
 
-pub(crate) fn dump<K: Sink, E: Sink>(
+// How rows are printed.
+#[derive(Clone, Copy, Debug, PartialEq, Eq)]
+struct Manner {
+    form: Form,
+    // From the greatest key downwards.
+    reverse: bool,
+}
+
+// Prints the rows of the table that a uri names. Each leaf is read once, when the rows before it are
+// printed or wait in the text.
+pub(crate) fn dump<D: Disk, K: Sink, E: Sink>(
     alloc: Global,
+    disk: &mut D,
     out: &mut K,
     err: &mut E,
-    engine: Local,
+    reader: Reader,
     hex: bool,
     reverse: bool,
     uri: &str,
 ) -> u8
-    requires started { HasStarted engine }
-    ensures run { ReadsOn K.Sink E.Sink engine (λ f. RunsDump f hex reverse uri.now) out.old out.new err.old err.new result }
-    ensures told { Telling NoDamage (errors_of E.Sink err.old err.new) result }
-    ensures status { (result ≡ 0) ⊎ ((result ≡ 1) ⊎ ((result ≡ 6) ⊎ (result ≡ 12))) }
+    requires on { IsTrue (D.honest disk.old) → IsReaderOf (D.seen disk.old) reader }
+    ensures run { ReadsFrom D.Disk K.Sink E.Sink (λ f. RunsDump f hex reverse uri.now) disk.old disk.new out.old out.new err.old err.new result }
+    ensures told { Telling (IsSoOfLeaves (IsTrue (D.honest disk.old)) (D.seen disk.old)) (errors_of E.Sink err.old err.new) result }
+    ensures status { IsReadStatus result }
+    ensures disk_fault { result ≡ 4 → Rose (D.faults disk.old) (D.faults disk.new) }
     ensures output_fault { result ≡ 6 → Rose (K.fault_count out.old) (K.fault_count out.new) }
+    ensures looked { Looked D.Disk disk.old disk.new }
+    ensures home { D.home disk.new ≡ D.home disk.old }
 {
-    let mut engine = engine;
-    let form = form_for(hex);
-    let way = way_for(reverse);
-    let end = print_uri(alloc, out, &mut engine, form, way, uri);
-    // The command ends: the memory of the engine goes back as a whole, with the process.
-    forget(engine);
+    let manner = Manner {
+        form: form_for(hex),
+        reverse,
+    };
+    let end = print_uri(alloc, disk, out, &reader, uri, manner);
+    // The command ends: the memory of the reader goes back as a whole, with the process.
+    forget(reader);
     tell(alloc, err, &end)
 }
 
@@ -58,121 +78,173 @@ fn form_for(hex: bool) -> Form
     if hex { Form::Hex } else { Form::Print }
 }
 
-// Where the rows go on to.
-fn way_for(reverse: bool) -> Way
-    ensures { way_in result ≡ way_of reverse }
-{
-    if reverse { Way::Down } else { Way::Up }
-}
-
 // Prints the rows of the table that a uri names.
-fn print_uri<K: Sink>(
+fn print_uri<D: Disk, K: Sink>(
     alloc: Global,
+    disk: &mut D,
     out: &mut K,
-    engine: &mut Local,
-    form: Form,
-    way: Way,
+    reader: &Reader,
     uri: &str,
+    manner: Manner,
 ) -> End
-    requires started { HasStarted engine.old }
-    ensures run { (c : Content) → Starts c engine.old → UriEndsBy (Rose (K.fault_count out.old) (K.fault_count out.new)) c form (way_in way) uri.now (K.written out.old) (K.written out.new) result }
-    ensures mild { EndsMildly result }
+    requires on { IsTrue (D.honest disk.old) → IsReaderOf (D.seen disk.old) reader.now }
+    ensures run { IsTrue (D.honest disk.old) → (content : Content) → Reads (D.seen disk.old) content
+        → UriEndsBy (Rose (K.fault_count out.old) (K.fault_count out.new)) (device_of D.Disk disk.old) (device_of D.Disk disk.new) content manner.form (way_of manner.reverse) uri.now (K.written out.old) (K.written out.new) result }
+    ensures sound { EndsSoundly (Rose (K.fault_count out.old) (K.fault_count out.new)) (Rose (D.faults disk.old) (D.faults disk.new)) (IsTrue (D.honest disk.old)) (D.seen disk.old) result }
+    ensures looked { Looked D.Disk disk.old disk.new }
+    ensures home { D.home disk.new ≡ D.home disk.old }
 {
     match name_of(uri.as_bytes()) {
-        Some(name) => print_table(alloc, out, engine, form, way, name),
+        Some(name) => print_table(alloc, disk, out, reader, name, manner),
         None => End::Stopped(Refusal::Invalid(Invalid::BadName)),
     }
 }
 
 // Prints the rows of the table of this name.
-fn print_table<K: Sink>(
+fn print_table<D: Disk, K: Sink>(
     alloc: Global,
+    disk: &mut D,
     out: &mut K,
-    engine: &mut Local,
-    form: Form,
-    way: Way,
+    reader: &Reader,
     name: &[u8],
+    manner: Manner,
 ) -> End
-    requires name { IsTrue (is_name name.now) }
-    requires started { HasStarted engine.old }
-    ensures run { (c : Content) → Starts c engine.old → TableEndsBy (Rose (K.fault_count out.old) (K.fault_count out.new)) c form (way_in way) name.now (K.written out.old) (K.written out.new) result }
-    ensures mild { EndsMildly result }
+    requires on { IsTrue (D.honest disk.old) → IsReaderOf (D.seen disk.old) reader.now }
+    ensures run { IsTrue (D.honest disk.old) → (content : Content) → Reads (D.seen disk.old) content
+        → TableEndsBy (Rose (K.fault_count out.old) (K.fault_count out.new)) (device_of D.Disk disk.old) (device_of D.Disk disk.new) content manner.form (way_of manner.reverse) name.now (K.written out.old) (K.written out.new) result }
+    ensures sound { EndsSoundly (Rose (K.fault_count out.old) (K.fault_count out.new)) (Rose (D.faults disk.old) (D.faults disk.new)) (IsTrue (D.honest disk.old)) (D.seen disk.old) result }
+    ensures looked { Looked D.Disk disk.old disk.new }
+    ensures home { D.home disk.new ≡ D.home disk.old }
 {
-    let Some(formats) = engine.formats_of(name) else {
+    readers_have_tables();
+    readers_have_pages();
+    let Some(table) = table_named(reader, name) else {
         return End::Stopped(Refusal::NoTable);
     };
-    match begin(alloc, engine) {
-        Ok(()) => {}
-        Err(refusal) => return End::Stopped(refusal),
-    }
-    match dump_head(alloc, form, name, formats) {
-        Ok(head) => print_rows(alloc, out, engine, form, way, name, head),
+    match dump_head(alloc, manner.form, name, table.formats) {
+        Ok(head) => print_leaves(alloc, disk, out, reader, table.place, manner, head),
         Err(_) => End::Stopped(Refusal::NoMemory),
     }
 }
 
-// Prints the lines before the rows, and then each row as the walk comes to it.
+// Prints the lines before the rows, and then the rows of each leaf.
+fn print_leaves<D: Disk, K: Sink>(
+    alloc: Global,
+    disk: &mut D,
+    out: &mut K,
+    reader: &Reader,
+    place: usize,
+    manner: Manner,
+    head: Vec<u8>,
+) -> End
+    requires on { IsTrue (D.honest disk.old) → IsReaderOf (D.seen disk.old) reader.now }
+    ensures run { IsTrue (D.honest disk.old) → (content : Content) → Reads (D.seen disk.old) content → (pages : List (List Row)) → HasPages (D.seen disk.old) reader.now place pages → length pages ≡ leaf_count reader.now place
+        → EndsBy (Rose (K.fault_count out.old) (K.fault_count out.new)) (Rose (D.faults disk.old) (D.faults disk.new)) (K.written out.old) (K.written out.new) (head.items ++ rows_text manner.form (rows_on (way_of manner.reverse) pages)) result }
+    ensures sound { EndsSoundly (Rose (K.fault_count out.old) (K.fault_count out.new)) (Rose (D.faults disk.old) (D.faults disk.new)) (IsTrue (D.honest disk.old)) (D.seen disk.old) result }
+    ensures looked { Looked D.Disk disk.old disk.new }
+    ensures home { D.home disk.new ≡ D.home disk.old }
+{
+    let count = reader.leaves(place);
+    let mut text = head;
+    for passed in 0..count {
+        let i = place_on(manner.reverse, count, passed);
+        match print_leaf(alloc, disk, out, &mut text, reader, place, i, manner) {
+            Ok(()) => {}
+            Err(end) => return end,
+        }
+    }
+    print_rest(out, &text)
+}
+
+// Where the next one is found, of so many, behind those that were passed.
+fn place_on(reverse: bool, count: usize, passed: usize) -> usize
+    requires { passed < count }
+    ensures is { result ≡ place_on (way_of reverse) count passed }
+    ensures within { result < count }
+{
+    if reverse { count - 1 - passed } else { passed }
+}
+
+// Prints the rows of a leaf. The error is how the run ends.
+fn print_leaf<D: Disk, K: Sink>(
+    alloc: Global,
+    disk: &mut D,
+    out: &mut K,
+    text: &mut Vec<u8>,
+    reader: &Reader,
+    place: usize,
+    i: usize,
+    manner: Manner,
+) -> Result<(), End>
+    requires on { IsTrue (D.honest disk.old) → IsReaderOf (D.seen disk.old) reader.now }
+    requires there { i < leaf_count reader.now place }
+    ensures run { IsTrue (D.honest disk.old) → (content : Content) → Reads (D.seen disk.old) content → (pages : List (List Row)) → HasPages (D.seen disk.old) reader.now place pages → (page : List Row) → slice_get pages i ≡ Some page
+        → PutsBehind (Rose (K.fault_count out.old) (K.fault_count out.new)) (Rose (D.faults disk.old) (D.faults disk.new)) (K.written out.old) (K.written out.new) text.old.items text.new.items (rows_text manner.form (put_rows (along (way_of manner.reverse) page))) result }
+    ensures sound { IfErr result (EndsSoundly (Rose (K.fault_count out.old) (K.fault_count out.new)) (Rose (D.faults disk.old) (D.faults disk.new)) (IsTrue (D.honest disk.old)) (D.seen disk.old)) }
+    ensures later { K.fault_count out.old ≤ K.fault_count out.new }
+    ensures looked { Looked D.Disk disk.old disk.new }
+    ensures home { D.home disk.new ≡ D.home disk.old }
+{
+    faulty_leaves_do_not_read();
+    match reader.leaf(alloc, disk, place, i) {
+        Ok(leaf) => print_page(alloc, out, text, leaf.page(), manner),
+        Err(refusal) => Err(End::Stopped(refusal)),
+    }
+}
+
+// Prints the rows of a page.
+fn print_page<K: Sink>(
+    alloc: Global,
+    out: &mut K,
+    text: &mut Vec<u8>,
+    page: Option<&Leaf>,
+    manner: Manner,
+) -> Result<(), End>
+    ensures printed { PutsBehind (Rose (K.fault_count out.old) (K.fault_count out.new)) ⊥ (K.written out.old) (K.written out.new) text.old.items text.new.items (rows_text manner.form (put_rows (along (way_of manner.reverse) (page_rows page.entry)))) result }
+    ensures later { K.fault_count out.old ≤ K.fault_count out.new }
+{
+    match page {
+        Some(page) => print_rows(alloc, out, text, page, manner),
+        None => Ok(()),
+    }
+}
+
+// The same of a page that is there. `O(bytes)`, and nothing is copied but into the text.
 fn print_rows<K: Sink>(
     alloc: Global,
     out: &mut K,
-    engine: &mut Local,
-    form: Form,
-    way: Way,
-    name: &[u8],
-    head: Vec<u8>,
-) -> End
-    requires name { IsTrue (is_name name.now) }
-    requires there { 0 < length engine.old.sessions }
-    requires walking { (c : Content) × (t : Table) × (named name.now (tables (start c).history) ≡ Some t) × IsWalking c t.number None engine.old }
-    ensures run { (c : Content) (t : Table) → named name.now (tables (start c).history) ≡ Some t → IsWalking c t.number None engine.old → head.items ≡ text_of (head_lines form name.now t.formats)
-        → RowsEndBy (Rose (K.fault_count out.old) (K.fault_count out.new)) c t form (way_in way) name.now (K.written out.old) (K.written out.new) result }
-    ensures mild { EndsMildly result }
+    text: &mut Vec<u8>,
+    page: &Leaf,
+    manner: Manner,
+) -> Result<(), End>
+    ensures printed { PutsBehind (Rose (K.fault_count out.old) (K.fault_count out.new)) ⊥ (K.written out.old) (K.written out.new) text.old.items text.new.items (rows_text manner.form (put_rows (along (way_of manner.reverse) page.now))) result }
+    ensures later { K.fault_count out.old ≤ K.fault_count out.new }
 {
-    let mut text = head;
-    'rows: for _ in 0..u64::MAX {
-        match next_row(alloc, engine, way, name) {
-            Ok(Some((key, value))) => match print_row(alloc, out, &mut text, form, &key, &value) {
-                Ok(()) => {}
-                Err(end) => return end,
-            },
-            Ok(None) => return print_rest(out, &text),
-            Err(refusal) => return End::Stopped(refusal),
+    let count = page.len();
+    for passed in 0..count {
+        let cell = page.cell(place_on(manner.reverse, count, passed));
+        match print_cell(alloc, out, text, manner.form, &cell) {
+            Ok(()) => {}
+            Err(end) => return Err(end),
         }
     }
-    // Memory is too short for so many rows.
-    End::Stopped(Refusal::NoMemory)
+    Ok(())
 }
 
-// The next row of the walk.
-fn next_row(
+// Prints a row, where its key was not removed.
+fn print_cell<K: Sink>(
     alloc: Global,
-    engine: &mut Local,
-    way: Way,
-    name: &[u8],
-) -> Result<Option<(Item, Item)>, Refusal>
-    requires name { IsTrue (is_name name.now) }
-    requires there { 0 < length engine.old.sessions }
-    ensures step { (c : Content) (t : Table) (from : Option (List ℕ)) → named name.now (tables (start c).history) ≡ Some t → IsWalking c t.number from engine.old → StepsTo c t.number (way_in way) from engine.new result }
-    ensures there { length engine.new.sessions ≡ length engine.old.sessions }
+    out: &mut K,
+    text: &mut Vec<u8>,
+    form: Form,
+    cell: &Cell<'_>,
+) -> Result<(), End>
+    ensures printed { PutsBehind (Rose (K.fault_count out.old) (K.fault_count out.new)) ⊥ (K.written out.old) (K.written out.new) text.old.items text.new.items (rows_text form (put_row (row_seen cell.now))) result }
+    ensures later { K.fault_count out.old ≤ K.fault_count out.new }
 {
-    let Ok(table) = item_of(alloc, name) else {
-        return Err(Refusal::NoMemory);
-    };
-    let step = SessionCall::Step {
-        cursor: 0,
-        table,
-        way,
-    };
-    match engine.call(alloc, Call::Session(0, step)) {
-        Answer::Row(key, value) => Ok(Some((key, value))),
-        Answer::Refused(refusal) => {
-            if is_absence(&refusal) {
-                Ok(None)
-            } else {
-                Err(refusal)
-            }
-        }
-        _ => Err(Refusal::NoMemory),
+    match cell.change {
+        CellChange::Put(value) => print_row(alloc, out, text, form, cell.key, value),
+        CellChange::Remove => Ok(()),
     }
 }
 
@@ -182,13 +254,13 @@ fn print_row<K: Sink>(
     out: &mut K,
     text: &mut Vec<u8>,
     form: Form,
-    key: &Item,
-    value: &Item,
+    key: &[u8],
+    value: &[u8],
 ) -> Result<(), End>
-    ensures printed { RowPrinted (Rose (K.fault_count out.old) (K.fault_count out.new)) (K.written out.old) (K.written out.new) text.old.items text.new.items (text_of (row_lines form (key.now, value.now))) result }
+    ensures printed { PutsBehind (Rose (K.fault_count out.old) (K.fault_count out.new)) ⊥ (K.written out.old) (K.written out.new) text.old.items text.new.items (text_of (row_lines form (key.now, value.now))) result }
     ensures later { K.fault_count out.old ≤ K.fault_count out.new }
 {
-    if push_row(alloc, text, form, key, value).is_err() {
+    if push_pair(alloc, text, form, key, value).is_err() {
         return Err(End::Stopped(Refusal::NoMemory));
     }
     if text.len() < PIECE {
@@ -203,7 +275,8 @@ fn print_row<K: Sink>(
 
 // Prints what is left.
 fn print_rest<K: Sink>(out: &mut K, text: &[u8]) -> End
-    ensures { EndsBy (Rose (K.fault_count out.old) (K.fault_count out.new)) (K.written out.old) (K.written out.new) text.now result }
+    ensures printed { EndsBy (Rose (K.fault_count out.old) (K.fault_count out.new)) ⊥ (K.written out.old) (K.written out.new) text.now result }
+    ensures later { K.fault_count out.old ≤ K.fault_count out.new }
 {
     match write_all(out, text) {
         Ok(()) => End::Through,

@@ -2,10 +2,11 @@
 //!
 //! Promises, on the call that the program makes, that a run is one that the machine's definitions
 //! allow, that the disk it hands back opens to the last completed checkpoint, and that a status
-//! tells its cause. Leaves the real file and the real streams to the program. Each command runs on an
-//! engine that starts on the device's checkpoint, but `verify`, which reads the device through and
-//! keeps no row. A device with a history is refused as `75 limit image`. A script writes to the
-//! device only by its lines that take a checkpoint.
+//! tells its cause. Leaves the real file and the real streams to the program. A command that writes,
+//! or makes calls of its own, runs on an engine that starts on the device's checkpoint. `read`, `dump`
+//! and `list` answer from the device itself: they read all but the leaves, and of those the ones that
+//! they need. `verify` reads the device through, and keeps no row. A device with a history is refused
+//! as `75 limit image`. A script writes to the device only by its lines that take a checkpoint.
 #![tactic(auto)]
 
 mod closing;
@@ -20,6 +21,7 @@ mod read;
 mod script;
 mod sessions;
 mod status;
+mod tables;
 mod telling;
 mod top;
 mod verify;

@@ -1,79 +1,87 @@
 // `read`: each key's value is printed.
-ghost use Rattle.std.specs.Prelude.{◌≡◌, ◌⊎◌, ◌↔◌, ◌++◌, ◌∷◌, ◌<◌, [], length, map, IsTrue, OnOk, OnErr};
+ghost use Rattle.std.specs.Prelude.{◌≡◌, ◌↔◌, ◌++◌, ◌∷◌, [], map, IsTrue, IfErr, OnOk, OnErr};
 ghost use Rattle.failure.specs.Counts.{Rose, HasCause};
+ghost use Rattle.disk_model.specs.Crash.{Looked};
 ghost use Rattle.wt_io.specs.Streams.{Took, TookFront};
+ghost use Rattle.kv_model.specs.Content.{Content};
 ghost use Rattle.kv_model.specs.Decisions.{is_name};
-ghost use Rattle.engine_world.specs.Stands.{Stands};
-ghost use Rattle.engine_world.specs.Worlds.{World};
-ghost use Rattle.wt_tool.specs.Openings.{formats_at};
-ghost use Rattle.wt_tool.specs.Reads.{RunsRead, ReadsKeys, the_get};
-ghost use Rattle.wt_tool.specs.Parts.{HasStarted, IsQuiet, ReadsOn, NoDamage};
-ghost use Rattle.wt_tool.specs.Led.{GotBy, IsSteady, Leads};
+ghost use Rattle.stored.specs.Stored.{Reads};
+ghost use Rattle.device_read.specs.Readers.{IsReaderOf, tables_in};
+ghost use Rattle.wt_tool.specs.Fresh.{MayGive, given_by, key_in};
+ghost use Rattle.wt_tool.specs.Pages.{IsTableOf};
+ghost use Rattle.wt_tool.specs.Reads.{RunsRead, ReadsKeys};
+ghost use Rattle.wt_tool.specs.Parts.{IsReadStatus, IsSoOfLeaves, ReadsFrom};
 ghost use Rattle.wt_tool.specs.Top.{Telling, errors_of};
 
-use crate::names::{item_of, name_of, stored_as};
-use crate::sessions::{begin, formats_for, is_absence};
+use crate::names::{name_of, stored_as};
 use crate::status::Status;
+use crate::tables::{TableAt, formats_of, table_named};
 use crate::telling::report;
-use ckpt_step::plain_stays;
-use engine::Local;
-use item::{Formats, Item};
+use device_read::{Reader, faulty_leaves_do_not_read, readers_have_tables};
+use disk_model::Disk;
+use item::Item;
 use item_forms::written_as;
+use limits::KEY_MAX;
 use std::alloc::Global;
 use std::mem::forget;
-use wt_calls::{Call, SessionCall};
-use wt_code::{Answer, Invalid, Refusal};
+use wt_code::{Invalid, Refusal};
 use wt_io::{Failed, Sink, write_all};
 
-pub(crate) fn read<K: Sink, E: Sink>(
+// Prints the value of each key of the table that a uri names.
+pub(crate) fn read<D: Disk, K: Sink, E: Sink>(
     alloc: Global,
+    disk: &mut D,
     out: &mut K,
     err: &mut E,
-    engine: Local,
+    reader: Reader,
     uri: &str,
     keys: &[&str],
 ) -> u8
-    requires started { HasStarted engine }
-    ensures run { ReadsOn K.Sink E.Sink engine (λ f. RunsRead f uri.now (map (λ s. s.now) keys.now)) out.old out.new err.old err.new result }
-    ensures told { Telling NoDamage (errors_of E.Sink err.old err.new) result }
-    ensures status { (result ≡ 0) ⊎ ((result ≡ 1) ⊎ ((result ≡ 6) ⊎ (result ≡ 12))) }
+    requires on { IsTrue (D.honest disk.old) → IsReaderOf (D.seen disk.old) reader }
+    ensures run { ReadsFrom D.Disk K.Sink E.Sink (λ f. RunsRead f uri.now (map (λ s. s.now) keys.now)) disk.old disk.new out.old out.new err.old err.new result }
+    ensures told { Telling (IsSoOfLeaves (IsTrue (D.honest disk.old)) (D.seen disk.old)) (errors_of E.Sink err.old err.new) result }
+    ensures status { IsReadStatus result }
+    ensures disk_fault { result ≡ 4 → Rose (D.faults disk.old) (D.faults disk.new) }
     ensures output_fault { result ≡ 6 → Rose (K.fault_count out.old) (K.fault_count out.new) }
+    ensures looked { Looked D.Disk disk.old disk.new }
+    ensures home { D.home disk.new ≡ D.home disk.old }
 {
-    let mut engine = engine;
     match name_of(uri.as_bytes()) {
         Some(name) => {
-            let status = read_named(alloc, out, err, &mut engine, name, keys);
-            // The command ends: the memory of the engine goes back as a whole, with the process.
-            forget(engine);
+            let status = read_named(alloc, disk, out, err, &reader, name, keys);
+            // The command ends: the memory of the reader goes back as a whole, with the process.
+            forget(reader);
             status
         }
         None => report(alloc, err, &Refusal::Invalid(Invalid::BadName)),
     }
 }
 
-fn read_named<K: Sink, E: Sink>(
+fn read_named<D: Disk, K: Sink, E: Sink>(
     alloc: Global,
+    disk: &mut D,
     out: &mut K,
     err: &mut E,
-    engine: &mut Local,
+    reader: &Reader,
     name: &[u8],
     keys: &[&str],
 ) -> u8
     requires name { IsTrue (is_name name.now) }
-    requires started { HasStarted engine.old }
-    ensures run { ReadsOn K.Sink E.Sink engine.old (λ f. ReadsKeys f name.now (map (λ s. s.now) keys.now)) out.old out.new err.old err.new result }
-    ensures told { Telling NoDamage (errors_of E.Sink err.old err.new) result }
-    ensures status { (result ≡ 0) ⊎ ((result ≡ 1) ⊎ ((result ≡ 6) ⊎ (result ≡ 12))) }
+    requires on { IsTrue (D.honest disk.old) → IsReaderOf (D.seen disk.old) reader.now }
+    ensures run { ReadsFrom D.Disk K.Sink E.Sink (λ f. ReadsKeys f name.now (map (λ s. s.now) keys.now)) disk.old disk.new out.old out.new err.old err.new result }
+    ensures told { Telling (IsSoOfLeaves (IsTrue (D.honest disk.old)) (D.seen disk.old)) (errors_of E.Sink err.old err.new) result }
+    ensures status { IsReadStatus result }
+    ensures disk_fault { result ≡ 4 → Rose (D.faults disk.old) (D.faults disk.new) }
     ensures output_fault { result ≡ 6 → Rose (K.fault_count out.old) (K.fault_count out.new) }
+    ensures looked { Looked D.Disk disk.old disk.new }
+    ensures home { D.home disk.new ≡ D.home disk.old }
 {
-    match begin(alloc, engine) {
-        Ok(()) => {}
-        Err(refusal) => return report(alloc, err, &refusal),
-    }
-    let formats = formats_for(engine, name);
+    readers_have_tables();
+    let table = table_named(reader, name);
+    let formats = formats_of(table);
     let mut status = Status::Done as u8;
     for key in keys {
-        match get(alloc, engine, name, formats, key) {
+        match get(alloc, disk, reader, name, table, key) {
             Ok(value) => {
                 if print(out, written_as(formats.value, value.as_bytes())).is_err() {
                     let _ = write_all(err, b"output fault\n");
@@ -92,26 +100,54 @@ fn read_named<K: Sink, E: Sink>(
     status
 }
 
-// The value of the key of a word.
-fn get(
+// The value of the key of a word. Where there are two reasons to refuse it, it is refused as a get is:
+// for the length of the key first, then for want of the table.
+fn get<D: Disk>(
     alloc: Global,
-    engine: &mut Local,
+    disk: &mut D,
+    reader: &Reader,
     name: &[u8],
-    formats: Formats,
+    table: Option<TableAt>,
     key: &str,
 ) -> Result<Item, Refusal>
-    requires there { 0 < length engine.old.sessions }
-    ensures got { (w : World) → Stands engine.old w → IsQuiet w → formats ≡ formats_at w.machine name.now → (later : World) × Leads engine.old engine.new w later × IsSteady name.now w later × GotBy (the_get w.machine name.now key.now) w.machine later.machine result }
-    ensures there { length engine.new.sessions ≡ length engine.old.sessions }
+    requires name { IsTrue (is_name name.now) }
+    requires table { IsTableOf (tables_in reader.now) name.now table }
+    requires on { IsTrue (D.honest disk.old) → IsReaderOf (D.seen disk.old) reader.now }
+    ensures gives { IsTrue (D.honest disk.old) → (content : Content) → Reads (D.seen disk.old) content → MayGive content name.now (key_in content name.now key.now) (D.faults disk.old) (D.faults disk.new) (given_by result) }
+    ensures sound { IfErr result (IsSoOfLeaves (IsTrue (D.honest disk.old)) (D.seen disk.old)) }
+    ensures fault { IfErr result (λ r. r ≡ Refusal.DiskFault → Rose (D.faults disk.old) (D.faults disk.new)) }
+    ensures looked { Looked D.Disk disk.old disk.new }
+    ensures home { D.home disk.new ≡ D.home disk.old }
 {
-    plain_stays();
-    let (Ok(table), Ok(key)) = (item_of(alloc, name), stored_as(alloc, formats.key, key)) else {
+    readers_have_tables();
+    faulty_leaves_do_not_read();
+    let _named = name;
+    let Ok(key) = stored_as(alloc, formats_of(table).key, key) else {
         return Err(Refusal::NoMemory);
     };
-    match engine.call(alloc, Call::Session(0, SessionCall::Get { table, key })) {
-        Answer::Value(value) => Ok(value),
-        Answer::Refused(refusal) => Err(refusal),
-        _ => Err(Refusal::NoMemory),
+    let key = key.as_bytes();
+    if key.len() > KEY_MAX {
+        return Err(Refusal::Invalid(Invalid::KeyLong {
+            len: key.len() as u64,
+        }));
+    }
+    let Some(table) = table else {
+        return Err(Refusal::NoTable);
+    };
+    match reader.get(alloc, disk, table.place, key) {
+        Ok(Some(value)) => Ok(value),
+        Ok(None) => Err(Refusal::NotFound),
+        Err(refusal) => Err(refusal),
+    }
+}
+
+// Whether it tells that there is no such key.
+fn is_absence(refusal: &Refusal) -> bool
+    ensures { IsTrue result ↔ (refusal.now ≡ Refusal.NotFound) }
+{
+    match refusal {
+        Refusal::NotFound => true,
+        _ => false,
     }
 }
 

@@ -1,11 +1,11 @@
 // The calls of a command's one session.
-ghost use Rattle.std.specs.Prelude.{◌≡◌, ◌<◌, ◌↔◌, length, IsTrue, OnOk};
+ghost use Rattle.std.specs.Prelude.{◌≡◌, ◌<◌, length, OnOk};
 ghost use Rattle.wt_calls.specs.Calls.{session_call_in};
 ghost use Rattle.engine_world.specs.Stands.{Stands};
 ghost use Rattle.engine_world.specs.Worlds.{World};
 ghost use Rattle.wt_tool.specs.Openings.{formats_at};
 ghost use Rattle.wt_tool.specs.Parts.{HasStarted, IsQuiet};
-ghost use Rattle.wt_tool.specs.Led.{BegunBy, DoneBy, IsWord, Leads, OpenedBy};
+ghost use Rattle.wt_tool.specs.Led.{DoneBy, IsWord, Leads, OpenedBy};
 
 use crate::names::plain_formats;
 use ckpt_step::plain_stays;
@@ -42,31 +42,9 @@ pub(crate) fn call(alloc: Global, engine: &mut Local, call: SessionCall) -> Resu
     }
 }
 
-// A session is opened, and its transaction begins.
-pub(crate) fn begin(alloc: Global, engine: &mut Local) -> Result<(), Refusal>
-    requires started { HasStarted engine.old }
-    ensures led { (w : World) → Stands engine.old w → IsQuiet w → (later : World) × Leads engine.old engine.new w later × BegunBy w.machine later.machine result }
-    ensures there { OnOk result (0 < length engine.new.sessions) }
-{
-    match open(alloc, engine) {
-        Ok(()) => call(alloc, engine, SessionCall::Begin(None)),
-        Err(refusal) => Err(refusal),
-    }
-}
-
 // The formats of the table of this name; where there is none, words are taken as they are.
 pub(crate) fn formats_for(engine: &Local, name: &[u8]) -> Formats
     ensures { (w : World) → Stands engine.now w → result ≡ formats_at w.machine name.now }
 {
     engine.formats_of(name).unwrap_or(plain_formats())
-}
-
-// Whether it tells that there is no such key, or no further row.
-pub(crate) fn is_absence(refusal: &Refusal) -> bool
-    ensures { IsTrue result ↔ (refusal.now ≡ Refusal.NotFound) }
-{
-    match refusal {
-        Refusal::NotFound => true,
-        _ => false,
-    }
 }

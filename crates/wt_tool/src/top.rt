@@ -4,7 +4,7 @@ ghost use Rattle.std.specs.String.{string_bytes};
 ghost use Rattle.failure.specs.Counts.{Rose};
 ghost use Rattle.wt_io.specs.Streams.{Took};
 ghost use Rattle.wt_line.specs.Line.{command_of, meaning};
-ghost use Rattle.wt_tool.specs.Commands.{IsOnEngine};
+ghost use Rattle.wt_tool.specs.Commands.{IsByReader, IsOnEngine};
 ghost use Rattle.wt_tool.specs.Parts.{WentFrom, met_of};
 ghost use Rattle.wt_tool.specs.Top.{Promise, Tells, Telling, IsSo, IsAt, IsOpenable, IsStatus, errors_of, lines, first_status};
 
@@ -12,13 +12,14 @@ use crate::create::create;
 use crate::dump::dump;
 use crate::list::list;
 use crate::load::load;
-use crate::opening::reach;
+use crate::opening::{reach, reach_reader};
 use crate::read::read;
 use crate::script::script;
 use crate::status::Status;
 use crate::telling::report;
 use crate::verify::verify;
 use crate::write::write;
+use device_read::{faulty_leaves_do_not_read, readers_have_tables};
 use disk_model::Home;
 use std::alloc::Global;
 use std::sync::Wait;
@@ -93,7 +94,50 @@ fn run<S: Source, K: Sink, E: Sink, D: Home>(
             let result = verify(alloc, disk, home, *uri);
             told(alloc, err, &result)
         }
+        Command::Read { .. } | Command::List | Command::Dump { .. } => {
+            run_reader(alloc, command, home, input, out, err, disk)
+        }
         _ => run_opened(alloc, command, home, input, out, err, disk),
+    }
+}
+
+// A run of a command that answers from the device itself.
+fn run_reader<S: Source, K: Sink, E: Sink, D: Home>(
+    alloc: Global,
+    command: &Command<'_>,
+    home: &str,
+    input: &mut S,
+    out: &mut K,
+    err: &mut E,
+    disk: &mut D,
+) -> u8
+    requires { IsByReader (meaning command.now) }
+    ensures run { WentFrom D.Disk S.Source K.Sink E.Sink (meaning command.now) input.old input.new out.old out.new err.old err.new disk.old disk.new result }
+    ensures told { Telling (IsSo (IsTrue (D.honest disk.old)) (D.seen disk.old) (D.seen disk.new)) (errors_of E.Sink err.old err.new) result }
+    ensures opened { IsTrue (D.honest disk.old) → result ≡ 0 → IsOpenable (D.seen disk.old) }
+    ensures silent { IsTrue (D.honest disk.old) → Took (K.written out.old) (K.written out.new) [] ⊎ IsOpenable (D.seen disk.old) }
+    ensures home { IsAt D.Disk home.now disk.old disk.new result }
+    ensures statuses { IsStatus result }
+    ensures disk_fault { result ≡ 4 → Rose (D.faults disk.old) (D.faults disk.new) }
+    ensures input_fault { result ≡ 5 → Rose (S.fault_count input.old) (S.fault_count input.new) }
+    ensures output_fault { result ≡ 6 → Rose (K.fault_count out.old) (K.fault_count out.new) }
+    ensures honest { D.honest disk.new ≡ D.honest disk.old }
+{
+    readers_have_tables();
+    faulty_leaves_do_not_read();
+    // Nothing of the input is read.
+    let _ = input;
+    let reader = match reach_reader(alloc, disk, home) {
+        Ok(reader) => reader,
+        Err(refusal) => return report(alloc, err, &refusal),
+    };
+    match command {
+        Command::Read { uri, keys } => read(alloc, disk, out, err, reader, uri, keys),
+        Command::List => list(alloc, out, err, reader),
+        Command::Dump { hex, reverse, uri } => {
+            dump(alloc, disk, out, err, reader, *hex, *reverse, uri)
+        }
+        _ => unreachable!(),
     }
 }
 
@@ -136,16 +180,11 @@ fn run_opened<S: Source, K: Sink, E: Sink, D: Home>(
             let result = write(alloc, disk, store, *overwrite, uri, pairs);
             told(alloc, err, &result)
         }
-        Command::Read { uri, keys } => read(alloc, out, err, store.engine, uri, keys),
-        Command::List => list(alloc, out, err, store.engine),
-        Command::Verify { .. } => unreachable!(),
         Command::Script => script(alloc, disk, store, input, out, err),
-        Command::Dump { hex, reverse, uri } => {
-            dump(alloc, out, err, store.engine, *hex, *reverse, uri)
-        }
         Command::Load { no_overwrite, name } => {
             load(alloc, disk, store, input, err, *no_overwrite, *name)
         }
+        _ => unreachable!(),
     }
 }
 

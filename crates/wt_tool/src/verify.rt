@@ -9,7 +9,6 @@ ghost use Rattle.recover_open.specs.Surveys.{RefusesSurvey};
 ghost use Rattle.verify_dev.specs.Reports.{IsExamined};
 ghost use Rattle.wt_tool.specs.Parts.{IsOfAttach, silent_run};
 ghost use Rattle.wt_tool.specs.Points.{Point, point_of};
-ghost use Rattle.wt_tool.specs.Top.{IsOpenable};
 ghost use Rattle.wt_tool.specs.Verifies.{RunsVerify, LooksFor, AreTablesOf, tables_in};
 
 use crate::names::name_of;
@@ -28,7 +27,7 @@ pub(crate) fn verify<D: Home>(
     uri: Option<&str>,
 ) -> Result<(), Refusal>
     ensures run { IsTrue (D.honest disk.old) → (content : Content) → Reads (D.seen disk.old) content → RunsVerify (option_map (λ x. x.now) uri.entry) (point_of D.Disk (start content) disk.old) (silent_run result [] (point_of D.Disk (start content) disk.new)) }
-    ensures ok { IsTrue (D.honest disk.old) → IfOk result (λ done. IsOpenable (D.seen disk.old)) }
+    ensures ok { IsTrue (D.honest disk.old) → IfOk result (λ done. (content : Content) × Reads (D.seen disk.old) content) }
     ensures err { IfErr result (λ r. RefusesSurvey D.Disk (IsTrue (D.honest disk.old)) disk.old disk.new r ⊎ ((r ≡ Refusal.Invalid Invalid.BadName) ⊎ (r ≡ Refusal.NoTable))) }
     ensures told { IfOk result (λ done. D.home disk.new ≡ Some home.now) }
     ensures untold { (D.home disk.new ≡ Some home.now) ⊎ ((D.home disk.new ≡ D.home disk.old) × IfErr result IsOfAttach) }

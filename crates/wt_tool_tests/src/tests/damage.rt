@@ -100,6 +100,8 @@ fn damage_is_told_by_each_command(rt: HostRuntime) {
     let before = bytes_of(&rt, alloc, &disk);
     let rows = [
         ("read|t|a", 1, told, ""),
+        ("read|u|a", 1, told, ""),
+        ("dump|t", 1, told, ""),
         ("write|t|b|2", 1, told, ""),
         ("create|-c|key_format=S,value_format=S|t", 1, told, ""),
         ("list", 1, told, ""),

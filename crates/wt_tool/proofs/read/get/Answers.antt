@@ -1,13 +1,66 @@
-use Rattle.wt_tool.proofs.Going.{get_is, got_value, got_refused}
-use Rattle.wt_calls.specs.declared.session_call.SessionCall.TheVariants as session
+use Rattle.std.proofs.Common.{◌≡◌, ◌∙◌, None, Some, Option, IsTrue, ap, refl, sym, arith}
+use Rattle.item.specs.declared.formats.Formats.{Formats}
+use Rattle.item_forms.specs.Forms.{stored_as}
+use Rattle.failure.specs.Counts.{Rose}
+use Rattle.device_read.specs.Readers.{IsReaderOf, tables_in}
+use Rattle.wt_tool.specs.declared.tables.TableAt.{TableAt}
+use Rattle.wt_tool.proofs.Dumping.{leaf_so}
+use Rattle.wt_tool.proofs.Finding.{gives_long, gives_no_table, gives_none, gives_refused, gives_value}
 use Rattle.wt_tool.proofs.read.get.Goals as goal
 
-pub returns-in-Value-clause-got : goal.returns-in-Value-clause-got
-returns-in-Value-clause-got c =
-    got_value c.plain_stays.ensures.stays c.args.engine.now c.call.new.self c.args.name.now c.args.key.now c.args.formats (session.Get c.in-Ok-Ok.table c.in-Ok-Ok.key) c.call.result
-    (λ m are. get_is c.args.name.now c.in-Ok-Ok.table c.in-Ok-Ok.key c.args.key.now c.args.formats m c.in-Ok-Ok.ensures c.in-Ok-Ok.ensures' are) c.call.ensures.answer c.in-Value.value c.in-Value.is
+none_of : (o : Option TableAt) → ((t : TableAt) → o ≡ Some t → ⊥) → o ≡ None
+none_of None none = refl
+none_of (Some t) none = absurd (none t refl)
 
-pub returns-in-Refused-clause-got : goal.returns-in-Refused-clause-got
-returns-in-Refused-clause-got c =
-    got_refused c.plain_stays.ensures.stays c.args.engine.now c.call.new.self c.args.name.now c.args.key.now c.args.formats (session.Get c.in-Ok-Ok.table c.in-Ok-Ok.key) c.call.result
-    (λ m are. get_is c.args.name.now c.in-Ok-Ok.table c.in-Ok-Ok.key c.args.key.now c.args.formats m c.in-Ok-Ok.ensures c.in-Ok-Ok.ensures' are) c.call.ensures.answer c.in-Refused.refusal c.in-Refused.is
+pub returns-then-key-gt-KEY_MAX-clause-gives : goal.returns-then-key-gt-KEY_MAX-clause-gives
+returns-then-key-gt-KEY_MAX-clause-gives g c h content reads =
+    let D = g.D.Disk in
+    let bytes = D.seen c.args.disk.now in
+    let known = tables_in c.args.reader.now in
+    let has = c.readers_have_tables.ensures bytes content c.args.reader.now (c.requires.on h) reads in
+    let stored = c.as_bytes-key.ensures ∙ c.in-Ok.ensures ∙ ap (λ (f : Formats). stored_as f.key c.args.key.now) c.formats_of.ensures in
+    gives_long content known c.args.name.now c.args.key.now c.as_bytes-key.result.now c.args.table has c.requires.table c.requires.name stored (D.faults c.args.disk.now) (D.faults c.args.disk.now) c.if-key-gt-KEY_MAX.true
+
+pub returns-in_default-table-clause-gives : goal.returns-in_default-table-clause-gives
+returns-in_default-table-clause-gives g c h content reads =
+    let D = g.D.Disk in
+    let bytes = D.seen c.args.disk.now in
+    let known = tables_in c.args.reader.now in
+    let has = c.readers_have_tables.ensures bytes content c.args.reader.now (c.requires.on h) reads in
+    let stored = c.as_bytes-key.ensures ∙ c.in-Ok.ensures ∙ ap (λ (f : Formats). stored_as f.key c.args.key.now) c.formats_of.ensures in
+    gives_no_table content known c.args.name.now c.args.key.now c.as_bytes-key.result.now c.args.table has c.requires.table c.requires.name stored (D.faults c.args.disk.now) (D.faults c.args.disk.now) (omega (arith, c.if-key-gt-KEY_MAX.false)) (none_of c.args.table c.in_default-table.not-Some)
+
+pub returns-in-Ok-Some-clause-gives : goal.returns-in-Ok-Some-clause-gives
+returns-in-Ok-Some-clause-gives g c h content reads =
+    let D = g.D.Disk in
+    let bytes = D.seen c.args.disk.now in
+    let known = tables_in c.args.reader.now in
+    let has = c.readers_have_tables.ensures bytes content c.args.reader.now (c.requires.on h) reads in
+    let stored = c.as_bytes-key.ensures ∙ c.in-Ok.ensures ∙ ap (λ (f : Formats). stored_as f.key c.args.key.now) c.formats_of.ensures in
+    gives_value content known c.args.name.now c.args.key.now c.as_bytes-key.result.now c.args.table has c.requires.table c.requires.name stored (D.faults c.args.disk.now) (D.faults c.get.new.disk) (omega (arith, c.if-key-gt-KEY_MAX.false)) c.in-Some.table c.in-Some.is c.in-Ok-Some.value
+    (λ u there. sym c.in-Ok-Some.field-0-is ∙ c.in-Ok-Some.ensures.ok h (c.requires.on h) content u reads there)
+
+pub returns-in-Ok-None-clause-gives : goal.returns-in-Ok-None-clause-gives
+returns-in-Ok-None-clause-gives g c h content reads =
+    let D = g.D.Disk in
+    let bytes = D.seen c.args.disk.now in
+    let known = tables_in c.args.reader.now in
+    let has = c.readers_have_tables.ensures bytes content c.args.reader.now (c.requires.on h) reads in
+    let stored = c.as_bytes-key.ensures ∙ c.in-Ok.ensures ∙ ap (λ (f : Formats). stored_as f.key c.args.key.now) c.formats_of.ensures in
+    gives_none content known c.args.name.now c.args.key.now c.as_bytes-key.result.now c.args.table has c.requires.table c.requires.name stored (D.faults c.args.disk.now) (D.faults c.get.new.disk) (omega (arith, c.if-key-gt-KEY_MAX.false)) c.in-Some.table c.in-Some.is
+    (λ u there. sym c.in-Ok-None.field-0-is ∙ c.in-Ok-None.ensures.ok h (c.requires.on h) content u reads there)
+
+pub returns-clause-gives : goal.returns-clause-gives
+returns-clause-gives g c h content reads =
+    let D = g.D.Disk in
+    let bytes = D.seen c.args.disk.now in
+    let known = tables_in c.args.reader.now in
+    let has = c.readers_have_tables.ensures bytes content c.args.reader.now (c.requires.on h) reads in
+    let stored = c.as_bytes-key.ensures ∙ c.in-Ok.ensures ∙ ap (λ (f : Formats). stored_as f.key c.args.key.now) c.formats_of.ensures in
+    gives_refused content known c.args.name.now c.args.key.now c.as_bytes-key.result.now c.args.table has c.requires.table c.requires.name stored (D.faults c.args.disk.now) (D.faults c.get.new.disk) (omega (arith, c.if-key-gt-KEY_MAX.false)) c.in-Some.table c.in-Some.is (IsTrue (D.honest c.args.disk.now) × IsReaderOf bytes c.args.reader.now) bytes c.in-Err.refusal (h, c.requires.on h)
+    (λ at want found fault. c.faulty_leaves_do_not_read.ensures bytes at want found content fault reads) c.in-Err.ensures.err
+
+pub returns-clause-sound : goal.returns-clause-sound
+returns-clause-sound g c =
+    let D = g.D.Disk in
+    (leaf_so (Rose (D.faults c.args.disk.now) (D.faults c.get.new.disk)) (IsTrue (D.honest c.args.disk.now) × IsReaderOf (D.seen c.args.disk.now) c.args.reader.now) (IsTrue (D.honest c.args.disk.now)) (D.seen c.args.disk.now) c.in-Err.refusal (λ h. (h, c.requires.on h)) c.in-Err.ensures.err).0

@@ -3,7 +3,7 @@ use Rattle.kv_model.specs.Calls.{Call}
 use Rattle.kv_model.specs.Content.{start}
 use Rattle.device_leaf.specs.Closings.{content_was}
 use Rattle.engine_world.specs.Worlds.{World}
-use Rattle.engine_world.specs.Systems.{first_world}
+use Rattle.engine.specs.Openings.{first_world, no_shelf}
 use Rattle.script_run.specs.Scripts.{Outside, outside}
 use Rattle.script_run.specs.Runs.{IsRun}
 use Rattle.wt_tool.specs.Top.{Streams, errors_of, streams_of}
@@ -27,7 +27,7 @@ returns-clause-run g c h content each =
     let reads = each.0 _ (g.met.D.Disk.reads_an_image _ h) in
     let held = first_held D c.args.disk.now s on content each reads (λ d left. g.met.D.Disk.only_now _ d left) in
     let calm = first_calm D c.args.disk.now s on content each reads c.plain_stays.ensures.starts c.calm_stays.ensures.starts in
-    let world = ap (λ (l : List (Option Call)). let v : World = record { machine = start content; sessions = []; systems = l } in v) (four_rest s.engine.systems c.actors.ensures.systems) in
+    let world = ap (λ (l : List (Option Call)). let v : World = record { machine = start content; sessions = []; systems = l; shelf = no_shelf } in v) (four_rest s.engine.systems c.actors.ensures.systems) in
     scripted D o content w c.args.disk.now c.run_script-ran.new.disk c.run_script-ran.new.store c.run_script-ran.result c.told-status.result
     (subst (λ (v : World). IsRun D o w.in_before w.in_now w.out_before w.out_now v c.args.disk.now c.run_script-ran.new.disk c.run_script-ran.new.store c.run_script-ran.result) world
     (c.run_script-ran.ensures.run h (first_world content s.engine) held calm))

@@ -1,4 +1,4 @@
-use Rattle.std.proofs.Common.{◌≡◌, Option, Bor, List, ℕ, [], refl, sym, subst}
+use Rattle.std.proofs.Common.{Vec, Global, Bool, ◌≡◌, ◌⊎◌, inl, inr, Option, Bor, List, ℕ, [], refl, sym, subst}
 use Rattle.disk_model.proofs.Crash.{looked_only}
 use Rattle.kv_model.specs.Content.{start}
 use Rattle.wt_io.specs.StreamLemmas.{took_none}
@@ -7,7 +7,7 @@ use Rattle.wt_line.specs.declared.command.Command.TheVariants.{Create, Write, Re
 use Rattle.wt_line.specs.Line.{meaning}
 use Rattle.device_leaf.proofs.Opens.{err_map}
 use Rattle.script_run.specs.Scripts.{Outside, outside}
-use Rattle.wt_tool.specs.Commands.{IsOnEngine, Runs}
+use Rattle.wt_tool.specs.Commands.{IsByReader, IsOnEngine, Runs}
 use Rattle.wt_tool.specs.Parts.{silent_run}
 use Rattle.wt_tool.specs.Points.{Point, Ran, point_of}
 use Rattle.wt_tool.specs.Top.{Streams, streams_of}
@@ -46,17 +46,27 @@ returns-in-Verify-clause-statuses g c = (verify_said _ _ (g.D.Disk.seen c.args.d
 pub returns-in-Verify-clause-disk_fault : goal.returns-in-Verify-clause-disk_fault
 returns-in-Verify-clause-disk_fault g c = (verify_said _ _ (g.D.Disk.seen c.args.disk.now) c.verify-result.result c.told.result c.verify-result.ensures.err c.told.ensures.status).failed
 
+-- ---- those that answer from the device itself
+
+by_reader : (command : Command) → ((uri : Bor (List ℕ)) × (keys : Vec (Bor (List ℕ)) Global) × (command ≡ Read uri keys)) ⊎ ((command ≡ Listing) ⊎ ((hex : Bool) × (reverse : Bool) × (uri : Bor (List ℕ)) × (command ≡ Dump hex reverse uri))) → IsByReader (meaning command)
+by_reader command (inl (uri, keys, is)) = subst (λ (a : Command). IsByReader (meaning a)) (sym is) tt
+by_reader command (inr (inl is)) = subst (λ (a : Command). IsByReader (meaning a)) (sym is) tt
+by_reader command (inr (inr (hex, reverse, uri, is))) = subst (λ (a : Command). IsByReader (meaning a)) (sym is) tt
+
+pub run_reader-requires : goal.run_reader-requires
+run_reader-requires g c = by_reader c.args.command.now c.in-Read.is
+
 -- ---- the others, on an engine
 
-on_engine : (command : Command) → ((uri : Option (Bor (List ℕ))) → command ≡ Verify uri → ⊥) → IsOnEngine (meaning command)
-on_engine (Create config uri) other = tt
-on_engine (Write overwrite uri pairs) other = tt
-on_engine (Read uri keys) other = tt
-on_engine Listing other = tt
-on_engine (Verify uri) other = absurd (other uri refl)
-on_engine Script other = tt
-on_engine (Dump hex reverse uri) other = tt
-on_engine (Load no_overwrite name) other = tt
+on_engine : (command : Command) → ((uri : Option (Bor (List ℕ))) → command ≡ Verify uri → ⊥) → ((uri : Bor (List ℕ)) (keys : Vec (Bor (List ℕ)) Global) → command ≡ Read uri keys → ⊥) → (command ≡ Listing → ⊥) → ((hex reverse : Bool) (uri : Bor (List ℕ)) → command ≡ Dump hex reverse uri → ⊥) → IsOnEngine (meaning command)
+on_engine (Create config uri) no_verify no_read no_list no_dump = tt
+on_engine (Write overwrite uri pairs) no_verify no_read no_list no_dump = tt
+on_engine (Read uri keys) no_verify no_read no_list no_dump = absurd (no_read uri keys refl)
+on_engine Listing no_verify no_read no_list no_dump = absurd (no_list refl)
+on_engine (Verify uri) no_verify no_read no_list no_dump = absurd (no_verify uri refl)
+on_engine Script no_verify no_read no_list no_dump = tt
+on_engine (Dump hex reverse uri) no_verify no_read no_list no_dump = absurd (no_dump hex reverse uri refl)
+on_engine (Load no_overwrite name) no_verify no_read no_list no_dump = tt
 
 pub run_opened-requires : goal.run_opened-requires
-run_opened-requires g c = on_engine c.args.command.now (λ uri is. c.in_default.not-Verify uri is)
+run_opened-requires g c = on_engine c.args.command.now c.in_default.not-Verify c.in_default.not-Read c.in_default.not-List c.in_default.not-Dump
