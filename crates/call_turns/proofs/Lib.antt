@@ -1,0 +1,12 @@
+pub mod Walks
+pub mod FramedLeaves
+pub mod Pins
+pub mod Away
+pub mod Looked
+pub mod HubTurns
+pub mod FrameTurns
+pub mod WordTurns
+pub mod HubPlaces
+pub mod OneSession
+pub mod SeatsStay
+pub mod CallsRun
