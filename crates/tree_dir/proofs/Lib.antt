@@ -19,3 +19,4 @@ pub mod GivenWay
 pub mod Parting
 pub mod Cutting
 pub mod TestTables
+pub mod Walking

@@ -58,6 +58,10 @@ abbrev pub leaf_under : ℕ → List ℕ → List Leaf → Option Leaf
 leaf_under table key [] = None
 leaf_under table key (l ∷ leaves) = option_or (leaf_under table key leaves) (if begins_by table key l then Some l else None)
 
+-- the leaves of the table, in the order of their low keys
+abbrev pub leaves_of : ℕ → List Leaf → List Leaf
+leaves_of table leaves = filter (λ l. l.table == table) leaves
+
 -- the last leaf of the table
 abbrev pub leaf_last : ℕ → List Leaf → Option Leaf
 leaf_last table [] = None

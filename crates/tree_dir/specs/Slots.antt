@@ -63,3 +63,8 @@ numbered table id (e ∷ entries) = new_leaf table id e ∷ numbered table (id +
 abbrev pub if_of_table : ℕ → Option Leaf → Option Leaf
 if_of_table table None = None
 if_of_table table (Some l) = if l.table == table then Some l else None
+
+-- the first of these leaves, up to one of another table
+abbrev pub front_of : ℕ → List Leaf → List Leaf
+front_of table [] = []
+front_of table (l ∷ leaves) = if l.table == table then l ∷ front_of table leaves else []

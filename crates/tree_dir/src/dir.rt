@@ -3,13 +3,15 @@
 ghost use Rattle.std.specs.Prelude.{◌≡◌, ◌≢◌, ℕ, List, option_copied, option_map, OnOk, OnErr};
 ghost use Rattle.std.specs.Option.{option_and_then};
 ghost use Rattle.std.specs.List.{All};
-ghost use Rattle.tree_dir.specs.Leaves.{changed, in_frame, leaf_ahead, leaf_behind, leaf_last, leaf_named, leaf_under, led_to, no_leaves, AreTable, GaveWay, HasTable, IsDirectory, TakePlace};
+ghost use Rattle.tree_dir.specs.Leaves.{changed, in_frame, leaf_ahead, leaf_behind, leaf_last, leaf_named, leaf_under, leaves_of, led_to, no_leaves, AreTable, GaveWay, HasTable, IsDirectory, TakePlace};
 
 use crate::adding::add_leaves;
 use crate::leaf::{Framed, Leaf};
 use crate::neighbours::{id_ahead, id_behind, id_last, id_under};
+use crate::places::place_of;
 use crate::replacing::replace_in;
 use crate::slots::{leaf_by_id, set_frame_in, set_link_in, slot_of};
+use crate::walk::TableLeaves;
 use device_layout::Link;
 use failure::NoMemory;
 use inner_page::Entry;
@@ -122,6 +124,19 @@ impl Dir {
     {
         let slot = slot_of(&self.slots, leaf)?;
         id_ahead(&self.slots, &self.order, slot)
+    }
+
+    /// The leaves of a table, in the order of their low keys: none where there is no such table.
+    /// `O(log n)` comparisons with n leaves, and `O(1)` for each that is come to.
+    pub fn leaves_of(&self, table: u32) -> TableLeaves<'_>
+        ensures { result ≡ leaves_of table self.now.leaves }
+    {
+        let place = match place_of(&self.slots, &self.order, table, b"") {
+            Ok(place) => place,
+            // Each table has a leaf from the empty key on.
+            Err(_) => self.order.end(),
+        };
+        TableLeaves::over(&self.slots, self.order.walk(place), table)
     }
 
     /// Says which frame a leaf is in. Nothing where there is no such leaf. `O(1)`.

@@ -26,6 +26,7 @@ mod replacing;
 mod slots;
 #[cfg(test)]
 mod tests;
+mod walk;
 
 pub use dir::Dir;
 pub use draft::PageDraft;
@@ -37,3 +38,4 @@ pub use laws::{
 };
 pub use leaf::{Framed, Leaf};
 pub use levels::{cut_level, levels_shrink};
+pub use walk::TableLeaves;

@@ -12,6 +12,7 @@ use Rattle.wt_code.specs.declared.store_error.StoreError.TheVariants.{NoSpace}
 use Rattle.row_page.specs.Rows.{Row, is_below}
 use Rattle.reconcile.specs.declared.image.Image.{Image}
 use Rattle.stored.specs.Blocks.{Block}
+use Rattle.stored.specs.Links.{nowhere}
 use Rattle.stored.specs.Records.{Root}
 use Rattle.stored.specs.Stored.{Stored}
 use Rattle.stored.specs.Tree.{IsTree, join}
@@ -24,7 +25,7 @@ use Rattle.tree_open.specs.Trees.{HasTree, IsPlaceOf}
 use Rattle.tree_write.specs.Captures.{AreDistinct, Captures, IsSafe, places_of}
 use Rattle.tree_write.specs.Cuts.{AreFullLeaves, AreFullPages, IsNeeded, captured_blocks}
 use Rattle.tree_write.specs.Sizes.{LacksAll, WritesTree, first_link, links_behind}
-use Rattle.tree_write.specs.Steps.{AreSpelled, LeavesStopped, LeavesWritten}
+use Rattle.tree_write.specs.Steps.{AreSpelled, LeavesStopped, LeavesWritten, links_in}
 use Rattle.tree_write.specs.Writes.{AreOwn, IsLiveLeaf, KeepSame, LeadApart, MayWriteOver}
 
 -- ---- parts
@@ -69,6 +70,11 @@ HasLeaves bytes (e ∷ es) (rows ∷ leaves) = ((e.link.addr.offset ≡ 0 → �
 abbrev pub rooted : List Entry → List Entry
 rooted [] = []
 rooted (e ∷ es) = record { key = []; link = e.link } ∷ es
+
+-- the links of the leaves of a tree of these entries: a tree without leaves has one that leads nowhere
+abbrev pub leaf_links : List Entry → List Link
+leaf_links [] = nowhere ∷ []
+leaf_links (e ∷ es) = links_in (e ∷ es)
 
 -- the leaves of parts stand below entries: each part is cut by itself, and each leaf has a row
 pub record StandBelow (es : List Entry) (parts : List (List (List Row))) : Type 0 where

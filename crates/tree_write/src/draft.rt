@@ -15,7 +15,7 @@ ghost use Rattle.reconcile.specs.Images.{AreImages};
 ghost use Rattle.stored.specs.Stored.{Stored};
 ghost use Rattle.stored.specs.Tree.{join};
 ghost use Rattle.stored.specs.TableTree.{Climbs, EntryFits, first_key};
-ghost use Rattle.tree_write.specs.Drafts.{AreBelow, AreFrom, AreLiveLeaves, Drafted, DraftWrites, LeavesOf, PartsWrite, StandBelow, addrs_to, aligned};
+ghost use Rattle.tree_write.specs.Drafts.{AreBelow, AreFrom, AreLiveLeaves, Drafted, DraftWrites, LeavesOf, PartsWrite, StandBelow, addrs_to, aligned, leaf_links};
 ghost use Rattle.tree_write.specs.Keeps.{AreLive, KeepsAll};
 ghost use Rattle.tree_write.specs.Steps.{keys_of, part_keys};
 ghost use Rattle.tree_write.specs.Writes.{IsNoPlace};
@@ -73,6 +73,15 @@ impl TreeDraft {
         ensures { result ≡ length self.now }
     {
         self.entries.len()
+    }
+
+    /// The entries of its leaves, in the order of their keys. `O(1)`.
+    pub fn entries(&self) -> &[Entry]
+        ensures is { result.now ≡ self.now }
+        ensures fit { AllByRecursion EntryFits result.now }
+        ensures climbs { Climbs result.now }
+    {
+        &self.entries
     }
 
     /// Captures a part behind the others as it stands in the checkpoint before, with these entries of
@@ -168,6 +177,7 @@ impl TreeDraft {
         ensures writes { IsTrue (D.honest disk.old) → (old : Option Stored) (first books : Books) (before : D) (links : List ALink) (parts : List (List (List Row))) (listed : List AnAddr)
             → Drafted D.Disk old first books blocks.old before disk.old links (join parts) listed self → StandBelow self parts
             → (addrs : List AnAddr) × (captured.new.items ≡ captured.old.items ++ addrs) × PartsWrite D.Disk old first links parts (join (join parts)) (listed ++ addrs) books blocks.new before disk.new result }
+        ensures leaves { IfOk result (λ p. p.leaves.items ≡ leaf_links self) }
         ensures low { IfOk result (λ p. p.root.level ≤ 60) }
         ensures ready { IsTrue (D.honest disk.old) → OnOk result (end_of blocks.new.space ≤ length (D.seen disk.new)) }
         ensures held { blocks.new.is_held ≡ true }

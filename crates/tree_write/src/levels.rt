@@ -12,7 +12,7 @@ ghost use Rattle.stored.specs.Tree.{Layer};
 ghost use Rattle.stored.specs.TableTree.{Climbs, Entry as StoredEntry, EntryFits, first_key};
 ghost use Rattle.tree_dir.specs.Levels.{SpellsPage};
 ghost use Rattle.tree_write.specs.Captures.{MayWrite};
-ghost use Rattle.tree_write.specs.Steps.{AreDrafts, PageWrites, PagesWrite, LevelWrites, Rises, keys_of, lows_of};
+ghost use Rattle.tree_write.specs.Steps.{AreDrafts, PageWrites, PagesWrite, LevelWrites, Rises, keys_of, links_in, lows_of};
 
 use crate::blocks::capture;
 use crate::entries::{link_to, links_of, put_addrs, top_link};
@@ -42,6 +42,7 @@ pub(crate) fn rise<D: Disk>(
     requires ready { IsTrue (D.honest disk.old) → end_of blocks.old.space ≤ length (D.seen disk.old) }
     ensures rises { IsTrue (D.honest disk.old) → (old : Option Stored) (first : Books) → MayWrite (D.seen disk.old) (D.may_leave disk.old) blocks.old old
         → (addrs : List AnAddr) × (captured.new.items ≡ captured.old.items ++ addrs) × Rises D.Disk old first blocks.old blocks.new disk.old disk.new leaves.items addrs result }
+    ensures leaves { IfOk result (λ p. p.leaves.items ≡ links_in leaves.items) }
     ensures low { IfOk result (λ p. p.root.level ≤ 60) }
     ensures ready { IsTrue (D.honest disk.old) → OnOk result (end_of blocks.new.space ≤ length (D.seen disk.new)) }
     ensures held { blocks.new.is_held ≡ true }
