@@ -6,3 +6,4 @@ pub mod Places
 pub mod UpperPlaces
 pub mod Devices
 pub mod Steps
+pub mod Sole

@@ -11,7 +11,7 @@ use Rattle.le_codec.specs.Images.{block_of}
 use Rattle.wt_code.specs.declared.refusals.Refusal.{Refusal}
 use Rattle.wt_code.specs.declared.refusals.Refusal.TheVariants.{Corrupt, DiskFault, NoMemory, Limit as Refusal_Limit}
 use Rattle.wt_code.specs.declared.refusals.Limit.TheVariants.{Image}
-use Rattle.stored.specs.Records.{Record, record_image, IsRecord}
+use Rattle.stored.specs.Records.{Record, TableRoot, record_image, IsRecord}
 use Rattle.stored.specs.Stored.{Stored, IsOn, IsBlank}
 use Rattle.device_leaf.specs.declared.place.Place.{Place}
 use Rattle.tree_open.specs.declared.place.Upper.{Upper}
@@ -62,7 +62,27 @@ SurveyRefused fault known bytes r =
 abbrev pub RefusesSurvey : {D : Type 0} → Ghosts D → (known : Type 0) → D → D → Refusal → Type 0
 RefusesSurvey g known old new r = SurveyRefused (Rose (g.faults old) (g.faults new)) known (g.seen old) r
 
+-- what a survey can find of these bytes
+abbrev pub CanSurvey : List ℕ → Type 0
+CanSurvey bytes = (place : Place) × (a : Above) × Surveys bytes place a
+
+-- a fault of the disk, or want of memory
+abbrev pub IsOfDisk : Refusal → Type 0
+IsOfDisk r = (r ≡ DiskFault) ⊎ (r ≡ NoMemory)
+
 -- ---- the steps of a survey
+
+-- the slot names a bare record
+abbrev pub HasBareRecord : List ℕ → Slot → Type 0
+HasBareRecord bytes slot = (r : Record) × Names bytes slot r × IsBare r
+
+-- each of these tables has inner pages
+abbrev pub CanHaveUppers : List ℕ → List TableRoot → Type 0
+CanHaveUppers bytes tables = (uppers : List Upper) × HaveUppers bytes tables uppers
+
+-- what a survey can find at this slot
+abbrev pub HasAbove : List ℕ → Slot → Type 0
+HasAbove bytes slot = (r : Record) × (uppers : List Upper) × Names bytes slot r × IsBare r × HaveUppers bytes r.tables uppers × AreStored (uppers_found slot uppers) (length bytes)
 
 -- of the slot's sequence, and bare
 pub record IsSound (slot : Slot) (r : Record) : Type 0 where

@@ -6,7 +6,7 @@ ghost use Rattle.device_leaf.specs.Damage.{IsChosen};
 ghost use Rattle.device_leaf.specs.NoHistory.{no_root};
 ghost use Rattle.recover_open.specs.Bare.{IsBare};
 ghost use Rattle.recover_open.specs.Damage.{Names};
-ghost use Rattle.recover_open.specs.Surveys.{RefusesSurvey, IsSound, IsRecordOf, RecordRefused, RefusesRecord};
+ghost use Rattle.recover_open.specs.Surveys.{RefusesSurvey, HasBareRecord, IsOfDisk, IsSound, IsRecordOf, RecordRefused, RefusesRecord};
 
 use block_mgr::read_block;
 use checkpoint_record::{Record, Root, TableRoot, decode};
@@ -22,6 +22,7 @@ pub(crate) fn record_at<D: Disk>(alloc: Global, disk: &mut D, slot: Slot) -> Res
     ensures ok { IsTrue (D.honest disk.old) → IsChosen (D.seen disk.old) slot → IfOk result (Names (D.seen disk.old) slot) }
     ensures sound { IfOk result (IsSound slot) }
     ensures err { IfErr result (RefusesSurvey D.Disk (IsTrue (D.honest disk.old) × IsChosen (D.seen disk.old) slot) disk.old disk.new) }
+    ensures sole { IsTrue (D.honest disk.old) → HasBareRecord (D.seen disk.old) slot → IfErr result IsOfDisk }
     ensures looked { Looked D.Disk disk.old disk.new }
     ensures home { D.home disk.new ≡ D.home disk.old }
 {

@@ -3,7 +3,7 @@ ghost use Rattle.std.specs.Prelude.{◌≡◌, length, IfOk, IfErr, IsTrue};
 ghost use Rattle.failure.specs.Counts.{Rose};
 ghost use Rattle.disk_model.specs.Crash.{Looked};
 ghost use Rattle.device_leaf.specs.Damage.{IsChosen};
-ghost use Rattle.recover_open.specs.Surveys.{IsSurveyed, InFormAbove, RefusesSurvey, IsBlankSurvey, IsPutTogether};
+ghost use Rattle.recover_open.specs.Surveys.{CanSurvey, HasAbove, IsOfDisk, IsSurveyed, InFormAbove, RefusesSurvey, IsBlankSurvey, IsPutTogether};
 
 use crate::books::books;
 use crate::record::{record_at, tables_of};
@@ -39,7 +39,8 @@ pub struct Surveyed {
 /// is read. `O(bytes)` of the record and the inner pages, each read once, and `O(n)` in the blocks.
 ///
 /// `75 limit image` comes only where the checkpoint has a history. `Corrupt` tells damage that the
-/// device has (`IsDamage`): the offset of a slot, with no sums, or of the block of the record or of
+/// device has (`IsDamage`), never of a leaf: what can be surveyed is refused for a fault of the disk
+/// or want of memory alone. It tells the offset of a slot, with no sums, or of the block of the record or of
 /// an inner page, with the sum that it should have and the sum that it has, or the same sum twice
 /// where that is not at fault. A block that cannot be in use beside those before it is told with its
 /// sum twice, in the order of the record and then the trees by table, the inner pages of each from
@@ -48,6 +49,7 @@ pub fn survey<D: Disk>(alloc: Global, disk: &mut D) -> Result<Surveyed, Refusal>
     ensures ok { IsTrue (D.honest disk.old) → IfOk result (IsSurveyed (D.seen disk.old)) }
     ensures form { IfOk result (λ o. InFormAbove o.above) }
     ensures err { IfErr result (RefusesSurvey D.Disk (IsTrue (D.honest disk.old)) disk.old disk.new) }
+    ensures sole { IsTrue (D.honest disk.old) → CanSurvey (D.seen disk.old) → IfErr result IsOfDisk }
     ensures looked { Looked D.Disk disk.old disk.new }
     ensures home { D.home disk.new ≡ D.home disk.old }
 {
@@ -73,6 +75,7 @@ fn survey_at<D: Disk>(alloc: Global, disk: &mut D, slot: Slot) -> Result<Surveye
     ensures ok { IsTrue (D.honest disk.old) → IsChosen (D.seen disk.old) slot → IfOk result (IsSurveyed (D.seen disk.old)) }
     ensures form { IfOk result (λ o. InFormAbove o.above) }
     ensures err { IfErr result (RefusesSurvey D.Disk (IsTrue (D.honest disk.old) × IsChosen (D.seen disk.old) slot) disk.old disk.new) }
+    ensures sole { IsTrue (D.honest disk.old) → HasAbove (D.seen disk.old) slot → IfErr result IsOfDisk }
     ensures looked { Looked D.Disk disk.old disk.new }
     ensures home { D.home disk.new ≡ D.home disk.old }
 {

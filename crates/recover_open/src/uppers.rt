@@ -4,6 +4,7 @@ ghost use Rattle.failure.specs.Counts.{Rose};
 ghost use Rattle.disk_model.specs.Crash.{Looked};
 ghost use Rattle.recover_open.specs.Bare.{HaveUppers, AllClimb};
 ghost use Rattle.recover_open.specs.Recoveries.{TreesRefused};
+ghost use Rattle.recover_open.specs.Surveys.{CanHaveUppers, IsOfDisk};
 
 use crate::trees::root_of;
 use checkpoint_record::TableRoot;
@@ -23,6 +24,7 @@ pub(crate) fn read_uppers<D: Disk>(
     ensures climb { IfOk result (λ v. AllClimb v.items) }
     ensures count { IfOk result (λ v. length v.items ≡ length tables.now) }
     ensures err { IfErr result (TreesRefused (Rose (D.faults disk.old) (D.faults disk.new)) (IsTrue (D.honest disk.old)) (D.seen disk.old) tables.now) }
+    ensures sole { IsTrue (D.honest disk.old) → CanHaveUppers (D.seen disk.old) tables.now → IfErr result IsOfDisk }
     ensures looked { Looked D.Disk disk.old disk.new }
     ensures home { D.home disk.new ≡ D.home disk.old }
 {

@@ -1,6 +1,7 @@
 use Rattle.std.proofs.Common.{inl, inr}
 use Rattle.device_leaf.proofs.Opens.{block_there, ok_map, err_map}
 use Rattle.recover_open.proofs.Steps.{recorded, record_refused, record_spoilt}
+use Rattle.recover_open.proofs.Sole.{of_record, record_sound}
 use Rattle.recover_open.proofs.record.record_at.Goals as goal
 
 pub returns-in-Err-clause-err : goal.returns-in-Err-clause-err
@@ -28,3 +29,19 @@ returns-in-Ok-clause-ok g c h chosen =
 
 pub returns-in-Ok-clause-sound : goal.returns-in-Ok-clause-sound
 returns-in-Ok-clause-sound g c = ok_map c.record_of.result c.record_of.ensures.ok (λ r of. of.sound)
+
+pub returns-in-Err-clause-sole : goal.returns-in-Err-clause-sole
+returns-in-Err-clause-sole g c h has =
+    elim c.in-Err.ensures.err [
+      | inl none ↦ inr none
+      | inr rest ↦ elim rest [
+        | inl fault ↦ inl fault.0
+        | inr (found, is) ↦ absurd (record_sound (g.D.Disk.seen c.args.disk.now) c.args.slot c.addr.result found c.addr.ensures has (c.in-Err.ensures.corrupt h _ _ found is).2)
+      ]
+    ]
+
+pub returns-in-Ok-clause-sole : goal.returns-in-Ok-clause-sole
+returns-in-Ok-clause-sole g c h has =
+    let D = g.D.Disk in
+    err_map c.record_of.result c.record_of.ensures.err (λ e why. of_record (D.seen c.args.disk.now) c.deref.result.now c.args.slot e
+    (block_there (D.seen c.args.disk.now) c.args.slot c.addr.result c.in-Ok.block.items c.deref.result.now c.addr.ensures c.deref.ensures.value has.1.chosen (c.in-Ok.ensures.bytes h)) has why)

@@ -7,6 +7,8 @@ use Rattle.device_leaf.specs.Damage.{IsChosen}
 use Rattle.device_leaf.proofs.Opens.{err_map, ok_map, rose_sooner}
 use Rattle.recover_open.specs.Surveys.{IsSurveyed, SurveyRefused}
 use Rattle.recover_open.proofs.Steps.{slot_refused, nothing_is, blank_in_form, survey_further}
+use Rattle.recover_open.specs.Surveys.{CanSurvey}
+use Rattle.recover_open.proofs.Sole.{above_at, of_slot}
 use Rattle.recover_open.proofs.surveying.survey.Goals as goal
 
 pub returns-in-Err-clause-err : goal.returns-in-Err-clause-err
@@ -41,3 +43,12 @@ returns-in-Ok-Some-clause-looked g c =
 
 pub returns-in-Ok-None-clause-form : goal.returns-in-Ok-None-clause-form
 returns-in-Ok-None-clause-form g c = blank_in_form c.blank.result c.blank.ensures
+
+pub returns-in-Err-clause-sole : goal.returns-in-Err-clause-sole
+returns-in-Err-clause-sole g c h can = of_slot (g.D.Disk.seen c.args.disk.now) c.in-Err.refusal can (c.in-Err.ensures.corrupt h)
+
+pub returns-in-Ok-Some-clause-sole : goal.returns-in-Ok-Some-clause-sole
+returns-in-Ok-Some-clause-sole g c h can =
+    let looked = c.choose.ensures.looked in
+    let chosen = subst (λ (l : List ℕ). IsChosen l c.in-Ok-Some.slot) (sym looked.content) (chosen_now (g.D.Disk.seen c.args.disk.now) _ c.in-Ok-Some.slot (c.in-Ok-Some.ensures.chosen h) c.in-Ok-Some.field-0-is) in
+    c.survey_at.ensures.sole (looked.same ∙ h) (above_at (g.D.Disk.seen c.choose.new.disk) c.in-Ok-Some.slot chosen (subst (λ (l : List ℕ). CanSurvey l) (sym looked.content) can))

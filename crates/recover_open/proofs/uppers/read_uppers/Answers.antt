@@ -6,6 +6,7 @@ use Rattle.tree_open.specs.Trees.{InnerIs}
 use Rattle.tree_open.proofs.Steps.{looked_none}
 use Rattle.recover_open.proofs.UpperPlaces.{have_none, have_more, have_whole, climb_none, climb_more}
 use Rattle.recover_open.proofs.Steps.{inner_refused, tree_later}
+use Rattle.recover_open.proofs.Sole.{of_inner}
 use Rattle.recover_open.proofs.uppers.read_uppers.Goals as goal
 
 pub loop-table-init : goal.loop-table-init
@@ -41,3 +42,9 @@ loop-table-preserved g c =
 
 pub returns-clause-ok : goal.returns-clause-ok
 returns-clause-ok g c h = have_whole (g.D.Disk.seen c.args.disk.now) c.args.tables.now c.loop-table.table-index c.loop-table.uppers.items c.loop-table-test.false (c.loop-table.invariant.have h)
+
+pub returns-in-Err-clause-sole : goal.returns-in-Err-clause-sole
+returns-in-Err-clause-sole g c h can =
+    let D = g.D.Disk in
+    let now = c.loop-table.invariant in
+    of_inner _ _ (D.seen c.args.disk.now) (D.seen c.loop-table.disk) c.args.tables.now c.table-item.result c.root_of.result c.loop-table.table-index c.in-Err.refusal can c.loop-table-test.true c.table-item.is c.root_of.ensures now.looked.content (now.looked.same ∙ h) c.in-Err.ensures.err
