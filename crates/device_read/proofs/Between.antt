@@ -1,5 +1,5 @@
 -- Pages whose keys are between those of entries: one after the other, they ascend.
-use Rattle.std.proofs.Common.{◌≡◌, ◌⊎◌, ℕ, zero, suc, ◌+◌, Bool, true, false, IsTrue, List, [], ◌∷◌, ◌++◌, length, take, drop, map, Option, Some, None, refl, sym, ap, subst, ◌∙◌, inl, inr, arith}
+use Rattle.std.proofs.Common.{◌≡◌, ◌⊎◌, ℕ, zero, suc, ◌+◌, ◌<◌, Bool, true, false, IsTrue, List, [], ◌∷◌, ◌++◌, length, take, drop, map, Option, Some, None, refl, sym, ap, subst, ◌∙◌, inl, inr, arith}
 use Rattle.std.specs.Prelude.{not, filter, slice_get, bytes_eq}
 use Rattle.std.specs.List.{AllByRecursion}
 use Rattle.std.proofs.lemmas.Bool.{cases_Bool, not-true, not_from_false, both_ways}
@@ -16,7 +16,8 @@ use Rattle.tree_open.proofs.OneLayer.{key_none}
 use Rattle.recover_open.specs.Leaves.{IsFrom, IsUpTo, AreUnder, AreLeaves}
 use Rattle.recover_open.proofs.Keys.{above_by, under_from, under_up_to}
 use Rattle.leaf_load.proofs.Seen.{some_all}
-use Rattle.device_read.proofs.Lists.{all_both}
+use Rattle.kv_model.specs.Holds.{Member}
+use Rattle.device_read.proofs.Lists.{all_both, all_member}
 
 -- each page ascends, and its keys are from its entry's up to the next one's
 abbrev pub AreBetween : List Entry → List (List Row) → Type 0
@@ -149,3 +150,51 @@ page_of_key key es pages i page are under at = in_page key es pages i page are a
     upto_of : (i ≡ 0) ⊎ AllByRecursion (λ (e : Entry). is_below key e.key ≡ false) (take (i + 1) es) → AllByRecursion (λ (e : Entry). is_below key e.key ≡ false) (take i (drop 1 es))
     upto_of (inl first) = subst (λ (n : ℕ). AllByRecursion (λ (e : Entry). is_below key e.key ≡ false) (take n (drop 1 es))) (sym first) tt
     upto_of (inr all) = after_first (λ (e : Entry). is_below key e.key ≡ false) es i all
+
+-- ---- the keys of a page
+
+all_above : (key : List ℕ) (es : List Entry) → Climbs es → IsTrue (ends_below (first_key es) key) → AllByRecursion (λ (e : Entry). is_below key e.key ≡ true) es
+all_above key [] climbs ends = tt
+all_above key (f ∷ []) climbs ends = (ends, tt)
+all_above key (f ∷ g ∷ es) climbs ends = (ends, all_above key (g ∷ es) climbs.1 (below_trans key f.key g.key ends climbs.0))
+
+keys_upto : (es : List Entry) (pages : List (List Row)) (i : ℕ) (page : List Row) (r : Row) → Climbs es → AreBetween es pages → slice_get pages i ≡ Some page → Member r page → AllByRecursion (λ (e : Entry). is_below r.0 e.key ≡ false) (take (suc i) es)
+keys_upto [] [] i page r climbs are at there = absurd cc
+keys_upto [] (p ∷ pages) i page r climbs are at there = absurd are
+keys_upto (e ∷ es) [] i page r climbs are at there = absurd are
+keys_upto (e ∷ es) (p ∷ pages) zero page r climbs are at there =
+    let same : p ≡ page = cc in
+    let under = all_member (λ (x : Row). IsTrue (not (is_below x.0 e.key)) × IsTrue (ends_below (first_key es) x.0)) page r (subst (λ (l : List Row). AreUnder e (first_key es) l) same are.1) there in
+    (not-true (is_below r.0 e.key) under.0, tt)
+keys_upto (e ∷ []) (p ∷ []) (suc i) page r climbs are at there = absurd cc
+keys_upto (e ∷ []) (p ∷ q ∷ pages) (suc i) page r climbs are at there = absurd are.2
+keys_upto (e ∷ f ∷ es) (p ∷ pages) (suc i) page r climbs are at there =
+    let rest = keys_upto (f ∷ es) pages i page r climbs.1 are.2 at there in
+    (not-true (is_below r.0 e.key) (not_below_sooner e.key f.key r.0 climbs.0 (not_from_false (is_below r.0 f.key) rest.0)), rest)
+
+keys_behind : (es : List Entry) (pages : List (List Row)) (i : ℕ) (page : List Row) (r : Row) → Climbs es → AreBetween es pages → slice_get pages i ≡ Some page → Member r page → AllByRecursion (λ (e : Entry). is_below r.0 e.key ≡ true) (drop (suc i) es)
+keys_behind [] [] i page r climbs are at there = absurd cc
+keys_behind [] (p ∷ pages) i page r climbs are at there = absurd are
+keys_behind (e ∷ es) [] i page r climbs are at there = absurd are
+keys_behind (e ∷ []) (p ∷ pages) zero page r climbs are at there = tt
+keys_behind (e ∷ f ∷ es) (p ∷ pages) zero page r climbs are at there =
+    let same : p ≡ page = cc in
+    let under = all_member (λ (x : Row). IsTrue (not (is_below x.0 e.key)) × IsTrue (ends_below (Some f.key) x.0)) page r (subst (λ (l : List Row). AreUnder e (Some f.key) l) same are.1) there in
+    all_above r.0 (f ∷ es) climbs.1 under.1
+keys_behind (e ∷ []) (p ∷ []) (suc i) page r climbs are at there = absurd cc
+keys_behind (e ∷ []) (p ∷ q ∷ pages) (suc i) page r climbs are at there = absurd are.2
+keys_behind (e ∷ f ∷ es) (p ∷ pages) (suc i) page r climbs are at there = keys_behind (f ∷ es) pages i page r climbs.1 are.2 at there
+
+page_within : (es : List Entry) (pages : List (List Row)) (i : ℕ) (page : List Row) → AreBetween es pages → slice_get pages i ≡ Some page → i < length es
+page_within [] [] i page are at = absurd cc
+page_within [] (p ∷ pages) i page are at = absurd are
+page_within (e ∷ es) [] i page are at = absurd are
+page_within (e ∷ es) (p ∷ pages) zero page are at = omega arith
+page_within (e ∷ es) (p ∷ pages) (suc i) page are at = let less : i < length es = page_within es pages i page are.2 at in omega (arith, less)
+
+pub key_under : (es : List Entry) (pages : List (List Row)) (i : ℕ) (page : List Row) (r : Row) → Climbs es → AreBetween es pages → slice_get pages i ≡ Some page → Member r page → IsUnderKey es r.0 i
+key_under es pages i page r climbs are at there = record {
+  within = page_within es pages i page are at;
+  upto = inr (subst (λ (n : ℕ). AllByRecursion (λ (e : Entry). is_below r.0 e.key ≡ false) (take n es)) (sym (plus_one i)) (keys_upto es pages i page r climbs are at there));
+  behind = subst (λ (n : ℕ). AllByRecursion (λ (e : Entry). is_below r.0 e.key ≡ true) (drop n es)) (sym (plus_one i)) (keys_behind es pages i page r climbs are at there);
+}

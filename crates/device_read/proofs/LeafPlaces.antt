@@ -2,7 +2,6 @@
 use Rattle.std.proofs.Common.{◌≡◌, ℕ, zero, suc, ◌<◌, ◌≤◌, List, [], ◌∷◌, length, take, drop, get_or, map, Option, Some, None, refl, sym, ap, subst, ◌∙◌, inl, inr, arith}
 use Rattle.std.specs.Prelude.{slice_get}
 use Rattle.device_layout.specs.declared.addr.Addr.{Addr}
-use Rattle.wt_code.specs.declared.refusals.Refusal.{Refusal}
 use Rattle.row_page.specs.Rows.{Row}
 use Rattle.leaf_rows.specs.declared.marks.Marks.{Marks}
 use Rattle.leaf_rows.specs.Contents.{seen_rows}
@@ -10,9 +9,7 @@ use Rattle.stored.specs.TableTree.{Entry, Climbs, first_key}
 use Rattle.stored.specs.Records.{TableRoot}
 use Rattle.device_leaf.specs.Leaves.{LeafIs}
 use Rattle.tree_open.specs.declared.place.Upper.{Upper}
-use Rattle.tree_open.specs.Damage.{Refused}
 use Rattle.tree_open.specs.Trees.{InnerIs}
-use Rattle.tree_open.proofs.Steps.{refused_more}
 use Rattle.recover_open.specs.Bare.{AllClimb, HaveUppers}
 use Rattle.recover_open.specs.Damage.{EntrySpoils, IsAmong}
 use Rattle.recover_open.specs.Leaves.{AreLeaves}
@@ -22,7 +19,7 @@ use Rattle.device_read.specs.declared.lookup.LastLeaf.{LastLeaf}
 use Rattle.device_read.specs.Lookups.{KeepsLast}
 use Rattle.device_read.specs.Readers.{Held, HasPages, IsReaderOf, entries_at, entries_in}
 use Rattle.device_read.specs.Refusals.{LeafIsAtFault}
-use Rattle.device_read.specs.Steps.{IsLeafAt, IsValueOf, SomeLeafSpoils}
+use Rattle.device_read.specs.Steps.{IsLeafAt, IsValueOf, LeafSpoilsAt}
 use Rattle.device_read.proofs.Lists.{mapped_at, split_at}
 
 -- ---- the entries at a place
@@ -72,10 +69,10 @@ owner bytes (t ∷ tables) (u ∷ uppers) (suc place) i e have at =
     let there = owner bytes tables uppers place i e have.1 at in
     (there.0, (suc there.1.0, omega (arith, there.1.1), there.1.2), there.2)
 
-pub at_fault : (bytes : List ℕ) (h : Held) (place at want found : ℕ) → IsReaderOf bytes h → SomeLeafSpoils bytes (entries_at h place) at want found → LeafIsAtFault bytes at want found
-at_fault bytes h place at want found (inl (blank, none)) (i, spoils) =
+pub at_fault : (bytes : List ℕ) (h : Held) (place i at want found : ℕ) → IsReaderOf bytes h → LeafSpoilsAt bytes (entries_at h place) i at want found → LeafIsAtFault bytes at want found
+at_fault bytes h place i at want found (inl (blank, none)) spoils =
     let gone : slice_get (entries_in [] place) i ≡ Some spoils.entry = subst (λ (l : List Upper). slice_get (entries_in l place) i ≡ Some spoils.entry) none.1 spoils.is in absurd cc
-at_fault bytes h place at want found (inr (where_it, a, surveyed, same)) (i, spoils) =
+at_fault bytes h place i at want found (inr (where_it, a, surveyed, same)) spoils =
     let uppers : h.uppers ≡ a.uppers.items = ap (λ (x : Held). x.uppers) same in
     let is : slice_get (entries_in a.uppers.items place) i ≡ Some spoils.entry = subst (λ (l : List Upper). slice_get (entries_in l place) i ≡ Some spoils.entry) uppers spoils.is in
     let there = owner bytes a.record.tables a.uppers.items place i spoils.entry surveyed.have is in
@@ -109,8 +106,3 @@ same_last bytes es read m own ids known kept last entries marks listed leaf keep
 pub same_value : (bytes : List ℕ) (es read : List Entry) (key : List ℕ) (m own : Marks) (ids known : List ℕ) (v : Option (List ℕ)) → read ≡ es → own ≡ m → known ≡ ids → IsValueOf bytes read key own known v → IsValueOf bytes es key m ids v
 same_value bytes es read key m own ids known v entries marks listed is =
     subst (λ (l : List Entry). IsValueOf bytes l key m ids v) entries (subst (λ (x : Marks). IsValueOf bytes read key x ids v) marks (subst (λ (l : List ℕ). IsValueOf bytes read key own l v) listed is))
-
-pub leaf_refused : (fault known : Type 0) (bytes : List ℕ) (h : Held) (place : ℕ) (read : List Entry) (r : Refusal) → read ≡ entries_at h place → Refused fault known (SomeLeafSpoils bytes read) r → Refused fault (known × IsReaderOf bytes h) (LeafIsAtFault bytes) r
-leaf_refused fault known bytes h place read r same why =
-    refused_more fault fault known (known × IsReaderOf bytes h) (SomeLeafSpoils bytes read) (LeafIsAtFault bytes) r (λ f. f) (λ k. k.0)
-    (λ at want found k spoils. at_fault bytes h place at want found k.1 (subst (λ (l : List Entry). SomeLeafSpoils bytes l at want found) same spoils)) why

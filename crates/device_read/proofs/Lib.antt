@@ -7,6 +7,6 @@ pub mod Values
 pub mod ByName
 pub mod Tables
 pub mod Readings
-pub mod Refused
 pub mod LeafPlaces
 pub mod Numbers
+pub mod Spoilt

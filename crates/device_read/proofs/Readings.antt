@@ -43,7 +43,7 @@ use Rattle.device_read.specs.Readers.{Held, HasPages, IsReaderOf, entries_at, en
 use Rattle.device_read.specs.Refusals.{LeafIsAtFault}
 use Rattle.device_read.specs.Rows.{HasTables, InOrder, KeyValue, rows_in, value_in}
 use Rattle.device_read.specs.Steps.{IsValueOf, value_shown}
-use Rattle.device_read.proofs.Between.{AreBetween, as_many, between_seen, page_of_key, pages_ascend}
+use Rattle.device_read.proofs.Between.{AreBetween, as_many, between_seen, key_under, page_of_key, pages_ascend}
 use Rattle.device_read.proofs.Keyed.{from_value, puts_ascend, rows_joined, to_value}
 use Rattle.device_read.proofs.LeafPlaces.{page_at}
 use Rattle.device_read.proofs.Lists.{unmapped_at}
@@ -184,6 +184,7 @@ whole_pages bytes content h place number are =
         all = λ key v. ((λ there. (all key v).0 (turned_member (key, v) (rows_in pages) there)), (λ is. member_turned (key, v) (rows_in pages) ((all key v).1 is)));
         in_order = turned_order (rows_in pages) order;
       };
+      under = λ i page r at there. key_under (entries_at h place) pages i page r are.climbs are.between at there;
     }
 
 -- ---- one key

@@ -5,3 +5,4 @@ pub mod Laws
 pub mod Steps
 pub mod Lookups
 pub mod Leaves
+pub mod Spoilt

@@ -1,5 +1,5 @@
 -- Why a device is not read.
-use Rattle.std.specs.Prelude.{◌≡◌, ◌⊎◌, ℕ, ◌+◌, ◌^◌, ◌<◌, ◌≤◌, List, ◌∷◌, ◌++◌, length, IsTrue}
+use Rattle.std.specs.Prelude.{◌≡◌, ◌⊎◌, ℕ, ◌+◌, ◌^◌, ◌<◌, ◌≤◌, List, ◌∷◌, ◌++◌, length}
 use Rattle.limits.specs.declared.TheConstants.{TABLES_MAX}
 use Rattle.failure.specs.Counts.{Rose}
 use Rattle.disk_model.specs.declared.disk.Disk.{Ghosts}
@@ -12,12 +12,10 @@ use Rattle.stored.specs.TableTree.{Entry, first_key}
 use Rattle.stored.specs.Records.{TableRoot, Record}
 use Rattle.stored.specs.Stored.{Stored, IsOn, IsBlank}
 use Rattle.device_leaf.specs.Openings.{last_number}
-use Rattle.tree_open.specs.Damage.{Refused}
 use Rattle.tree_open.specs.Trees.{InnerIs}
 use Rattle.recover_open.specs.Bare.{IsBare}
 use Rattle.recover_open.specs.Damage.{Names, IsAmong, EntrySpoils}
 use Rattle.recover_open.specs.Recoveries.{RecoveryRefused}
-use Rattle.device_read.specs.Readers.{Held, IsReaderOf}
 
 -- ---- an opening
 
@@ -57,7 +55,3 @@ pub record LeafIsAtFault (bytes : List ℕ) (at want found : ℕ) : Type 0 where
   pub others : List Entry
   pub is : es ≡ front ++ entry ∷ others
   pub leaf : EntrySpoils bytes entry (first_key others) at want found
-
--- why a leaf is not read by this reader: a fault of the disk, want of memory, or damage of a leaf
-abbrev pub RefusesLeaf : {D : Type 0} → Ghosts D → Held → D → D → Refusal → Type 0
-RefusesLeaf g h old new r = Refused (Rose (g.faults old) (g.faults new)) (IsTrue (g.honest old) × IsReaderOf (g.seen old) h) (LeafIsAtFault (g.seen old)) r

@@ -11,14 +11,30 @@ use Rattle.stored.specs.TableTree.{Entry, first_key}
 use Rattle.stored.specs.Records.{Record}
 use Rattle.inner_page.specs.Children.{IsUnderKey}
 use Rattle.device_leaf.specs.Openings.{last_number}
+use Rattle.device_leaf.specs.declared.place.Place.{Place}
+use Rattle.recover_open.specs.declared.surveying.Above.{Above}
+use Rattle.recover_open.specs.Surveys.{IsOfDisk, Surveys}
 use Rattle.recover_open.specs.Damage.{EntrySpoils}
 use Rattle.leaf_frame.specs.Leaf.{HeldLeaf}
 use Rattle.leaf_load.specs.Loads.{IsLoaded}
-use Rattle.device_read.specs.Refusals.{LacksNumbers}
+use Rattle.device_read.specs.Readers.{Held, IsReaderOf}
+use Rattle.device_read.specs.Refusals.{HasNumbers, LacksNumbers}
 
 -- why no engine could begin with this record
 abbrev pub RefusesNumbers : Record → Refusal → Type 0
 RefusesNumbers r refusal = ((refusal ≡ Refusal_Limit Checkpoints) × (last_number ≤ r.run)) ⊎ ((refusal ≡ Refusal_Limit Tables) × LacksNumbers r)
+
+-- Why what a survey finds is not opened: a fault of the disk, want of memory, or that the numbers of its record are used up.
+abbrev pub RefusesSurveyed : List ℕ → Refusal → Type 0
+RefusesSurveyed bytes r = IsOfDisk r ⊎ ((place : Place) × (a : Above) × Surveys bytes place a × RefusesNumbers a.record r)
+
+-- a reader may be opened on it, unless the numbers are used up
+abbrev pub CanOpen : List ℕ → Type 0
+CanOpen bytes = (h : Held) × IsReaderOf bytes h
+
+-- the numbers of the record that a survey finds are not used up
+abbrev pub HasNumbersAbove : List ℕ → Type 0
+HasNumbersAbove bytes = (place : Place) (a : Above) → Surveys bytes place a → HasNumbers a.record
 
 -- the device has the leaf of the i-th entry, and this was loaded of it
 pub record IsLeafAt (bytes : List ℕ) (es : List Entry) (i : ℕ) (marks : Marks) (ids : List ℕ) (leaf : HeldLeaf) : Type 0 where
@@ -32,9 +48,9 @@ pub record LeafSpoilsAt (bytes : List ℕ) (es : List Entry) (i at want found : 
   pub is : slice_get es i ≡ Some entry
   pub spoils : EntrySpoils bytes entry (first_key (drop (suc i) es)) at want found
 
--- the leaf of one of the entries is at fault
-abbrev pub SomeLeafSpoils : List ℕ → List Entry → (at want found : ℕ) → Type 0
-SomeLeafSpoils bytes es at want found = (i : ℕ) × LeafSpoilsAt bytes es i at want found
+-- no such leaf is where the entry leads below which the key stands
+abbrev pub KeySpoilsAt : List ℕ → List Entry → List ℕ → (at want found : ℕ) → Type 0
+KeySpoilsAt bytes es key at want found = (i : ℕ) × IsUnderKey es key i × LeafSpoilsAt bytes es i at want found
 
 -- the value that these rows give a key, None where they have none
 abbrev pub value_shown : List ℕ → List Row → Option (List ℕ)

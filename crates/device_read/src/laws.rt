@@ -1,6 +1,6 @@
 //! What a device that reads as a content has for its readers.
 
-ghost use Rattle.device_read.specs.Laws.{FaultyLeavesDoNotRead, ReadersHavePages, ReadersHaveTables};
+ghost use Rattle.device_read.specs.Laws.{FaultyLeavesDoNotRead, MissingLeavesAreAtFault, NoneNeedBeAtFault, ReadersHavePages, ReadersHaveTables, SpoiltDevicesHaveReaders};
 
 /// The tables of a reader are those of the machine that an opening makes.
 pub fn readers_have_tables()
@@ -15,4 +15,19 @@ pub fn readers_have_pages()
 /// A device with a leaf at fault reads as no content.
 pub fn faulty_leaves_do_not_read()
     ensures { FaultyLeavesDoNotRead }
+{}
+
+/// A leaf at fault below a reader is damage of the device.
+pub fn missing_leaves_are_at_fault()
+    ensures { MissingLeavesAreAtFault }
+{}
+
+/// A device that a reader was opened on is one of those that may have leaves at fault.
+pub fn none_need_be_at_fault()
+    ensures { NoneNeedBeAtFault }
+{}
+
+/// A reader of a device with leaves at fault is one of the whole device.
+pub fn spoilt_devices_have_readers()
+    ensures { SpoiltDevicesHaveReaders }
 {}

@@ -9,7 +9,7 @@ ghost use Rattle.stored.specs.TableTree.{Climbs, first_key};
 ghost use Rattle.inner_page.specs.Children.{IsUnderKey};
 ghost use Rattle.tree_open.specs.Damage.{Refused};
 ghost use Rattle.device_read.specs.Readers.{entries_in};
-ghost use Rattle.device_read.specs.Steps.{IsLeafAt, SomeLeafSpoils, value_shown};
+ghost use Rattle.device_read.specs.Steps.{IsLeafAt, LeafSpoilsAt, value_shown};
 
 use byte_order::order;
 use disk_model::Disk;
@@ -47,7 +47,7 @@ pub(crate) fn leaf_at<D: Disk>(
     ensures ok { IsTrue (D.honest disk.old) → IfOk result (IsLeafAt (D.seen disk.old) entries.now i marks ids.now) }
     ensures fit { IfOk result (λ leaf. AreFit leaf.page) }
     ensures bare { IfOk result (λ leaf. leaf.chains ≡ []) }
-    ensures err { IfErr result (Refused (Rose (D.faults disk.old) (D.faults disk.new)) (IsTrue (D.honest disk.old)) (SomeLeafSpoils (D.seen disk.old) entries.now)) }
+    ensures err { IfErr result (Refused (Rose (D.faults disk.old) (D.faults disk.new)) (IsTrue (D.honest disk.old)) (LeafSpoilsAt (D.seen disk.old) entries.now i)) }
     ensures looked { Looked D.Disk disk.old disk.new }
     ensures home { D.home disk.new ≡ D.home disk.old }
 {

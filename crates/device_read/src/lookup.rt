@@ -9,10 +9,9 @@ ghost use Rattle.stored.specs.Stored.{Reads};
 ghost use Rattle.stored.specs.TableTree.{Climbs};
 ghost use Rattle.tree_open.specs.Damage.{Refused};
 ghost use Rattle.device_read.specs.Readers.{IsReaderOf, tables_in};
-ghost use Rattle.device_read.specs.Refusals.{RefusesLeaf};
 ghost use Rattle.device_read.specs.Rows.{value_in};
-ghost use Rattle.device_read.specs.Steps.{IsValueOf, SomeLeafSpoils};
-ghost use Rattle.device_read.specs.Leaves.{HasValue};
+ghost use Rattle.device_read.specs.Steps.{IsValueOf, KeySpoilsAt, LeafSpoilsAt};
+ghost use Rattle.device_read.specs.Leaves.{HasValue, RefusesKey};
 ghost use Rattle.device_read.specs.Lookups.{IsLast, KeepsLast, KeepsLeafOf};
 
 use crate::leaves::{entries_at, leaf_at, place_under, value_on};
@@ -73,7 +72,7 @@ impl Lookup {
             → IfOk result (λ v. v ≡ value_in content t.number key.now) }
         ensures keeps { IsTrue (D.honest disk.old) → KeepsLeafOf (D.seen disk.old) reader.now self.old → KeepsLeafOf (D.seen disk.new) reader.now self.new }
         ensures place { self.new.place ≡ self.old.place }
-        ensures err { IfErr result (RefusesLeaf D.Disk reader.now disk.old disk.new) }
+        ensures err { IfErr result (RefusesKey D.Disk reader.now self.old.place key.now disk.old disk.new) }
         ensures looked { Looked D.Disk disk.old disk.new }
         ensures home { D.home disk.new ≡ D.home disk.old }
     {
@@ -104,7 +103,7 @@ pub(crate) fn value_at<D: Disk>(
     requires { Climbs entries.now }
     ensures ok { IsTrue (D.honest disk.old) → KeepsLast (D.seen disk.old) entries.now marks ids.now last.old → IfOk result (IsValueOf (D.seen disk.old) entries.now key.now marks ids.now) }
     ensures keeps { IsTrue (D.honest disk.old) → KeepsLast (D.seen disk.old) entries.now marks ids.now last.old → KeepsLast (D.seen disk.old) entries.now marks ids.now last.new }
-    ensures err { IfErr result (Refused (Rose (D.faults disk.old) (D.faults disk.new)) (IsTrue (D.honest disk.old)) (SomeLeafSpoils (D.seen disk.old) entries.now)) }
+    ensures err { IfErr result (Refused (Rose (D.faults disk.old) (D.faults disk.new)) (IsTrue (D.honest disk.old)) (KeySpoilsAt (D.seen disk.old) entries.now key.now)) }
     ensures looked { Looked D.Disk disk.old disk.new }
     ensures home { D.home disk.new ≡ D.home disk.old }
 {
@@ -137,7 +136,7 @@ fn leaf_for<D: Disk>(
 ) -> Result<LastLeaf, Refusal>
     requires { i < length entries.now }
     ensures ok { IsTrue (D.honest disk.old) → KeepsLast (D.seen disk.old) entries.now marks ids.now last → IfOk result (λ l. (l.index ≡ i) × IsLast (D.seen disk.old) entries.now marks ids.now l) }
-    ensures err { IfErr result (Refused (Rose (D.faults disk.old) (D.faults disk.new)) (IsTrue (D.honest disk.old)) (SomeLeafSpoils (D.seen disk.old) entries.now)) }
+    ensures err { IfErr result (Refused (Rose (D.faults disk.old) (D.faults disk.new)) (IsTrue (D.honest disk.old)) (LeafSpoilsAt (D.seen disk.old) entries.now i)) }
     ensures looked { Looked D.Disk disk.old disk.new }
     ensures home { D.home disk.new ≡ D.home disk.old }
 {

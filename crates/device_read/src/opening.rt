@@ -8,7 +8,7 @@ ghost use Rattle.recover_open.specs.Bare.{marks_of};
 ghost use Rattle.recover_open.specs.Surveys.{AboveInForm};
 ghost use Rattle.device_read.specs.Readers.{HoldsNothing, IsReaderOf, held_of};
 ghost use Rattle.device_read.specs.Refusals.{HasNumbers, LacksNumbers, RefusesOpen};
-ghost use Rattle.device_read.specs.Steps.{RefusesNumbers};
+ghost use Rattle.device_read.specs.Steps.{CanOpen, HasNumbersAbove, RefusesNumbers, RefusesSurveyed};
 
 use crate::reader::Reader;
 use checkpoint_record::{Record, Snapshot, TableRoot};
@@ -22,12 +22,15 @@ use wt_code::{Limit, Refusal};
 /// A reader of the last completed checkpoint of a device, of no tables where there is none. No leaf
 /// is read, and nothing is written. Refused as `recover_open::survey` says, as `75 limit checkpoints`
 /// where no run may follow the one that made the checkpoint, and as `75 limit tables` where the
-/// record's next number leaves none for as many tables as an engine may have. `O(bytes)` of the
-/// record and the inner pages, each read once, and `O(n)` in the blocks.
+/// record's next number leaves none for as many tables as an engine may have. Where the device has all
+/// that stands above its leaves, damage is no reason. `O(bytes)` of the record and the inner pages,
+/// each read once, and `O(n)` in the blocks.
 pub fn open<D: Disk>(alloc: Global, disk: &mut D) -> Result<Reader, Refusal>
     ensures ok { IsTrue (D.honest disk.old) → IfOk result (IsReaderOf (D.seen disk.old)) }
     ensures numbers { IsTrue (D.honest disk.old) → OnOk result ((s : Stored) → IsOn (D.seen disk.old) s → HasNumbers s.kept) }
+    ensures surveyed { IsTrue (D.honest disk.old) → OnOk result (HasNumbersAbove (D.seen disk.old)) }
     ensures err { IfErr result (RefusesOpen D.Disk (IsTrue (D.honest disk.old)) disk.old disk.new) }
+    ensures sole { IsTrue (D.honest disk.old) → CanOpen (D.seen disk.old) → IfErr result (RefusesSurveyed (D.seen disk.old)) }
     ensures looked { Looked D.Disk disk.old disk.new }
     ensures home { D.home disk.new ≡ D.home disk.old }
 {

@@ -7,9 +7,8 @@ ghost use Rattle.kv_model.specs.History.{Table as ModelTable, named};
 ghost use Rattle.row_page.specs.Rows.{Row};
 ghost use Rattle.leaf_rows.specs.Rows.{AreFit};
 ghost use Rattle.stored.specs.Stored.{Reads};
-ghost use Rattle.device_read.specs.Leaves.{HasLeaf, HasValue};
+ghost use Rattle.device_read.specs.Leaves.{HasLeaf, HasValue, RefusesKey, RefusesLeaf};
 ghost use Rattle.device_read.specs.Readers.{IsReaderOf, HasPages, leaf_count, tables_in};
-ghost use Rattle.device_read.specs.Refusals.{RefusesLeaf};
 ghost use Rattle.device_read.specs.Rows.{value_in};
 
 use crate::find::{place_of, table_at};
@@ -103,7 +102,7 @@ impl Reader {
         ensures ok { IsTrue (D.honest disk.old) → (pages : List (List Row)) → HasPages (D.seen disk.old) self.now place pages → IfOk result (λ leaf. slice_get pages i ≡ Some leaf.page) }
         ensures fit { IfOk result (λ leaf. AreFit leaf.page) }
         ensures bare { IfOk result (λ leaf. leaf.chains ≡ []) }
-        ensures err { IfErr result (RefusesLeaf D.Disk self.now disk.old disk.new) }
+        ensures err { IfErr result (RefusesLeaf D.Disk self.now place i disk.old disk.new) }
         ensures looked { Looked D.Disk disk.old disk.new }
         ensures home { D.home disk.new ≡ D.home disk.old }
     {
@@ -130,7 +129,7 @@ impl Reader {
         ensures there { IsTrue (D.honest disk.old) → IfOk result (HasValue (D.seen disk.old) self.now place key.now) }
         ensures ok { IsTrue (D.honest disk.old) → IsReaderOf (D.seen disk.old) self.now → (content : Content) (t : ModelTable) → Reads (D.seen disk.old) content → slice_get (tables_in self.now) place ≡ Some t
             → IfOk result (λ v. v ≡ value_in content t.number key.now) }
-        ensures err { IfErr result (RefusesLeaf D.Disk self.now disk.old disk.new) }
+        ensures err { IfErr result (RefusesKey D.Disk self.now place key.now disk.old disk.new) }
         ensures looked { Looked D.Disk disk.old disk.new }
         ensures home { D.home disk.new ≡ D.home disk.old }
     {

@@ -2,10 +2,11 @@ use Rattle.std.proofs.Common.{◌∙◌, ap, subst, sym, IsTrue, List}
 use Rattle.failure.specs.Counts.{Rose}
 use Rattle.device_leaf.proofs.Opens.{err_map, ok_map}
 use Rattle.stored.specs.TableTree.{Climbs, Entry}
+use Rattle.tree_open.specs.Damage.{Refused}
 use Rattle.tree_open.specs.declared.place.Upper.{Upper}
 use Rattle.device_read.specs.Readers.{Held, entries_at, entries_in}
-use Rattle.device_read.specs.Steps.{IsValueOf}
-use Rattle.device_read.proofs.LeafPlaces.{entries_climb, leaf_refused, same_value}
+use Rattle.device_read.specs.Steps.{IsValueOf, KeySpoilsAt}
+use Rattle.device_read.proofs.LeafPlaces.{entries_climb, same_value}
 use Rattle.device_read.proofs.Readings.{value_is}
 use Rattle.device_read.proofs.reader.Reader.get.Goals as goal
 
@@ -40,4 +41,4 @@ returns-clause-err g c =
     let D = g.D.Disk in
     let place = c.args.place in
     let entries = c.entries_at.ensures ∙ ap (λ (l : List Upper). entries_in l place) c.deref.ensures.value ∙ ap (λ (x : Held). entries_at x place) c.self.view_is in
-    err_map c.value_at.result c.value_at.ensures.err (λ r why. leaf_refused (Rose (D.faults c.args.disk.now) (D.faults c.value_at.new.disk)) (IsTrue (D.honest c.args.disk.now)) (D.seen c.args.disk.now) c.args.self.now place c.entries_at.result.now r entries why)
+    err_map c.value_at.result c.value_at.ensures.err (λ r why. subst (λ (l : List Entry). Refused (Rose (D.faults c.args.disk.now) (D.faults c.value_at.new.disk)) (IsTrue (D.honest c.args.disk.now)) (KeySpoilsAt (D.seen c.args.disk.now) l c.args.key.now) r) entries why)

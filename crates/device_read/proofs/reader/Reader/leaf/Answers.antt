@@ -1,10 +1,12 @@
-use Rattle.std.proofs.Common.{◌∙◌, ap, IsTrue, List}
+use Rattle.std.proofs.Common.{◌∙◌, ap, subst, IsTrue, List}
 use Rattle.failure.specs.Counts.{Rose}
 use Rattle.device_leaf.proofs.Opens.{err_map, ok_map}
+use Rattle.stored.specs.TableTree.{Entry}
+use Rattle.tree_open.specs.Damage.{Refused}
 use Rattle.tree_open.specs.declared.place.Upper.{Upper}
 use Rattle.device_read.specs.Readers.{Held, entries_at, entries_in}
-use Rattle.device_read.specs.Steps.{IsLeafAt}
-use Rattle.device_read.proofs.LeafPlaces.{held_page_at, leaf_refused, same_leaf}
+use Rattle.device_read.specs.Steps.{IsLeafAt, LeafSpoilsAt}
+use Rattle.device_read.proofs.LeafPlaces.{held_page_at, same_leaf}
 use Rattle.device_read.proofs.reader.Reader.leaf.Goals as goal
 
 pub returns-clause-there : goal.returns-clause-there
@@ -31,4 +33,4 @@ returns-clause-err g c =
     let D = g.D.Disk in
     let place = c.args.place in
     let entries = c.entries_at.ensures ∙ ap (λ (l : List Upper). entries_in l place) c.deref.ensures.value ∙ ap (λ (x : Held). entries_at x place) c.self.view_is in
-    err_map c.leaf_at.result c.leaf_at.ensures.err (λ r why. leaf_refused (Rose (D.faults c.args.disk.now) (D.faults c.leaf_at.new.disk)) (IsTrue (D.honest c.args.disk.now)) (D.seen c.args.disk.now) c.args.self.now place c.entries_at.result.now r entries why)
+    err_map c.leaf_at.result c.leaf_at.ensures.err (λ r why. subst (λ (l : List Entry). Refused (Rose (D.faults c.args.disk.now) (D.faults c.leaf_at.new.disk)) (IsTrue (D.honest c.args.disk.now)) (LeafSpoilsAt (D.seen c.args.disk.now) l c.args.i) r) entries why)
