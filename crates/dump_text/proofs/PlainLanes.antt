@@ -1,5 +1,5 @@
 -- Lanes of which no comparison holds, and bytes that are their own escapes.
-use Rattle.std.proofs.Common.{◌≡◌, ◌≢◌, ◌∙◌, ℕ, zero, suc, ◌+◌, ◌*◌, ◌%◌, ◌/◌, ◌^◌, ◌<◌, ◌≤◌, Bool, true, false, cond, eqb, ltb, List, [], ◌∷◌, ◌++◌, map, length, take, drop, replicate, get_or, refl, sym, ap, arith, w8, eqb-true, ltb-false, drop-drop}
+use Rattle.std.proofs.Common.{◌≡◌, ◌≢◌, ◌∙◌, ℕ, zero, suc, ◌+◌, ◌*◌, ◌%◌, ◌/◌, ◌^◌, ◌<◌, ◌≤◌, Bool, true, false, cond, eqb, ltb, List, [], ◌∷◌, ◌++◌, map, length, take, drop, replicate, get_or, length-drop, refl, sym, ap, subst, arith, w8, eqb-true, ltb-false, drop-drop}
 use Rattle.std.specs.List.{AllByRecursion}
 use Rattle.std.specs.Simd.{first_chunks}
 use Rattle.std.specs.Simd.Lanes.{zip2, mask_l, top}
@@ -22,17 +22,17 @@ all_by : (P Q : ℕ → Type 0) (xs : List ℕ) → ((x : ℕ) → P x → Q x) 
 all_by P Q [] by all = tt
 all_by P Q (x ∷ xs) by all = (by x all.0, all_by P Q xs by all.1)
 
-pub none_below_of : (xs : List ℕ) (y : ℕ) → length xs ≡ 32 → eqb (mask_l (map (top 7) (zip2 (λ a b. cond (ltb a b) 255 0) xs (replicate 32 y))) % 2 ^ 64) 0 ≡ true → AllByRecursion (λ x. y ≤ x) xs
-none_below_of xs y long is = all_by (λ x. ltb x y ≡ false) (λ x. y ≤ x) xs (λ x f. omega (arith, ltb-false x y f)) (none_set (λ x. ltb x y) xs (sym (bitmask_splat w8 ltb xs 32 y long (omega arith)) ∙ eqb-true _ _ is))
+pub none_below_of : (n : ℕ) → n ≤ 64 → (xs : List ℕ) (y : ℕ) → length xs ≡ n → eqb (mask_l (map (top 7) (zip2 (λ a b. cond (ltb a b) 255 0) xs (replicate n y))) % 2 ^ 64) 0 ≡ true → AllByRecursion (λ x. y ≤ x) xs
+none_below_of n fits xs y long is = all_by (λ x. ltb x y ≡ false) (λ x. y ≤ x) xs (λ x f. omega (arith, ltb-false x y f)) (none_set (λ x. ltb x y) xs (sym (bitmask_splat w8 ltb xs n y long (omega (arith, fits))) ∙ eqb-true _ _ is))
 
-pub none_is_of : (xs : List ℕ) (y : ℕ) → length xs ≡ 32 → eqb (mask_l (map (top 7) (zip2 (λ a b. cond (eqb a b) 255 0) xs (replicate 32 y))) % 2 ^ 64) 0 ≡ true → AllByRecursion (λ x. x ≢ y) xs
-none_is_of xs y long is = all_by (λ x. eqb x y ≡ false) (λ x. x ≢ y) xs (λ x f. eqb-false x y f) (none_set (λ x. eqb x y) xs (sym (bitmask_splat w8 eqb xs 32 y long (omega arith)) ∙ eqb-true _ _ is))
+pub none_is_of : (n : ℕ) → n ≤ 64 → (xs : List ℕ) (y : ℕ) → length xs ≡ n → eqb (mask_l (map (top 7) (zip2 (λ a b. cond (eqb a b) 255 0) xs (replicate n y))) % 2 ^ 64) 0 ≡ true → AllByRecursion (λ x. x ≢ y) xs
+none_is_of n fits xs y long is = all_by (λ x. eqb x y ≡ false) (λ x. x ≢ y) xs (λ x f. eqb-false x y f) (none_set (λ x. eqb x y) xs (sym (bitmask_splat w8 eqb xs n y long (omega (arith, fits))) ∙ eqb-true _ _ is))
 
-pub none_above_of : (xs : List ℕ) (y : ℕ) → length xs ≡ 32 → eqb (mask_l (map (top 7) (zip2 (λ a b. cond (ltb a b) 255 0) (replicate 32 y) xs)) % 2 ^ 64) 0 ≡ true → AllByRecursion (λ x. x ≤ y) xs
-none_above_of xs y long is = all_by (λ x. ltb y x ≡ false) (λ x. x ≤ y) xs (λ x f. omega (arith, ltb-false y x f)) (none_set (λ x. ltb y x) xs (sym same ∙ eqb-true _ _ is))
+pub none_above_of : (n : ℕ) → n ≤ 64 → (xs : List ℕ) (y : ℕ) → length xs ≡ n → eqb (mask_l (map (top 7) (zip2 (λ a b. cond (ltb a b) 255 0) (replicate n y) xs)) % 2 ^ 64) 0 ≡ true → AllByRecursion (λ x. x ≤ y) xs
+none_above_of n fits xs y long is = all_by (λ x. ltb y x ≡ false) (λ x. x ≤ y) xs (λ x f. omega (arith, ltb-false y x f)) (none_set (λ x. ltb y x) xs (sym same ∙ eqb-true _ _ is))
   where
-    same : mask_l (map (top 7) (zip2 (λ a b. cond (ltb a b) 255 0) (replicate 32 y) xs)) % 2 ^ 64 ≡ mask_l (map (λ x. ltb y x) xs)
-    same = ap (λ ms. mask_l ms % 2 ^ 64) (tops_compared w8 ltb (replicate 32 y) xs ∙ zip2_splat_left ltb y 32 xs long) ∙ mask_l-mod (map (λ x. ltb y x) xs) 64 (omega (arith, length-map xs (λ x. ltb y x), long))
+    same : mask_l (map (top 7) (zip2 (λ a b. cond (ltb a b) 255 0) (replicate n y) xs)) % 2 ^ 64 ≡ mask_l (map (λ x. ltb y x) xs)
+    same = ap (λ ms. mask_l ms % 2 ^ 64) (tops_compared w8 ltb (replicate n y) xs ∙ zip2_splat_left ltb y n xs long) ∙ mask_l-mod (map (λ x. ltb y x) xs) 64 (omega (arith, fits, length-map xs (λ x. ltb y x), long))
 
 -- ---- their own escapes
 
@@ -78,3 +78,28 @@ chunk_more xs front i place less before plain =
     let is : chunk ≡ take 32 (drop front xs) = chunk_at (length xs / 32) i xs less ∙ ap (λ (n : ℕ). take 32 (drop n xs)) (sym place) in
     let both : take (front + 32) xs ≡ take front xs ++ chunk = take_both front 32 xs ∙ ap (λ (l : List ℕ). take front xs ++ l) (sym is) in
     ap escaped both ∙ (escaped_both (take front xs) chunk ∙ (ap (λ (l : List ℕ). l ++ escaped chunk) before ∙ (ap (λ (l : List ℕ). take front xs ++ l) plain ∙ sym both)))
+
+eight_at : (k i : ℕ) (xs : List ℕ) → i < k → get_or (first_chunks 8 k xs) i [] ≡ take 8 (drop (8 * i) xs)
+eight_at zero i xs less = absurd (omega (arith, less))
+eight_at (suc k) zero xs less = refl
+eight_at (suc k) (suc i) xs less =
+    let place : 8 + 8 * i ≡ 8 * suc i = omega arith in
+    eight_at k i (drop 8 xs) (omega (arith, less)) ∙ ap (take 8) (drop-drop (8 * i) 8 xs ∙ ap (λ (n : ℕ). drop n xs) place)
+
+pub eight_more : (xs : List ℕ) (front i : ℕ) → front ≡ 8 * i → i < length xs / 8 → escaped (take front xs) ≡ take front xs → escaped (get_or (first_chunks 8 (length xs / 8) xs) i []) ≡ get_or (first_chunks 8 (length xs / 8) xs) i []
+    → escaped (take (front + 8) xs) ≡ take (front + 8) xs
+eight_more xs front i place less before plain =
+    let chunk = get_or (first_chunks 8 (length xs / 8) xs) i [] in
+    let is : chunk ≡ take 8 (drop front xs) = eight_at (length xs / 8) i xs less ∙ ap (λ (n : ℕ). take 8 (drop n xs)) (sym place) in
+    let both : take (front + 8) xs ≡ take front xs ++ chunk = take_both front 8 xs ∙ ap (λ (l : List ℕ). take front xs ++ l) (sym is) in
+    ap escaped both ∙ (escaped_both (take front xs) chunk ∙ (ap (λ (l : List ℕ). l ++ escaped chunk) before ∙ (ap (λ (l : List ℕ). take front xs ++ l) plain ∙ sym both)))
+
+-- behind those that are known
+
+pub past_within : (xs rest : List ℕ) (known n : ℕ) → known ≤ length xs → rest ≡ drop known xs → n ≤ length rest → known + n ≤ length xs
+past_within xs rest known n within is less = omega (arith, within, less, ap (λ (l : List ℕ). length l) is, length-drop known xs)
+
+pub past_plain : (xs rest : List ℕ) (known n : ℕ) → escaped (take known xs) ≡ take known xs → rest ≡ drop known xs → escaped (take n rest) ≡ take n rest → escaped (take (known + n) xs) ≡ take (known + n) xs
+past_plain xs rest known n before is plain =
+    let more : escaped (take n (drop known xs)) ≡ take n (drop known xs) = subst (λ (l : List ℕ). escaped (take n l) ≡ take n l) is plain in
+    ap escaped (take_both known n xs) ∙ (escaped_both (take known xs) (take n (drop known xs)) ∙ (ap (λ (l : List ℕ). l ++ escaped (take n (drop known xs))) before ∙ (ap (λ (l : List ℕ). take known xs ++ l) more ∙ sym (take_both known n xs))))

@@ -1,0 +1,6 @@
+use Rattle.std.proofs.Common.{arith}
+use Rattle.dump_text.proofs.PlainLanes.{none_is_of}
+use Rattle.dump_text.proofs.escape.eight_are_not.Goals as goal
+
+pub returns : goal.returns
+returns c = none_is_of 8 (omega arith) c.args.bytes c.args.byte c.fits-bytes.0
