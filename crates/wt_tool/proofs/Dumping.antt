@@ -1,5 +1,5 @@
 -- How far a dump is printed, and the runs that it makes.
-use Rattle.std.proofs.Common.{◌≡◌, ◌≤◌, ◌+◌, ◌∙◌, ◌++◌, ℕ, suc, List, [], ◌∷◌, take, drop, Option, Some, None, Result, Ok, Err, MatchOption, inl, inr, refl, sym, ap, subst, length, length-append, append_assoc, arith}
+use Rattle.std.proofs.Common.{◌≡◌, ◌⊎◌, ◌≤◌, ◌<◌, ◌+◌, ◌∙◌, ◌++◌, ℕ, suc, List, [], ◌∷◌, take, drop, Option, Some, None, Result, Ok, Err, MatchOption, inl, inr, refl, sym, ap, subst, length, length-append, append_assoc, arith}
 use Rattle.std.specs.List.{AllByRecursion, flat_map}
 use Rattle.std.specs.Prelude.{slice_get, IfErr, IsTrue}
 use Rattle.std.proofs.lemmas.List.{append-nil, take-append-le}
@@ -18,7 +18,11 @@ use Rattle.item.specs.declared.formats.Formats.{Formats}
 use Rattle.row_page.specs.Rows.{Row as PageRow}
 use Rattle.checkpoint_core.specs.Stands.{HasStill}
 use Rattle.tree_open.specs.Damage.{Refused}
-use Rattle.device_read.specs.Laws.{AreWholePages, FaultyLeavesDoNotRead}
+use Rattle.tree_open.proofs.Steps.{refused_more}
+use Rattle.device_read.specs.Laws.{AreWholePages}
+use Rattle.device_read.specs.Leaves.{HasNoLeaf}
+use Rattle.device_read.specs.Rows.{put_rows}
+use Rattle.device_read.specs.Spoilt.{IsSpoiltFrom}
 use Rattle.device_read.specs.Readers.{Held}
 use Rattle.device_read.specs.Refusals.{LeafIsAtFault}
 use Rattle.dump_text.specs.declared.form.Form.{Form}
@@ -27,16 +31,21 @@ use Rattle.dump_text.specs.Written.{dump_lines, head_lines, row_lines, text_of}
 use Rattle.engine_store.specs.Devices.{Device, IsLater, KeepsCheckpoint, device_of}
 use Rattle.script_run.specs.declared.script.End.{End}
 use Rattle.script_run.specs.declared.script.End.TheVariants.{Through, Stopped, InputFailed, OutputFailed}
-use Rattle.wt_tool.specs.Dumps.{DumpsTable}
-use Rattle.wt_tool.specs.Openings.{Named}
-use Rattle.wt_tool.specs.Pages.{CutsOff, EndsBy, EndsSoundly, IsLeft, PutsBehind, RowsEndBy, TableEndsBy, UriEndsBy, rows_on, rows_text}
+use Rattle.wt_line.specs.Line.{Asked}
+use Rattle.wt_tool.specs.Commands.{IsByReader}
+use Rattle.wt_tool.specs.Damaged.{DumpsTableOn, IsTableOn, RunsDumpOn, StopsAtLeaf, device_on}
+use Rattle.wt_tool.specs.Dumps.{AreRows, DumpsTable}
+use Rattle.wt_tool.specs.Openings.{Named, Opens}
+use Rattle.wt_tool.specs.Pages.{CutsOff, EndsAtLeaf, EndsBy, EndsSoundly, IsLeft, LacksLeaf, PutsBehind, PutsLeaf, RowsEndBy, TableEndsBy, UriEndsBy, UriLacksLeaf, along, place_on, rows_on, rows_text}
 use Rattle.wt_tool.specs.Parts.{IsReadStatus, IsSoOfLeaves, NoDamage, Reading, TellsEnd, at}
 use Rattle.wt_tool.specs.Points.{Point, Ran, ends, prints, stops}
 use Rattle.wt_tool.specs.Scripts.{told_at}
-use Rattle.wt_tool.specs.Top.{Errors, IsOpenable, IsSo, Printed, Telling, status_of}
+use Rattle.wt_tool.specs.Top.{Errors, IsSoFor, Printed, Telling, status_of}
 use Rattle.wt_tool.specs.Words.{name_in}
 use Rattle.wt_tool.proofs.Gets.{front_more, rose_before}
-use Rattle.wt_tool.proofs.Ways.{front_all, front_more as map_more, front_rest, rows_append, text_append, whole_rows}
+use Rattle.wt_tool.proofs.Naming.{named_goes}
+use Rattle.wt_tool.proofs.Running.{named_as}
+use Rattle.wt_tool.proofs.Ways.{front_all, front_more as map_more, front_rest, rows_append, text_append, under_before, whole_rows}
 
 -- ---- a disk that is looked at
 
@@ -48,6 +57,20 @@ looked_later g old new looked = record { faults = looked.count; moment = looked.
 
 pub looked_keeps : {D : Type 0} (g : Ghosts D) (old new : D) → Looked g old new → KeepsCheckpoint (device_of g old) (device_of g new)
 looked_keeps g old new looked = record { capacity = looked.capacity; checkpoint = λ s has. subst (λ (l : List ℕ). HasStill s l) (sym looked.content) has }
+
+-- the same with the whole device in the place of what a read gives
+pub later_on : {D : Type 0} (g : Ghosts D) (whole : List ℕ) (old new : D) → Looked g old new → IsLater (device_on g whole old) (device_on g whole new)
+later_on g whole old new looked = record { faults = looked.count; moment = looked.later }
+
+pub keeps_on : {D : Type 0} (g : Ghosts D) (whole : List ℕ) (old new : D) → Looked g old new → KeepsCheckpoint (device_on g whole old) (device_on g whole new)
+keeps_on g whole old new looked = record { capacity = looked.capacity; checkpoint = λ s has. has }
+
+pub spoilt_now : {D : Type 0} (g : Ghosts D) (whole : List ℕ) (old mid : D) → Looked g old mid → IsSpoiltFrom whole (g.seen old) → IsSpoiltFrom whole (g.seen mid)
+spoilt_now g whole old mid looked spoilt = subst (λ (l : List ℕ). IsSpoiltFrom whole l) (sym looked.content) spoilt
+
+-- a run that is also another
+pub reading_as : (Allowed Other : Point → Ran → Type 0) (p : Point) (d : Device) (before now : Option (List ℕ)) (e : Errors) (status : ℕ) → ((ran : Ran) → Allowed p ran → Other p ran) → Reading Allowed p d before now e status → Reading Other p d before now e status
+reading_as Allowed Other p d before now e status more r = record { ran = r.ran; run = more r.ran r.run; printed = r.printed; told = r.told; silent = r.silent; none = r.none; there = r.there; same = r.same }
 
 -- ---- how a run is cut off
 
@@ -227,11 +250,39 @@ leaf_so fault known honest bytes r to (inr (inr (at, want, found, is, why))) = (
     no_fault : (at want found : ℕ) → Corrupt at want found ≡ DiskFault → ⊥
     no_fault at want found e = cc
 
--- of a device that reads
-pub leaf_cut : (failed fault known : Type 0) (bytes : List ℕ) (now : Option (List ℕ)) (text : List ℕ) (r : Refusal) → known → ((at want found : ℕ) → LeafIsAtFault bytes at want found → ⊥) → Refused fault known (LeafIsAtFault bytes) r → CutsOff failed fault now now text (Stopped r)
-leaf_cut failed fault known bytes now text r k sound (inl (is, why)) = (inr (is, why), ([], text, refl, took_none now))
-leaf_cut failed fault known bytes now text r k sound (inr (inl is)) = (inl is, ([], text, refl, took_none now))
-leaf_cut failed fault known bytes now text r k sound (inr (inr (at, want, found, is, why))) = absurd (sound at want found (why k))
+-- of this leaf
+pub leaf_missing_so : (fault honest : Type 0) (bytes : List ℕ) (Missing : ℕ → ℕ → ℕ → Type 0) (r : Refusal) → (honest → (at want found : ℕ) → Missing at want found → LeafIsAtFault bytes at want found) → Refused fault honest Missing r → IsSoOfLeaves honest bytes r × (r ≡ DiskFault → fault)
+leaf_missing_so fault honest bytes Missing r law why =
+    leaf_so fault honest honest bytes r (λ h. h) (refused_more fault fault honest honest Missing (LeafIsAtFault bytes) r (λ f. f) (λ h. h) (λ at want found h missing. law h at want found missing) why)
+
+-- what is put behind the text then
+pub leaf_put : (failed fault known : Type 0) (bytes : List ℕ) (h : Held) (place i : ℕ) (now : Option (List ℕ)) (old new more : List ℕ) (r : Refusal) → known → Refused fault known (HasNoLeaf bytes h place i) r → PutsLeaf failed fault bytes h place i now now old new more (Err (Stopped r))
+leaf_put failed fault known bytes h place i now old new more r k (inl (is, why)) = inl (inr (is, why), ([], old ++ more, refl, took_none now))
+leaf_put failed fault known bytes h place i now old new more r k (inr (inl is)) = inl (inl is, ([], old ++ more, refl, took_none now))
+leaf_put failed fault known bytes h place i now old new more r k (inr (inr (at, want, found, is, why))) =
+    inr (at, want, found, ap (λ (x : Refusal). Err (Stopped x)) is, why k, took_none now)
+
+-- the leaf was put
+pub leaf_done : (failed fault : Type 0) (bytes : List ℕ) (h : Held) (place i : ℕ) (before now : Option (List ℕ)) (old new more : List ℕ) → PutsLeaf failed fault bytes h place i before now old new more (Ok tt) → IsLeft before now new (old ++ more)
+leaf_done failed fault bytes h place i before now old new more (inl left) = left
+leaf_done failed fault bytes h place i before now old new more (inr (at, want, found, is, leaf, took)) = absurd cc
+
+-- the run ends behind so many pages
+pub leaf_ended : (bytes : List ℕ) (h : Held) (place i : ℕ) (form : Form) (way : Way) (head : List ℕ) (pages : List (List PageRow)) (passed : ℕ) (before mid now : Option (List ℕ)) (text : List ℕ) (at want found : ℕ) (end : End) → passed < length pages → i ≡ place_on way (length pages) passed
+    → IsLeft before mid text (head ++ rows_text form (flat_map (λ page. put_rows (along way page)) (take passed (along way pages)))) → HasNoLeaf bytes h place i at want found → Took mid now [] → end ≡ Stopped (Corrupt at want found) → EndsAtLeaf bytes h place form way head pages before now end
+leaf_ended bytes h place i form way head pages passed before mid now text at want found end within same (printed, is, took) leaf none ended = record {
+  passed = passed;
+  within = within;
+  at = at;
+  want = want;
+  found = found;
+  leaf = subst (λ (n : ℕ). HasNoLeaf bytes h place n at want found) same leaf;
+  front = printed;
+  rest = text;
+  text = sym is;
+  took = subst (λ (l : List ℕ). Took before now l) (append-nil printed) (took_more before mid now printed [] took none);
+  is = ended;
+}
 
 -- ---- a table
 
@@ -244,6 +295,31 @@ module _ (failed fault : Type 0) (bytes : List ℕ) (c : Content) (h : Held) (pl
         (ap (λ (l : List ℕ). l ++ rows_text form (rows_on way pages)) (is ∙ ap (λ (f : Formats). text_of (head_lines form name f)) same) ∙ sym (text_append (head_lines form name t.formats) (flat_map (row_lines form) (rows_on way pages))))
         ended,
   )
+
+-- up to a leaf that is at fault
+pub table_lacks : (whole bytes : List ℕ) (c : Content) (form : Form) (way : Way) (name : List ℕ) (before now : Option (List ℕ)) (end : End) (on : IsTableOn bytes name) → named name (tables (start c).history) ≡ Some on.table → (pages : List (List PageRow)) → AreWholePages whole c on.held on.place on.table.number pages → (head : List ℕ) (formats : Formats)
+    → head ≡ text_of (head_lines form name formats) → formats ≡ on.table.formats → EndsAtLeaf bytes on.held on.place form way head pages before now end → LacksLeaf bytes c form way name before now end
+table_lacks whole bytes c form way name before now end on is_named pages are head formats is same ended =
+    let f : List PageRow → List Row = (λ page. put_rows (along way page)) in
+    let rows : List Row = flat_map f (take ended.passed (along way pages)) in
+    record {
+      on = on;
+      index = place_on way (length pages) ended.passed;
+      at = ended.at;
+      want = ended.want;
+      found = ended.found;
+      leaf = ended.leaf;
+      is_named = is_named;
+      rows = rows;
+      others = flat_map f (drop ended.passed (along way pages));
+      all = subst (λ (l : List Row). AreRows way (start c) on.table l) (front_rest f (along way pages) ended.passed) (whole_rows way whole c on.held on.place on.table pages are);
+      under = λ row there. under_before way whole c on.held on.place on.table.number pages ended.passed row are ended.within there;
+      front = ended.front;
+      rest = ended.rest;
+      text = text_append (head_lines form name on.table.formats) (flat_map (row_lines form) rows) ∙ ap (λ (l : List ℕ). l ++ rows_text form rows) (sym (is ∙ ap (λ (x : Formats). text_of (head_lines form name x)) same)) ∙ ended.text;
+      took = ended.took;
+      is = ended.is;
+    }
 
 -- for want of memory nothing is printed
 pub none_printed : (failed fault : Type 0) (bytes : List ℕ) (c : Content) (h : Held) (place : ℕ) (t : Table) (form : Form) (way : Way) (name : List ℕ) (before : Option (List ℕ)) (pages : List (List PageRow)) → AreWholePages bytes c h place t.number pages
@@ -329,19 +405,54 @@ module _ (failed : Type 0) (c : Content) (form : Form) (way : Way) (d d' : Devic
           ended_here (λ p ran. ran ≡ stops (Refusal_Invalid BadName) p) (Stopped (Refusal_Invalid BadName)) still refl took (subst (λ (x : End). TellsEnd e x None status) is told)
       by_name (Some name) ended = by_table name end ended told
 
+  -- up to a leaf that is at fault
+  pub dumped_up_to : (bytes uri : List ℕ) (end : End) → Opens here there → UriLacksLeaf bytes c form way uri before now end → TellsEnd e end None status → Reading (RunsDumpOn failed bytes form way uri) here d' before now e status
+  dumped_up_to bytes uri end opens (name, is_name, lacks) told =
+      let run : StopsAtLeaf bytes form way name here (record (ends (Stopped (Corrupt lacks.at lacks.want lacks.found)) there) { text = lacks.front ++ []; refusals = Corrupt lacks.at lacks.want lacks.found ∷ [] }) = record {
+        on = lacks.on;
+        index = lacks.index;
+        at = lacks.at;
+        want = lacks.want;
+        found = lacks.found;
+        leaf = lacks.leaf;
+        is_named = lacks.is_named;
+        rows = lacks.rows;
+        others = lacks.others;
+        all = lacks.all;
+        under = lacks.under;
+        front = lacks.front;
+        rest = lacks.rest;
+        text = lacks.text;
+        next = there;
+        opens = opens;
+        is = refl;
+      } in
+      ended_so (RunsDumpOn failed bytes form way uri) lacks.front (Stopped (Corrupt lacks.at lacks.want lacks.found))
+      (named_goes uri (DumpsTableOn failed bytes form way) name is_name here (record (ends (Stopped (Corrupt lacks.at lacks.want lacks.found)) there) { text = lacks.front ++ []; refusals = Corrupt lacks.at lacks.want lacks.found ∷ [] }) (inr run))
+      (inl lacks.took) (subst (λ (x : End). TellsEnd e x None status) lacks.is told)
+
+-- one of both
+pub dumped_on : (failed : Type 0) (c : Content) (form : Form) (way : Way) (d d' : Device) → IsLater d d' → KeepsCheckpoint d d' → Opens (at d (start c)) (at d' (start c)) → (before now : Option (List ℕ)) (e : Errors) (status : ℕ) (bytes uri : List ℕ) (end : End) → UriEndsBy failed d d' c form way uri before now end ⊎ UriLacksLeaf bytes c form way uri before now end → TellsEnd e end None status
+    → Reading (RunsDumpOn failed bytes form way uri) (at d (start c)) d' before now e status
+dumped_on failed c form way d d' later keeps opens before now e status bytes uri end (inl ended) told =
+    reading_as (Named uri (DumpsTable failed form way)) (RunsDumpOn failed bytes form way uri) (at d (start c)) d' before now e status
+    (λ ran named. named_as uri (DumpsTable failed form way) (DumpsTableOn failed bytes form way) (at d (start c)) ran (λ name goes. inl goes) named)
+    (dumped failed c form way d d' later keeps before now e status uri end ended told)
+dumped_on failed c form way d d' later keeps opens before now e status bytes uri end (inr lacks) told = dumped_up_to failed c form way d d' later keeps before now e status bytes uri end opens lacks told
+
 -- ---- whatever the disk
 
-leaves_so : (honest : Type 0) (before now : List ℕ) (r : Refusal) → FaultyLeavesDoNotRead → (honest → IsOpenable before) → IsSoOfLeaves honest before r → IsSo honest before now r
-leaves_so honest before now (Corrupt at want found) law reads so = λ h. let read = reads h in absurd (law before at want found read.0 (so h) read.1)
-leaves_so honest before now _ law reads so = tt
+leaves_so : (asked : Asked) (honest : Type 0) (before now : List ℕ) (r : Refusal) → IsByReader asked → IsSoOfLeaves honest before r → IsSoFor asked honest before now r
+leaves_so asked honest before now (Corrupt at want found) by so = λ h. inr (inr (by, so h))
+leaves_so asked honest before now _ by so = tt
 
--- where the device reads no leaf is at fault
-pub told_leaves : (honest : Type 0) (before now : List ℕ) (e : Errors) (status : ℕ) → FaultyLeavesDoNotRead → (honest → IsOpenable before) → Telling (IsSoOfLeaves honest before) e status → Telling (IsSo honest before now) e status
-told_leaves honest before now e status law reads t = record { refusals = t.refusals; each = each t.refusals t.each; replies = t.replies; end = t.end; told = t.told }
+-- of a command that reads leaf by leaf
+pub told_leaves : (asked : Asked) (honest : Type 0) (before now : List ℕ) (e : Errors) (status : ℕ) → IsByReader asked → Telling (IsSoOfLeaves honest before) e status → Telling (IsSoFor asked honest before now) e status
+told_leaves asked honest before now e status by t = record { refusals = t.refusals; each = each t.refusals t.each; replies = t.replies; end = t.end; told = t.told }
   where
-    each : (met : List Refusal) → AllByRecursion (IsSoOfLeaves honest before) met → AllByRecursion (IsSo honest before now) met
+    each : (met : List Refusal) → AllByRecursion (IsSoOfLeaves honest before) met → AllByRecursion (IsSoFor asked honest before now) met
     each [] so = tt
-    each (r ∷ met) so = (leaves_so honest before now r law reads so.0, each met so.1)
+    each (r ∷ met) so = (leaves_so asked honest before now r by so.0, each met so.1)
 
 -- the same, seen from further back
 pub leaves_further : {D : Type 0} (g : Ghosts D) (old mid : D) (e : Errors) (status : ℕ) → Looked g old mid → Telling (IsSoOfLeaves (IsTrue (g.honest mid)) (g.seen mid)) e status → Telling (IsSoOfLeaves (IsTrue (g.honest old)) (g.seen old)) e status

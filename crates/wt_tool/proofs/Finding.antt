@@ -1,6 +1,6 @@
 -- The gets of `read`, by what a reader has.
 use Rattle.std.specs.Prelude.{IfSome, IfNone, slice_get}
-use Rattle.std.proofs.Common.{◌≡◌, ◌∙◌, ◌≤◌, ◌<◌, ℕ, List, Option, Some, None, IsTrue, inl, inr, sym, ap, subst, length}
+use Rattle.std.proofs.Common.{◌≡◌, ◌∙◌, ◌≤◌, ◌<◌, ℕ, List, Option, Some, None, Err, IsTrue, inl, inr, sym, ap, subst, length}
 use Rattle.std.specs.Option.{option_map_or}
 use Rattle.limits.specs.declared.TheConstants.{KEY_MAX}
 use Rattle.item.specs.declared.formats.Formats.{Formats}
@@ -15,9 +15,11 @@ use Rattle.kv_model.specs.Content.{Content, start}
 use Rattle.kv_model.specs.Decisions.{is_name}
 use Rattle.kv_model.specs.History.{Table, named}
 use Rattle.tree_open.specs.Damage.{Refused as IsRefused}
-use Rattle.device_read.specs.Refusals.{LeafIsAtFault}
+use Rattle.device_read.specs.Leaves.{HasNoLeafOf}
+use Rattle.device_read.specs.Readers.{Held, IsReaderOf, tables_in}
 use Rattle.device_read.specs.Rows.{HasTables, value_in}
 use Rattle.wt_tool.specs.declared.tables.TableAt.{TableAt}
+use Rattle.wt_tool.specs.Damaged.{IsTableOn, LacksLeafOf, MayGiveOn}
 use Rattle.wt_tool.specs.Fresh.{MayGive, Reaches, key_in}
 use Rattle.wt_tool.specs.Openings.{formats_at}
 use Rattle.wt_tool.specs.Pages.{IsTableAt, IsTableOf, formats_found}
@@ -71,8 +73,18 @@ module _ (c : Content) (known : List Table) (name word key : List ℕ) (found : 
     pub gives_none : ((u : Table) → slice_get known t.place ≡ Some u → (let none : Option (List ℕ) = None in none) ≡ value_in c u.number key) → Gives (Refused NotFound)
     gives_none so = by_key (Refused NotFound) (inl (sym (absent c name key there.0 reaches (sym (so there.0 there.1)))))
 
-    -- a leaf that is not read, of a device that reads
-    pub gives_refused : (known_so : Type 0) (bytes : List ℕ) (r : Refusal) → known_so → ((at want found : ℕ) → LeafIsAtFault bytes at want found → ⊥) → IsRefused (Rose faults faults_now) known_so (LeafIsAtFault bytes) r → Gives (Refused r)
-    gives_refused known_so bytes r k sound (inl (why, rose)) = by_key (Refused r) (inr (inr (ap (λ (x : Refusal). Refused x) why, rose, (there.0, reaches))))
-    gives_refused known_so bytes r k sound (inr (inl why)) = by_key (Refused r) (inr (inl (ap (λ (x : Refusal). Refused x) why)))
-    gives_refused known_so bytes r k sound (inr (inr (at, want, found, why, damage))) = absurd (sound at want found (damage k))
+    -- a leaf that is not read: the disk failed, memory was short, or the leaf is at fault
+    pub gives_refused : (bytes : List ℕ) (h : Held) (known_so : Type 0) (r : Refusal) → tables_in h ≡ known → IsReaderOf bytes h → known_so → IsRefused (Rose faults faults_now) known_so (HasNoLeafOf bytes h t.place key) r → MayGiveOn c bytes name word faults faults_now (Err r)
+    gives_refused bytes h known_so r same reader k (inl (why, rose)) = inl (by_key (Refused r) (inr (inr (ap (λ (x : Refusal). Refused x) why, rose, (there.0, reaches)))))
+    gives_refused bytes h known_so r same reader k (inr (inl why)) = inl (by_key (Refused r) (inr (inl (ap (λ (x : Refusal). Refused x) why))))
+    gives_refused bytes h known_so r same reader k (inr (inr (at, want, found_sum, why, damage))) =
+        let on : IsTableOn bytes name = record {
+          held = h;
+          reader = reader;
+          place = t.place;
+          table = there.0;
+          there = subst (λ (l : List Table). slice_get l t.place ≡ Some there.0) (sym same) there.1;
+          is_named = subst (λ (l : List Table). named name l ≡ Some there.0) (sym same) there.2;
+        } in
+        let lacks : LacksLeafOf bytes name key at want found_sum = record { on = on; short = short; leaf = damage k } in
+        inr (at, want, found_sum, ap (λ (x : Refusal). Err x) why, subst (λ (l : List ℕ). LacksLeafOf bytes name l at want found_sum) same_key lacks)

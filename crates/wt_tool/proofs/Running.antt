@@ -1,5 +1,5 @@
 -- What a run of a command is to the definitions.
-use Rattle.std.specs.Prelude.{◌≡◌, ◌⊎◌, ℕ, Bool, not, ◌+◌, ◌<◌, List, [], ◌∷◌, ◌++◌, filter, length, Option, Some, None, IfErr, IfOk, OnOk, Result, Ok, Err, refl}
+use Rattle.std.specs.Prelude.{◌≡◌, ◌⊎◌, ℕ, Bool, not, ◌+◌, ◌<◌, List, [], ◌∷◌, ◌++◌, filter, length, Option, MatchOption, Some, None, IfErr, IfOk, OnOk, Result, Ok, Err, refl}
 use Rattle.std.proofs.Common.{inl, inr, sym, ap, subst, ◌∙◌, arith}
 use Rattle.std.specs.List.{AllByRecursion}
 use Rattle.std.proofs.lemmas.List.{append-nil}
@@ -11,7 +11,9 @@ use Rattle.kv_model.specs.Machine.{Machine, Completed}
 use Rattle.kv_model.specs.Content.{Content, start, IsLayered}
 use Rattle.stored.specs.Stored.{Stored, Reads, IsOn, IsBlank}
 use Rattle.wt_code.specs.declared.refusals.Refusal.{Refusal}
-use Rattle.wt_code.specs.declared.refusals.Refusal.TheVariants.{NoMemory, DiskFault, Corrupt}
+use Rattle.wt_code.specs.declared.refusals.Refusal.TheVariants.{NoMemory, DiskFault, Corrupt, Limit as Refusal_Limit, Invalid as Refusal_Invalid}
+use Rattle.wt_code.specs.declared.refusals.Invalid.TheVariants.{BadName}
+use Rattle.wt_code.specs.declared.refusals.Limit.TheVariants.{Image, Tables, Checkpoints}
 use Rattle.wt_io.specs.Streams.{Gave, Took}
 use Rattle.turtle.proofs.Choice.{chooses_one}
 use Rattle.kv_model.specs.History.{Table}
@@ -27,16 +29,21 @@ use Rattle.engine_store.specs.declared.store.Store.{Store}
 use Rattle.engine_store.specs.Opened.{HasNumbers, IsOpened, OpenRefused}
 use Rattle.stored.proofs.Device.{one_content, one_stored}
 use Rattle.device_read.specs.Readers.{Held, IsReaderOf}
-use Rattle.device_read.specs.Refusals.{HasNumbers as HasNumbersLeft, OpenRefused as ReaderRefused}
+use Rattle.device_read.specs.Refusals.{HasNumbers as HasNumbersLeft, LeafIsAtFault, OpenRefused as ReaderRefused}
+use Rattle.device_read.proofs.LeafPlaces.{at_fault}
 use Rattle.wt_line.specs.Line.{Asked, create, write, read, list, verify, script, dump, load}
 use Rattle.script_run.specs.Scripts.{Outside, counts}
 use Rattle.wt_tool.specs.Points.{Point, Ran, point_of, stops}
-use Rattle.engine_store.specs.Devices.{Installed, device_of, last_number, IsWide}
-use Rattle.wt_tool.specs.Openings.{RefusesOpening, MayOpen, Opens, Opened}
+use Rattle.engine_store.specs.Devices.{Device, Installed, device_of, last_number, IsWide}
+use Rattle.wt_tool.specs.Openings.{Named, RefusesOpening, MayOpen, Opens, Opened}
 use Rattle.wt_tool.specs.Commands.{Runs, IsOnEngine, IsByReader}
-use Rattle.wt_tool.specs.Parts.{NoDamage, IsOpenedOn, Starts, Leaves, Loading, Reading, Scripting, met_of, end_of, silent_run}
+use Rattle.wt_tool.specs.Damaged.{DumpsTableOn, ReadsKeysOn, RunsDumpOn, RunsOn, RunsReadOn, device_on, point_on}
+use Rattle.wt_tool.specs.Dumps.{DumpsTable, RunsDump, form_of, way_of}
+use Rattle.wt_tool.specs.Reads.{ReadsKeys, RunsRead}
+use Rattle.wt_tool.specs.Words.{name_in}
+use Rattle.wt_tool.specs.Parts.{at, NoDamage, IsOpenedOn, Starts, Leaves, Loading, Reading, Scripting, met_of, end_of, silent_run}
 use Rattle.wt_tool.specs.Loads.{RunsLoad}
-use Rattle.wt_tool.specs.Top.{Went, Telling, IsSo, IsStatus, Tells, IsTold, IsCut, Streams, Errors, lines, last_line, status_of, first_status, status_at}
+use Rattle.wt_tool.specs.Top.{Went, WentOn, Telling, IsOpenable, IsOpenableFor, IsReadable, IsSo, IsSoFor, IsStatus, Tells, IsTold, IsCut, Streams, Errors, lines, last_line, status_of, first_status, status_at}
 use Rattle.engine_store.specs.Images.{OpensToLast, Stays}
 use Rattle.wt_tool.proofs.Closings.{still_reads, start_opens}
 
@@ -98,43 +105,65 @@ wide_of bytes content (inl (blank, is)) none shut = absurd (shut blank)
 wide_of bytes content (inr (s, on, is)) none shut = (s, on, none s on)
 
 -- why a device that reads is not opened
+pub refused_at : (d d' : Device) (known : Type 0) (content : Content) (r : Refusal) → known → Reads d.seen content → OpenRefused (Rose d.faults d'.faults) known d.seen r → RefusesOpening (at d (start content)) d' r
+refused_at d d' known content r k reads (inl (inl failed)) = inl failed
+refused_at d d' known content r k reads (inl (inr (inl none))) = inr (inl none)
+refused_at d d' known content r k reads (inl (inr (inr (inl (is, why))))) = inr (inr (inr (inr (is, ap (λ n. n + 1) (why k content reads)))))
+refused_at d d' known content r k reads (inl (inr (inr (inr (inl (is, why, shut)))))) = inr (inr (inl (is, wide_of d.seen content reads (why k) (shut k))))
+refused_at d d' known content r k reads (inl (inr (inr (inr (inr (at_place, want, found, is, why)))))) = absurd (damage_no_content d.seen at_place want found content (why k) reads)
+refused_at d d' known content r k reads (inr (is, why)) = inr (inr (inr (inl (is, why k))))
+
 pub refused_open : {D : Type 0} (g : Ghosts D) (old new : D) (known : Type 0) (content : Content) (r : Refusal) → known → Reads (g.seen old) content → OpenRefused (Rose (g.faults old) (g.faults new)) known (g.seen old) r
     → RefusesOpening (point_of g (start content) old) (device_of g new) r
-refused_open g old new known content r k reads (inl (inl failed)) = inl failed
-refused_open g old new known content r k reads (inl (inr (inl none))) = inr (inl none)
-refused_open g old new known content r k reads (inl (inr (inr (inl (is, why))))) = inr (inr (inr (inr (is, ap (λ n. n + 1) (why k content reads)))))
-refused_open g old new known content r k reads (inl (inr (inr (inr (inl (is, why, shut)))))) = inr (inr (inl (is, wide_of (g.seen old) content reads (why k) (shut k))))
-refused_open g old new known content r k reads (inl (inr (inr (inr (inr (at, want, found, is, why)))))) = absurd (damage_no_content (g.seen old) at want found content (why k) reads)
-refused_open g old new known content r k reads (inr (is, why)) = inr (inr (inr (inl (is, why k))))
+refused_open g old new known content r k reads why = refused_at (device_of g old) (device_of g new) known content r k reads why
 
 -- why a device that reads is not read by a reader
+pub reader_refused_at : (d d' : Device) (known : Type 0) (content : Content) (r : Refusal) → known → Reads d.seen content → ReaderRefused (Rose d.faults d'.faults) known d.seen r → RefusesOpening (at d (start content)) d' r
+reader_refused_at d d' known content r k reads (inl why) = refused_at d d' known content r k reads (inl why)
+reader_refused_at d d' known content r k (inl (blank, none)) (inr (is, lacks, shut)) = absurd (shut k blank)
+reader_refused_at d d' known content r k (inr (s, on, same)) (inr (is, lacks, shut)) = inr (inr (inr (inl (is, (s, on, lacks k s on)))))
+
 pub refused_reader : {D : Type 0} (g : Ghosts D) (old new : D) (known : Type 0) (content : Content) (r : Refusal) → known → Reads (g.seen old) content → ReaderRefused (Rose (g.faults old) (g.faults new)) known (g.seen old) r
     → RefusesOpening (point_of g (start content) old) (device_of g new) r
-refused_reader g old new known content r k reads (inl why) = refused_open g old new known content r k reads (inl why)
-refused_reader g old new known content r k (inl (blank, none)) (inr (is, lacks, shut)) = absurd (shut k blank)
-refused_reader g old new known content r k (inr (s, on, same)) (inr (is, lacks, shut)) = inr (inr (inr (inl (is, (s, on, lacks k s on)))))
+refused_reader g old new known content r k reads why = reader_refused_at (device_of g old) (device_of g new) known content r k reads why
+
+-- a fault of the disk is told only where its count rose
+pub reader_fault : (fault known : Type 0) (bytes : List ℕ) (r : Refusal) → ReaderRefused fault known bytes r → r ≡ DiskFault → fault
+reader_fault fault known bytes r (inl (inl (is, failed))) told = failed
+reader_fault fault known bytes r (inl (inr (inl is))) told = let e : NoMemory ≡ DiskFault = sym is ∙ told in absurd cc
+reader_fault fault known bytes r (inl (inr (inr (inl (is, why))))) told = let e : Refusal_Limit Checkpoints ≡ DiskFault = sym is ∙ told in absurd cc
+reader_fault fault known bytes r (inl (inr (inr (inr (inl (is, why, shut)))))) told = let e : Refusal_Limit Image ≡ DiskFault = sym is ∙ told in absurd cc
+reader_fault fault known bytes r (inl (inr (inr (inr (inr (at_place, want, found, is, why)))))) told = let e : Corrupt at_place want found ≡ DiskFault = sym is ∙ told in absurd cc
+reader_fault fault known bytes r (inr (is, lacks, shut)) told = let e : Refusal_Limit Tables ≡ DiskFault = sym is ∙ told in absurd cc
 
 -- the same of a device that a reader was opened on
-pub reader_may_open : {D : Type 0} (g : Ghosts D) (old : D) (h : Held) (content : Content) → IsReaderOf (g.seen old) h → ((s : Stored) → IsOn (g.seen old) s → HasNumbersLeft s.kept) → Reads (g.seen old) content → MayOpen (point_of g (start content) old)
-reader_may_open g old h content reader numbers reads = record {
+pub reader_may_open : (d : Device) (h : Held) (content : Content) → IsReaderOf d.seen h → ((s : Stored) → IsOn d.seen s → HasNumbersLeft s.kept) → Reads d.seen content → MayOpen (at d (start content))
+reader_may_open d h content reader numbers reads = record {
   narrow = λ wide. wide_not wide.0 wide.1 wide.2 reader;
   numbers = λ used. absurd (omega (arith, used.2, (numbers used.0 used.1).1));
   run = λ same. by_content reads same;
 }
   where
-    wide_not : (s : Stored) → IsOn (g.seen old) s → (IsBare s.kept → ⊥) → IsReaderOf (g.seen old) h → ⊥
-    wide_not s on wide (inl (blank, none)) = let e : None ≡ Some s.slot = chooses_one (g.seen old) None (Some s.slot) blank.shut on.chosen in absurd cc
+    wide_not : (s : Stored) → IsOn d.seen s → (IsBare s.kept → ⊥) → IsReaderOf d.seen h → ⊥
+    wide_not s on wide (inl (blank, none)) = let e : None ≡ Some s.slot = chooses_one d.seen None (Some s.slot) blank.shut on.chosen in absurd cc
     wide_not s on wide (inr (place, a, surveyed, is)) =
         let names = surveyed.names in
-        wide (subst (λ (x : Record). IsBare x) (sym (kept_is (g.seen old) surveyed.slot s a.record names.chosen names.is_record names.is on)) surveyed.bare)
+        wide (subst (λ (x : Record). IsBare x) (sym (kept_is d.seen surveyed.slot s a.record names.chosen names.is_record names.is on)) surveyed.bare)
 
-    by_content : Reads (g.seen old) content → (start content).run ≡ last_number + 1 → ⊥
+    by_content : Reads d.seen content → (start content).run ≡ last_number + 1 → ⊥
     by_content (inl (blank, is)) same = let none : content.run ≡ 0 = ap (λ (c : Content). c.run) is in omega (arith, same, none)
     by_content (inr (s, on, is)) same = let run : content.run ≡ s.kept.run = ap (λ (c : Content). c.run) is in omega (arith, same, run, (numbers s on).0)
 
 -- a disk that was only looked at
 pub opens_of : {D : Type 0} (g : Ghosts D) (m : Machine) (old mid : D) → Looked g old mid → Opens (point_of g m old) (point_of g m mid)
 opens_of g m old mid looked = record { later = record { faults = looked.count; moment = looked.later }; machine = refl; seen = looked.content; capacity = looked.capacity }
+
+-- the same with the whole device in the place of what a read gives
+pub opens_on : {D : Type 0} (g : Ghosts D) (whole : List ℕ) (m : Machine) (old mid : D) → Looked g old mid → Opens (point_on g whole m old) (point_on g whole m mid)
+opens_on g whole m old mid looked = record { later = record { faults = looked.count; moment = looked.later }; machine = refl; seen = refl; capacity = looked.capacity }
+
+pub opens_same_on : {D : Type 0} (g : Ghosts D) (whole : List ℕ) (m : Machine) (disk : D) → Opens (point_on g whole m disk) (point_on g whole m disk)
+opens_same_on g whole m disk = record { later = record { faults = omega arith; moment = omega arith }; machine = refl; seen = refl; capacity = refl }
 
 pub opens_same : {D : Type 0} (g : Ghosts D) (m : Machine) (disk : D) → Opens (point_of g m disk) (point_of g m disk)
 opens_same g m disk = record { later = record { faults = omega arith; moment = omega arith }; machine = refl; seen = refl; capacity = refl }
@@ -160,6 +189,80 @@ not_read o (write overwrite uri pairs) p ran by why = absurd by
 not_read o (verify uri) p ran by why = absurd by
 not_read o script p ran by why = absurd by
 not_read o (load no_overwrite name) p ran by why = absurd by
+
+pub not_read_on : (o : Outside) (bytes : List ℕ) (asked : Asked) (p : Point) (ran : Ran) → IsByReader asked → (r : Refusal) × (q : Point) × Opens p q × RefusesOpening p q.device r × (ran ≡ stops r q) → RunsOn o bytes asked p ran
+not_read_on o bytes (read uri keys) p ran by why = inl why
+not_read_on o bytes list p ran by why = inl why
+not_read_on o bytes (dump hex reverse uri) p ran by why = inl why
+not_read_on o bytes (create config uri) p ran by why = absurd by
+not_read_on o bytes (write overwrite uri pairs) p ran by why = absurd by
+not_read_on o bytes (verify uri) p ran by why = absurd by
+not_read_on o bytes script p ran by why = absurd by
+not_read_on o bytes (load no_overwrite name) p ran by why = absurd by
+
+-- ---- where no leaf is at fault
+
+opened_as : (Goes Other : Point → Ran → Type 0) (p : Point) (ran : Ran) → ((q : Point) → Goes q ran → Other q ran) → Opened Goes p ran → Opened Other p ran
+opened_as Goes Other p ran more (inl why) = inl why
+opened_as Goes Other p ran more (inr (q, opens, may, goes)) = inr (q, opens, may, more q goes)
+
+pub named_as : (uri : List ℕ) (Goes Other : List ℕ → Point → Ran → Type 0) (p : Point) (ran : Ran) → ((name : List ℕ) → Goes name p ran → Other name p ran) → Named uri Goes p ran → Named uri Other p ran
+named_as uri Goes Other p ran more goes = by_name (name_in uri) goes
+  where
+    by_name : (o : Option (List ℕ)) → MatchOption o (ran ≡ stops (Refusal_Invalid BadName) p) (λ name. Goes name p ran) → MatchOption o (ran ≡ stops (Refusal_Invalid BadName) p) (λ name. Other name p ran)
+    by_name None is = is
+    by_name (Some name) there = more name there
+
+-- a run on a device that reads is one that the definitions allow
+pub runs_of : (o : Outside) (bytes : List ℕ) (asked : Asked) (p : Point) (ran : Ran) → ((at want found : ℕ) → LeafIsAtFault bytes at want found → ⊥) → RunsOn o bytes asked p ran → Runs o asked p ran
+runs_of o bytes (read uri keys) p ran sound runs = opened_as (RunsReadOn o.output_failed bytes uri keys) (RunsRead o.output_failed uri keys) p ran (λ q named. named_as uri (λ name. ReadsKeysOn o.output_failed bytes name keys) (λ name. ReadsKeys o.output_failed name keys) q ran (λ name goes. whole_keys name q goes) named) runs
+  where
+    whole_keys : (name : List ℕ) (q : Point) → ReadsKeysOn o.output_failed bytes name keys q ran → ReadsKeys o.output_failed name keys q ran
+    whole_keys name q (inl reads) = reads
+    whole_keys name q (inr stops_at) = let leaf = stops_at.leaf in absurd (sound stops_at.at stops_at.want stops_at.found (at_fault bytes leaf.on.held leaf.on.place leaf.leaf.0 stops_at.at stops_at.want stops_at.found leaf.on.reader leaf.leaf.2))
+runs_of o bytes list p ran sound runs = runs
+runs_of o bytes (dump hex reverse uri) p ran sound runs = opened_as (RunsDumpOn o.output_failed bytes (form_of hex) (way_of reverse) uri) (RunsDump o.output_failed hex reverse uri) p ran (λ q named. named_as uri (DumpsTableOn o.output_failed bytes (form_of hex) (way_of reverse)) (DumpsTable o.output_failed (form_of hex) (way_of reverse)) q ran (λ name goes. whole_table name q goes) named) runs
+  where
+    whole_table : (name : List ℕ) (q : Point) → DumpsTableOn o.output_failed bytes (form_of hex) (way_of reverse) name q ran → DumpsTable o.output_failed (form_of hex) (way_of reverse) name q ran
+    whole_table name q (inl dumps) = dumps
+    whole_table name q (inr stops_at) = absurd (sound stops_at.at stops_at.want stops_at.found (at_fault bytes stops_at.on.held stops_at.on.place stops_at.index stops_at.at stops_at.want stops_at.found stops_at.on.reader stops_at.leaf))
+runs_of o bytes (create config uri) p ran sound runs = absurd runs
+runs_of o bytes (write overwrite uri pairs) p ran sound runs = absurd runs
+runs_of o bytes (verify uri) p ran sound runs = absurd runs
+runs_of o bytes script p ran sound runs = absurd runs
+runs_of o bytes (load no_overwrite name) p ran sound runs = absurd runs
+
+-- ---- what was read of the device
+
+pub readable_for : (asked : Asked) (bytes : List ℕ) → IsByReader asked → IsReadable bytes → IsOpenableFor asked bytes
+readable_for (read uri keys) bytes by opens = opens
+readable_for list bytes by opens = opens
+readable_for (dump hex reverse uri) bytes by opens = opens
+readable_for (create config uri) bytes by opens = absurd by
+readable_for (write overwrite uri pairs) bytes by opens = absurd by
+readable_for (verify uri) bytes by opens = absurd by
+readable_for script bytes by opens = absurd by
+readable_for (load no_overwrite name) bytes by opens = absurd by
+
+pub openable_for : (asked : Asked) (bytes : List ℕ) → IsOnEngine asked → IsOpenable bytes → IsOpenableFor asked bytes
+openable_for (create config uri) bytes on opens = opens
+openable_for (write overwrite uri pairs) bytes on opens = opens
+openable_for script bytes on opens = opens
+openable_for (load no_overwrite name) bytes on opens = opens
+openable_for (read uri keys) bytes on opens = absurd on
+openable_for list bytes on opens = absurd on
+openable_for (dump hex reverse uri) bytes on opens = absurd on
+openable_for (verify uri) bytes on opens = absurd on
+
+pub not_both : (asked : Asked) → IsOnEngine asked → IsByReader asked → ⊥
+not_both (create config uri) on by = by
+not_both (write overwrite uri pairs) on by = by
+not_both script on by = by
+not_both (load no_overwrite name) on by = by
+not_both (read uri keys) on by = on
+not_both list on by = on
+not_both (dump hex reverse uri) on by = on
+not_both (verify uri) on by = on
 
 -- any command, where memory is too short to begin
 pub not_begun : (o : Outside) (asked : Asked) (p : Point) → Opens p p → Runs o asked p (stops NoMemory p)
@@ -211,6 +314,18 @@ told_so honest before now e status t = record { refusals = t.refusals; each = ea
     each : (met : List Refusal) → AllByRecursion NoDamage met → AllByRecursion (IsSo honest before now) met
     each [] none = tt
     each (r ∷ met) none = (no_damage_so honest before now r none.0, each met none.1)
+
+-- of a command
+pub so_for : (asked : Asked) (honest : Type 0) (before now : List ℕ) (r : Refusal) → IsSo honest before now r → IsSoFor asked honest before now r
+so_for asked honest before now (Corrupt at_place want found) so = λ h. elim (so h) [ inl before_it ↦ inl before_it | inr after_it ↦ inr (inl after_it) ]
+so_for asked honest before now _ so = tt
+
+pub telling_for : (asked : Asked) (honest : Type 0) (before now : List ℕ) (e : Errors) (status : ℕ) → Telling (IsSo honest before now) e status → Telling (IsSoFor asked honest before now) e status
+telling_for asked honest before now e status t = record { refusals = t.refusals; each = each t.refusals t.each; replies = t.replies; end = t.end; told = t.told }
+  where
+    each : (met : List Refusal) → AllByRecursion (IsSo honest before now) met → AllByRecursion (IsSoFor asked honest before now) met
+    each [] so = tt
+    each (r ∷ met) so = (so_for asked honest before now r so.0, each met so.1)
 
 -- damage that an opening tells is there
 pub opening_so : (fault known : Type 0) (bytes now : List ℕ) (r : Refusal) → OpenRefused fault known bytes r → IsSo known bytes now r
@@ -307,23 +422,56 @@ module _ {D : Type 0} (g : Ghosts D) (old new : D) (content : Content) (layered 
     stays = left.stays;
   }
 
-  -- a run on the device itself, which was opened at this point
-  pub reading_went : (mid : D) (Allowed : Point → Ran → Type 0) (status : ℕ) → Opens (point_of g (start content) old) (point_of g (start content) mid) → MayOpen (point_of g (start content) old)
-      → ((ran : Ran) → Opened Allowed (point_of g (start content) old) ran → Runs o asked (point_of g (start content) old) ran)
-      → ((c : List ℕ) → g.may_leave new c → Reads c content) → ((c : List ℕ) → g.left_since new (g.moment old) c → Reads c content)
-      → Reading Allowed (point_of g (start content) mid) (device_of g new) w.out_before w.out_now w.errors status → Ends status
-  reading_went mid Allowed status opened may as_command images since went = record {
+-- a run on the device itself, with the whole one in the place of what a read gives
+module _ {D : Type 0} (g : Ghosts D) (old new : D) (whole : List ℕ) (content : Content) (o : Outside) (asked : Asked) (w : Streams) (taken : Gave w.in_before w.in_now []) (looked : Looked g old new) where
+  abbrev EndsOn : ℕ → Type 0
+  EndsOn status = WentOn g o asked whole content w old new status
+
+  -- that a refusal ended before it was opened
+  pub stopped_on : (r : Refusal) (status : ℕ) → RunsOn o (g.seen old) asked (point_on g whole (start content) old) (stops r (point_on g whole (start content) new)) → Took w.out_before w.out_now [] → Tells w.errors (lines (r ∷ [])) (status_of r) status → EndsOn status
+  stopped_on r status run out told = record {
+    ran = stops r (point_on g whole (start content) new);
+    run = run;
+    there = refl;
+    taken = taken;
+    printed = inl out;
+    told = subst (λ (l : List ℕ). Tells w.errors l (status_of r) status) (sym (append-nil (lines (r ∷ [])))) told;
+    none = refl;
+    kept = refl;
+    looked = looked;
+  }
+
+  -- that was opened at this point
+  pub reading_went : (mid : D) (Allowed : Point → Ran → Type 0) (status : ℕ) → Opens (point_on g whole (start content) old) (point_on g whole (start content) mid) → MayOpen (point_on g whole (start content) old)
+      → ((ran : Ran) → Opened Allowed (point_on g whole (start content) old) ran → RunsOn o (g.seen old) asked (point_on g whole (start content) old) ran)
+      → Reading Allowed (point_on g whole (start content) mid) (device_on g whole new) w.out_before w.out_now w.errors status → EndsOn status
+  reading_went mid Allowed status opened may as_command went = record {
     ran = went.ran;
-    run = as_command went.ran (inr (point_of g (start content) mid, opened, may, went.run));
+    run = as_command went.ran (inr (point_on g whole (start content) mid, opened, may, went.run));
     there = went.there;
     taken = subst (λ (l : List ℕ). Gave w.in_before w.in_now l) (sym went.silent) taken;
     printed = went.printed;
     told = went.told;
-    opens = subst (λ (k : Completed). OpensToLast (g.may_leave new) (start content).completed k went.ran.made) (sym went.same)
-        (subst (λ (l : List Installed). OpensToLast (g.may_leave new) (start content).completed (start content).completed l) (sym went.none) (inl (content, ((λ c left. images c left), layered), start_opens content layered)));
-    ever = λ c left. inl (content, since c left, start_opens content layered);
-    stays = subst (λ (l : List Installed). Stays (g.left_since new) l) (sym went.none) tt;
+    none = went.none;
+    kept = went.same;
+    looked = looked;
   }
+
+-- of a device that reads
+pub went_of : {D : Type 0} (g : Ghosts D) (old new : D) (content : Content) (layered : IsLayered content) (o : Outside) (asked : Asked) (w : Streams) (status : ℕ) → ((at want found : ℕ) → LeafIsAtFault (g.seen old) at want found → ⊥)
+    → ((c : List ℕ) → g.may_leave new c → Reads c content) → ((c : List ℕ) → g.left_since new (g.moment old) c → Reads c content) → WentOn g o asked (g.seen old) content w old new status → Went g o asked content w old new status
+went_of g old new content layered o asked w status sound images since went = record {
+  ran = went.ran;
+  run = runs_of o (g.seen old) asked (point_of g (start content) old) went.ran sound went.run;
+  there = went.there ∙ ap (λ (l : List ℕ). device_on g l new) (sym went.looked.content);
+  taken = went.taken;
+  printed = went.printed;
+  told = went.told;
+  opens = subst (λ (k : Completed). OpensToLast (g.may_leave new) (start content).completed k went.ran.made) (sym went.kept)
+      (subst (λ (l : List Installed). OpensToLast (g.may_leave new) (start content).completed (start content).completed l) (sym went.none) (inl (content, ((λ c left. images c left), layered), start_opens content layered)));
+  ever = λ c left. inl (content, since c left, start_opens content layered);
+  stays = subst (λ (l : List Installed). Stays (g.left_since new) l) (sym went.none) tt;
+}
 
 -- a run of `script`, on a disk that was looked at before
 module _ {D : Type 0} (g : Ghosts D) (old mid new : D) (content : Content) (layered : IsLayered content) (o : Outside) (w : Streams) where

@@ -10,10 +10,11 @@ pub mod Dumps
 pub mod Loads
 pub mod Inputs
 pub mod Scripts
+pub mod Fresh
 pub mod Commands
+pub mod Damaged
 pub mod Top
 pub mod Parts
 pub mod Led
 pub mod Pages
-pub mod Fresh
 pub mod Later

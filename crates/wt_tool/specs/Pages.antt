@@ -1,15 +1,19 @@
 -- The rows of pages on a way, and how far they are printed.
-use Rattle.std.specs.Prelude.{◌≡◌, ◌⊎◌, ◌++◌, ◌-◌, ℕ, suc, List, [], Option, Some, None, Result, Ok, Err, MatchOption, reverse, slice_get}
+use Rattle.std.specs.Prelude.{◌≡◌, ◌⊎◌, ◌++◌, ◌-◌, ◌<◌, ℕ, suc, List, [], length, take, Option, Some, None, Result, Ok, Err, MatchOption, reverse, slice_get}
 use Rattle.std.specs.List.{flat_map}
 use Rattle.std.specs.Option.{option_map_or}
 use Rattle.failure.specs.Counts.{Rose}
 use Rattle.item.specs.declared.formats.Formats.{Formats}
-use Rattle.wt_code.specs.declared.refusals.Refusal.TheVariants.{NoMemory, NoTable, DiskFault, Invalid as Refusal_Invalid}
+use Rattle.wt_code.specs.declared.refusals.Refusal.TheVariants.{Corrupt, NoMemory, NoTable, DiskFault, Invalid as Refusal_Invalid}
 use Rattle.wt_code.specs.declared.refusals.Invalid.TheVariants.{BadName}
 use Rattle.kv_model.specs.Content.{Content, start}
+use Rattle.kv_model.specs.Holds.{Member}
 use Rattle.kv_model.specs.History.{Table, tables, named}
 use Rattle.kv_model.specs.Rows.{Way, Up, Down}
 use Rattle.row_page.specs.Rows.{Row as PageRow}
+use Rattle.inner_page.specs.Children.{IsUnderKey}
+use Rattle.device_read.specs.Leaves.{HasNoLeaf}
+use Rattle.device_read.specs.Readers.{Held, entries_at}
 use Rattle.device_read.specs.Rows.{put_rows}
 use Rattle.dump_text.specs.declared.form.Form.{Form}
 use Rattle.dump_text.specs.Grammar.{Row}
@@ -20,6 +24,7 @@ use Rattle.script_run.specs.declared.script.End.TheVariants.{Through, Stopped, I
 use Rattle.wt_io.specs.Streams.{Took, TookFront}
 use Rattle.wt_tool.specs.declared.tables.TableAt.{TableAt}
 use Rattle.wt_tool.specs.Dumps.{AreRows}
+use Rattle.wt_tool.specs.Damaged.{ComesBefore, IsTableOn}
 use Rattle.wt_tool.specs.Parts.{IsSoOfLeaves}
 use Rattle.wt_tool.specs.Words.{name_in, plain_formats}
 
@@ -94,6 +99,51 @@ TableEndsBy output_failed old new c form way name before now end =
 abbrev pub UriEndsBy : (output_failed : Type 0) → (old new : Device) → Content → Form → Way → List ℕ → (before now : Option (List ℕ)) → End → Type 0
 UriEndsBy output_failed old new c form way uri before now end =
     MatchOption (name_in uri) ((end ≡ Stopped (Refusal_Invalid BadName)) × (new ≡ old) × Took before now []) (λ name. TableEndsBy output_failed old new c form way name before now end)
+
+-- ---- where a leaf is at fault
+
+-- more was put behind the text, or the run ended before it: the i-th leaf is at fault, and nothing more is printed
+abbrev pub PutsLeaf : (output_failed disk_failed : Type 0) → (bytes : List ℕ) → Held → (place i : ℕ) → (before now : Option (List ℕ)) → (old new more : List ℕ) → Result (Unit {0}) End → Type 0
+PutsLeaf output_failed disk_failed bytes h place i before now old new more result =
+    PutsBehind output_failed disk_failed before now old new more result
+    ⊎ ((at want found : ℕ) × (result ≡ Err (Stopped (Corrupt at want found))) × HasNoLeaf bytes h place i at want found × Took before now [])
+
+-- the run ended at the leaf behind so many of these pages on a way, with a front of their text printed
+pub record EndsAtLeaf (bytes : List ℕ) (h : Held) (place : ℕ) (form : Form) (way : Way) (head : List ℕ) (pages : List (List PageRow)) (before now : Option (List ℕ)) (end : End) : Type 0 where
+  pub passed : ℕ
+  pub within : passed < length pages
+  pub at : ℕ
+  pub want : ℕ
+  pub found : ℕ
+  pub leaf : HasNoLeaf bytes h place (place_on way (length pages) passed) at want found
+  pub front : List ℕ
+  pub rest : List ℕ
+  pub text : head ++ rows_text form (flat_map (λ page. put_rows (along way page)) (take passed (along way pages))) ≡ front ++ rest
+  pub took : Took before now front
+  pub is : end ≡ Stopped (Corrupt at want found)
+
+-- the text of a table is printed up to a leaf that is at fault
+pub record LacksLeaf (bytes : List ℕ) (c : Content) (form : Form) (way : Way) (name : List ℕ) (before now : Option (List ℕ)) (end : End) : Type 0 where
+  pub on : IsTableOn bytes name
+  pub index : ℕ
+  pub at : ℕ
+  pub want : ℕ
+  pub found : ℕ
+  pub leaf : HasNoLeaf bytes on.held on.place index at want found
+  pub is_named : named name (tables (start c).history) ≡ Some on.table
+  pub rows : List Row
+  pub others : List Row
+  pub all : AreRows way (start c) on.table (rows ++ others)
+  pub under : (row : Row) → Member row rows → (j : ℕ) × IsUnderKey (entries_at on.held on.place) row.0 j × ComesBefore way j index
+  pub front : List ℕ
+  pub rest : List ℕ
+  pub text : text_of (dump_lines form name on.table.formats rows) ≡ front ++ rest
+  pub took : Took before now front
+  pub is : end ≡ Stopped (Corrupt at want found)
+
+-- of the table that a uri names
+abbrev pub UriLacksLeaf : (bytes : List ℕ) → Content → Form → Way → List ℕ → (before now : Option (List ℕ)) → End → Type 0
+UriLacksLeaf bytes c form way uri before now end = (name : List ℕ) × (name_in uri ≡ Some name) × LacksLeaf bytes c form way name before now end
 
 -- Whatever the disk: what a refusal that ends the run says of the leaves is so, a fault of the output or of the disk ends it only where its count rose, and the input is not used.
 abbrev pub EndsSoundly : (output_failed disk_failed honest : Type 0) → List ℕ → End → Type 0

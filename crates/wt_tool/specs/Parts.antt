@@ -26,11 +26,14 @@ use Rattle.engine_store.specs.declared.store.Store.{Store}
 use Rattle.engine_store.specs.Opened.{HasNumbers}
 use Rattle.device_read.specs.Refusals.{LeafIsAtFault}
 use Rattle.wt_line.specs.Line.{Asked}
+use Rattle.device_read.specs.Spoilt.{IsSpoiltFrom}
 use Rattle.wt_tool.specs.Points.{Point, Ran, point_of, stops, Closes}
+use Rattle.wt_tool.specs.Commands.{IsByReader}
+use Rattle.wt_tool.specs.Damaged.{device_on, point_on}
 use Rattle.engine_store.specs.Devices.{Device, Installed, device_of}
 use Rattle.wt_tool.specs.Loads.{RunsLoad}
 use Rattle.wt_tool.specs.Scripts.{RunsScript, told_at}
-use Rattle.wt_tool.specs.Top.{Errors, Streams, errors_of, streams_of, Printed, Tells, lines, last_line, status_at, status_by, Went}
+use Rattle.wt_tool.specs.Top.{Errors, Streams, errors_of, streams_of, Printed, Tells, lines, last_line, status_at, status_by, Went, WentOn}
 use Rattle.engine_store.specs.Images.{OpensToLast, OpensToOne, Stays, EachReads}
 
 -- it tells of no damage
@@ -130,11 +133,17 @@ Makes content Run w e (Err r) = (later : World) × IsPlainOn content e later × 
 
 -- ---- commands that read
 
--- from an honest disk that reads as a content, such a run: what is allowed where a write of the output fails, or does not
+-- From an honest disk whose device has the last checkpoint of one that reads as a content, but that leaves may be at fault, such a run on the whole device: what is allowed where a write of the output fails, or does not.
 abbrev pub ReadsFrom : {D K E : Type 0} (g : Ghosts D) (k : SinkGhosts K) (e : SinkGhosts E) → (Type 0 → Point → Ran → Type 0) → D → D → K → K → E → E → ℕ → Type 0
 ReadsFrom g k e Allowed old new out out_now err err_now status =
-    IsTrue (g.honest old) → (content : Content) → Reads (g.seen old) content
-    → Reading (Allowed (Rose (k.fault_count out) (k.fault_count out_now))) (point_of g (start content) old) (device_of g new) (k.written out) (k.written out_now) (errors_of e err err_now) status
+    IsTrue (g.honest old) → (whole : List ℕ) (content : Content) → Reads whole content → IsSpoiltFrom whole (g.seen old)
+    → Reading (Allowed (Rose (k.fault_count out) (k.fault_count out_now))) (point_on g whole (start content) old) (device_on g whole new) (k.written out) (k.written out_now) (errors_of e err err_now) status
+
+-- from such a disk, a run of a command on it
+abbrev pub WentOnFrom : {D S K E : Type 0} (g : Ghosts D) (s : SourceGhosts S) (k : SinkGhosts K) (e : SinkGhosts E) → Asked → S → S → K → K → E → E → D → D → ℕ → Type 0
+WentOnFrom g s k e asked input input_now out out_now err err_now old new status =
+    IsTrue (g.honest old) → (whole : List ℕ) (content : Content) → Reads whole content → IsSpoiltFrom whole (g.seen old) → IsByReader asked
+    → WentOn g (outside s k input input_now out out_now) asked whole content (streams_of s k e input input_now out out_now err err_now) old new status
 
 -- what a refusal says of the leaves is so
 abbrev pub IsSoOfLeaves : (honest : Type 0) → List ℕ → Refusal → Type 0

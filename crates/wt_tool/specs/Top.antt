@@ -2,6 +2,7 @@
 use Rattle.std.specs.Prelude.{◌≡◌, ◌⊎◌, ℕ, ◌<◌, List, [], ◌∷◌, ◌++◌, length, take, filter, Option, Some, None, IsTrue, codes}
 use Rattle.std.specs.List.{flat_map, AllByRecursion}
 use Rattle.failure.specs.Counts.{Rose}
+use Rattle.disk_model.specs.Crash.{Looked}
 use Rattle.disk_model.specs.declared.disk.Disk.{Ghosts}
 use Rattle.wt_io.specs.declared.streams.Source.{Ghosts as SourceGhosts}
 use Rattle.wt_io.specs.declared.streams.Sink.{Ghosts as SinkGhosts}
@@ -12,20 +13,40 @@ use Rattle.wt_code.specs.Text.{text_of_refusal}
 use Rattle.kv_model.specs.Content.{Content, start}
 use Rattle.stored.specs.Stored.{Reads}
 use Rattle.recover_open.specs.Damage.{IsDamage}
-use Rattle.wt_line.specs.Line.{Asked, home_in}
+use Rattle.device_read.specs.Readers.{Held, IsReaderOf}
+use Rattle.device_read.specs.Refusals.{LeafIsAtFault}
+use Rattle.device_read.specs.Spoilt.{IsSpoiltFrom}
+use Rattle.wt_line.specs.Line.{Asked, read, list, dump, home_in}
 use Rattle.script_run.specs.declared.script.End.{End}
 use Rattle.script_run.specs.declared.script.End.TheVariants.{Through, Stopped, InputFailed, OutputFailed}
 use Rattle.script_run.specs.Scripts.{Outside, outside, counts}
 use Rattle.engine_store.specs.Devices.{device_of}
 use Rattle.engine_store.specs.Images.{EachReads, OpensToLast, OpensToOne, Stays}
 use Rattle.wt_tool.specs.Points.{Ran, point_of}
-use Rattle.wt_tool.specs.Commands.{Runs}
+use Rattle.wt_tool.specs.Commands.{IsByReader, Runs}
+use Rattle.wt_tool.specs.Damaged.{RunsOn, device_on, point_on}
 
 -- ---- the disk
 
--- what an opening reads of the device is in its grammar: all of it, while an opening reads all
+-- what an opening of an engine reads of the device is in its grammar: all of it
 abbrev pub IsOpenable : List ℕ → Type 0
 IsOpenable bytes = (content : Content) × Reads bytes content
+
+-- what an opening of a reader reads of it is: the record and the inner pages, and no leaf
+abbrev pub IsReadable : List ℕ → Type 0
+IsReadable bytes = (h : Held) × IsReaderOf bytes h
+
+-- what a run of the command reads of the device before it goes on
+abbrev pub IsOpenableFor : Asked → List ℕ → Type 0
+IsOpenableFor (read uri keys) bytes = IsReadable bytes
+IsOpenableFor list bytes = IsReadable bytes
+IsOpenableFor (dump hex reverse uri) bytes = IsReadable bytes
+IsOpenableFor _ bytes = IsOpenable bytes
+
+-- words that are no command open nothing
+abbrev pub IsOpenableBy : Option Asked → List ℕ → Type 0
+IsOpenableBy None bytes = ⊥
+IsOpenableBy (Some asked) bytes = IsOpenableFor asked bytes
 
 -- ---- the streams
 
@@ -120,10 +141,27 @@ pub record Went {D : Type 0} (g : Ghosts D) (o : Outside) (asked : Asked) (conte
   pub ever : (c : List ℕ) → g.left_since new (g.moment old) c → OpensToOne (start content).completed ran.made c
   pub stays : Stays (g.left_since new) ran.made
 
+-- The same of `read`, `dump` and `list` on a device that has the last checkpoint of a whole one, but that leaves may be at fault: the definitions speak of the whole device, and the disk is only looked at.
+pub record WentOn {D : Type 0} (g : Ghosts D) (o : Outside) (asked : Asked) (whole : List ℕ) (content : Content) (w : Streams) (old new : D) (status : ℕ) : Type 0 where
+  pub ran : Ran
+  pub run : RunsOn o (g.seen old) asked (point_on g whole (start content) old) ran
+  pub there : ran.next.device ≡ device_on g whole new
+  pub taken : Gave w.in_before w.in_now ran.input
+  pub printed : Printed w.out_before w.out_now ran.end ran.text
+  pub told : Tells w.errors (lines ran.refusals ++ last_line ran.end) (status_by ran) status
+  pub none : ran.made ≡ []
+  pub kept : ran.next.machine.completed ≡ (start content).completed
+  pub looked : Looked g old new
+
 -- What a refusal says of the device is so. Damage is told only where the device had it as the run began, or has it as it ended.
 abbrev pub IsSo : (honest : Type 0) → List ℕ → List ℕ → Refusal → Type 0
 IsSo honest before now (Corrupt at want found) = honest → IsDamage before at want found ⊎ IsDamage now at want found
 IsSo honest before now _ = Unit {0}
+
+-- The same of a run of a command: one that reads leaf by leaf tells of one leaf, whatever those before it are.
+abbrev pub IsSoFor : Asked → (honest : Type 0) → List ℕ → List ℕ → Refusal → Type 0
+IsSoFor asked honest before now (Corrupt at want found) = honest → IsDamage before at want found ⊎ (IsDamage now at want found ⊎ (IsByReader asked × LeafIsAtFault before at want found))
+IsSoFor asked honest before now _ = Unit {0}
 
 -- the refusals and the end that the status and the errors tell, whatever the disk; this holds of each refusal
 pub record Telling (Holds : Refusal → Type 0) (e : Errors) (status : ℕ) : Type 0 where
@@ -143,13 +181,16 @@ module _ {D S K E : Type 0} (g : Ghosts D) (s : SourceGhosts S) (k : SinkGhosts 
     -- On an honest disk whose images read with one content, a run of a command is one that the definitions allow. Its text is on the output, its lines on the errors, and its status is that of what it met.
     pub run : IsTrue (g.honest disk) → (content : Content) → EachReads (g.may_leave disk) content → (asked : Asked) → command_of words ≡ Some asked
         → Went g (outside s k input input_now out out_now) asked content (streams_of s k e input input_now out out_now err err_now) disk disk_now status
+    -- On an honest disk whose device has the last checkpoint of one that reads, but that leaves may be at fault, a run of `read`, `dump` or `list` is one that the definitions allow of the whole device; but it may end at a leaf that it needs, where that is at fault: of `read` the leaf of the key in hand, of `dump` one of the table. It needs no other.
+    pub damaged : IsTrue (g.honest disk) → (whole : List ℕ) (content : Content) → Reads whole content → IsSpoiltFrom whole (g.seen disk) → (asked : Asked) → IsByReader asked → command_of words ≡ Some asked
+        → WentOn g (outside s k input input_now out out_now) asked whole content (streams_of s k e input input_now out out_now err err_now) disk disk_now status
     -- Words that are no command give the usage line and status 1, or 12 where memory is too short to read them.
     pub usage_told : command_of words ≡ None → Tells (errors_of e err err_now) usage 1 status × Took (k.written out) (k.written out_now) [] × (input_now ≡ input) × (disk_now ≡ disk)
     -- Whatever the disk, the status is that of refusals whose lines are on the errors. Damage that they tell of an honest disk is there.
-    pub told : (asked : Asked) → command_of words ≡ Some asked → Telling (IsSo (IsTrue (g.honest disk)) (g.seen disk) (g.seen disk_now)) (errors_of e err err_now) status
-    -- Status 0 and a printed byte come only where an opening of the device is not refused for what it holds.
-    pub opened : IsTrue (g.honest disk) → status ≡ 0 → IsOpenable (g.seen disk)
-    pub silent : IsTrue (g.honest disk) → Took (k.written out) (k.written out_now) [] ⊎ IsOpenable (g.seen disk)
+    pub told : (asked : Asked) → command_of words ≡ Some asked → Telling (IsSoFor asked (IsTrue (g.honest disk)) (g.seen disk) (g.seen disk_now)) (errors_of e err err_now) status
+    -- Status 0 and a printed byte come only from a command whose opening of the device is not refused for what it holds.
+    pub opened : IsTrue (g.honest disk) → status ≡ 0 → IsOpenableBy (command_of words) (g.seen disk)
+    pub silent : IsTrue (g.honest disk) → Took (k.written out) (k.written out_now) [] ⊎ IsOpenableBy (command_of words) (g.seen disk)
     -- The disk is at the home that the words name.
     pub home : (asked : Asked) → command_of words ≡ Some asked → IsAt g (home_in words) disk disk_now status
     pub statuses : IsStatus status

@@ -10,16 +10,17 @@ ghost use Rattle.stored.specs.Stored.{Reads};
 ghost use Rattle.device_read.specs.Readers.{IsReaderOf, HasPages, leaf_count, tables_in};
 ghost use Rattle.device_read.specs.Rows.{HasTables, put_row, put_rows};
 ghost use Rattle.dump_text.specs.Written.{row_lines, text_of};
-ghost use Rattle.engine_store.specs.Devices.{device_of};
-ghost use Rattle.wt_tool.specs.Dumps.{RunsDump, form_of, way_of};
-ghost use Rattle.wt_tool.specs.Pages.{CutsOff, EndsBy, EndsSoundly, IsLeft, PutsBehind, TableEndsBy, UriEndsBy, along, place_on, rows_on, rows_text};
+ghost use Rattle.device_read.specs.Spoilt.{IsSpoiltFrom};
+ghost use Rattle.wt_tool.specs.Damaged.{RunsDumpOn, device_on};
+ghost use Rattle.wt_tool.specs.Dumps.{form_of, way_of};
+ghost use Rattle.wt_tool.specs.Pages.{CutsOff, EndsAtLeaf, EndsBy, EndsSoundly, IsLeft, LacksLeaf, PutsBehind, PutsLeaf, TableEndsBy, UriEndsBy, UriLacksLeaf, along, place_on, rows_on, rows_text};
 ghost use Rattle.wt_tool.specs.Parts.{IsReadStatus, IsSoOfLeaves, ReadsFrom};
 ghost use Rattle.wt_tool.specs.Top.{Telling, errors_of};
 
 use crate::names::name_of;
 use crate::tables::table_named;
 use crate::telling::tell;
-use device_read::{Reader, faulty_leaves_do_not_read, readers_have_pages, readers_have_tables};
+use device_read::{Reader, missing_leaves_are_at_fault, readers_have_pages, readers_have_tables};
 use disk_model::Disk;
 use dump_text::{Form, dump_head, push_pair};
 use row_page::{Cell, CellChange, Leaf};
@@ -53,7 +54,7 @@ pub(crate) fn dump<D: Disk, K: Sink, E: Sink>(
     uri: &str,
 ) -> u8
     requires on { IsTrue (D.honest disk.old) → IsReaderOf (D.seen disk.old) reader }
-    ensures run { ReadsFrom D.Disk K.Sink E.Sink (λ f. RunsDump f hex reverse uri.now) disk.old disk.new out.old out.new err.old err.new result }
+    ensures run { ReadsFrom D.Disk K.Sink E.Sink (λ f. RunsDumpOn f (D.seen disk.old) (form_of hex) (way_of reverse) uri.now) disk.old disk.new out.old out.new err.old err.new result }
     ensures told { Telling (IsSoOfLeaves (IsTrue (D.honest disk.old)) (D.seen disk.old)) (errors_of E.Sink err.old err.new) result }
     ensures status { IsReadStatus result }
     ensures disk_fault { result ≡ 4 → Rose (D.faults disk.old) (D.faults disk.new) }
@@ -88,8 +89,9 @@ fn print_uri<D: Disk, K: Sink>(
     manner: Manner,
 ) -> End
     requires on { IsTrue (D.honest disk.old) → IsReaderOf (D.seen disk.old) reader.now }
-    ensures run { IsTrue (D.honest disk.old) → (content : Content) → Reads (D.seen disk.old) content
-        → UriEndsBy (Rose (K.fault_count out.old) (K.fault_count out.new)) (device_of D.Disk disk.old) (device_of D.Disk disk.new) content manner.form (way_of manner.reverse) uri.now (K.written out.old) (K.written out.new) result }
+    ensures run { IsTrue (D.honest disk.old) → (whole : List ℕ) (content : Content) → Reads whole content → IsSpoiltFrom whole (D.seen disk.old)
+        → UriEndsBy (Rose (K.fault_count out.old) (K.fault_count out.new)) (device_on D.Disk whole disk.old) (device_on D.Disk whole disk.new) content manner.form (way_of manner.reverse) uri.now (K.written out.old) (K.written out.new) result
+        ⊎ UriLacksLeaf (D.seen disk.old) content manner.form (way_of manner.reverse) uri.now (K.written out.old) (K.written out.new) result }
     ensures sound { EndsSoundly (Rose (K.fault_count out.old) (K.fault_count out.new)) (Rose (D.faults disk.old) (D.faults disk.new)) (IsTrue (D.honest disk.old)) (D.seen disk.old) result }
     ensures looked { Looked D.Disk disk.old disk.new }
     ensures home { D.home disk.new ≡ D.home disk.old }
@@ -110,8 +112,9 @@ fn print_table<D: Disk, K: Sink>(
     manner: Manner,
 ) -> End
     requires on { IsTrue (D.honest disk.old) → IsReaderOf (D.seen disk.old) reader.now }
-    ensures run { IsTrue (D.honest disk.old) → (content : Content) → Reads (D.seen disk.old) content
-        → TableEndsBy (Rose (K.fault_count out.old) (K.fault_count out.new)) (device_of D.Disk disk.old) (device_of D.Disk disk.new) content manner.form (way_of manner.reverse) name.now (K.written out.old) (K.written out.new) result }
+    ensures run { IsTrue (D.honest disk.old) → (whole : List ℕ) (content : Content) → Reads whole content → IsSpoiltFrom whole (D.seen disk.old)
+        → TableEndsBy (Rose (K.fault_count out.old) (K.fault_count out.new)) (device_on D.Disk whole disk.old) (device_on D.Disk whole disk.new) content manner.form (way_of manner.reverse) name.now (K.written out.old) (K.written out.new) result
+        ⊎ LacksLeaf (D.seen disk.old) content manner.form (way_of manner.reverse) name.now (K.written out.old) (K.written out.new) result }
     ensures sound { EndsSoundly (Rose (K.fault_count out.old) (K.fault_count out.new)) (Rose (D.faults disk.old) (D.faults disk.new)) (IsTrue (D.honest disk.old)) (D.seen disk.old) result }
     ensures looked { Looked D.Disk disk.old disk.new }
     ensures home { D.home disk.new ≡ D.home disk.old }
@@ -138,8 +141,9 @@ fn print_leaves<D: Disk, K: Sink>(
     head: Vec<u8>,
 ) -> End
     requires on { IsTrue (D.honest disk.old) → IsReaderOf (D.seen disk.old) reader.now }
-    ensures run { IsTrue (D.honest disk.old) → (content : Content) → Reads (D.seen disk.old) content → (pages : List (List Row)) → HasPages (D.seen disk.old) reader.now place pages → length pages ≡ leaf_count reader.now place
-        → EndsBy (Rose (K.fault_count out.old) (K.fault_count out.new)) (Rose (D.faults disk.old) (D.faults disk.new)) (K.written out.old) (K.written out.new) (head.items ++ rows_text manner.form (rows_on (way_of manner.reverse) pages)) result }
+    ensures run { IsTrue (D.honest disk.old) → (whole : List ℕ) → IsSpoiltFrom whole (D.seen disk.old) → (pages : List (List Row)) → HasPages whole reader.now place pages → length pages ≡ leaf_count reader.now place
+        → EndsBy (Rose (K.fault_count out.old) (K.fault_count out.new)) (Rose (D.faults disk.old) (D.faults disk.new)) (K.written out.old) (K.written out.new) (head.items ++ rows_text manner.form (rows_on (way_of manner.reverse) pages)) result
+        ⊎ EndsAtLeaf (D.seen disk.old) reader.now place manner.form (way_of manner.reverse) head.items pages (K.written out.old) (K.written out.new) result }
     ensures sound { EndsSoundly (Rose (K.fault_count out.old) (K.fault_count out.new)) (Rose (D.faults disk.old) (D.faults disk.new)) (IsTrue (D.honest disk.old)) (D.seen disk.old) result }
     ensures looked { Looked D.Disk disk.old disk.new }
     ensures home { D.home disk.new ≡ D.home disk.old }
@@ -178,14 +182,14 @@ fn print_leaf<D: Disk, K: Sink>(
 ) -> Result<(), End>
     requires on { IsTrue (D.honest disk.old) → IsReaderOf (D.seen disk.old) reader.now }
     requires there { i < leaf_count reader.now place }
-    ensures run { IsTrue (D.honest disk.old) → (content : Content) → Reads (D.seen disk.old) content → (pages : List (List Row)) → HasPages (D.seen disk.old) reader.now place pages → (page : List Row) → slice_get pages i ≡ Some page
-        → PutsBehind (Rose (K.fault_count out.old) (K.fault_count out.new)) (Rose (D.faults disk.old) (D.faults disk.new)) (K.written out.old) (K.written out.new) text.old.items text.new.items (rows_text manner.form (put_rows (along (way_of manner.reverse) page))) result }
+    ensures run { IsTrue (D.honest disk.old) → (whole : List ℕ) → IsSpoiltFrom whole (D.seen disk.old) → (pages : List (List Row)) → HasPages whole reader.now place pages → (page : List Row) → slice_get pages i ≡ Some page
+        → PutsLeaf (Rose (K.fault_count out.old) (K.fault_count out.new)) (Rose (D.faults disk.old) (D.faults disk.new)) (D.seen disk.old) reader.now place i (K.written out.old) (K.written out.new) text.old.items text.new.items (rows_text manner.form (put_rows (along (way_of manner.reverse) page))) result }
     ensures sound { IfErr result (EndsSoundly (Rose (K.fault_count out.old) (K.fault_count out.new)) (Rose (D.faults disk.old) (D.faults disk.new)) (IsTrue (D.honest disk.old)) (D.seen disk.old)) }
     ensures later { K.fault_count out.old ≤ K.fault_count out.new }
     ensures looked { Looked D.Disk disk.old disk.new }
     ensures home { D.home disk.new ≡ D.home disk.old }
 {
-    faulty_leaves_do_not_read();
+    missing_leaves_are_at_fault();
     match reader.leaf(alloc, disk, place, i) {
         Ok(leaf) => print_page(alloc, out, text, leaf.page(), manner),
         Err(refusal) => Err(End::Stopped(refusal)),

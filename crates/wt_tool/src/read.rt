@@ -1,5 +1,5 @@
-// `read`: each key's value is printed.
-ghost use Rattle.std.specs.Prelude.{◌≡◌, ◌↔◌, ◌++◌, ◌∷◌, [], map, IsTrue, IfErr, OnOk, OnErr};
+// `read`: each key's value is printed. A leaf is read where a key in hand would stand, and no other.
+ghost use Rattle.std.specs.Prelude.{◌≡◌, ◌↔◌, ◌++◌, ◌∷◌, [], ℕ, List, map, IsTrue, IfErr, OnOk, OnErr};
 ghost use Rattle.failure.specs.Counts.{Rose, HasCause};
 ghost use Rattle.disk_model.specs.Crash.{Looked};
 ghost use Rattle.wt_io.specs.Streams.{Took, TookFront};
@@ -7,9 +7,9 @@ ghost use Rattle.kv_model.specs.Content.{Content};
 ghost use Rattle.kv_model.specs.Decisions.{is_name};
 ghost use Rattle.stored.specs.Stored.{Reads};
 ghost use Rattle.device_read.specs.Readers.{IsReaderOf, tables_in};
-ghost use Rattle.wt_tool.specs.Fresh.{MayGive, given_by, key_in};
+ghost use Rattle.device_read.specs.Spoilt.{IsSpoiltFrom};
+ghost use Rattle.wt_tool.specs.Damaged.{MayGiveOn, ReadsKeysOn, RunsReadOn};
 ghost use Rattle.wt_tool.specs.Pages.{IsTableOf};
-ghost use Rattle.wt_tool.specs.Reads.{RunsRead, ReadsKeys};
 ghost use Rattle.wt_tool.specs.Parts.{IsReadStatus, IsSoOfLeaves, ReadsFrom};
 ghost use Rattle.wt_tool.specs.Top.{Telling, errors_of};
 
@@ -17,7 +17,7 @@ use crate::names::{name_of, stored_as};
 use crate::status::Status;
 use crate::tables::{TableAt, formats_of, table_named};
 use crate::telling::report;
-use device_read::{Reader, faulty_leaves_do_not_read, readers_have_tables};
+use device_read::{Reader, missing_leaves_are_at_fault, readers_have_tables};
 use disk_model::Disk;
 use item::Item;
 use item_forms::written_as;
@@ -38,7 +38,7 @@ pub(crate) fn read<D: Disk, K: Sink, E: Sink>(
     keys: &[&str],
 ) -> u8
     requires on { IsTrue (D.honest disk.old) → IsReaderOf (D.seen disk.old) reader }
-    ensures run { ReadsFrom D.Disk K.Sink E.Sink (λ f. RunsRead f uri.now (map (λ s. s.now) keys.now)) disk.old disk.new out.old out.new err.old err.new result }
+    ensures run { ReadsFrom D.Disk K.Sink E.Sink (λ f. RunsReadOn f (D.seen disk.old) uri.now (map (λ s. s.now) keys.now)) disk.old disk.new out.old out.new err.old err.new result }
     ensures told { Telling (IsSoOfLeaves (IsTrue (D.honest disk.old)) (D.seen disk.old)) (errors_of E.Sink err.old err.new) result }
     ensures status { IsReadStatus result }
     ensures disk_fault { result ≡ 4 → Rose (D.faults disk.old) (D.faults disk.new) }
@@ -68,7 +68,7 @@ fn read_named<D: Disk, K: Sink, E: Sink>(
 ) -> u8
     requires name { IsTrue (is_name name.now) }
     requires on { IsTrue (D.honest disk.old) → IsReaderOf (D.seen disk.old) reader.now }
-    ensures run { ReadsFrom D.Disk K.Sink E.Sink (λ f. ReadsKeys f name.now (map (λ s. s.now) keys.now)) disk.old disk.new out.old out.new err.old err.new result }
+    ensures run { ReadsFrom D.Disk K.Sink E.Sink (λ f. ReadsKeysOn f (D.seen disk.old) name.now (map (λ s. s.now) keys.now)) disk.old disk.new out.old out.new err.old err.new result }
     ensures told { Telling (IsSoOfLeaves (IsTrue (D.honest disk.old)) (D.seen disk.old)) (errors_of E.Sink err.old err.new) result }
     ensures status { IsReadStatus result }
     ensures disk_fault { result ≡ 4 → Rose (D.faults disk.old) (D.faults disk.new) }
@@ -113,14 +113,14 @@ fn get<D: Disk>(
     requires name { IsTrue (is_name name.now) }
     requires table { IsTableOf (tables_in reader.now) name.now table }
     requires on { IsTrue (D.honest disk.old) → IsReaderOf (D.seen disk.old) reader.now }
-    ensures gives { IsTrue (D.honest disk.old) → (content : Content) → Reads (D.seen disk.old) content → MayGive content name.now (key_in content name.now key.now) (D.faults disk.old) (D.faults disk.new) (given_by result) }
+    ensures gives { IsTrue (D.honest disk.old) → (whole : List ℕ) (content : Content) → Reads whole content → IsSpoiltFrom whole (D.seen disk.old) → MayGiveOn content (D.seen disk.old) name.now key.now (D.faults disk.old) (D.faults disk.new) result }
     ensures sound { IfErr result (IsSoOfLeaves (IsTrue (D.honest disk.old)) (D.seen disk.old)) }
     ensures fault { IfErr result (λ r. r ≡ Refusal.DiskFault → Rose (D.faults disk.old) (D.faults disk.new)) }
     ensures looked { Looked D.Disk disk.old disk.new }
     ensures home { D.home disk.new ≡ D.home disk.old }
 {
     readers_have_tables();
-    faulty_leaves_do_not_read();
+    missing_leaves_are_at_fault();
     let _named = name;
     let Ok(key) = stored_as(alloc, formats_of(table).key, key) else {
         return Err(Refusal::NoMemory);

@@ -1,5 +1,5 @@
-// One changed byte of a block is told, and no value is printed.
-use super::{ROOM, State, bytes_of, disk_of, run, runs, state_of, written};
+// One changed byte of a block is told where the block is needed, and no value of it is printed.
+use super::{FORMATS, ROOM, State, bytes_of, disk_of, new_device, run, runs, state_of, written};
 use disk_model::MemDisk;
 use std::alloc::Global;
 use std::iter::StepBy;
@@ -86,9 +86,9 @@ fn a_changed_byte_of_a_block_is_told(rt: HostRuntime) {
     changes_are_told(&rt, alloc, &LEAF, (59..4096).step_by(64), ways);
 }
 
-// Every command tells it, and leaves the device as it is.
+// Every command that needs the leaf tells it, and leaves the device as it is.
 #[test]
-fn damage_is_told_by_each_command(rt: HostRuntime) {
+fn damage_is_told_where_it_is_needed(rt: HostRuntime) {
     let alloc = rt.alloc();
     let device = written(&rt, alloc);
     let mut content = bytes_of(&rt, alloc, &device);
@@ -100,14 +100,116 @@ fn damage_is_told_by_each_command(rt: HostRuntime) {
     let before = bytes_of(&rt, alloc, &disk);
     let rows = [
         ("read|t|a", 1, told, ""),
-        ("read|u|a", 1, told, ""),
+        ("read|u|a", 1, "2 no table\n", ""),
         ("dump|t", 1, told, ""),
         ("write|t|b|2", 1, told, ""),
         ("create|-c|key_format=S,value_format=S|t", 1, told, ""),
-        ("list", 1, told, ""),
+        ("list", 0, "", "table:t\n"),
         ("verify", 1, told, ""),
         ("verify|u", 1, told, ""),
     ];
+    let disk = runs(&rt, alloc, disk, &rows);
+    assert!(rt; disk.bytes() == before.as_slice());
+}
+
+// So many bytes of a letter.
+fn letters(rt: &impl Abort, alloc: Global, letter: &str, count: usize) -> String {
+    let mut text = String::new(alloc);
+    for _ in 0..count {
+        text.push_str(letter).expect(rt, "there is memory");
+    }
+    text
+}
+
+// The sum of the block of so many bytes at an offset.
+fn sum_at(rt: &impl Abort, content: &[u8], offset: usize, size: usize) -> u32 {
+    let mut sum: u32 = 0;
+    for place in 0..size {
+        let byte = content.get(offset.saturating_add(place));
+        let byte = *byte.expect(rt, "a byte of the block");
+        let times = (place as u32).wrapping_add(1);
+        sum = sum.wrapping_add(times.wrapping_mul(byte as u32));
+    }
+    sum
+}
+
+// The unit in which this letter stands first in a row of 100.
+fn unit_of(rt: &impl Abort, content: &[u8], letter: u8) -> usize {
+    let mut row: usize = 0;
+    for (at, byte) in content.iter().enumerate() {
+        row = if *byte == letter {
+            row.saturating_add(1)
+        } else {
+            0
+        };
+        if row == 100 {
+            return at / 4096 * 4096;
+        }
+    }
+    assert!(rt; false);
+    0
+}
+
+// A table t of two leaves, the rows a and b on the left and c on the right, which has another byte,
+// and a table u. What does not need the right leaf goes on as if all were there.
+#[test]
+fn a_leaf_at_fault_is_met_where_it_is_needed(rt: HostRuntime) {
+    let alloc = rt.alloc();
+    let (x, y, z) = (
+        letters(&rt, alloc, "x", 16_000),
+        letters(&rt, alloc, "y", 16_000),
+        letters(&rt, alloc, "z", 16_000),
+    );
+    let puts = format!(in alloc; "write|t|a|{x}|b|{y}|c|{z}").expect(&rt, "there is memory");
+    let create_t = format!(in alloc; "create|-c|{FORMATS}|t").expect(&rt, "there is memory");
+    let create_u = format!(in alloc; "create|-c|{FORMATS}|u").expect(&rt, "there is memory");
+    let device = runs(
+        &rt,
+        alloc,
+        new_device(&rt, alloc),
+        &[
+            (create_t.as_str(), 0, "", ""),
+            (create_u.as_str(), 0, "", ""),
+            ("write|u|k|7", 0, "", ""),
+            (puts.as_str(), 0, "", ""),
+        ],
+    );
+    let mut content = bytes_of(&rt, alloc, &device);
+    let offset = unit_of(&rt, &content, b'z');
+    let want = sum_at(&rt, &content, offset, 16_384);
+    let at = offset.saturating_add(100);
+    assert!(rt; at < content.len());
+    assert_eq!(rt; content[at], b'z');
+    content[at] = b'Z';
+    let found = sum_after(want, 100, b'z', b'Z');
+    let told = format!(in alloc; "-31802 corrupt at {offset} want {want} found {found}\n");
+    let told = told.expect(&rt, "there is memory");
+    let absent_told = format!(in alloc; "-31803 not found\n{told}").expect(&rt, "there is memory");
+    let value = format!(in alloc; "{x}\n").expect(&rt, "there is memory");
+    let front = format!(in alloc;
+        "WiredTiger Dump (row store 1)\nFormat=print\nHeader\ntable:t\nkey_format=S,value_format=S\nData\na\\00\n{x}\\00\nb\\00\n{y}\\00\n"
+    );
+    let front = front.expect(&rt, "there is memory");
+    let other =
+        "WiredTiger Dump (row store 1)\nFormat=print\nHeader\ntable:u\nkey_format=S,value_format=S\nData\nk\\00\n7\\00\n";
+    let rows = [
+        ("read|t|a", 0, "", value.as_str()),
+        ("read|t|c", 1, told.as_str(), ""),
+        // above c, and below a
+        ("read|t|d", 1, told.as_str(), ""),
+        ("read|t|A", 1, "-31803 not found\n", ""),
+        // up to the key whose leaf it is
+        ("read|t|a|A|c|b", 1, absent_told.as_str(), value.as_str()),
+        ("read|u|k", 0, "", "7\n"),
+        ("dump|t", 1, told.as_str(), front.as_str()),
+        ("dump|-r|t", 1, told.as_str(), ""),
+        ("dump|u", 0, "", other),
+        ("list", 0, "", "table:t\ntable:u\n"),
+        ("verify", 1, told.as_str(), ""),
+        ("write|u|l|8", 1, told.as_str(), ""),
+    ];
+    let disk = disk_of(&rt, alloc, content, ROOM, &[]);
+    let before = bytes_of(&rt, alloc, &disk);
     let disk = runs(&rt, alloc, disk, &rows);
     assert!(rt; disk.bytes() == before.as_slice());
 }

@@ -68,18 +68,18 @@ fn a_failing_call_of_a_command_leaves_the_state_before(rt: HostRuntime) {
     each_call_fails(&rt, alloc, &device, "write|-o|t|a|2", calls, states);
 }
 
-// A read looks through all of the device, then opens it without its leaves, which asks the length and
-// reads both slots and the record as above, and reads the leaf of the key: 6 calls more, and 2.
+// A read attaches the disk and opens it without its leaves, which asks the length and reads both slots
+// and the record as above: 7 calls; and it reads the leaf of the key: 2 more.
 #[test]
 fn a_failing_call_of_read_prints_nothing(rt: HostRuntime) {
     let alloc = rt.alloc();
     let device = written(&rt, alloc);
     let bytes = bytes_of(&rt, alloc, &device);
-    for call in 0..9 + 6 + 2 {
+    for call in 0..7 + 2 {
         let left = fails(&rt, alloc, &device, "read|t|a", call);
         assert!(rt; left.bytes() == bytes.as_slice(), "call {call}");
     }
-    let disk = disk_of(&rt, alloc, bytes, ROOM, &[17]);
+    let disk = disk_of(&rt, alloc, bytes, ROOM, &[9]);
     let disk = runs(&rt, alloc, disk, &[("read|t|a", 0, "", "1\n")]);
     assert_eq!(rt; disk.faults(), 0);
 }

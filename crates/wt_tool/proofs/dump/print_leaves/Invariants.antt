@@ -1,10 +1,9 @@
-use Rattle.std.proofs.Common.{◌≡◌, ◌≤◌, IsTrue, List, length}
+use Rattle.std.proofs.Common.{◌≡◌, ◌≤◌, IsTrue, ℕ, List, length}
 use Rattle.disk_model.specs.Crash.{Looked}
-use Rattle.kv_model.specs.Content.{Content}
 use Rattle.row_page.specs.Rows.{Row}
-use Rattle.stored.specs.Stored.{Reads}
 use Rattle.device_read.specs.Readers.{HasPages, leaf_count}
 use Rattle.device_read.specs.Rows.{put_rows}
+use Rattle.device_read.specs.Spoilt.{IsSpoiltFrom}
 use Rattle.wt_tool.specs.Dumps.{way_of}
 use Rattle.wt_tool.specs.Pages.{IsLeft, along}
 use Rattle.wt_tool.proofs.Dumping.{so_far}
@@ -15,6 +14,6 @@ invariant-loop-passed g l = record {
   later : g.K.Sink.fault_count l.fn.out ≤ g.K.Sink.fault_count l.out;
   looked : Looked g.D.Disk l.fn.disk l.disk;
   home : g.D.Disk.home l.disk ≡ g.D.Disk.home l.fn.disk;
-  left : IsTrue (g.D.Disk.honest l.fn.disk) → (content : Content) → Reads (g.D.Disk.seen l.fn.disk) content → (pages : List (List Row)) → HasPages (g.D.Disk.seen l.fn.disk) l.reader l.place pages → length pages ≡ leaf_count l.reader l.place
+  left : IsTrue (g.D.Disk.honest l.fn.disk) → (whole : List ℕ) → IsSpoiltFrom whole (g.D.Disk.seen l.fn.disk) → (pages : List (List Row)) → HasPages whole l.reader l.place pages → length pages ≡ leaf_count l.reader l.place
       → IsLeft (g.K.Sink.written l.fn.out) (g.K.Sink.written l.out) l.text.items (so_far (λ page. put_rows (along (way_of l.manner.reverse) page)) l.manner.form (along (way_of l.manner.reverse) pages) l.fn.head.items l.passed);
 }

@@ -1,4 +1,4 @@
-use Rattle.std.proofs.Common.{◌≡◌, ◌⊎◌, ◌≤◌, ℕ, IsTrue, List, map, drop}
+use Rattle.std.proofs.Common.{◌≡◌, ◌⊎◌, ◌≤◌, ◌++◌, ℕ, IsTrue, List, map, take}
 use Rattle.std.specs.List.{AllByRecursion}
 use Rattle.failure.specs.Counts.{Rose}
 use Rattle.disk_model.specs.Crash.{Looked}
@@ -6,7 +6,8 @@ use Rattle.kv_model.specs.Content.{Content}
 use Rattle.stored.specs.Stored.{Reads}
 use Rattle.wt_code.specs.declared.refusals.Refusal.{Refusal}
 use Rattle.wt_io.specs.Streams.{Took}
-use Rattle.engine_store.specs.Devices.{device_of}
+use Rattle.device_read.specs.Spoilt.{IsSpoiltFrom}
+use Rattle.wt_tool.specs.Damaged.{device_on}
 use Rattle.wt_tool.specs.Parts.{IsSoOfLeaves}
 use Rattle.wt_tool.specs.Top.{lines, first_status}
 use Rattle.wt_tool.proofs.FreshRuns.{Goes}
@@ -25,7 +26,7 @@ invariant-loop-key g l = record {
   err_later : g.E.Sink.fault_count l.fn.err ≤ g.E.Sink.fault_count l.err;
   looked : Looked g.D.Disk l.fn.disk l.disk;
   home : g.D.Disk.home l.disk ≡ g.D.Disk.home l.fn.disk;
-  -- what the keys that are left give, behind what was given
-  runs : IsTrue (g.D.Disk.honest l.fn.disk) → (c : Content) → Reads (g.D.Disk.seen l.fn.disk) c → (n : ℕ)
-      → Goes (Rose (g.K.Sink.fault_count l.fn.out) n) c l.fn.name (map (λ s. s.now) l.fn.keys) (device_of g.D.Disk l.fn.disk) (map (λ s. s.now) (drop l.key-index l.keys)) (device_of g.D.Disk l.disk) printed met;
+  -- what any keys behind those that were read give, behind what was given
+  runs : IsTrue (g.D.Disk.honest l.fn.disk) → (whole : List ℕ) (c : Content) → Reads whole c → IsSpoiltFrom whole (g.D.Disk.seen l.fn.disk) → (n : ℕ) (more : List (List ℕ))
+      → Goes (Rose (g.K.Sink.fault_count l.fn.out) n) c l.fn.name (map (λ s. s.now) (take l.key-index l.keys) ++ more) (device_on g.D.Disk whole l.fn.disk) more (device_on g.D.Disk whole l.disk) printed met;
 }

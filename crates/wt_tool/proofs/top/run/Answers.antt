@@ -10,8 +10,8 @@ use Rattle.script_run.specs.Scripts.{Outside, outside}
 use Rattle.wt_tool.specs.Commands.{IsByReader, IsOnEngine, Runs}
 use Rattle.wt_tool.specs.Parts.{silent_run}
 use Rattle.wt_tool.specs.Points.{Point, Ran, point_of}
-use Rattle.wt_tool.specs.Top.{Streams, streams_of}
-use Rattle.wt_tool.proofs.Running.{gave_none, looked_went, telling}
+use Rattle.wt_tool.specs.Top.{IsOpenableFor, Streams, streams_of}
+use Rattle.wt_tool.proofs.Running.{gave_none, looked_went, not_both, openable_for, telling, telling_for}
 use Rattle.wt_tool.proofs.Verifying.{done_only, verify_at, verify_said, verify_so}
 use Rattle.wt_tool.proofs.top.run.Goals as goal
 
@@ -32,10 +32,13 @@ returns-in-Verify-clause-run g c h content each =
     (λ d left. each.0 d (looked.images d left)) first.each (took_none _) c.told.ensures.told
 
 pub returns-in-Verify-clause-told : goal.returns-in-Verify-clause-told
-returns-in-Verify-clause-told g c = telling _ _ c.verify-result.result c.told.result c.told.ensures.told (err_map c.verify-result.result c.verify-result.ensures.err (verify_so _ _ (g.D.Disk.seen c.args.disk.now) (g.D.Disk.seen c.verify-result.new.disk)))
+returns-in-Verify-clause-told g c = telling_for (meaning c.args.command.now) _ _ _ _ c.told.result (telling _ _ c.verify-result.result c.told.result c.told.ensures.told (err_map c.verify-result.result c.verify-result.ensures.err (verify_so _ _ (g.D.Disk.seen c.args.disk.now) (g.D.Disk.seen c.verify-result.new.disk))))
+
+pub returns-in-Verify-clause-damaged : goal.returns-in-Verify-clause-damaged
+returns-in-Verify-clause-damaged g c h whole content reads spoilt by = absurd (subst (λ (a : Command). IsByReader (meaning a)) c.in-Verify.is by)
 
 pub returns-in-Verify-clause-opened : goal.returns-in-Verify-clause-opened
-returns-in-Verify-clause-opened g c h = done_only _ c.verify-result.result c.told.result (c.verify-result.ensures.ok h) c.told.ensures.status
+returns-in-Verify-clause-opened g c h none = subst (λ (a : Command). IsOpenableFor (meaning a) (g.D.Disk.seen c.args.disk.now)) (sym c.in-Verify.is) (done_only _ c.verify-result.result c.told.result (c.verify-result.ensures.ok h) c.told.ensures.status none)
 
 pub returns-in-Verify-clause-home : goal.returns-in-Verify-clause-home
 returns-in-Verify-clause-home g c = verify_at g.D.Disk c.args.home.now c.args.disk.now c.verify-result.new.disk c.verify-result.result c.told.result c.verify-result.ensures.told c.verify-result.ensures.untold c.verify-result.ensures.looked.content c.told.ensures.status
@@ -70,3 +73,20 @@ on_engine (Load no_overwrite name) no_verify no_read no_list no_dump = tt
 
 pub run_opened-requires : goal.run_opened-requires
 run_opened-requires g c = on_engine c.args.command.now c.in_default.not-Verify c.in_default.not-Read c.in_default.not-List c.in_default.not-Dump
+
+pub returns-in_default-clause-told : goal.returns-in_default-clause-told
+returns-in_default-clause-told g c = telling_for (meaning c.args.command.now) _ _ _ _ c.run_opened.result c.run_opened.ensures.told
+
+pub returns-in_default-clause-damaged : goal.returns-in_default-clause-damaged
+returns-in_default-clause-damaged g c h whole content reads spoilt by =
+    absurd (not_both (meaning c.args.command.now) (on_engine c.args.command.now c.in_default.not-Verify c.in_default.not-Read c.in_default.not-List c.in_default.not-Dump) by)
+
+pub returns-in_default-clause-opened : goal.returns-in_default-clause-opened
+returns-in_default-clause-opened g c h none =
+    openable_for (meaning c.args.command.now) (g.D.Disk.seen c.args.disk.now) (on_engine c.args.command.now c.in_default.not-Verify c.in_default.not-Read c.in_default.not-List c.in_default.not-Dump) (c.run_opened.ensures.opened h none)
+
+pub returns-in_default-clause-silent : goal.returns-in_default-clause-silent
+returns-in_default-clause-silent g c h = elim (c.run_opened.ensures.silent h) [
+  | inl quiet ↦ inl quiet
+  | inr opens ↦ inr (openable_for (meaning c.args.command.now) (g.D.Disk.seen c.args.disk.now) (on_engine c.args.command.now c.in_default.not-Verify c.in_default.not-Read c.in_default.not-List c.in_default.not-Dump) opens)
+]
