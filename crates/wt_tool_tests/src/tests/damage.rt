@@ -122,13 +122,12 @@ fn letters(rt: &impl Abort, alloc: Global, letter: &str, count: usize) -> String
 }
 
 // The sum of the block of so many bytes at an offset.
-fn sum_at(rt: &impl Abort, content: &[u8], offset: usize, size: usize) -> u32 {
+fn sum_at(rt: &impl Abort, content: &[u8], offset: usize, size: u32) -> u32 {
     let mut sum: u32 = 0;
     for place in 0..size {
-        let byte = content.get(offset.saturating_add(place));
+        let byte = content.get(offset.saturating_add(place as usize));
         let byte = *byte.expect(rt, "a byte of the block");
-        let times = (place as u32).wrapping_add(1);
-        sum = sum.wrapping_add(times.wrapping_mul(byte as u32));
+        sum = sum.wrapping_add(place.wrapping_add(1).wrapping_mul(byte as u32));
     }
     sum
 }
