@@ -97,7 +97,7 @@ start-runs session call a a' told sessions all at x = one-runs session a a' sess
 -- ---- frames
 
 -- the next leaf is one of a transaction that runs
-looks : (call : KeyCall) (target : Target) (a a' : State) → a.phase ≡ phase.Running → Looked call target a a' → RunsAtLeaf a'
+looks : (call : KeyCall) (target : Target) (a a' : State) → a.phase ≡ phase.Running → Looked refusal.NoMemory call target a a' → RunsAtLeaf a'
 looks call target a a' running x = elim x [
   | inl tells ↦ away-at a' (answered call target tells.answer tells.before).stage (ap (λ (b : State). b.stage) tells.is) (answered-away call target tells.answer tells.before)
   | inr (inl older) ↦ away-at a' (stage.History call target) (ap (λ (b : State). b.stage) older) (λ on. on)
@@ -106,7 +106,7 @@ looks call target a a' running x = elim x [
 ]
 
 framed : (g : Stage) (view : View) (p p' : FramePiece) (a a' : State) → a.stage ≡ g → FrameMadeAt g view p a p' a' → RunsAtLeaf a → RunsAtLeaf a'
-framed (stage.Look call target) view p p' a a' is x before = looks call target a a' (before.runs (subst IsAtLeaf (sym is) tt)) (look-made p.frame call view target p p' a a' x)
+framed (stage.Look call target) view p p' a a' is x before = looks call target a a' (before.runs (subst IsAtLeaf (sym is) tt)) (look-made refusal.NoMemory p.frame call view target p p' a a' x)
 framed (stage.Mark stamp left) view p p' a a' is x before = away-at a' (marks stamp (starts_at a left)) (rw x.1 refl) (marks-away stamp (starts_at a left))
 framed (stage.Order stamps left) view p p' a a' is x before = away-at a' (ordered (with_prev stamps (prev_in p.frame a left stamps.prev)) (starts_at a left) a).stage (rw x.1 refl)
     (orders-away (with_prev stamps (prev_in p.frame a left stamps.prev)) (starts_at a left) (after_orders a.phase (with_prev stamps (prev_in p.frame a left stamps.prev)) (length a.written))

@@ -20,10 +20,11 @@ use Rattle.call_steps.specs.Written.{frame_at, leaf_start}
 use Rattle.call_turns.specs.Turns.{FrameLowers, decide_turns, done_turns, further, stamp_turns, turns, turns_at}
 use Rattle.call_turns.proofs.HubTurns.{answered-less}
 use Rattle.call_turns.proofs.Looked.{Looked, look-made}
+use Rattle.wt_code.specs.declared.refusals.Refusal.TheVariants as refusal
 
 -- ---- looks
 
-looks-less : (leaves : List Leaf) (call : KeyCall) (target : Target) (a a' : State) → Looked call target a a' → turns leaves a' < 4 + further call target.leaf leaves
+looks-less : (leaves : List Leaf) (call : KeyCall) (target : Target) (a a' : State) → Looked refusal.NoMemory call target a a' → turns leaves a' < 4 + further call target.leaf leaves
 looks-less leaves call target a a' x = elim x [
   | inl tells ↦ rw tells.is (let low = answered-less leaves call target tells.answer tells.before in omega (arith, low))
   | inr (inl older) ↦ rw older (omega arith)
@@ -97,7 +98,7 @@ leaving-same _ a = refl
 pub frame-lowers : FrameLowers
 frame-lowers view leaves p p' a a' frame on made = by a.stage on made where
   by : (g : Stage) → next_at g a ≡ next.Frame frame → FrameMadeAt g view p a p' a' → turns leaves a' < turns_at g leaves a
-  by (stage.Look call target) on x = looks-less leaves call target a a' (look-made p.frame call view target p p' a a' x)
+  by (stage.Look call target) on x = looks-less leaves call target a a' (look-made refusal.NoMemory p.frame call view target p p' a a' x)
   by (stage.Mark stamp left) on x = rw x.1 (marks-less leaves stamp left (starts_at a left) a refl)
   by (stage.Order stamps left) on x = rw x.1 (orders-less leaves (with_prev stamps (prev_in p.frame a left stamps.prev)) left (starts_at a left) a refl)
   by (stage.Stamp stamps left) on x = rw x.1 (stamps-less leaves stamps left (starts_at a left) a refl)

@@ -95,7 +95,7 @@ module _ (h : Hub) (session : ℕ) (a : State) where
   -- the table stays, and knows the phase that the session is in now
   stays : (told : Reply) (b : State) → known_phase b.phase ≡ known_phase a.phase → (RunsAtLeaf a → RunsAtLeaf b) → Places h session a (beside h (told, b))
   stays told b same run = record {
-    kept = record { dir = refl; tables = refl; places = refl };
+    kept = record { dir = refl; tables = refl; places = refl; run = refl; fault = refl };
     others = λ r other. refl;
     mine = λ seat. record { opened = seat.opened; phase = seat.phase ∙ sym same };
     runs = run;
@@ -104,7 +104,7 @@ module _ (h : Hub) (session : ℕ) (a : State) where
   -- the session's place is as it is now
   sets : (told : Reply) (now : Table) (u : SessionData) (b : State) → SetsSeat h.txns now session u → (IsSeated h session a → u.phase ≡ known_phase b.phase) → RunsAtLeaf b → Places h session a (with_txns h now (told, b))
   sets told now u b s is run = record {
-    kept = record { dir = refl; tables = refl; places = seats-opened h.txns now session u s };
+    kept = record { dir = refl; tables = refl; places = seats-opened h.txns now session u s; run = s.run; fault = refl };
     others = λ r other. ap (λ (x : SessionData). x.phase) (other-seats h.txns now session u s r other);
     mine = λ seat. record {
       opened = (let same = seats-opened h.txns now session u s in let before = seat.opened in omega (arith, same, before));

@@ -10,3 +10,4 @@ pub mod HubPlaces
 pub mod OneSession
 pub mod SeatsStay
 pub mod CallsRun
+pub mod AnswersAreOwn

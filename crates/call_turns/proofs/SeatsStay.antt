@@ -106,7 +106,7 @@ start-seats h session call a a' told sessions all at x = known-seats h session a
 -- ---- frames
 
 -- a conflict fails a transaction that runs
-looked-phase : (call : KeyCall) (target : Target) (a a' : State) → a.phase ≡ phase.Running → Looked call target a a' → known_phase a'.phase ≡ known_phase a.phase
+looked-phase : (call : KeyCall) (target : Target) (a a' : State) → a.phase ≡ phase.Running → Looked refusal.NoMemory call target a a' → known_phase a'.phase ≡ known_phase a.phase
 looked-phase call target a a' running x = elim x [
   | inl tells ↦ ap known_phase (ap (λ (b : State). b.phase) tells.is ∙ (answered-phase call target tells.answer tells.before ∙ tells.phase))
   | inr (inl older) ↦ ap (λ (b : State). known_phase b.phase) older
@@ -124,7 +124,7 @@ leaving-known phase.Failed a is = rw is refl
 leaving-known _ a is = refl
 
 framed-phase : (g : Stage) (view : View) (p p' : FramePiece) (a a' : State) → (IsAtLeaf g → a.phase ≡ phase.Running) → FrameMadeAt g view p a p' a' → known_phase a'.phase ≡ known_phase a.phase
-framed-phase (stage.Look call target) view p p' a a' runs x = looked-phase call target a a' (runs tt) (look-made p.frame call view target p p' a a' x)
+framed-phase (stage.Look call target) view p p' a a' runs x = looked-phase call target a a' (runs tt) (look-made refusal.NoMemory p.frame call view target p p' a a' x)
 framed-phase (stage.Mark stamp left) view p p' a a' runs x = rw x.1 refl
 framed-phase (stage.Order stamps left) view p p' a a' runs x = rw x.1 refl
 framed-phase (stage.Stamp stamps left) view p p' a a' runs x = rw x.1 refl

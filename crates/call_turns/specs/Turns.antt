@@ -123,11 +123,13 @@ abbrev pub HubLowers : Type 0
 HubLowers = (h : Hub) (session : ℕ) (a : State) → IsDirectory h.dir → IsHubNext h a → IsNoAnswer (hub_made h session a).0
     → turns h.dir.leaves (hub_made h session a).1.1 < turns h.dir.leaves a
 
--- the directory and the tables stay, and so do the places of the sessions
+-- the directory and the tables stay, and so do the places of the sessions, the run of the engine and what failed
 pub record IsKept (old new : Hub) : Type 0 where
   pub dir : new.dir ≡ old.dir
   pub tables : new.tables ≡ old.tables
   pub places : length new.txns.sessions ≡ length old.txns.sessions
+  pub run : new.txns.run ≡ old.txns.run
+  pub fault : new.fault ≡ old.fault
 
 abbrev pub HubKeeps : Type 0
 HubKeeps = (h : Hub) (session : ℕ) (a : State) → IsKept h (hub_made h session a).1.0

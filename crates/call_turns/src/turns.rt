@@ -2,8 +2,9 @@
 
 ghost use Rattle.call_turns.specs.Turns.{FrameLowers, FramesKeep, HubKeeps, HubLowers, KeepOutLowers, LoadLowers, StoreLowers};
 
-/// Each event of a call leaves fewer steps: on the hub, which keeps its directory and its tables, on
-/// the piece of a frame, and on a word; and so does the refusal of a leaf that cannot be had.
+/// Each event of a call leaves fewer steps: on the hub, which keeps its directory, its tables, the run
+/// and what failed, on the piece of a frame, and on a word; and so does the refusal of a leaf that
+/// cannot be had.
 pub fn calls_end()
     ensures hub { HubLowers }
     ensures keeps { HubKeeps }
