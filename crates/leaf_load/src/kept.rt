@@ -45,8 +45,9 @@ fn are_seen(page: &Leaf, marks: &Marks, ids: &[u64]) -> bool
     is_surely_seen(marks, page.greatest(), page.durable()) || each_is_seen(page, marks, ids)
 }
 
-// Whether any version of at most this name and durable stamp is kept, whichever ids had not ended.
-fn is_surely_seen(marks: &Marks, greatest: Name, durable: u64) -> bool
+/// Whether an opening with these marks keeps any version of at most this name and durable stamp,
+/// whichever ids had not ended: then it takes nothing out of a leaf whose link says these. `O(1)`.
+pub fn is_surely_seen(marks: &Marks, greatest: Name, durable: u64) -> bool
     ensures { result ≡ are_surely_seen marks.now greatest durable }
 {
     let is_early = greatest.run < marks.run

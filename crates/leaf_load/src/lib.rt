@@ -12,6 +12,7 @@ mod laws;
 mod load;
 mod page;
 
+pub use kept::is_surely_seen;
 pub use laws::one_is_loaded;
 pub use load::load_leaf;
 
