@@ -17,7 +17,7 @@ use item::{Format, Formats, Item};
 use std::alloc::{AllocError, Global};
 use std::{env, io};
 use tree_open::TreePlace;
-use wt_calls::{Call, Demand, SessionCall, SystemCall};
+use wt_calls::{Demand, SessionCall, SystemCall};
 use wt_code::{Answer, Invalid, Refusal};
 
 /// What is done.
@@ -53,11 +53,11 @@ fn item(alloc: Global, bytes: &[u8]) -> Result<Item, NoMemory> {
 }
 
 // A whole call of the one session.
-fn ask(alloc: Global, store: &mut Store, call: SessionCall) -> Answer<Item> {
+fn ask(alloc: Global, store: &mut Store, disk: &mut Counted, call: SessionCall) -> Answer<Item> {
     if store.engine.sessions() == 0 {
         return Answer::Refused(Refusal::Invalid(Invalid::NoCall));
     }
-    store.engine.call(alloc, Call::Session(0, call))
+    store.call(alloc, disk, 0, call)
 }
 
 fn create(alloc: Global, store: &mut Store, table: u32) -> Result<bool, NoMemory> {
@@ -65,27 +65,32 @@ fn create(alloc: Global, store: &mut Store, table: u32) -> Result<bool, NoMemory
         table: item(alloc, name_of(table).as_slice())?,
         formats: BYTES,
     };
-    // That there is an actor of the system.
-    let _actors = store.engine.actors();
-    let answer = store.engine.call(alloc, Call::System(0, call));
+    let answer = store.call_system::<Counted>(alloc, 0, call);
     Ok(!matches!(answer, Answer::Refused(_)))
 }
 
 // A transaction with one put, of a value of 100 bytes.
-fn put(alloc: Global, store: &mut Store, table: u32, row: u32, byte: u8) -> Result<bool, NoMemory> {
-    let _begun = ask(alloc, store, SessionCall::Begin(None));
+fn put(
+    alloc: Global,
+    store: &mut Store,
+    disk: &mut Counted,
+    table: u32,
+    row: u32,
+    byte: u8,
+) -> Result<bool, NoMemory> {
+    let _begun = ask(alloc, store, disk, SessionCall::Begin(None));
     let call = SessionCall::Put {
         table: item(alloc, name_of(table).as_slice())?,
         key: item(alloc, name_of(row).as_slice())?,
         value: item(alloc, [byte; 100].as_slice())?,
         demand: Demand::Anything,
     };
-    let made = ask(alloc, store, call);
+    let made = ask(alloc, store, disk, call);
     let commit = SessionCall::Commit {
         commit: None,
         durable: None,
     };
-    let ended = ask(alloc, store, commit);
+    let ended = ask(alloc, store, disk, commit);
     Ok(!matches!(made, Answer::Refused(_)) && !matches!(ended, Answer::Refused(_)))
 }
 
@@ -113,12 +118,12 @@ fn checkpoint(alloc: Global, store: &mut Store, disk: &mut Counted) -> bool {
 }
 
 // The tables with their rows. How many puts were done.
-fn fill(alloc: Global, store: &mut Store, work: Work) -> Result<u32, NoMemory> {
+fn fill(alloc: Global, store: &mut Store, disk: &mut Counted, work: Work) -> Result<u32, NoMemory> {
     let mut done = 0u32;
     for table in 0..work.tables {
         let _made = create(alloc, store, table)?;
         for row in 0..work.rows {
-            if put(alloc, store, table, row, 1)? {
+            if put(alloc, store, disk, table, row, 1)? {
                 done = done.wrapping_add(1);
             }
         }
@@ -127,9 +132,15 @@ fn fill(alloc: Global, store: &mut Store, work: Work) -> Result<u32, NoMemory> {
 }
 
 // One row changes in each of the first tables.
-fn change(alloc: Global, store: &mut Store, work: Work, round: u32) -> Result<(), NoMemory> {
+fn change(
+    alloc: Global,
+    store: &mut Store,
+    disk: &mut Counted,
+    work: Work,
+    round: u32,
+) -> Result<(), NoMemory> {
     for table in 0..work.changed {
-        let _put = put(alloc, store, table, 0, (round % 256) as u8)?;
+        let _put = put(alloc, store, disk, table, 0, (round % 256) as u8)?;
     }
     Ok(())
 }
@@ -177,8 +188,8 @@ fn main(rt: HostRuntime) -> anyhow::Result<()> {
         println!(rt; "not opened")?;
         return Ok(());
     };
-    let _session = store.engine.open_session(alloc);
-    let puts = fill(alloc, &mut store, work).map_err(no_memory)?;
+    let _session = store.open_session::<Counted>(alloc);
+    let puts = fill(alloc, &mut store, &mut disk, work).map_err(no_memory)?;
     let first = checkpoint(alloc, &mut store, &mut disk);
     let (reads, writes, syncs) = (disk.reads, disk.writes, disk.syncs);
     println!(rt;
@@ -186,7 +197,7 @@ fn main(rt: HostRuntime) -> anyhow::Result<()> {
     )?;
     let mut taken = 0u32;
     for round in 0..work.rounds {
-        change(alloc, &mut store, work, round).map_err(no_memory)?;
+        change(alloc, &mut store, &mut disk, work, round).map_err(no_memory)?;
         if checkpoint(alloc, &mut store, &mut disk) {
             taken = taken.wrapping_add(1);
         }

@@ -18,20 +18,23 @@ module _ (floor : Name) where
   abbrev AreLow : List Entry → Type 0
   AreLow es = AllByRecursion (λ (e : Entry). IsLow e.link.greatest) es
 
-  abbrev RowsLow : List Row → Type 0
+  abbrev pub RowsLow : List Row → Type 0
   RowsLow rows = AllByRecursion (λ (r : Row). IsLow r.1.window.name) rows
 
   low_entries : (es : List Entry) → IsLow (greatest_in (map {A = Entry} (λ x. x.link.greatest) es)) → AreLow es
   low_entries [] low = tt
   low_entries (e ∷ es) low = let both = both_under e.link.greatest (greatest_in (map {A = Entry} (λ x. x.link.greatest) es)) floor low in (both.0, low_entries es both.1)
 
-  low_rows : (rows : List Row) → IsLow (greatest_in (names_of rows)) → RowsLow rows
+  pub low_rows : (rows : List Row) → IsLow (greatest_in (names_of rows)) → RowsLow rows
   low_rows [] low = tt
   low_rows (r ∷ rows) low = let both = both_under r.1.window.name (greatest_in (names_of rows)) floor low in (both.0, low_rows rows both.1)
 
   joined : {A : Type 0} (P : A → Type 0) (xs ys : List A) → AllByRecursion P xs → AllByRecursion P ys → AllByRecursion P (xs ++ ys)
   joined P [] ys all more = more
   joined P (x ∷ xs) ys all more = (all.0, joined P xs ys all.1 more)
+
+  pub joined_low : (xs ys : List Row) → RowsLow xs → RowsLow ys → RowsLow (xs ++ ys)
+  joined_low xs ys low more = joined (λ (r : Row). IsLow r.1.window.name) xs ys low more
 
   lead_low : (level : ℕ) (own : List Entry) (pages : Layer Entry) → Lead table_kind level own pages → AreLow own → AreLow (join pages)
   lead_low level [] [] lead low = tt

@@ -2,16 +2,10 @@
 use Rattle.std.proofs.Common.{◌≡◌, ℕ, zero, suc, ◌+◌, false, List, [], ◌∷◌, ◌++◌, length, take, map, Some, None, refl, ap, inl, inr, arith}
 use Rattle.std.specs.Prelude.{◌==◌, fold, slice_get, slice_index_or}
 use Rattle.std.proofs.lemmas.Bool.{cases_Bool, eq-eqb, ne_eqb}
-use Rattle.std.proofs.lemmas.Option.{same_Some, slice_get_within}
-use Rattle.std.proofs.lemmas.Slice.Eq.{bytes_eq-Decides}
-use Rattle.kv_model.specs.Holds.{Member}
+use Rattle.std.proofs.lemmas.Option.{same_Some}
 use Rattle.kv_model.specs.History.{Table}
-use Rattle.catalog.specs.Known.{AreDistinct, NumbersAscend, by_name, is_below, place_of, put_by_name}
-use Rattle.catalog.specs.Order.{table_at}
-use Rattle.catalog.proofs.Distinct.{place_there}
-use Rattle.catalog.proofs.InOrder.{order_keeps}
+use Rattle.catalog.specs.Known.{NumbersAscend, by_name, is_below, put_by_name}
 use Rattle.engine_world.proofs.EditedLeaves.{got-member}
-use Rattle.engine_world.proofs.Fronts.{index-of}
 use Rattle.ckpt_step.specs.Records.{of_number}
 use Rattle.ckpt_step.proofs.ByPlace.{number_least}
 
@@ -25,31 +19,6 @@ of_number_at none low [] next xs j t ascend is = absurd cc
 of_number_at none low (u ∷ later) next [] j t ascend is = refl
 of_number_at none low (u ∷ later) next (x ∷ xs) zero t ascend is = rw (eq-eqb u.number t.number (ap (λ (z : Table). z.number) (same_Some u t is))) refl
 of_number_at none low (u ∷ later) next (x ∷ xs) (suc j) t ascend is = rw (number_differs u later next j t ascend.1 is) (of_number_at none (u.number + 1) later next xs j t ascend.1 is)
-
--- ---- by name
-
--- where a table stands, which its name finds
-pub record Placed (known : List Table) (t : Table) : Type 0 where
-  pub place : ℕ
-  pub there : slice_get known place ≡ Some t
-  pub found : place_of t.name known ≡ Some place
-
-index_at : (known : List Table) (j : ℕ) (t : Table) → slice_get known j ≡ Some t → table_at known j ≡ t
-index_at [] j t is = absurd cc
-index_at (u ∷ later) zero t is = same_Some u t is
-index_at (u ∷ later) (suc j) t is = index_at later j t is
-
-pub placed : (known : List Table) (t : Table) → AreDistinct known → Member t known → Placed known t
-placed known t distinct there =
-    let at = index-of known t there in
-    record {
-      place = at.0;
-      there = at.1;
-      found = place_there t.name known at.0 distinct (slice_get_within known at.0 t at.1) ((bytes_eq-Decides (table_at known at.0).name t.name).1 (ap (λ (z : Table). z.name) (index_at known at.0 t at.1)));
-    }
-
-pub placed_at : (known : List Table) (i : ℕ) (t : Table) → AreDistinct known → slice_get (by_name known) i ≡ Some t → Placed known t
-placed_at known i t distinct is = placed known t distinct ((order_keeps known t).0 (got-member (by_name known) i t is))
 
 -- ---- how many there are
 

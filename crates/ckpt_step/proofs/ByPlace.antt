@@ -1,24 +1,10 @@
--- The tables of an engine, which a machine has newest first.
-use Rattle.std.proofs.Common.{ℕ, ◌+◌, ◌<◌, ◌≤◌, List, [], ◌∷◌, reverse, sym, subst, inl, inr, arith}
+-- The tables of an engine by place, whose numbers ascend.
+use Rattle.std.proofs.Common.{◌≡◌, ℕ, zero, suc, ◌+◌, ◌<◌, ◌≤◌, List, [], ◌∷◌, Some, refl, ap, sym, subst, inl, inr, arith}
+use Rattle.std.specs.Prelude.{slice_get}
 use Rattle.kv_model.specs.Holds.{Member}
 use Rattle.kv_model.specs.History.{Table}
 use Rattle.catalog.specs.Known.{NumbersAscend}
-use Rattle.catalog.proofs.Turning.{turn_one}
-use Rattle.update_chain.proofs.Below.{member-append, member-append-left, member-append-right}
-
-pub turned_there : (t : Table) (known : List Table) → Member t (reverse known) → Member t known
-turned_there t [] there = there
-turned_there t (u ∷ later) there = elim (member-append t (reverse later) (u ∷ []) (subst (λ (l : List Table). Member t l) (turn_one u later) there)) [
-  | inl before ↦ inr (turned_there t later before)
-  | inr last ↦ elim last [ inl same ↦ inl same | inr none ↦ absurd none ]
-]
-
-pub there_turned : (t : Table) (known : List Table) → Member t known → Member t (reverse known)
-there_turned t [] there = there
-there_turned t (u ∷ later) (inl same) = subst (λ (l : List Table). Member t l) (sym (turn_one u later)) (member-append-right t (reverse later) (u ∷ []) (inl same))
-there_turned t (u ∷ later) (inr there) = subst (λ (l : List Table). Member t l) (sym (turn_one u later)) (member-append-left t (reverse later) (u ∷ []) (there_turned t later there))
-
--- ---- numbers
+use Rattle.ckpt_step.proofs.Members.{get_member, none_some, some_same}
 
 pub number_least : (low : ℕ) (known : List Table) (next : ℕ) (t : Table) → NumbersAscend low known next → Member t known → low ≤ t.number
 number_least low [] next t ascend there = absurd there
@@ -33,3 +19,17 @@ pub number_most : (low : ℕ) (known : List Table) (next : ℕ) (t : Table) → 
 number_most low [] next t ascend there = absurd there
 number_most low (u ∷ later) next t ascend (inl same) = subst (λ (x : Table). x.number < next) (sym same) (omega (arith, next_above (u.number + 1) later next ascend.1))
 number_most low (u ∷ later) next t ascend (inr there) = number_most (u.number + 1) later next t ascend.1 there
+
+-- no two places have tables of one number
+pub place_one : (low : ℕ) (known : List Table) (next i j : ℕ) (t u : Table) → NumbersAscend low known next → slice_get known i ≡ Some t → slice_get known j ≡ Some u → t.number ≡ u.number → i ≡ j
+place_one low [] next i j t u ascend at also same = absurd (none_some at)
+place_one low (x ∷ known) next zero zero t u ascend at also same = refl
+place_one low (x ∷ known) next zero (suc j) t u ascend at also same =
+    let least = number_least (x.number + 1) known next u ascend.1 (get_member known j u also) in
+    let own = ap (λ (v : Table). v.number) (some_same at) in
+    absurd (omega (arith, least, own, same))
+place_one low (x ∷ known) next (suc i) zero t u ascend at also same =
+    let least = number_least (x.number + 1) known next t ascend.1 (get_member known i t at) in
+    let own = ap (λ (v : Table). v.number) (some_same also) in
+    absurd (omega (arith, least, own, same))
+place_one low (x ∷ known) next (suc i) (suc j) t u ascend at also same = ap suc (place_one (x.number + 1) known next i j t u ascend.1 at also same)

@@ -12,11 +12,11 @@ use Rattle.engine.specs.declared.step.Step.TheVariants.{Start, Go}
 use Rattle.engine.specs.Whole.{with_session_more}
 use Rattle.engine_world.specs.Systems.{checkpointed}
 use Rattle.engine_world.specs.Worlds.{Doing, Resting, Asked, Placed, Decided, Ending, World, doing_of}
-use Rattle.ckpt_step.specs.Calm.{AnswersCalm, IsCalm, IsUnstampedCall, IsUnstampedDoing, IsUnstampedStep, OpensCalm, StartsCalm, StepsCalm, StoresCalm}
+use Rattle.ckpt_step.specs.Calm.{AnswersCalm, IsCalm, IsUnstampedCall, IsUnstampedDoing, IsUnstampedStep, KeptCalm, KeptOutCalm, OpensCalm, StartsCalm, StepsCalm, StoresCalm}
 use Rattle.ckpt_step.specs.Plain.{IsPlain, IsUnstamped}
 use Rattle.ckpt_step.proofs.PlainCalls.{event_of, mild_of, plain_kept, quiet_of, unstamped_of}
 use Rattle.ckpt_step.proofs.PlainEvents.{rolls}
-use Rattle.ckpt_step.proofs.StepCalls.{IsMildAny, IsMildDoing, IsMildIn, IsMildStep, IsMildWorld, Stays, answers_so, opens_more, steps}
+use Rattle.ckpt_step.proofs.StepCalls.{IsMildAny, IsMildDoing, IsMildIn, IsMildStep, IsMildWorld, Stays, answers_so, kept_so, opens_more, out_so, steps}
 
 doing_mild : (doing : Doing) → IsUnstampedDoing doing → IsMildDoing (Unit {0}) doing
 doing_mild Resting free = tt
@@ -76,13 +76,19 @@ none_at (x ∷ systems) (suc number) = none_at systems number
 -- ---- the laws
 
 pub starts : StartsCalm
-starts content e plain = record { plain = plain; doings = λ session. tt; systems = none_at e.systems }
+starts content shelf e plain = record { plain = plain; doings = λ session. tt; systems = none_at e.systems }
 
 pub steps_so : StepsCalm
 steps_so w next step told calm free may = stays_calm w next calm (steps (Unit {0}) plain_kept w next step told (world_mild w calm) (step_mild step free) may)
 
 pub answers : AnswersCalm
 answers w next made answer calm free may = stays_calm w next calm (answers_so (Unit {0}) plain_kept w next made answer (world_mild w calm) (any_mild made free) may)
+
+pub kept : KeptCalm
+kept by w next session made answer calm free may = stays_calm w next calm (kept_so (Unit {0}) plain_kept by w next session made answer (world_mild w calm) (mild_of made free) may)
+
+pub kept_out : KeptOutCalm
+kept_out w next session r calm may = stays_calm w next calm (out_so (Unit {0}) plain_kept w next session r (world_mild w calm) may)
 
 pub opens : OpensCalm
 opens w calm = stays_calm w (with_session_more w) calm (opens_more (Unit {0}) plain_kept w (world_mild w calm))

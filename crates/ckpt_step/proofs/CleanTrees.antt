@@ -1,4 +1,4 @@
--- A table to which nothing newer was committed has the tree of the checkpoint before, and when one does.
+-- A leaf to which nothing newer was committed has the rows of the checkpoint before, and when it does.
 use Rattle.std.proofs.Common.{◌≡◌, ◌∙◌, ◌≤◌, ℕ, true, false, List, [], ◌∷◌, ◌++◌, length, Option, Some, None, refl, sym, subst, inl, inr, arith}
 use Rattle.std.specs.Prelude.{◌==◌, bytes_eq, nat_lt}
 use Rattle.std.specs.List.{AllByRecursion}
@@ -10,7 +10,7 @@ use Rattle.item.specs.declared.Change.{Change}
 use Rattle.stamp.specs.declared.Name.{Name}
 use Rattle.stamp.specs.declared.Version.{Version}
 use Rattle.kv_model.specs.AgreementLaws.{head_of}
-use Rattle.kv_model.specs.History.{Table, line}
+use Rattle.kv_model.specs.History.{line}
 use Rattle.kv_model.specs.Machine.{Machine}
 use Rattle.kv_model.specs.Valid.{Valid}
 use Rattle.row_page.specs.Changes.{version_in}
@@ -21,20 +21,16 @@ use Rattle.rows_shown.specs.Shows.{shown_at}
 use Rattle.snapshot.specs.Matters.{NoneResolves, SeesCommitted}
 use Rattle.snapshot.specs.Past.{is_below}
 use Rattle.snapshot.specs.Sight.{Sight, is_seen}
-use Rattle.stored.specs.Stored.{Stored}
+use Rattle.tree_dir.specs.declared.leaf.Leaf.{Leaf}
+use Rattle.tree_dir.specs.Leaves.{leaf_under}
 use Rattle.update_chain.specs.declared.update.Update.{Update}
+use Rattle.update_chain.specs.EventLaws.{StandsFor}
 use Rattle.leaf_frame.specs.Leaf.{HeldLeaf}
 use Rattle.leaf_chains.specs.Slots.{chain_at}
 use Rattle.leaf_capture.specs.Capture.{ChainFits, ChainsFit}
 use Rattle.frame_capture.specs.Capture.{captured_over}
 use Rattle.frame_capture.specs.Laws.{CapturesAreNewest}
-use Rattle.engine.specs.Checkpoints.{HeldStands}
-use Rattle.stored.specs.TableTree.{TableTree}
-use Rattle.tree_open.specs.declared.place.TreePlace.{TreePlace}
-use Rattle.recover_open.specs.Bare.{tree_rows}
-use Rattle.ckpt_step.specs.Checkpoints.{IsRowsOf}
-use Rattle.ckpt_step.specs.Floors.{IsStill, IsTreeBefore, is_before, newest_before}
-use Rattle.ckpt_step.specs.Trees.{HasTreeAt}
+use Rattle.ckpt_step.specs.Floors.{AreNewestBefore, AreNewestIn, is_before, newest_before}
 use Rattle.reconcile.specs.Held.{versions}
 use Rattle.leaf_frame.specs.Updates.{NoneAbove}
 use Rattle.ckpt_step.proofs.Floors.{Lower, lower_of}
@@ -93,19 +89,19 @@ before_of floor x some below = let has_id : nat_lt 0 x.id ≡ true = lt-ltb 0 x.
 
 -- ---- the newest version of a key
 
-newest_head : (floor : Name) (l : List (Version Change)) → ((v : Version Change) → head_of l ≡ Some v → is_before floor v.window.name ≡ true) → newest_before floor l ≡ head_of l
+pub newest_head : (floor : Name) (l : List (Version Change)) → ((v : Version Change) → head_of l ≡ Some v → is_before floor v.window.name ≡ true) → newest_before floor l ≡ head_of l
 newest_head floor [] each = refl
 newest_head floor (v ∷ older) each = let first : is_before floor v.window.name ≡ true = each v refl in rw first refl
 
 -- a row that is shown has an id
-shown_id : (key : List ℕ) (rows : List Row) (v : Version Change) → AllByRecursion (λ (r : Row). RowFits [] key_most r) rows → shown_at key rows ≡ Some v → 1 ≤ v.window.name.id
+pub shown_id : (key : List ℕ) (rows : List Row) (v : Version Change) → AllByRecursion (λ (r : Row). RowFits [] key_most r) rows → shown_at key rows ≡ Some v → 1 ≤ v.window.name.id
 shown_id key [] v fit is = absurd cc
 shown_id key (r ∷ rows) v fit is = elim (cases_Bool (bytes_eq r.0 key)) [
   | inl same ↦ subst (λ (x : Version Change). 1 ≤ x.window.name.id) (same_Some (version_in r.1) v (rw same at is)) fit.0.window.name.id.0
   | inr other ↦ shown_id key rows v fit.1 (rw other at is)
 ]
 
-captured_before : (s : Sight) (greatest floor : Name) (key : List ℕ) (chain : List Update) (row : Option (Version Change)) (v : Version Change) → is_below greatest floor ≡ true
+pub captured_before : (s : Sight) (greatest floor : Name) (key : List ℕ) (chain : List Update) (row : Option (Version Change)) (v : Version Change) → is_below greatest floor ≡ true
     → AllByRecursion (λ (x : Version Change). is_below greatest x.window.name ≡ false) (versions chain ++ option_to_list row) → ChainFits key chain → ((x : Version Change) → row ≡ Some x → 1 ≤ x.window.name.id) → captured_over s chain row ≡ Some v
     → is_before floor v.window.name ≡ true
 captured_before s greatest floor key [] None v below none fit has_id is = absurd cc
@@ -118,34 +114,28 @@ captured_before s greatest floor key (u ∷ older) row v below none fit has_id i
   | inr unseen ↦ captured_before s greatest floor key older row v below none.1 fit.1 has_id (rw unseen at is)
 ]
 
-shown_before : (floor : Name) (key : List ℕ) (rows : List Row) (v : Version Change) → AllByRecursion (λ (r : Row). RowFits [] key_most r) rows → AllByRecursion (λ (r : Row). is_below r.1.window.name floor ≡ true) rows → shown_at key rows ≡ Some v → is_before floor v.window.name ≡ true
+pub shown_before : (floor : Name) (key : List ℕ) (rows : List Row) (v : Version Change) → AllByRecursion (λ (r : Row). RowFits [] key_most r) rows → AllByRecursion (λ (r : Row). is_below r.1.window.name floor ≡ true) rows → shown_at key rows ≡ Some v → is_before floor v.window.name ≡ true
 shown_before floor key [] v fit below is = absurd cc
 shown_before floor key (r ∷ rows) v fit below is = elim (cases_Bool (bytes_eq r.0 key)) [
   | inl same ↦ subst (λ (x : Version Change). is_before floor x.window.name ≡ true) (same_Some (version_in r.1) v (rw same at is)) (before_of floor r.1.window.name (fit.0.window.name.id.0) below.0)
   | inr other ↦ shown_before floor key rows v fit.1 below.1 (rw other at is)
 ]
 
--- ---- trees
+-- ---- leaves
 
--- where the names of the table in memory are below the floor, the tree of before is still that of the table
-pub still : CapturesAreNewest → (m : Machine) (s : Sight) (t : Table) (held : HeldLeaf) (old : Option Stored) (greatest floor : Name) (place : TreePlace) → Valid m → NoneResolves m → SeesCommitted m (length m.history) s → HeldStands m t held
-    → ChainsFit held.chains → AreFit held.page → NoneAbove greatest held → is_below greatest floor ≡ true → IsTreeBefore old floor m t place → IsStill old m t place
-still law m s t held old greatest floor place valid none sees stand fit rows_fit above below before = record {
-  tree = before.tree;
-  has = before.has;
-  is = record { fit = before.fit; newest = λ key. sym (newest_head floor (line m.history t.number key) (λ v is. first key v is)) ∙ before.newest key };
-}
+-- where the names of a leaf in memory are below the floor, the newest versions before that are the newest of all
+pub clean_newest : CapturesAreNewest → (m : Machine) (s : Sight) (table : ℕ) (leaves : List Leaf) (l : Leaf) (held : HeldLeaf) (greatest floor : Name) (rows : List Row) → Valid m → NoneResolves m → SeesCommitted m (length m.history) s
+    → ((key : List ℕ) → leaf_under table key leaves ≡ Some l → StandsFor m table key (chain_at key held.chains) (shown_at key held.page) []) → ChainsFit held.chains → AreFit held.page → NoneAbove greatest held → is_below greatest floor ≡ true
+    → AreNewestBefore m floor leaves table l rows → AreNewestIn m leaves table l rows
+clean_newest law m s table leaves l held greatest floor rows valid none sees stand fit rows_fit above below before key under =
+    sym (newest_head floor (line m.history table key) first) ∙ before key under
   where
-    first : (key : List ℕ) (v : Version Change) → head_of (line m.history t.number key) ≡ Some v → is_before floor v.window.name ≡ true
-    first key v is =
+    first : (v : Version Change) → head_of (line m.history table key) ≡ Some v → is_before floor v.window.name ≡ true
+    first v is =
         captured_before s greatest floor key (chain_at key held.chains) (shown_at key held.page) v below (above key) (fit key) (λ x. shown_id key held.page x rows_fit.fit)
-        (law m t.number key (chain_at key held.chains) (shown_at key held.page) s valid (λ session u wrote resolves. absurd (none session u wrote.0 resolves)) sees (stand key) ∙ is)
+        (law m table key (chain_at key held.chains) (shown_at key held.page) s valid (λ session u wrote resolves. absurd (none session u wrote.0 resolves)) sees (stand key under) ∙ is)
 
--- a tree that was captured, whose root is below the floor, has the newest before it
-pub tree_before : (m : Machine) (t : Table) (new : Option Stored) (floor : Name) (place : TreePlace) (tree : TableTree) → IsRowsOf m t (tree_rows tree) → HasTreeAt new t place tree → AllByRecursion (λ (r : Row). is_below r.1.window.name floor ≡ true) (tree_rows tree) → IsTreeBefore new floor m t place
-tree_before m t new floor place tree is has below = record {
-  tree = tree;
-  has = has;
-  fit = is.fit;
-  newest = λ key. newest_head floor (line m.history t.number key) (λ v first. shown_before floor key (tree_rows tree) v is.fit.fit below (sym (is.newest key) ∙ first)) ∙ is.newest key;
-}
+-- newest rows with names below the floor are the newest before it
+pub newest_under : (m : Machine) (table : ℕ) (leaves : List Leaf) (l : Leaf) (floor : Name) (rows : List Row) → AreFit rows → AllByRecursion (λ (r : Row). is_below r.1.window.name floor ≡ true) rows → AreNewestIn m leaves table l rows → AreNewestBefore m floor leaves table l rows
+newest_under m table leaves l floor rows fit below is key under =
+    newest_head floor (line m.history table key) (λ v first. shown_before floor key rows v fit.fit below (sym (is key under) ∙ first)) ∙ is key under

@@ -17,13 +17,14 @@ use Rattle.ckpt_step.specs.Floors.{Follows}
 use Rattle.ckpt_step.specs.Grounds.{IsOnGround, IsSteady, StandsOn, number_of}
 use Rattle.wt_code.specs.StoreErrors.{IsOfDisk}
 use Rattle.tree_write.specs.Captures.{IsSafe}
+use Rattle.ckpt_step.specs.Rooms.{known_in}
 use Rattle.ckpt_step.specs.Runs.{Concludes, OldStands, Wrote}
 use Rattle.ckpt_step.specs.Takes.{Takes}
 use Rattle.ckpt_step.proofs.Floors.{checkpointed_goes, follows_goes}
 
 module _ {D : Type 0} (g : Ghosts D) (old : Option Stored) (w : World) (stand stand' : Ground) (e e' : Engine) (before after : D) (may : MayStart w.machine (number_of old) (Ok tt)) where
   -- once it was written, or was not
-  pub concluded : (outcome : Result (Unit {0}) StoreError) (answer : Result (Unit {0}) Refusal) → Wrote g old w.machine e.hub.tables.tables stand stand' before after outcome → IfErr outcome (λ x. IsOfDisk x → Rose (g.faults before) (g.faults after)) → Concludes e e' outcome answer
+  pub concluded : (outcome : Result (Unit {0}) StoreError) (answer : Result (Unit {0}) Refusal) → Wrote g old w e.hub stand stand' before after outcome → IfErr outcome (λ x. IsOfDisk x → Rose (g.faults before) (g.faults after)) → Concludes e e' outcome answer
       → (answer ≡ Ok tt → Stands e' (record w { machine = checkpointed w.machine })) → Takes g old w stand stand' e e' before after answer
   concluded (Ok done) answer wrote failed (is, same) stands = subst (λ (r : Result (Unit {0}) Refusal). Takes g old w stand stand' e e' before after r) (sym is) (record {
     new = wrote.new;
@@ -31,7 +32,7 @@ module _ {D : Type 0} (g : Ghosts D) (old : Option Stored) (w : World) (stand st
     leaves = wrote.left;
     each = wrote.each;
     on = wrote.on;
-    follows = follows_goes (Some wrote.new) e.hub.tables.tables stand'.trees.items stand'.floor w.machine (checkpointed w.machine) (checkpointed_goes w.machine) wrote.follows;
+    follows = follows_goes (Some wrote.new) e.hub.tables.tables e.hub.dir.leaves (known_in stand'.parts) stand'.trees.items stand'.floor w (record w { machine = checkpointed w.machine }) (checkpointed_goes w.machine) refl wrote.follows;
     had_room = wrote.had_room;
     kept = wrote.kept;
     may = may;
@@ -47,19 +48,19 @@ module _ {D : Type 0} (g : Ghosts D) (old : Option Stored) (w : World) (stand st
   on_tables : (x : Engine) → x ≡ e → IsOnGround (g.seen after) (g.may_leave after) e stand' → IsOnGround (g.seen after) (g.may_leave after) x stand'
   on_tables x same on = subst (λ (y : Engine). IsOnGround (g.seen after) (g.may_leave after) y stand') (sym same) on
 
-  still_on : (error : StoreError) → OldStands g old w.machine e.hub.tables.tables stand stand' before after error → IsSafe error → IsOnGround (g.seen after) (g.may_leave after) e stand'
+  still_on : (error : StoreError) → OldStands g old w e.hub stand stand' before after error → IsSafe error → IsOnGround (g.seen after) (g.may_leave after) e stand'
   still_on error wrote safe = record { world = w; stands = stands; idle = idle; old = old; on = wrote.on safe; follows = wrote.follows }
 
   -- with the engine up, the ground is that of the checkpoint that the device has
-  pub steady_after : (outcome : Result (Unit {0}) StoreError) (answer : Result (Unit {0}) Refusal) → Wrote g old w.machine e.hub.tables.tables stand stand' before after outcome → Concludes e e' outcome answer → (answer ≡ Ok tt → Stands e' (record w { machine = checkpointed w.machine })) → IsSteady g e' stand' after
+  pub steady_after : (outcome : Result (Unit {0}) StoreError) (answer : Result (Unit {0}) Refusal) → Wrote g old w e.hub stand stand' before after outcome → Concludes e e' outcome answer → (answer ≡ Ok tt → Stands e' (record w { machine = checkpointed w.machine })) → IsSteady g e' stand' after
   steady_after (Ok done) answer wrote (is, same) conclude up = record {
     world = record w { machine = checkpointed w.machine };
     stands = conclude is;
     idle = refl;
     old = Some wrote.new;
-    on = subst (λ (y : Engine). StandsOn (g.seen after) (g.may_leave after) y.hub.tables.tables stand' (Some wrote.new)) (sym same) wrote.on;
-    follows = subst (λ (y : Engine). Follows (Some wrote.new) y.hub.tables.tables stand'.trees.items stand'.floor (checkpointed w.machine)) (sym same)
-        (follows_goes (Some wrote.new) e.hub.tables.tables stand'.trees.items stand'.floor w.machine (checkpointed w.machine) (checkpointed_goes w.machine) wrote.follows);
+    on = subst (λ (y : Engine). StandsOn (g.seen after) (g.may_leave after) y.hub stand' (Some wrote.new)) (sym same) wrote.on;
+    follows = subst (λ (y : Engine). Follows (Some wrote.new) y.hub stand' (record w { machine = checkpointed w.machine })) (sym same)
+        (follows_goes (Some wrote.new) e.hub.tables.tables e.hub.dir.leaves (known_in stand'.parts) stand'.trees.items stand'.floor w (record w { machine = checkpointed w.machine }) (checkpointed_goes w.machine) refl wrote.follows);
   }
   steady_after (Err NoMemory) answer wrote (is, same) conclude up = on_tables e' same (still_on NoMemory wrote tt)
   steady_after (Err NoSpace) answer wrote (is, same) conclude up = on_tables e' same (still_on NoSpace wrote tt)

@@ -1,6 +1,7 @@
 -- What is before a floor stays, over events.
 use Rattle.std.proofs.Common.{◌≡◌, ◌⊎◌, ◌∙◌, ◌+◌, ◌<◌, ◌≤◌, ℕ, zero, suc, Bool, true, false, List, [], ◌∷◌, ◌++◌, map, get_or, set, Option, Some, None, refl, ap, sym, subst, inl, inr, arith}
-use Rattle.std.specs.Prelude.{MatchOption, ◌==◌, ◌&&◌, ◌||◌, filter, nat_lt, option_map}
+use Rattle.std.specs.Prelude.{MatchOption, ◌==◌, ◌&&◌, ◌||◌, filter, nat_lt, option_map, slice_get}
+use Rattle.std.specs.List.{Contains}
 use Rattle.std.proofs.Math.Bool.{and-false}
 use Rattle.std.proofs.lemmas.Bool.{and_parts, cases_eq, cases_lt, eqb-true, le-ltb, ltb-true, ne_eqb}
 use Rattle.tree_open.specs.declared.place.TreePlace.{TreePlace}
@@ -15,7 +16,15 @@ use Rattle.kv_model.proofs.Ordering.{line-writes}
 use Rattle.snapshot.specs.Past.{is_below}
 use Rattle.stored.specs.Stored.{Stored}
 use Rattle.engine_world.specs.Systems.{checkpointed}
-use Rattle.ckpt_step.specs.Floors.{Follows, GoesOn, Respects, is_before, newest_before}
+use Rattle.engine_world.specs.Worlds.{World}
+use Rattle.row_page.specs.Rows.{Row}
+use Rattle.stored.specs.TableTree.{Entry as TreeEntry, TableTree}
+use Rattle.stored.specs.Tree.{join}
+use Rattle.tree_dir.specs.declared.leaf.Leaf.{Leaf}
+use Rattle.ckpt_step.specs.Floors.{AreNewestBefore, FollowsFrom, GoesOn, Respects, is_before, newest_before}
+use Rattle.ckpt_step.specs.Parts.{AreBelowFloor, part_leaves, part_of}
+use Rattle.ckpt_step.specs.Rooms.{Written}
+use Rattle.ckpt_step.specs.Trees.{HasTreeAt}
 use Rattle.ckpt_step.specs.Keeps.{IsOrdinaryEvent}
 
 -- ---- names
@@ -225,30 +234,56 @@ goes_rolled m = rolls_on m 0 m.sessions
 
 -- ---- over what goes on
 
-pub follows_goes : (old : Option Stored) (known : List Table) (places : List TreePlace) (floor : Name) (m next : Machine) → GoesOn m next → Follows old known places floor m → Follows old known places floor next
-follows_goes old known places floor m next goes follows =
+pub follows_goes : (old : Option Stored) (known : List Table) (leaves : List Leaf) (written : Written) (places : List TreePlace) (floor : Name) (w v : World) → GoesOn w.machine v.machine → v.shelf ≡ w.shelf → FollowsFrom old known leaves written places floor w → FollowsFrom old known leaves written places floor v
+follows_goes old known leaves written places floor w v goes shelf follows =
     let on = goes floor follows.respects in
     record {
       respects = on.0;
-      trees = λ i t place at stands below.
-          let before = follows.trees i t place at stands below in
-          record { tree = before.tree; has = before.has; fit = before.fit; newest = λ key. on.1 t.number key ∙ before.newest key };
+      leaf = λ i t place tree l at stands has there its.
+          let own = follows.leaf i t place tree l at stands has there its in
+          record {
+            before = λ part is below key under. on.1 t.number key ∙ own.before part is below key under;
+            same = λ none. own.same none ∙ ap (λ (s : ℕ → List Row). s l.id) (sym shelf);
+          };
     }
 
--- no tree is clean before the first checkpoint
-pub follows_none : (old : Option Stored) (known : List Table) (places : List TreePlace) (m : Machine) → Follows old known places (record { run = 0; id = 0 }) m
-follows_none old known places m = record {
-  respects = record { next = elim (cases_lt 0 m.run) [ inl more ↦ inl more | inr none ↦ inr (omega (arith, none), omega arith) ]; living = λ session. each (transaction_of m session) };
-  trees = λ i t place at stands below. absurd (nothing place.root.link.greatest (lower_of place.root.link.greatest (record { run = 0; id = 0 }) below));
+-- the floor with which an engine begins
+abbrev pub no_floor : Name
+no_floor = record { run = 0; id = 0 }
+
+none_before : (x : Name) → is_before no_floor x ≡ false
+none_before x = not_before no_floor x (omega arith) (λ same. inr (omega arith))
+
+none_newest : (l : List (Version Change)) → newest_before no_floor l ≡ None
+none_newest [] = refl
+none_newest (v ∷ older) = let none : is_before no_floor v.window.name ≡ false = none_before v.window.name in rw none (none_newest older)
+
+-- of the leaves in no frame what they are loaded from is all that is asked
+abbrev pub AreShelved : Option Stored → List Table → List Leaf → Written → List TreePlace → World → Type 0
+AreShelved old known leaves written places w =
+    (i : ℕ) (t : Table) (place : TreePlace) (tree : TableTree) (l : Leaf) → slice_get known i ≡ Some t → slice_get places i ≡ Some place → HasTreeAt old t place tree → Contains leaves l → l.table ≡ t.number → l.frame ≡ None → join (part_leaves place tree (part_of written l)) ≡ w.shelf l.id
+
+-- no leaf in a frame is clean before the first checkpoint
+pub follows_none : (old : Option Stored) (known : List Table) (leaves : List Leaf) (written : Written) (places : List TreePlace) (w : World) → AreShelved old known leaves written places w → FollowsFrom old known leaves written places no_floor w
+follows_none old known leaves written places w shelved = record {
+  respects = record { next = elim (cases_lt 0 w.machine.run) [ inl more ↦ inl more | inr none ↦ inr (omega (arith, none), omega arith) ]; living = λ session. each (transaction_of w.machine session) };
+  leaf = λ i t place tree l at stands has there its. record {
+    before = λ part is below. nothing t.number l place tree part below;
+    same = shelved i t place tree l at stands has there its;
+  };
 }
   where
-    each : (o : Option Transaction) → MatchOption o (Unit {0}) (λ t. is_before (record { run = 0; id = 0 }) (name_of m t) ≡ false)
+    each : (o : Option Transaction) → MatchOption o (Unit {0}) (λ t. is_before no_floor (name_of w.machine t) ≡ false)
     each None = tt
-    each (Some t) = not_before (record { run = 0; id = 0 }) (name_of m t) (omega arith) (λ same. inr (omega arith))
+    each (Some t) = none_before (name_of w.machine t)
 
-    nothing : (x : Name) → Lower x (record { run = 0; id = 0 }) → ⊥
-    nothing x (inl less) = omega (arith, less)
-    nothing x (inr less) = omega (arith, less.1)
+    under : (x : Name) → Lower x no_floor → ⊥
+    under x (inl less) = omega (arith, less)
+    under x (inr less) = omega (arith, less.1)
+
+    nothing : (table : ℕ) (l : Leaf) (place : TreePlace) (tree : TableTree) (part : List TreeEntry) → AreBelowFloor no_floor part → AreNewestBefore w.machine no_floor leaves table l (join (part_leaves place tree part))
+    nothing table l place tree [] below key found = none_newest (line w.machine.history table key)
+    nothing table l place tree (e ∷ part) below key found = absurd (under e.link.greatest (lower_of e.link.greatest no_floor below.0))
 
 pub checkpointed_goes : (m : Machine) → GoesOn m (checkpointed m)
 checkpointed_goes m = same_machine m (checkpointed m) refl refl refl refl

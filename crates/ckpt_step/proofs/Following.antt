@@ -1,28 +1,36 @@
 -- The trees of a checkpoint, over its writing and over what goes on.
-use Rattle.std.proofs.Common.{◌≡◌, ◌⊎◌, ◌∙◌, ◌+◌, ◌≤◌, ℕ, true, false, List, [], ◌∷◌, length, Option, Some, None, refl, sym, subst, inl, inr, arith}
+use Rattle.std.proofs.Common.{◌≡◌, ◌⊎◌, ◌∙◌, ◌+◌, ◌≤◌, ℕ, true, false, List, [], ◌∷◌, length, Option, Some, None, refl, ap, sym, subst, inl, inr, arith}
+use Rattle.std.specs.List.{Contains}
 use Rattle.std.specs.Prelude.{◌==◌, zero, suc, MatchOption, slice_get}
 use Rattle.std.proofs.lemmas.Bool.{cases_eq, ne_eqb}
 use Rattle.device_layout.specs.declared.addr.Addr.{Addr}
 use Rattle.kv_model.specs.History.{Table}
-use Rattle.kv_model.specs.Machine.{Machine, Transaction, name_of, transaction_of}
+use Rattle.kv_model.specs.Machine.{Machine, Transaction, name_of, of_some, transaction_of}
 use Rattle.catalog.specs.Known.{NumbersAscend}
 use Rattle.snapshot.specs.Matters.{AreUnended}
 use Rattle.snapshot.specs.Sight.{Ascends, IsSight, Sight, is_listed}
 use Rattle.stamp.specs.declared.Name.{Name}
 use Rattle.stored.specs.Records.{Record}
-use Rattle.stored.specs.TableTree.{TableTree, root_entry, table_kind}
-use Rattle.stored.specs.Tree.{IsTree}
+use Rattle.stored.specs.TableTree.{Entry, TableTree}
+use Rattle.stored.specs.Tree.{join}
 use Rattle.recover_open.specs.Bare.{IsBare, tree_rows}
 use Rattle.tree_open.specs.declared.place.TreePlace.{TreePlace}
 use Rattle.ckpt_step.specs.Checkpoints.{AreRowsOf, IsRowsOf}
-use Rattle.ckpt_step.specs.Floors.{Follows, Respects, is_before}
+use Rattle.ckpt_step.specs.Floors.{AreNewestBefore, FollowsFrom, Respects, is_before}
+use Rattle.ckpt_step.specs.Halves.{AreOnShelf, AreParted}
+use Rattle.ckpt_step.specs.Parts.{AreBelowFloor, part_in, part_leaves, part_of}
+use Rattle.ckpt_step.specs.Rooms.{Written}
+use Rattle.engine_world.specs.Worlds.{World}
+use Rattle.tree_dir.specs.declared.leaf.Leaf.{Leaf}
+use Rattle.tree_open.specs.Trees.{HasTree, IsPlaceOf}
+use Rattle.tree_write.specs.Writes.{LeadApart}
 use Rattle.ckpt_step.specs.Records.{roots_by_name}
 use Rattle.ckpt_step.specs.Runs.{made_of}
 use Rattle.ckpt_step.specs.Trees.{AreTreesAt, roots_of}
-use Rattle.ckpt_step.proofs.Below.{tree_low}
-use Rattle.ckpt_step.proofs.CleanTrees.{tree_before}
+use Rattle.ckpt_step.proofs.CleanTrees.{newest_under}
+use Rattle.ckpt_step.proofs.PartNames.{part_low, part_newest}
 use Rattle.ckpt_step.proofs.Floors.{not_before}
-use Rattle.ckpt_step.proofs.Made.{made_tree, tree_there}
+use Rattle.ckpt_step.proofs.Made.{made_at, tree_there}
 use Rattle.ckpt_step.proofs.Members.{none_some, some_same}
 
 -- ---- the trees of a new checkpoint
@@ -34,17 +42,35 @@ rows_at m (u ∷ known) [] i t tree are at also = absurd are
 rows_at m (u ∷ known) (x ∷ trees) zero t tree are at also = subst (λ (z : Table). IsRowsOf m z (tree_rows tree)) (some_same at) (subst (λ (y : TableTree). IsRowsOf m u (tree_rows y)) (some_same also) are.0)
 rows_at m (u ∷ known) (x ∷ trees) (suc i) t tree are at also = rows_at m known trees i t tree are.1 at also
 
-module _ (known : List Table) (next : ℕ) (ascend : NumbersAscend 1 known next) (places : List TreePlace) (trees : List TableTree) (count : length places ≡ length known) (bytes : List ℕ) (there : AreTreesAt bytes places trees) (r : Record) (a : Addr) (bare : IsBare r) (tables : r.tables ≡ roots_by_name known (roots_of places)) (m : Machine) (are : AreRowsOf m known trees) where
-  pub follows_new : (floor : Name) → Respects m floor → Follows (Some (made_of r known trees a)) known places floor m
+-- lead: the leaves of each tree lead apart
+module _ (known : List Table) (next : ℕ) (ascend : NumbersAscend 1 known next) (places : List TreePlace) (trees : List TableTree) (count : length places ≡ length known) (bytes : List ℕ) (there : AreTreesAt bytes places trees) (r : Record) (a : Addr) (bare : IsBare r) (tables : r.tables ≡ roots_by_name known (roots_of places))
+    (leaves : List Leaf) (written : Written) (w : World) (are : AreRowsOf w.machine known trees) (parted : AreParted known leaves written places trees) (shelved : AreOnShelf known leaves written places trees w.shelf) (lead : (i : ℕ) (p : TreePlace) → slice_get places i ≡ Some p → LeadApart p.leaves.items) where
+  -- a leaf in no frame has the rows of its block, and the part of one whose names are below a floor has the newest before it
+  pub follows_new : (floor : Name) → Respects w.machine floor → FollowsFrom (Some (made_of r known trees a)) known leaves written places floor w
   follows_new floor respects = record {
     respects = respects;
-    trees = λ i t p at stands below.
-        let one = made_tree known next ascend places trees count bytes there r a bare tables i t p at stands in
-        let own = tree_there bytes places trees i p there stands in
-        let same : own.0 ≡ one.0 = some_same (sym own.1 ∙ one.1) in
-        tree_before m t (Some (made_of r known trees a)) floor p one.0 (rows_at m known trees i t one.0 are at one.1) one.2
-        (tree_low floor p.root.level p.root.link one.0 (subst (λ (y : TableTree). IsTree table_kind p.root.level (root_entry p.root.link) y) same own.2.is) below);
-  }
+    leaf = λ i t p tree l at stands has mine its.
+        let here = made_at known next ascend places trees count bytes there r a bare tables i t p tree at stands has in
+        record {
+          before = λ part found below. before floor i t p tree l part at stands here mine its found below;
+          same = shelved i t p tree l at stands here mine its;
+        };
+  } where
+    before : (floor : Name) (i : ℕ) (t : Table) (p : TreePlace) (tree : TableTree) (l : Leaf) (part : List Entry) → slice_get known i ≡ Some t → slice_get places i ≡ Some p → slice_get trees i ≡ Some tree → Contains leaves l → l.table ≡ t.number → part_in written l ≡ Some part → AreBelowFloor floor part
+        → AreNewestBefore w.machine floor leaves t.number l (join (part_leaves p tree part))
+    before floor i t p tree l part at stands here mine its found below =
+        let one = tree_there bytes places trees i p there stands in
+        let same : one.0 ≡ tree = some_same (sym one.1 ∙ here) in
+        let on_device : HasTree bytes p.root tree = subst (λ (x : TableTree). HasTree bytes p.root x) same one.2 in
+        let is : IsPlaceOf p tree = subst (λ (x : TableTree). IsPlaceOf p x) same one.3 in
+        let by_parts = parted i t p tree at stands here in
+        let apart = lead i p stands in
+        let own : part_of written l ≡ part = ap (λ (o : Option (List Entry)). of_some [] (λ (es : List Entry). es) o) found in
+        let rows = rows_at w.machine known trees i t tree are at here in
+        subst (λ (es : List Entry). AreNewestBefore w.machine floor leaves t.number l (join (part_leaves p tree es))) own
+        (newest_under w.machine t.number leaves l floor (join (part_leaves p tree (part_of written l))) (by_parts.parts l mine its).rows_fit
+        (part_low bytes leaves t.number written p tree on_device is apart by_parts floor l mine its (subst (λ (es : List Entry). AreBelowFloor floor es) (sym own) below))
+        (part_newest bytes leaves t.number written p tree on_device is apart by_parts w.machine l mine its rows.newest))
 
 -- ---- the floor of a checkpoint
 

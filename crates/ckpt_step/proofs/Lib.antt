@@ -12,7 +12,6 @@ pub mod Members
 pub mod Mapped
 pub mod Told
 mod Places
-pub mod OneTable
 pub mod ByPlace
 pub mod ByName
 pub mod RecordsFit
@@ -29,11 +28,53 @@ pub mod Putting
 pub mod Standing
 pub mod Past
 pub mod Starting
-pub mod SameTrees
 pub mod Concluding
 pub mod OrderedByName
-pub mod Goings
+mod PlacedTrees
+mod HalfCells
+mod Goings
+mod GoingLinks
+mod GoingRuns
+mod GoingFails
+mod GoingHalves
+mod GoingByLeaves
+mod GoingMore
 pub mod Floors
 mod CleanTrees
 mod Below
 mod Following
+pub mod WithParts
+pub mod TableLeaves
+pub mod LowKeys
+pub mod PartRows
+pub mod Links
+pub mod Apart
+pub mod Behind
+pub mod KnownRooms
+pub mod Unwritten
+pub mod NewParts
+pub mod PartedRows
+pub mod EntryKeys
+pub mod LeafSteps
+mod LoadedLeaves
+mod TakenLeaves
+mod DraftingMore
+mod LeafWrites
+mod OldParts
+mod StillTrees
+mod LeafTaken
+mod RowsByLink
+mod CapturedOrder
+mod OnlyBooks
+mod OwnBlocks
+mod FinishedTrees
+mod TableParts
+mod StillTables
+mod WrittenTables
+mod LeafNoted
+pub mod GoingLeaves
+pub mod Staying
+mod LeadingLeaves
+mod PartNames
+mod PartRooms
+mod KeptPlaces

@@ -25,6 +25,11 @@ use Rattle.tree_open.specs.Trees.{HasTree, IsPlaceOf}
 use Rattle.recover_open.specs.Bare.{IsBare, tree_rows}
 use Rattle.ckpt_step.specs.Checkpoints.{AreRowsOf, IsCheckpointOf, IsRecordOf, IsRowsOf}
 use Rattle.ckpt_step.specs.Grounds.{HasRoots}
+use Rattle.ckpt_step.specs.Halves.{AreParted, TreesKeep}
+use Rattle.ckpt_step.specs.Rooms.{Written}
+use Rattle.ckpt_step.specs.Sizes.{KeepsLeaves}
+use Rattle.tree_dir.specs.declared.leaf.Leaf.{Leaf}
+use Rattle.ckpt_step.proofs.Mapped.{map_at}
 use Rattle.ckpt_step.specs.Records.{no_tree, of_number, roots_by_name, trees_by_name}
 use Rattle.ckpt_step.specs.Runs.{made_of}
 use Rattle.ckpt_step.specs.Trees.{AreTreesAt, HasTreeAt, roots_of, table_root, trees_blocks}
@@ -197,10 +202,23 @@ module _ (known : List Table) (next : ℕ) (ascend : NumbersAscend 1 known next)
         slice_get-map tree_at (by_name known) j.0 ∙ (ap (λ (o : Option Table). option_map tree_at o) j.1 ∙ ap (λ (x : TableTree). Some x) (tree_is i t one.0 at one.1)) in
         (one.0, one.1, ((j.0, root, tree), one.3))
 
-    pub made_roots : HasRoots known places (made_of r known trees a)
-    made_roots = record {
+    -- the tree that the checkpoint has of a table is that of the table's place
+    pub made_at : (i : ℕ) (t : Table) (p : TreePlace) (tree : TableTree) → slice_get known i ≡ Some t → slice_get places i ≡ Some p → HasTreeAt (Some (made_of r known trees a)) t p tree → slice_get trees i ≡ Some tree
+    made_at i t p tree at stands has =
+        let u = map_at (λ (x : Table). table_root x (root_at x)) (by_name known) has.0.0 (table_root t p.root) (ap (λ (l : List TableRoot). slice_get l has.0.0) (sym tables) ∙ has.0.1) in
+        let x = map_at tree_at (by_name known) has.0.0 tree has.0.2 in
+        let same : t ≡ x.0 = ap (λ (q : TableRoot). q.table) (sym u.2) ∙ some_same (sym u.1 ∙ x.1) in
+        let one = tree_there bytes places trees i p there stands in
+        one.1 ∙ ap (λ (y : TableTree). Some y) (sym (tree_is i t one.0 at one.1) ∙ (ap tree_at same ∙ x.2))
+
+    pub made_roots : (leaves : List Leaf) (written : Written) → AreParted known leaves written places trees → HasRoots known leaves written places (made_of r known trees a)
+    made_roots leaves written parted = record {
       bare = bare;
       few = omega (arith, count);
       count = ap length tables ∙ (length-map (by_name known) (λ (t : Table). table_root t (of_number no_root known (roots_of places) t.number)) ∙ (length_by_name known ∙ sym count));
-      trees = λ i t p at stands. let one = made_tree i t p at stands in (one.0, one.2);
+      trees = λ i t p at stands. let one = made_tree i t p at stands in (one.0, one.2, parted i t p one.0 at stands one.1);
     }
+
+    -- an image that did not change keeps its block
+    pub made_keeps : (seen : List ℕ) (leaves : List Leaf) (before written : Written) → TreesKeep seen known leaves before places trees written → KeepsLeaves seen known leaves before (made_of r known trees a) places written
+    made_keeps seen leaves before written keep i t p tree l at stands has mine its = keep i t p tree l at stands (made_at i t p tree at stands has) mine its

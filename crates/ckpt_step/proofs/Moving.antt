@@ -52,7 +52,7 @@ leaf_moved bytes later was rows None all (inl none) = inl none
 leaf_moved bytes later was rows None all (inr leaf) = inr (same_leaf bytes later (first_link was) rows (first_there bytes later was all) leaf)
 leaf_moved bytes later was rows (Some size) all (some, isnt, is) = (some, (λ leaf. isnt (same_leaf later bytes (first_link was) rows (λ stored. back_there bytes later (first_link was) (first_there bytes later was all stored)) leaf)), is)
 
-leaves_moved : (bytes later : List ℕ) (was : List Link) (leaves : List (List Row)) (sizes : List ℕ) → AllThere bytes later was → WritesLeaves bytes was leaves sizes → WritesLeaves later was leaves sizes
+pub leaves_moved : (bytes later : List ℕ) (was : List Link) (leaves : List (List Row)) (sizes : List ℕ) → AllThere bytes later was → WritesLeaves bytes was leaves sizes → WritesLeaves later was leaves sizes
 leaves_moved bytes later was [] sizes all none = none
 leaves_moved bytes later was (rows ∷ leaves) sizes all (size, rest, one, more, are) = (size, rest, leaf_moved bytes later was rows size all one, leaves_moved bytes later (links_behind was) leaves rest (behind_there bytes later was all) more, are)
 

@@ -15,7 +15,6 @@ use Rattle.device_layout.specs.declared.link.Link.{Link}
 use Rattle.kv_model.specs.Holds.{Member}
 use Rattle.kv_model.specs.History.{Table}
 use Rattle.catalog.specs.Known.{NumbersAscend}
-use Rattle.engine.proofs.OneLeaf.{place-one}
 use Rattle.stored.specs.Blocks.{Block, AreApart, Apart, IsAddressed, IsAt}
 use Rattle.stored.specs.Records.{TableRoot}
 use Rattle.stored.specs.Stored.{Stored, history_blocks, stored_blocks, tables_blocks}
@@ -28,10 +27,13 @@ use Rattle.tree_write.specs.Writes.{IsLiveLeaf, LeadApart}
 use Rattle.ckpt_step.specs.Goings.{BeginsIn}
 use Rattle.ckpt_step.specs.Grounds.{AreRoots, HasRoots, found_in}
 use Rattle.ckpt_step.specs.Halves.{AreOldBlocks, IsOldBlock, body_cell}
-use Rattle.ckpt_step.specs.Trees.{HasTreeAt, IsPair, addrs_of, leaves_at, links_in, table_root}
+use Rattle.ckpt_step.specs.Trees.{HasTreeAt, IsPair, addrs_of, leaves_at, table_root}
+use Rattle.ckpt_step.specs.Rooms.{Written}
+use Rattle.tree_dir.specs.declared.leaf.Leaf.{Leaf}
+use Rattle.ckpt_step.proofs.ByPlace.{place_one}
 use Rattle.ckpt_step.proofs.Cells.{found_is, found_of, start_dead}
 use Rattle.ckpt_step.proofs.Members.{all_made, all_met, all_of, flat_member, get_member, get_within, in_back, in_front, map_member, member_at, member_flat, member_map, none_some, some_same}
-use Rattle.ckpt_step.proofs.Pairs.{apart_back, apart_front, block_of, lead_apart, leaf_listed, links_of_none, links_of_pair, one_index, pair_apart, pair_blocks, pair_on, pair_tree, paired, pairs_apart, root_blocks}
+use Rattle.ckpt_step.proofs.Pairs.{apart_back, apart_front, block_of, lead_apart, leaf_listed, one_index, pair_apart, pair_blocks, pair_on, pair_tree, pairs_apart, root_blocks}
 
 -- ---- the roots of the first tables
 
@@ -69,7 +71,7 @@ leaves_past places i past = get_or_past (map {A = TreePlace} (λ q. q.leaves.ite
 
 -- ---- the checkpoint before
 
-module _ (seen : List ℕ) (images : List ℕ → Type 0) (books : Books) (known : List Table) (next : ℕ) (ascend : NumbersAscend 1 known next) (places : List TreePlace) (s : Stored) (stands : Stands seen images books (Some s)) (roots : HasRoots known places s)
+module _ (seen : List ℕ) (images : List ℕ → Type 0) (books : Books) (known : List Table) (next : ℕ) (ascend : NumbersAscend 1 known next) (leaves : List Leaf) (written : Written) (places : List TreePlace) (s : Stored) (stands : Stands seen images books (Some s)) (roots : HasRoots known leaves written places s)
     (cells : (u : ℕ) → cell_at books.cells u ≡ found_cell (found_in (Some s)) u) (units : AreUnits books.cells books.space) where
   abbrev tables : List TableRoot
   tables = s.kept.tables
@@ -179,7 +181,7 @@ module _ (seen : List ℕ) (images : List ℕ → Type 0) (books : Books) (known
   root_one i j r there also =
       let one = zipped_at known places i r there in
       let two = zipped_at known places j r also in
-      place-one 1 known next i j one.table two.table ascend one.known_at two.known_at (ap (λ (x : TableRoot). x.table.number) (sym one.is ∙ two.is))
+      place_one 1 known next i j one.table two.table ascend one.known_at two.known_at (ap (λ (x : TableRoot). x.table.number) (sym one.is ∙ two.is))
 
   stood : (r : TableRoot) (tree : TableTree) → IsPair r tree tables s.trees → Stood r tree
   stood r tree pair =
@@ -255,20 +257,6 @@ module _ (seen : List ℕ) (images : List ℕ → Type 0) (books : Books) (known
         (λ b there. some_size b (pair_blocks (table_root one.table p.0.root) one.tree tables s.trees b one.pair (in_back inner leafs b there))))
   ]
 
-  -- what leads to the leaves of the table at a place
-  links_there : (i : ℕ) (t : Table) → slice_get known i ≡ Some t → links_in (Some s) t ≡ leaves_at places i
-  links_there i t is = elim (cases_lt i (length places)) [
-    | inl lt ↦
-        let p = get_within places i lt in
-        let tree = roots.trees i t p.0 is p.1 in
-        links_of_pair tables s.trees (table_root t p.0.root) tree.0 stands.seen_has.whole.is_record.once tree.1.0 ∙ (sym tree.1.1.leaves ∙ sym (leaves_there places i p.0 p.1))
-    | inr past ↦ links_of_none tables s.trees t.number (λ j r there same.
-        let tree = paired tables s.trees j r stands.seen_has.whole.trees there in
-        let where_it = stood r tree.0 (j, there, tree.1) in
-        let index : where_it.index ≡ i = place-one 1 known next where_it.index i where_it.table t ascend where_it.known_at is (sym (ap (λ (x : TableRoot). x.table.number) where_it.root) ∙ same) in
-        omega (arith, index, past, slice_get_within places where_it.index where_it.place where_it.place_at)) ∙ sym (leaves_past places i past)
-  ]
-
   -- blocks of two places begin elsewhere
   begins_once : (i j : ℕ) (a : Addr) → BeginsIn places i a → BeginsIn places j a → i ≡ j
   begins_once i j a (p, x, is, there, same) (q, y, also, its, too) =
@@ -277,7 +265,7 @@ module _ (seen : List ℕ) (images : List ℕ → Type 0) (books : Books) (known
       elim (cases_eq one.there.pair.0 two.there.pair.0) [
         | inl index ↦
             let equal : table_root one.there.table p.root ≡ table_root two.there.table q.root = some_same (sym one.there.pair.1 ∙ (ap (λ (k : ℕ). slice_get tables k) index ∙ two.there.pair.1)) in
-            place-one 1 known next i j one.there.table two.there.table ascend one.there.known_at two.there.known_at (ap (λ (r : TableRoot). r.table.number) equal)
+            place_one 1 known next i j one.there.table two.there.table ascend one.there.known_at two.there.known_at (ap (λ (r : TableRoot). r.table.number) equal)
         | inr differ ↦
             let away = pairs_apart (table_root one.there.table p.root) (table_root two.there.table q.root) one.there.tree two.there.tree tables s.trees one.block two.block one.there.pair two.there.pair differ apart one.own two.own in
             absurd (meets one.block.place two.block.place away (some_size one.block (in_blocks i p x one)) (some_size two.block (in_blocks j q y two)) (ap (λ (z : Addr). z.offset) (sym one.place) ∙ (same ∙ (sym too ∙ ap (λ (z : Addr). z.offset) two.place))))
@@ -289,48 +277,44 @@ module _ (seen : List ℕ) (images : List ℕ → Type 0) (books : Books) (known
 
 -- ---- the same where there may be none
 
-module _ (seen : List ℕ) (images : List ℕ → Type 0) (books : Books) (known : List Table) (next : ℕ) (ascend : NumbersAscend 1 known next) (places : List TreePlace) where
+module _ (seen : List ℕ) (images : List ℕ → Type 0) (books : Books) (known : List Table) (next : ℕ) (ascend : NumbersAscend 1 known next) (leaves : List Leaf) (written : Written) (places : List TreePlace) where
   nothing_at : places ≡ [] → (i : ℕ) (p : TreePlace) → slice_get places i ≡ Some p → ⊥
   nothing_at none i p is = none_some (subst (λ (l : List TreePlace). slice_get l i ≡ Some p) none is)
 
   nowhere_at : places ≡ [] → (i : ℕ) → leaves_at places i ≡ []
   nowhere_at none i = leaves_past places i (omega (arith, ap length none))
 
-  pub are_old_blocks : (old : Option Stored) → Stands seen images books old → AreRoots known places old → ((u : ℕ) → cell_at books.cells u ≡ found_cell (found_in old) u) → AreUnits books.cells books.space → AreOldBlocks old (addrs_of places)
+  pub are_old_blocks : (old : Option Stored) → Stands seen images books old → AreRoots known leaves written places old → ((u : ℕ) → cell_at books.cells u ≡ found_cell (found_in old) u) → AreUnits books.cells books.space → AreOldBlocks old (addrs_of places)
   are_old_blocks None stands none cells units = record {
     each = λ a there. absurd (subst (λ (l : List TreePlace). Member a (addrs_of l)) none there);
     all = λ u live. absurd (false≢true live);
   }
-  are_old_blocks (Some s) stands roots cells units = old_blocks seen images books known next ascend places s stands roots cells units
+  are_old_blocks (Some s) stands roots cells units = old_blocks seen images books known next ascend leaves written places s stands roots cells units
 
-  pub are_live_leaves : (old : Option Stored) → Stands seen images books old → AreRoots known places old → ((u : ℕ) → cell_at books.cells u ≡ found_cell (found_in old) u) → AreUnits books.cells books.space → (i : ℕ) → AllByRecursion (λ (link : Link). IsLiveLeaf books link) (leaves_at places i)
+  pub are_live_leaves : (old : Option Stored) → Stands seen images books old → AreRoots known leaves written places old → ((u : ℕ) → cell_at books.cells u ≡ found_cell (found_in old) u) → AreUnits books.cells books.space → (i : ℕ) → AllByRecursion (λ (link : Link). IsLiveLeaf books link) (leaves_at places i)
   are_live_leaves None stands none cells units i = subst (λ (l : List Link). AllByRecursion (λ (link : Link). IsLiveLeaf books link) l) (sym (nowhere_at none i)) tt
-  are_live_leaves (Some s) stands roots cells units i = live_leaves seen images books known next ascend places s stands roots cells units books (λ n k live. live) i
+  are_live_leaves (Some s) stands roots cells units i = live_leaves seen images books known next ascend leaves written places s stands roots cells units books (λ n k live. live) i
 
-  pub leaves_apart : (old : Option Stored) → Stands seen images books old → AreRoots known places old → ((u : ℕ) → cell_at books.cells u ≡ found_cell (found_in old) u) → AreUnits books.cells books.space → (i : ℕ) → LeadApart (leaves_at places i)
+  pub leaves_apart : (old : Option Stored) → Stands seen images books old → AreRoots known leaves written places old → ((u : ℕ) → cell_at books.cells u ≡ found_cell (found_in old) u) → AreUnits books.cells books.space → (i : ℕ) → LeadApart (leaves_at places i)
   leaves_apart None stands none cells units i = subst LeadApart (sym (nowhere_at none i)) tt
-  leaves_apart (Some s) stands roots cells units i = lead seen images books known next ascend places s stands roots cells units i
+  leaves_apart (Some s) stands roots cells units i = lead seen images books known next ascend leaves written places s stands roots cells units i
 
-  pub leaf_listed_at : (old : Option Stored) → Stands seen images books old → AreRoots known places old → ((u : ℕ) → cell_at books.cells u ≡ found_cell (found_in old) u) → AreUnits books.cells books.space
+  pub leaf_listed_at : (old : Option Stored) → Stands seen images books old → AreRoots known leaves written places old → ((u : ℕ) → cell_at books.cells u ≡ found_cell (found_in old) u) → AreUnits books.cells books.space
       → (i : ℕ) (p : TreePlace) (link : Link) → slice_get places i ≡ Some p → Member link p.leaves.items → (link.addr.offset ≡ 0 → ⊥) → Member link.addr p.addrs.items
   leaf_listed_at None stands none cells units i p link is there some = absurd (nothing_at none i p is)
-  leaf_listed_at (Some s) stands roots cells units i p link is there some = leaf_in seen images books known next ascend places s stands roots cells units i p link is there some
+  leaf_listed_at (Some s) stands roots cells units i p link is there some = leaf_in seen images books known next ascend leaves written places s stands roots cells units i p link is there some
 
-  pub known_links : (old : Option Stored) → Stands seen images books old → AreRoots known places old → ((u : ℕ) → cell_at books.cells u ≡ found_cell (found_in old) u) → AreUnits books.cells books.space → (i : ℕ) (t : Table) → slice_get known i ≡ Some t → links_in old t ≡ leaves_at places i
-  known_links None stands none cells units i t is = sym (nowhere_at none i)
-  known_links (Some s) stands roots cells units i t is = links_there seen images books known next ascend places s stands roots cells units i t is
-
-  pub one_begins : (old : Option Stored) → Stands seen images books old → AreRoots known places old → ((u : ℕ) → cell_at books.cells u ≡ found_cell (found_in old) u) → AreUnits books.cells books.space → (i j : ℕ) (a : Addr) → BeginsIn places i a → BeginsIn places j a → i ≡ j
+  pub one_begins : (old : Option Stored) → Stands seen images books old → AreRoots known leaves written places old → ((u : ℕ) → cell_at books.cells u ≡ found_cell (found_in old) u) → AreUnits books.cells books.space → (i j : ℕ) (a : Addr) → BeginsIn places i a → BeginsIn places j a → i ≡ j
   one_begins None stands none cells units i j a (p, x, is, there, begins) also = absurd (nothing_at none i p is)
-  one_begins (Some s) stands roots cells units i j a one two = begins_once seen images books known next ascend places s stands roots cells units i j a one two
+  one_begins (Some s) stands roots cells units i j a one two = begins_once seen images books known next ascend leaves written places s stands roots cells units i j a one two
 
-  pub begins_old : (old : Option Stored) → Stands seen images books old → AreRoots known places old → ((u : ℕ) → cell_at books.cells u ≡ found_cell (found_in old) u) → AreUnits books.cells books.space → (i : ℕ) (p : TreePlace) (a : Addr) → slice_get places i ≡ Some p → Member a p.addrs.items → IsOldBlock old a
+  pub begins_old : (old : Option Stored) → Stands seen images books old → AreRoots known leaves written places old → ((u : ℕ) → cell_at books.cells u ≡ found_cell (found_in old) u) → AreUnits books.cells books.space → (i : ℕ) (p : TreePlace) (a : Addr) → slice_get places i ≡ Some p → Member a p.addrs.items → IsOldBlock old a
   begins_old None stands none cells units i p a is there = absurd (nothing_at none i p is)
-  begins_old (Some s) stands roots cells units i p a is there = old_addr seen images books known next ascend places s stands roots cells units i p a is there
+  begins_old (Some s) stands roots cells units i p a is there = old_addr seen images books known next ascend leaves written places s stands roots cells units i p a is there
 
-  pub begins_within : (old : Option Stored) → Stands seen images books old → AreRoots known places old → ((u : ℕ) → cell_at books.cells u ≡ found_cell (found_in old) u) → AreUnits books.cells books.space → (i : ℕ) (p : TreePlace) (a : Addr) → slice_get places i ≡ Some p → Member a p.addrs.items → a.offset + a.size ≤ length seen
+  pub begins_within : (old : Option Stored) → Stands seen images books old → AreRoots known leaves written places old → ((u : ℕ) → cell_at books.cells u ≡ found_cell (found_in old) u) → AreUnits books.cells books.space → (i : ℕ) (p : TreePlace) (a : Addr) → slice_get places i ≡ Some p → Member a p.addrs.items → a.offset + a.size ≤ length seen
   begins_within None stands none cells units i p a is there = absurd (nothing_at none i p is)
-  begins_within (Some s) stands roots cells units i p a is there = within_addr seen images books known next ascend places s stands roots cells units i p a is there
+  begins_within (Some s) stands roots cells units i p a is there = within_addr seen images books known next ascend leaves written places s stands roots cells units i p a is there
 
 pub live_of_old : (old : Option Stored) (books : Books) (a : Addr) → ((u : ℕ) → cell_at books.cells u ≡ found_cell (found_in old) u) → IsOldBlock old a → HasLive books.cells a.offset a.size
 live_of_old old books a cells o = let cell = cells o.unit ∙ o.cell in (o.unit, o.offset, o.size ∙ ap (λ (c : Cell). 4096 * c.units) (sym cell), ap (λ (c : Cell). c.is_live) cell)

@@ -35,9 +35,9 @@ use Rattle.tree_dir.specs.declared.leaf.Leaf.{Leaf}
 use Rattle.engine_world.specs.Doings.{call_in, doing_at, landing, stamping, undoing}
 use Rattle.engine_world.specs.Stands.{Engine, Stands}
 use Rattle.engine_world.specs.Worlds.{Doing, Resting, Asked, Placed, Decided, Ending, World, doing_of}
-use Rattle.ckpt_step.specs.Keeps.{AreOrdinary, EnginesAreOrdinary, FitsAreOrdinary, IsOrdinary, IsOrdinaryCall, IsOrdinaryDoing, IsOrdinaryEvent, IsOrdinaryStep, Keeps, StepsKeep}
+use Rattle.ckpt_step.specs.Keeps.{AreOrdinary, EnginesAreOrdinary, FitsAreOrdinary, IsOrdinary, IsOrdinaryCall, IsOrdinaryDoing, IsOrdinaryEvent, IsOrdinaryStep, Keeps, KeptKeep, KeptOutKeep, StepsKeep}
 use Rattle.ckpt_step.proofs.Quiet.{IsMild, IsQuiet}
-use Rattle.ckpt_step.proofs.StepCalls.{IsMildAny, IsMildDoing, IsMildIn, IsMildStep, IsMildWorld, Stays, answers_so, opens_more, steps}
+use Rattle.ckpt_step.proofs.StepCalls.{IsMildAny, IsMildDoing, IsMildIn, IsMildStep, IsMildWorld, Stays, answers_so, kept_so, opens_more, out_so, steps}
 use Rattle.ckpt_step.proofs.WholeCalls.{Kept}
 
 -- ---- events
@@ -178,6 +178,12 @@ steps_keep = (
   (λ w next made answer are there may. keeps w next (answers_so ⊥ same_kept w next made answer (world_mild w are) (any_mild made there) may)),
   (λ w are. keeps w (with_session_more w) (opens_more ⊥ same_kept w (world_mild w are))),
 )
+
+pub kept_keep : KeptKeep
+kept_keep kept w next session made answer are there may = keeps w next (kept_so ⊥ same_kept kept w next session made answer (world_mild w are) (mild_of made there) may)
+
+pub kept_out_keep : KeptOutKeep
+kept_out_keep w next session r are may = keeps w next (out_so ⊥ same_kept w next session r (world_mild w are) may)
 
 -- ---- what an engine has under way
 

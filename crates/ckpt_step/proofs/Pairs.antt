@@ -1,5 +1,5 @@
 -- Tables and their trees, in one order.
-use Rattle.std.specs.Prelude.{◌≡◌, ◌≢◌, ℕ, zero, suc, ◌≤◌, ◌==◌, true, false, List, [], ◌∷◌, ◌++◌, map, Some, slice_get, refl}
+use Rattle.std.specs.Prelude.{◌≡◌, ◌≢◌, ℕ, zero, suc, ◌≤◌, true, false, List, [], ◌∷◌, ◌++◌, map, Some, slice_get, refl}
 use Rattle.std.specs.List.{AllByRecursion}
 use Rattle.std.proofs.Common.{inl, inr, sym, ◌∙◌, ap, subst, arith}
 use Rattle.std.proofs.lemmas.Bool.{cases_Bool, eq-eqb, eqb-true}
@@ -15,7 +15,7 @@ use Rattle.stored.specs.TableTree.{Entry, TableTree, root_entry, table_kind}
 use Rattle.stored.specs.Tree.{AllBear, IsTree, leaf_blocks, tree_blocks}
 use Rattle.tree_open.specs.Trees.{HasTree, places}
 use Rattle.tree_write.specs.Writes.{LeadApart}
-use Rattle.ckpt_step.specs.Trees.{IsPair, leaf_links, links_of}
+use Rattle.ckpt_step.specs.Trees.{IsPair}
 use Rattle.ckpt_step.proofs.Members.{all_made, all_of, in_back, in_either, in_front, member_map, none_some, some_same}
 use Rattle.ckpt_step.proofs.OrderedByName.{all_back, all_front}
 
@@ -93,13 +93,6 @@ pair_tree r tree (x ∷ tables) (y ∷ trees) (zero, at, also) are =
     subst (λ (z : TableRoot). IsTree table_kind z.root.level (root_entry z.root.link) tree) (some_same at) (subst (λ (z : TableTree). IsTree table_kind x.root.level (root_entry x.root.link) z) (some_same also) are.0)
 pair_tree r tree (x ∷ tables) (y ∷ trees) (suc i, at, also) are = pair_tree r tree tables trees (i, at, also) are.1
 
--- each table has one
-pub paired : (tables : List TableRoot) (trees : List TableTree) (i : ℕ) (r : TableRoot) → AreTrees tables trees → slice_get tables i ≡ Some r → (tree : TableTree) × (slice_get trees i ≡ Some tree)
-paired [] trees i r are at = absurd (none_some at)
-paired (x ∷ tables) [] i r are at = absurd are
-paired (x ∷ tables) (y ∷ trees) zero r are at = (y, refl)
-paired (x ∷ tables) (y ∷ trees) (suc i) r are at = paired tables trees i r are.1 at
-
 -- on a device
 pub pair_on : (bytes : List ℕ) (r : TableRoot) (tree : TableTree) (tables : List TableRoot) (trees : List TableTree) → IsPair r tree tables trees → AreTrees tables trees
     → ((b : Block) → Member b (tables_blocks tables trees) → IsAddressed b) → ((b : Block) → Member b (tables_blocks tables trees) → IsAt bytes b) → HasTree bytes r.root tree
@@ -123,27 +116,6 @@ one_index (x ∷ tables) zero zero r q once at also same = refl
 one_index (x ∷ tables) zero (suc j) r q once at also same = absurd (later_differ x tables j q once.0 also (sym same ∙ ap (λ (z : TableRoot). z.table.number) (sym (some_same at))))
 one_index (x ∷ tables) (suc i) zero r q once at also same = absurd (later_differ x tables i r once.0 at (same ∙ ap (λ (z : TableRoot). z.table.number) (sym (some_same also))))
 one_index (x ∷ tables) (suc i) (suc j) r q once at also same = ap suc (one_index tables i j r q once.1 at also same)
-
--- what leads to the leaves of a table that has the number
-pub links_of_pair : (tables : List TableRoot) (trees : List TableTree) (r : TableRoot) (tree : TableTree) → NumbersOnce tables → IsPair r tree tables trees → links_of tables trees r.table.number ≡ leaf_links r.root tree
-links_of_pair [] trees r tree once (i, at, also) = absurd (none_some at)
-links_of_pair (x ∷ tables) [] r tree once (i, at, also) = absurd (none_some also)
-links_of_pair (x ∷ tables) (y ∷ trees) r tree once (zero, at, also) =
-    let is : (x.table.number == r.table.number) ≡ true = eq-eqb x.table.number r.table.number (ap (λ (z : TableRoot). z.table.number) (some_same at)) in
-    rw is (ap (λ (z : TableRoot). leaf_links z.root y) (some_same at) ∙ ap (λ (z : TableTree). leaf_links r.root z) (some_same also))
-links_of_pair (x ∷ tables) (y ∷ trees) r tree once (suc i, at, also) = elim (cases_Bool (x.table.number == r.table.number)) [
-  | inl is ↦ absurd (later_differ x tables i r once.0 at (sym (eqb-true x.table.number r.table.number is)))
-  | inr isnt ↦ rw isnt (links_of_pair tables trees r tree once.1 (i, at, also))
-]
-
--- nothing where none has it
-pub links_of_none : (tables : List TableRoot) (trees : List TableTree) (number : ℕ) → ((i : ℕ) (r : TableRoot) → slice_get tables i ≡ Some r → r.table.number ≡ number → ⊥) → links_of tables trees number ≡ []
-links_of_none [] trees number none = refl
-links_of_none (x ∷ tables) [] number none = refl
-links_of_none (x ∷ tables) (y ∷ trees) number none = elim (cases_Bool (x.table.number == number)) [
-  | inl is ↦ absurd (none zero x refl (eqb-true x.table.number number is))
-  | inr isnt ↦ rw isnt (links_of_none tables trees number (λ i r at same. none (suc i) r at same))
-]
 
 -- ---- the leaves of a tree
 

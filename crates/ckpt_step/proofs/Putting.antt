@@ -19,7 +19,8 @@ use Rattle.wt_code.specs.declared.store_error.StoreError.{StoreError}
 use Rattle.wt_code.specs.declared.store_error.StoreError.TheVariants.{NoMemory, NoSpace, Read, Down}
 use Rattle.turtle.specs.Slots.{IsNext}
 use Rattle.kv_model.specs.History.{Table}
-use Rattle.kv_model.specs.Machine.{Machine}
+use Rattle.engine_world.specs.Worlds.{World}
+use Rattle.tree_dir.specs.declared.leaf.Leaf.{Leaf}
 use Rattle.catalog.specs.Known.{NumbersAscend}
 use Rattle.stored.specs.Records.{Record, record_image}
 use Rattle.stored.specs.Stored.{Stored}
@@ -31,7 +32,11 @@ use Rattle.ckpt_step.specs.Checkpoints.{IsCheckpointOf, IsRecordOf}
 use Rattle.ckpt_step.specs.Grounds.{number_of}
 use Rattle.ckpt_step.specs.Halves.{AllWritten, SomeWritten, IsFresh, Runs, done_at, half_cell, record_cell}
 use Rattle.ckpt_step.specs.Runs.{AllPut, IsImageOf, SomePut, made_of}
+use Rattle.ckpt_step.specs.Parts.{with_parts}
+use Rattle.ckpt_step.specs.Rooms.{Written}
+use Rattle.ckpt_step.specs.declared.parts.LeafPart.{LeafPart}
 use Rattle.ckpt_step.proofs.Following.{follows_new}
+use Rattle.ckpt_step.proofs.LeadingLeaves.{leaves_lead}
 use Rattle.ckpt_step.proofs.Made.{made_is, made_ready}
 
 pub if_ok_map : {T E : Type 0} {P Q : T → Type 0} (r : Result T E) → IfOk r P → ((x : T) → P x → Q x) → IfOk r Q
@@ -93,9 +98,9 @@ whole_there before after a (mid, added, is) = omega (arith, added.size)
 
 -- ---- the steps
 
-module _ {D : Type 0} (g : Ghosts D) (old : Option Stored) (m : Machine) (known : List Table) (books : Books) (places : List TreePlace) (taken : List Addr) (before : D) where
+module _ {D : Type 0} (g : Ghosts D) (old : Option Stored) (w : World) (known : List Table) (leaves : List Leaf) (had : Written) (books : Books) (places : List TreePlace) (more : List LeafPart) (taken : List Addr) (before : D) where
   -- the trees were not all written
-  pub trees_failed : (books' : Books) (after : D) (e : StoreError) → SomeWritten g old m known books books' places taken before after e → SomePut g old m known books books' places taken before after e
+  pub trees_failed : (books' : Books) (after : D) (e : StoreError) → SomeWritten g old w known leaves had books books' places more taken before after e → SomePut g old w known leaves had books books' places more taken before after e
   trees_failed books' after e some = record {
     left = inl some.left;
     kept = λ safe. some.left;
@@ -103,9 +108,9 @@ module _ {D : Type 0} (g : Ghosts D) (old : Option Stored) (m : Machine) (known 
     lacks = λ is. inl (some.lacks is);
   }
 
-  module _ (mid : D) (books' : Books) (all : AllWritten g old m known books books' places taken before mid) where
+  module _ (mid : D) (books' : Books) (all : AllWritten g old w known leaves had books books' places more taken before mid) where
     -- there was no memory for the record
-    pub no_image : SomePut g old m known books books' places taken before mid NoMemory
+    pub no_image : SomePut g old w known leaves had books books' places more taken before mid NoMemory
     no_image = record {
       left = inl all.left;
       kept = λ safe. all.left;
@@ -113,7 +118,7 @@ module _ {D : Type 0} (g : Ghosts D) (old : Option Stored) (m : Machine) (known 
       lacks = λ is. absurd (cc);
     }
 
-    module _ (next : ℕ) (ascend : NumbersAscend 1 known next) (count : length places ≡ length known) (image : List ℕ) (number : ℕ) (is_number : number ≡ number_of old) (img : IsImageOf m number known places image) (counts : (c : List ℕ) → g.may_leave mid c → g.left_since mid (g.moment before) c) where
+    module _ (next : ℕ) (ascend : NumbersAscend 1 known next) (count : length places ≡ length known) (image : List ℕ) (number : ℕ) (is_number : number ≡ number_of old) (img : IsImageOf w.machine number known places image) (counts : (c : List ℕ) → g.may_leave mid c → g.left_since mid (g.moment before) c) where
       abbrev pub made : Addr → Stored
       made a = made_of img.r known all.trees a
 
@@ -137,17 +142,17 @@ module _ {D : Type 0} (g : Ghosts D) (old : Option Stored) (m : Machine) (known 
       turns : (after : D) (a : Addr) → LeavesOnly g mid after (IsEither (g.may_leave mid) old (made a)) → LeavesOnly g before after (IsEither (g.may_leave before) old (made a))
       turns after a left = joined g before mid after _ _ (widened g before mid _ _ all.left (λ c is. inl is)) left (either_since a)
 
-      is_made : (a : Addr) → IsCheckpointOf m (number_of old) (made a)
-      is_made a = subst (λ (n : ℕ). IsCheckpointOf m n (made a)) is_number (made_is known next ascend places all.trees count (g.seen mid) all.half.there img.r a img.is.bare img.tables m number img.is all.rows)
+      is_made : (a : Addr) → IsCheckpointOf w.machine (number_of old) (made a)
+      is_made a = subst (λ (n : ℕ). IsCheckpointOf w.machine n (made a)) is_number (made_is known next ascend places all.trees count (g.seen mid) all.half.there img.r a img.is.bare img.tables w.machine number img.is all.rows)
 
       sized : (P : ℕ → ℕ → Type 0) → g.capacity mid ≡ g.capacity before → P (units_of (length image)) (g.capacity mid) → P (block_size (length (record_image img.r))) (g.capacity before)
       sized P room is = subst (λ (k : ℕ). P (block_size (length (record_image img.r))) k) room (subst (λ (l : List ℕ). P (block_size (length l)) (g.capacity mid)) img.spelled is)
 
-      record_size : (r : Record) × IsRecordOf m (number_of old) r × (block_size (length (record_image img.r)) ≡ block_size (length (record_image r)))
-      record_size = (img.r, subst (λ (n : ℕ). IsRecordOf m n img.r) is_number img.is, refl)
+      record_size : (r : Record) × IsRecordOf w.machine (number_of old) r × (block_size (length (record_image img.r)) ≡ block_size (length (record_image r)))
+      record_size = (img.r, subst (λ (n : ℕ). IsRecordOf w.machine n img.r) is_number img.is, refl)
 
       pub all_put : (last : Books) (after : D) (a : Addr) → g.capacity mid ≡ g.capacity before → Finishes g books'.space (length image) (g.capacity mid) old (made a) mid after (Ok a) → ReadsAfter g last old (made a) after (Ok a) → IsLastNow books' last a → AreUnits last.cells last.space → last.is_held ≡ false
-          → AllPut g old m known books last places taken before after a
+          → AllPut g old w known leaves had books last places more taken before after a
       all_put last after a room (left, each, (space, at, got)) (on, within) now units idle = record {
         r = img.r;
         trees = all.trees;
@@ -155,7 +160,8 @@ module _ {D : Type 0} (g : Ghosts D) (old : Option Stored) (m : Machine) (known 
         left = turns after a left;
         each = each;
         placed = (books'.space, block_size (length (record_image img.r)), space, at, all.placed, record_size, sized (λ (n capacity : ℕ). Taken books'.space space n capacity at) room got);
-        same = all.same;
+        by_leaves = all.by_leaves;
+        of_leaves = all.of_leaves;
         done = record {
           on = on;
           tables = img.tables;
@@ -173,14 +179,14 @@ module _ {D : Type 0} (g : Ghosts D) (old : Option Stored) (m : Machine) (known 
           idle = idle;
           within = within;
         };
-        follows = follows_new known next ascend places all.trees count (g.seen mid) all.half.there img.r a img.is.bare img.tables m all.rows;
+        follows = follows_new known next ascend places all.trees count (g.seen mid) all.half.there img.r a img.is.bare img.tables leaves (with_parts had more) w all.rows all.by_leaves.parted all.by_leaves.shelved (leaves_lead (g.seen mid) books' all.half.runs.units places all.trees all.half.there all.half.apart all.half.in_use);
       }
 
       runs_back : (last : Books) (after : D) (a : Addr) (e : StoreError) → ReadsAfter g last old (made a) after (Err e) → AreBack books' last → ((ReadsAfter g last old (made a) after (Err e)) → Stands (g.seen after) (g.may_leave after) last old × (end_of last.space ≤ length (g.seen after))) → 8192 ≤ length (g.seen after) → Runs (g.seen after) (g.may_leave after) last old taken
       runs_back last after a e reads back is long = let r = is reads in record { stands = r.0; cells = λ u. back.cells u ∙ all.half.runs.cells u; units = back.units all.half.runs.units; long = long; within = r.1; own = all.half.runs.own }
 
       -- the record was not installed
-      pub not_put : (last : Books) (after : D) (a : Addr) (e : StoreError) → g.capacity mid ≡ g.capacity before → Fails g books'.space (length image) (g.capacity mid) old (made a) mid after e → ReadsAfter g last old (made a) after (Err e) → AreBack books' last → SomePut g old m known books last places taken before after e
+      pub not_put : (last : Books) (after : D) (a : Addr) (e : StoreError) → g.capacity mid ≡ g.capacity before → Fails g books'.space (length image) (g.capacity mid) old (made a) mid after e → ReadsAfter g last old (made a) after (Err e) → AreBack books' last → SomePut g old w known leaves had books last places more taken before after e
       not_put last after a NoMemory room left reads back = record {
         left = inl (keeps after left);
         kept = λ safe. keeps after left;

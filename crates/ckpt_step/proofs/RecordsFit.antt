@@ -20,11 +20,10 @@ use Rattle.catalog.proofs.InOrder.{order_ascends, order_keeps, sorted_ascends}
 use Rattle.catalog.proofs.NameOrder.{below_self}
 use Rattle.catalog.proofs.Turning.{all_member}
 use Rattle.engine_world.proofs.Fronts.{index-of}
-use Rattle.engine.proofs.OneLeaf.{place-one}
 use Rattle.ckpt_step.specs.Trees.{table_root}
 use Rattle.ckpt_step.specs.Records.{IsTyped}
 use Rattle.ckpt_step.proofs.ByName.{by_name_length}
-use Rattle.ckpt_step.proofs.ByPlace.{number_least, number_most}
+use Rattle.ckpt_step.proofs.ByPlace.{number_least, number_most, place_one}
 
 -- ---- names
 
@@ -82,7 +81,7 @@ number_one : (known : Known) (t u : Table) → AreTables known → Member t know
 number_one known t u are there also same =
     let i = index-of known.tables u also in
     let j = index-of known.tables t there in
-    let place = place-one 1 known.tables known.next i.0 j.0 u t are.numbers i.1 j.1 same in
+    let place = place_one 1 known.tables known.next i.0 j.0 u t are.numbers i.1 j.1 same in
     same_Some u t (sym i.1 ∙ (ap (slice_get known.tables) place ∙ j.1))
 
 others_differ : (known : Known) (roots : Table → Root) (t : Table) (later : List Table) → AreTables known → Member t known.tables → ((u : Table) → Member u later → Member u known.tables)

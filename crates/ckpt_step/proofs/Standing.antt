@@ -1,7 +1,8 @@
 -- The checkpoint on which the next one stands.
-use Rattle.std.specs.Prelude.{◌≡◌, ℕ, ◌+◌, ◌*◌, ◌/◌, Bool, false, List, cond, length, Option, Some, refl}
+use Rattle.std.specs.Prelude.{◌≡◌, ℕ, ◌+◌, ◌*◌, ◌/◌, ◌≤◌, Bool, false, List, cond, length, Option, None, Some, refl}
 use Rattle.std.specs.List.{flat_map, fold}
 use Rattle.std.proofs.Common.{inl, inr, sym, ◌∙◌, ap, subst, arith}
+use Rattle.std.proofs.Math.Path.{fun_ext}
 use Rattle.std.proofs.lemmas.Bool.{cases_eq, eq-eqb, ne_eqb, false≢true}
 use Rattle.disk_model.specs.Crash.{Each}
 use Rattle.extent_list.specs.Space.{end_of}
@@ -23,13 +24,19 @@ use Rattle.checkpoint_core.specs.Stands.{AreInUse, body_blocks}
 use Rattle.recover_open.specs.Bare.{IsBare}
 use Rattle.tree_open.specs.declared.place.TreePlace.{TreePlace}
 use Rattle.ckpt_step.specs.declared.ground.Ground.{Ground}
-use Rattle.ckpt_step.specs.Grounds.{HasRoots, StandsOn, found_in}
-use Rattle.ckpt_step.specs.Halves.{body_cell, half_cell, record_cell, settled_at, with_last}
+use Rattle.call_steps.specs.declared.hub.Hub.{Hub}
+use Rattle.tree_dir.specs.Leaves.{IsDirectory}
+use Rattle.ckpt_step.specs.Grounds.{AreWritten, HasRoots, StandsOn, found_in}
+use Rattle.ckpt_step.specs.Parts.{AreOfLeaves, with_parts}
+use Rattle.ckpt_step.specs.Rooms.{Written, known_in}
+use Rattle.ckpt_step.specs.declared.parts.LeafPart.{LeafPart}
+use Rattle.ckpt_step.proofs.NewParts.{new_written}
+use Rattle.ckpt_step.specs.Halves.{AreParted, body_cell, half_cell, record_cell, settled_at, with_last}
 use Rattle.ckpt_step.specs.Records.{trees_by_name}
 use Rattle.ckpt_step.specs.Runs.{IsDone, made_of}
 use Rattle.ckpt_step.specs.Trees.{trees_blocks}
 use Rattle.ckpt_step.proofs.Cells.{Begins, found_is, found_of, start-none, start-record, which}
-use Rattle.ckpt_step.proofs.Goings.{addr_block, block_addr}
+use Rattle.ckpt_step.proofs.PlacedTrees.{addr_block, block_addr}
 use Rattle.ckpt_step.proofs.Made.{all_blocks, body_are, made_roots, table_blocks, tables_are}
 use Rattle.ckpt_step.proofs.Members.{all_made, all_of, flat_member, member_flat}
 
@@ -144,9 +151,10 @@ module _ (seen : List ℕ) (books : Books) (old : Option Stored) (known : List T
       (all_made (λ (b : Block). Has cells b.place.offset b.place.size) (tables_blocks r.tables (trees_by_name known trees)) (λ b there. block_has b (from_name b there)))
 
   -- the ground is that of the new checkpoint
-  pub new_ground : (images : List ℕ → Type 0) (g : Ground) → Each images (λ c. IsOn c new) → g.place.blocks.cells ≡ cells → AreUnits g.place.blocks.cells g.place.blocks.space → g.place.blocks.is_held ≡ false → end_of g.place.blocks.space ≡ end_of books.space → g.number ≡ r.sequence
-      → g.place.slot ≡ Some (slot_at r.sequence a) → g.trees.items ≡ places → StandsOn seen images known g (Some new)
-  new_ground images g each same units idle end number slot_is trees_are = record {
+  pub new_ground : (images : List ℕ → Type 0) (hub : Hub) (had : Written) (more : List LeafPart) (g : Ground) → hub.tables.tables ≡ known → IsDirectory hub.dir → AreParted known hub.dir.leaves (with_parts had more) places trees → AreOfLeaves hub.dir.leaves more → ((id : ℕ) → hub.dir.next ≤ id → had id ≡ None)
+      → Each images (λ c. IsOn c new) → g.place.blocks.cells ≡ cells → AreUnits g.place.blocks.cells g.place.blocks.space → g.place.blocks.is_held ≡ false → end_of g.place.blocks.space ≡ end_of books.space → g.number ≡ r.sequence
+      → g.place.slot ≡ Some (slot_at r.sequence a) → g.trees.items ≡ places → ((leaf : ℕ) → known_in g.parts leaf ≡ with_parts had more leaf) → StandsOn seen images hub g (Some new)
+  new_ground images hub had more g tables_are is parted of later each same units idle end number slot_is trees_are parts_are = record {
     stands = record {
       seen_has = done.on;
       images_have = λ _. each;
@@ -159,5 +167,10 @@ module _ (seen : List ℕ) (books : Books) (old : Option Stored) (known : List T
     idle = idle;
     long = done.on.long;
     within = omega (arith, end, done.within);
-    roots = subst (λ (l : List TreePlace). HasRoots known l new) (sym trees_are) (made_roots known next ascend places trees count done.bytes done.there r a bare done.tables);
-  }
+    roots = from (λ ts ps x. HasRoots ts hub.dir.leaves x ps new) (made_roots known next ascend places trees count done.bytes done.there r a bare done.tables hub.dir.leaves (with_parts had more) parted);
+    written = from (λ ts ps x. AreWritten ts hub.dir x ps) (new_written hub.dir known places had more is count of later);
+  } where
+    from : (P : List Table → List TreePlace → Written → Type 0) → P known places (with_parts had more) → P hub.tables.tables g.trees.items (known_in g.parts)
+    from P made =
+        subst (λ (ts : List Table). P ts g.trees.items (known_in g.parts)) (sym tables_are)
+        (subst (λ (l : List TreePlace). P known l (known_in g.parts)) (sym trees_are) (subst (λ (x : Written). P known places x) (sym (fun_ext parts_are)) made))

@@ -5,6 +5,7 @@ use Rattle.failure.specs.declared.Fault.{Fault}
 use Rattle.item.specs.declared.Change.TheVariants.{Put as PutOf, Remove as RemoveOf}
 use Rattle.wt_code.specs.declared.answers.Answer.{Answer}
 use Rattle.wt_code.specs.declared.answers.Answer.TheVariants as answers
+use Rattle.wt_code.specs.declared.refusals.Refusal.{Refusal}
 use Rattle.wt_code.specs.declared.refusals.Refusal.TheVariants.{NoMemory, Panic}
 use Rattle.kv_model.specs.Machine.{Machine, Transaction, Event, EndTransaction, Nothing, OpenSession, after, transaction_of}
 use Rattle.kv_model.specs.Decisions.{Outcome, Done, Refused, Request, BeginCall, PrepareCall, CommitCall, RollbackCall, FindKey, FindToWrite, FindRow, Occupied, decision}
@@ -14,15 +15,15 @@ use Rattle.wt_calls.specs.declared.call.Call.{Call as AnyCall}
 use Rattle.wt_calls.specs.declared.call.Call.TheVariants as call
 use Rattle.wt_calls.specs.Calls.{session_call_in, system_call_in}
 use Rattle.call_steps.specs.declared.reply.Reply.{Reply as Told}
-use Rattle.engine_world.specs.Steps.{BeginsIn, EndsIn, EndsUnless, EndsWith, Finds, Finishes, FoundBy, GoesOn, GoesTo, JudgedBy, Judges, LookAnswer, LooksOn, Made, SettledBy, Settles, TellsFault}
+use Rattle.engine_world.specs.Steps.{BeginsIn, EndsIn, EndsUnless, EndsWith, Finds, Finishes, FoundBy, GoesOn, GoesTo, IsKeptOut, JudgedBy, Judges, LookAnswer, LooksOn, Made, MayKeepOut, SettledBy, Settles, TellsFault}
 use Rattle.engine_world.specs.Worlds.{Doing, Resting, Asked, Placed, Decided, Ending, World, doing_of}
 use Rattle.engine.specs.declared.step.Actor.TheVariants as by
 use Rattle.engine.specs.declared.step.Step.{Step}
 use Rattle.engine.specs.declared.step.Step.TheVariants.{Start, Go}
 use Rattle.engine.specs.Runs.{AsksIn, MakesIn, MayStep}
-use Rattle.engine.specs.Whole.{CallsIn, MakesAt, MayAnswer, with_session_more}
+use Rattle.engine.specs.Whole.{CallsIn, CallsKept, KeptBy, MakesAt, MayAnswer, MayCallKept, with_session_more}
 use Rattle.ckpt_step.proofs.Quiet.{IsMild, IsMildRequest, IsQuiet, Quiet, commit_mild, decision_quiet, is_quiet, reset_quiet, row_quiet, seek_quiet, write_quiet}
-use Rattle.ckpt_step.proofs.WholeCalls.{Kept, session_goes, system_goes}
+use Rattle.ckpt_step.proofs.WholeCalls.{Kept, session_goes, spared_goes, spared_of, system_goes}
 
 -- one more, or another one, among those that are each so
 each_set : {A : Type 0} (P : A → Type 0) (xs : List A) (i : ℕ) (v d : A) → ((k : ℕ) → P (get_or xs k d)) → P v → (k : ℕ) → P (get_or (set xs i v) k d)
@@ -151,6 +152,10 @@ module _ (barred : Type 0) (k : Kept barred) where
   goes_on (Ending answer left) m session x mild (inl goes) = goes_to (Ending answer) left m m x (k.same m) (λ n. tt) goes
   goes_on (Ending answer left) m session x mild (inr ends) = ends_unless m.fault answer m session left x ends
 
+  kept_out : (doing : Doing) (r : Refusal) (m : Machine) (x : Made) → IsKeptOut doing r m x → MadeMild m x
+  kept_out (Placed made table left) r m x goes = goes_to (Decided (answers.Refused r) Nothing) left m m x (k.same m) (λ n. tt) goes
+  kept_out _ r m x there = absurd there
+
   -- ---- worlds
 
   pub record Stays (w later : World) : Type 0 where
@@ -204,6 +209,24 @@ module _ (barred : Type 0) (k : Kept barred) where
   calls (Placed other table n) w session made answer next there mild (refuses, is) = unmoved w next mild is
   calls (Decided other event n) w session made answer next there mild (refuses, is) = unmoved w next mild is
   calls (Ending other n) w session made answer next there mild (refuses, is) = unmoved w next mild is
+
+  calls_kept : (kept : KeptBy) (doing : Doing) (w : World) (session : ℕ) (made : Call) (answer : Answer (List ℕ)) (next : World) → IsMild barred made → IsMildWorld barred w → CallsKept kept doing w session made answer next → Stays w next
+  calls_kept kept Resting w session made answer next there mild (answered, fault, is) =
+      stays_at w _ next is (with_machine w next.machine mild (spared_goes barred k kept w.machine next.machine session made answer there (spared_of kept w.machine next.machine fault) answered))
+  calls_kept kept (Asked other n) w session made answer next there mild (refuses, is) = unmoved w next mild is
+  calls_kept kept (Placed other table n) w session made answer next there mild (refuses, is) = unmoved w next mild is
+  calls_kept kept (Decided other event n) w session made answer next there mild (refuses, is) = unmoved w next mild is
+  calls_kept kept (Ending other n) w session made answer next there mild (refuses, is) = unmoved w next mild is
+
+  -- a call of a session from which its leaf may have been kept
+  pub kept_so : (kept : KeptBy) (w next : World) (session : ℕ) (made : Call) (answer : Answer (List ℕ)) → IsMildWorld barred w → IsMild barred made → MayCallKept kept w session made answer next → Stays w next
+  kept_so kept w next session made answer mild there may = calls_kept kept (doing_of w session) w session made answer next there mild may
+
+  -- one that is refused the leaf that it waits for
+  pub out_so : (w next : World) (session : ℕ) (r : Refusal) → IsMildWorld barred w → MayKeepOut w session r next → Stays w next
+  out_so w next session r mild may =
+      let x = kept_out (doing_of w session) r w.machine may.made may.keeps in
+      stays_at w _ next may.leaves (with_session w may.made.machine session may.made.doing mild x.to x.mild)
 
   makes_at : (o : Option Call) (w : World) (made : Call) (answer : Answer (List ℕ)) (next : World) → IsMild barred made → IsMildWorld barred w → MakesAt o w made answer next → Stays w next
   makes_at None w made answer next there mild (answered, is) = stays_at w _ next is (with_machine w next.machine mild (system_goes barred k w.machine next.machine made answer there answered))

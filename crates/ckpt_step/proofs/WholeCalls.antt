@@ -1,14 +1,17 @@
 -- What whole calls leave of a machine, by what each of their events leaves of it.
-use Rattle.std.proofs.Common.{◌≡◌, ℕ, List, Option, Some, None, refl, ap, sym, subst, inl, inr}
+use Rattle.std.proofs.Common.{◌≡◌, ◌⊎◌, ◌∙◌, ℕ, false, List, Option, Some, None, refl, ap, sym, subst, inl, inr}
 use Rattle.item.specs.declared.Change.TheVariants.{Put as PutOf, Remove as RemoveOf}
 use Rattle.wt_code.specs.declared.answers.Answer.{Answer}
 use Rattle.kv_model.specs.History.{Table}
 use Rattle.kv_model.specs.Machine.{Machine, Transaction, Event, StartLeaving, CommitAt, Nothing, after, of_some, transaction_of}
 use Rattle.kv_model.specs.Rows.{NextAnswer, SeekAnswer, reset_decision, row_event, seek_event}
-use Rattle.kv_model.specs.Decisions.{Outcome, Done, Request, OpenCall, BeginCall, PrepareCall, CommitCall, RollbackCall, EndCall, FindKey, FindToWrite, FindRow, CreateCall, SetCall, Occupied, GetAnswer, WriteAnswer, decision}
-use Rattle.kv_model.specs.Calls.{Actor, Session, System, Call, Begin, GetKey, PutKey, RemoveKey, SeekKey, NextRow, Reset, Prepare, Commit, Rollback, Create, Set, CkptStart, CkptStep, CkptFinish, Evict, Rts, Close, ActorAnswers, AtPlace, Decided, HeldUp, IsHeldUp, IsShort, Judged, OpensSession, SessionAnswers, SystemAnswers, ended, settled}
+use Rattle.kv_model.specs.Decisions.{Outcome, Done, Refused, Request, OpenCall, BeginCall, PrepareCall, CommitCall, RollbackCall, EndCall, FindKey, FindToWrite, FindRow, CreateCall, SetCall, Occupied, GetAnswer, WriteAnswer, decision, is_on_page, judged, while_up}
+use Rattle.kv_model.specs.Calls.{Actor, Session, System, Call, Begin, GetKey, PutKey, RemoveKey, SeekKey, NextRow, Reset, Prepare, Commit, Rollback, Create, Set, CkptStart, CkptStep, CkptFinish, Evict, Rts, Close, ActorAnswers, AtPlace, Decided, HeldUp, IsHeldUp, IsKeptOut, IsShort, Judged, OpensSession, SessionAnswers, SystemAnswers, ended, settled}
 use Rattle.engine_world.proofs.KeepingOut.{none_out}
-use Rattle.engine_world.specs.Whole.{nothing_around}
+use Rattle.engine_world.specs.Whole.{around_kept, nothing_around}
+use Rattle.wt_code.specs.declared.refusals.Refusal.{Refusal}
+use Rattle.wt_code.specs.declared.refusals.Refusal.TheVariants.{Panic}
+use Rattle.failure.specs.declared.Fault.{Fault}
 use Rattle.ckpt_step.proofs.Quiet.{IsMild, IsMildRequest, IsQuiet, Quiet, commit_mild, decision_quiet, is_quiet, reset_quiet, row_quiet, seek_quiet, write_quiet}
 
 -- what holds of each machine and of what quiet events leave of it
@@ -17,6 +20,15 @@ pub record Kept (barred : Type 0) : Type 1 where
   pub same : (m : Machine) → To m m
   pub on : (m middle next : Machine) → To m middle → To middle next → To m next
   pub by : (m : Machine) (event : Event) → IsQuiet barred event → To m (after m event)
+
+-- where a leaf was kept out, nobody took the machine down
+abbrev pub IsSpared : Option Refusal → Machine → Machine → Type 0
+IsSpared None m next = Unit {0}
+IsSpared (Some r) m next = next.fault ≡ m.fault
+
+pub spared_of : (kept : Option Refusal) (m next : Machine) → next.fault ≡ m.fault → IsSpared kept m next
+spared_of None m next same = tt
+spared_of (Some r) m next same = same
 
 module _ (barred : Type 0) (k : Kept barred) where
   -- ---- calls that events decide
@@ -82,26 +94,47 @@ module _ (barred : Type 0) (k : Kept barred) where
   short_goes : (m next : Machine) (answer : Answer (List ℕ)) → IsShort m answer next → k.To m next
   short_goes m next answer short = subst (λ (n : Machine). k.To m n) (sym short.1) (k.same m)
 
-  held_goes : (m next : Machine) (session : ℕ) (request : Request) (answer : Answer (List ℕ)) → IsMildRequest barred request → IsHeldUp nothing_around m session request answer next → k.To m next
-  held_goes m next session request answer mild (inl short) = short_goes m next answer short
-  held_goes m next session request answer mild (inr (e, is, inl short)) =
-      let first = made_goes m (after m e) (decision m session request) Done e (decision_quiet barred m session request mild) is refl in
-      k.on m (after m e) next first (short_goes (after m e) next answer short)
-  held_goes m next session request answer mild (inr (e, is, inr out)) = absurd (none_out out.0 out.1)
+  -- the leaf was kept out, and nobody took the machine down
+  out_goes : (kept : Option Refusal) (m middle next : Machine) (answer : Answer (List ℕ)) → m.fault ≡ None → IsSpared kept m next → k.To m middle → IsKeptOut (around_kept kept) middle answer next → k.To m next
+  out_goes None m middle next answer up spared first (r, may, is, how) = absurd (none_out r may)
+  out_goes (Some s) m middle next answer up spared first (r, may, is, inl same) = subst (λ (n : Machine). k.To m n) (sym same) first
+  out_goes (Some s) m middle next answer up spared first (r, may, is, inr (disk, (fault, down))) =
+      let gone : Some fault ≡ None = sym (ap (λ (n : Machine). n.fault) down) ∙ (spared ∙ up) in absurd cc
 
-  kept_goes : (m next : Machine) (session : ℕ) (call : Call) (answer : Answer (List ℕ)) → HeldUp nothing_around m session call answer next → k.To m next
-  kept_goes m next session (GetKey name key) answer h = held_goes m next session (FindKey name key) answer tt h
-  kept_goes m next session (SeekKey cursor name key) answer h = held_goes m next session (FindKey name key) answer tt h
-  kept_goes m next session (NextRow cursor name way) answer h = held_goes m next session (FindRow name) answer tt h
-  kept_goes m next session (PutKey name key value demand) answer h = held_goes m next session (FindToWrite name key (PutOf value)) answer tt h
-  kept_goes m next session (RemoveKey name key) answer h = held_goes m next session (FindToWrite name key RemoveOf) answer tt h
-  kept_goes m next session _ answer h = absurd h
+  -- a decision that is done comes of a machine that is up
+  up_of : (m : Machine) (session : ℕ) (request : Request) (e : Event) → is_on_page m session request ≡ false → decision m session request ≡ (Done, e) → m.fault ≡ None
+  up_of m session request e off is = by m.fault refl (sym (let direct : decision m session request ≡ while_up m (judged m session request) = rw off refl in direct) ∙ is) where
+    by : (o : Option Fault) → m.fault ≡ o → while_up m (judged m session request) ≡ (Done, e) → m.fault ≡ None
+    by None same done = same
+    by (Some fault) same done = absurd (let two : Refused (Panic fault) ≡ Done = ap (λ (x : Outcome × Event). x.0) (rw same at done) in cc)
+
+  held_goes : (kept : Option Refusal) (m next : Machine) (session : ℕ) (request : Request) (answer : Answer (List ℕ)) → IsMildRequest barred request → is_on_page m session request ≡ false → IsSpared kept m next → IsHeldUp (around_kept kept) m session request answer next → k.To m next
+  held_goes kept m next session request answer mild off spared (inl short) = short_goes m next answer short
+  held_goes kept m next session request answer mild off spared (inr (e, is, how)) = by how where
+    first : k.To m (after m e)
+    first = made_goes m (after m e) (decision m session request) Done e (decision_quiet barred m session request mild) is refl
+
+    by : IsShort (after m e) answer next ⊎ IsKeptOut (around_kept kept) (after m e) answer next → k.To m next
+    by (inl short) = k.on m (after m e) next first (short_goes (after m e) next answer short)
+    by (inr out) = out_goes kept m (after m e) next answer (up_of m session request e off is) spared first out
+
+  kept_goes : (kept : Option Refusal) (m next : Machine) (session : ℕ) (call : Call) (answer : Answer (List ℕ)) → IsSpared kept m next → HeldUp (around_kept kept) m session call answer next → k.To m next
+  kept_goes kept m next session (GetKey name key) answer spared h = held_goes kept m next session (FindKey name key) answer tt refl spared h
+  kept_goes kept m next session (SeekKey cursor name key) answer spared h = held_goes kept m next session (FindKey name key) answer tt refl spared h
+  kept_goes kept m next session (NextRow cursor name way) answer spared h = held_goes kept m next session (FindRow name) answer tt refl spared h
+  kept_goes kept m next session (PutKey name key value demand) answer spared h = held_goes kept m next session (FindToWrite name key (PutOf value)) answer tt refl spared h
+  kept_goes kept m next session (RemoveKey name key) answer spared h = held_goes kept m next session (FindToWrite name key RemoveOf) answer tt refl spared h
+  kept_goes kept m next session _ answer spared h = absurd h
 
   -- ---- any call
 
+  -- a session's, whose leaf may have been kept from it
+  pub spared_goes : (kept : Option Refusal) (m next : Machine) (session : ℕ) (call : Call) (answer : Answer (List ℕ)) → IsMild barred call → IsSpared kept m next → SessionAnswers (around_kept kept) m session call answer next → k.To m next
+  spared_goes kept m next session call answer mild spared (inl (outcome, d, tells)) = decided_goes m next session call outcome mild d
+  spared_goes kept m next session call answer mild spared (inr h) = kept_goes kept m next session call answer spared h
+
   pub session_goes : (m next : Machine) (session : ℕ) (call : Call) (answer : Answer (List ℕ)) → IsMild barred call → SessionAnswers nothing_around m session call answer next → k.To m next
-  session_goes m next session call answer mild (inl (outcome, d, tells)) = decided_goes m next session call outcome mild d
-  session_goes m next session call answer mild (inr h) = kept_goes m next session call answer h
+  session_goes m next session call answer mild is = spared_goes None m next session call answer mild tt is
 
   pub system_goes : (m next : Machine) (call : Call) (answer : Answer (List ℕ)) → IsMild barred call → SystemAnswers nothing_around m call answer next → k.To m next
   system_goes m next (Create name formats) answer mild (inl short) = short_goes m next answer short

@@ -1,22 +1,24 @@
 -- Worlds in which no commit has a stamp, with the calls that are under way.
 use Rattle.std.specs.Prelude.{◌≡◌, ℕ, List, None, MatchOption, slice_index_or}
 use Rattle.wt_code.specs.declared.answers.Answer.{Answer}
-use Rattle.kv_model.specs.Calls.{rolled_back}
+use Rattle.wt_code.specs.declared.refusals.Refusal.{Refusal}
+use Rattle.kv_model.specs.Calls.{Call as ModelCall, rolled_back}
 use Rattle.kv_model.specs.Content.{Content, start}
 use Rattle.kv_model.specs.Machine.{Event, CommitAt, RollbackToStable, CheckpointStart, CheckpointFinish, CheckpointDrop, GoDown, after}
 use Rattle.kv_model.specs.Valid.{Valid}
+use Rattle.row_page.specs.Rows.{Row}
 use Rattle.wt_calls.specs.Calls.{session_call_in, system_call_in}
 use Rattle.wt_calls.specs.declared.call.Call.{Call}
 use Rattle.wt_calls.specs.declared.call.Call.TheVariants as call
 use Rattle.call_steps.specs.declared.reply.Reply.{Reply}
 use Rattle.engine_world.specs.Stands.{Engine}
-use Rattle.engine_world.specs.Systems.{checkpointed}
-use Rattle.engine.specs.Openings.{first_world}
+use Rattle.engine_world.specs.Steps.{MayKeepOut}
+use Rattle.engine_world.specs.Systems.{checkpointed, first_world}
 use Rattle.engine_world.specs.Worlds.{World, Doing, Resting, Asked, Placed, Decided, Ending, doing_of}
 use Rattle.engine.specs.declared.step.Step.{Step}
 use Rattle.engine.specs.declared.step.Step.TheVariants.{Start, Go}
 use Rattle.engine.specs.Runs.{MayStep}
-use Rattle.engine.specs.Whole.{MayAnswer, with_session_more}
+use Rattle.engine.specs.Whole.{KeptBy, MayAnswer, MayCallKept, with_session_more}
 use Rattle.failure.specs.declared.Fault.{Fault}
 use Rattle.ckpt_step.specs.Plain.{IsPlain, IsUnstamped}
 
@@ -53,7 +55,7 @@ pub record IsCalm (w : World) : Type 0 where
 
 -- what an opening makes is calm
 abbrev pub StartsCalm : Type 0
-StartsCalm = (content : Content) (e : Engine) → IsPlain (start content) → IsCalm (first_world content e)
+StartsCalm = (content : Content) (shelf : ℕ → List Row) (e : Engine) → IsPlain (start content) → IsCalm (first_world content shelf e)
 
 -- a step without a stamp leaves it so
 abbrev pub StepsCalm : Type 0
@@ -62,6 +64,14 @@ StepsCalm = (w next : World) (step : Step) (told : Reply) → IsCalm w → IsUns
 -- and a whole call
 abbrev pub AnswersCalm : Type 0
 AnswersCalm = (w next : World) (made : Call) (answer : Answer (List ℕ)) → IsCalm w → IsUnstampedCall made → MayAnswer w made answer next → IsCalm next
+
+-- and one of a session from which its leaf may have been kept
+abbrev pub KeptCalm : Type 0
+KeptCalm = (kept : KeptBy) (w next : World) (session : ℕ) (made : ModelCall) (answer : Answer (List ℕ)) → IsCalm w → IsUnstamped made → MayCallKept kept w session made answer next → IsCalm next
+
+-- and a session's call that is refused the leaf that it waits for
+abbrev pub KeptOutCalm : Type 0
+KeptOutCalm = (w next : World) (session : ℕ) (r : Refusal) → IsCalm w → MayKeepOut w session r next → IsCalm next
 
 -- and a session more
 abbrev pub OpensCalm : Type 0

@@ -1,19 +1,28 @@
--- What a checkpoint had of the names before a floor, and what no call changes of them.
-use Rattle.std.specs.Prelude.{◌≡◌, ◌⊎◌, ℕ, ◌<◌, ◌≤◌, ◌==◌, ◌&&◌, ◌||◌, Bool, true, false, nat_lt, List, [], ◌∷◌, Option, None, Some, MatchOption, if◌then◌else◌, slice_get}
+-- What a checkpoint had of the names before a floor, and of leaves that are in no frame, and what no call changes of them.
+use Rattle.std.specs.Prelude.{◌≡◌, ◌⊎◌, ℕ, ◌≤◌, ◌<◌, ◌==◌, ◌&&◌, ◌||◌, Bool, false, nat_lt, List, [], ◌∷◌, Option, None, Some, MatchOption, if◌then◌else◌, slice_get}
+use Rattle.std.specs.List.{Contains}
 use Rattle.item.specs.declared.Change.{Change}
 use Rattle.stamp.specs.declared.Name.{Name}
 use Rattle.stamp.specs.declared.Version.{Version}
+use Rattle.kv_model.specs.AgreementLaws.{head_of}
 use Rattle.kv_model.specs.History.{Table, line}
 use Rattle.kv_model.specs.Machine.{Machine, name_of, transaction_of}
-use Rattle.leaf_rows.specs.Rows.{AreFit}
+use Rattle.row_page.specs.Rows.{Row}
 use Rattle.rows_shown.specs.Shows.{shown_at}
-use Rattle.snapshot.specs.Past.{is_below}
 use Rattle.stored.specs.Stored.{Stored}
-use Rattle.stored.specs.TableTree.{TableTree}
+use Rattle.stored.specs.TableTree.{Entry, TableTree}
+use Rattle.stored.specs.Tree.{join}
+use Rattle.tree_dir.specs.declared.leaf.Leaf.{Leaf}
+use Rattle.tree_dir.specs.Leaves.{leaf_under}
+use Rattle.call_steps.specs.declared.hub.Hub.{Hub}
+use Rattle.engine_world.specs.Worlds.{World}
 use Rattle.tree_open.specs.declared.place.TreePlace.{TreePlace}
 use Rattle.recover_open.specs.Bare.{tree_rows}
 use Rattle.ckpt_step.specs.Checkpoints.{IsRowsOf}
 use Rattle.ckpt_step.specs.Trees.{HasTreeAt}
+use Rattle.ckpt_step.specs.Parts.{AreBelowFloor, IsParted, part_in, part_leaves, part_of}
+use Rattle.ckpt_step.specs.Rooms.{Written, known_in}
+use Rattle.ckpt_step.specs.declared.ground.Ground.{Ground}
 
 -- ---- names before a floor
 
@@ -36,22 +45,33 @@ abbrev pub GoesOn : Machine → Machine → Type 0
 GoesOn m next = (floor : Name) → Respects m floor
     → Respects next floor × ((table : ℕ) (key : List ℕ) → newest_before floor (line next.history table key) ≡ newest_before floor (line m.history table key))
 
--- ---- the trees of a checkpoint
+-- ---- the parts of a checkpoint's trees
 
--- a tree of the checkpoint, with the newest version of each key of the table before the floor
-pub record IsTreeBefore (old : Option Stored) (floor : Name) (m : Machine) (t : Table) (place : TreePlace) : Type 0 where
+-- The rows have the newest version before the floor of each key that lies in this leaf of the table.
+abbrev pub AreNewestBefore : Machine → Name → List Leaf → ℕ → Leaf → List Row → Type 0
+AreNewestBefore m floor leaves table l rows = (key : List ℕ) → leaf_under table key leaves ≡ Some l → newest_before floor (line m.history table key) ≡ shown_at key rows
+
+-- they have the newest version of all
+abbrev pub AreNewestIn : Machine → List Leaf → ℕ → Leaf → List Row → Type 0
+AreNewestIn m leaves table l rows = (key : List ℕ) → leaf_under table key leaves ≡ Some l → head_of (line m.history table key) ≡ shown_at key rows
+
+-- What the checkpoint has of a leaf of the table, whose tree stands at a place. before: where all its names are below the floor, its rows are the newest before it. same: where the leaf is in no frame, they are those of its block, from which it will be loaded.
+pub record IsLeafBefore (m : Machine) (shelf : ℕ → List Row) (floor : Name) (leaves : List Leaf) (written : Written) (table : ℕ) (place : TreePlace) (tree : TableTree) (l : Leaf) : Type 0 where
+  pub before : (part : List Entry) → part_in written l ≡ Some part → AreBelowFloor floor part → AreNewestBefore m floor leaves table l (join (part_leaves place tree part))
+  pub same : l.frame ≡ None → join (part_leaves place tree (part_of written l)) ≡ shelf l.id
+
+-- The machine respects the floor, and so it is with each leaf of each table that the checkpoint has.
+pub record FollowsFrom (old : Option Stored) (known : List Table) (leaves : List Leaf) (written : Written) (places : List TreePlace) (floor : Name) (w : World) : Type 0 where
+  pub respects : Respects w.machine floor
+  pub leaf : (i : ℕ) (t : Table) (place : TreePlace) (tree : TableTree) (l : Leaf) → slice_get known i ≡ Some t → slice_get places i ≡ Some place → HasTreeAt old t place tree → Contains leaves l → l.table ≡ t.number
+      → IsLeafBefore w.machine w.shelf floor leaves written t.number place tree l
+
+abbrev pub Follows : Option Stored → Hub → Ground → World → Type 0
+Follows old hub g w = FollowsFrom old hub.tables.tables hub.dir.leaves (known_in g.parts) g.trees.items g.floor w
+
+-- the tree there, of the parts of the table's leaves, is still that of the table
+pub record IsStill (old : Option Stored) (leaves : List Leaf) (written : Written) (m : Machine) (t : Table) (place : TreePlace) : Type 0 where
   pub tree : TableTree
   pub has : HasTreeAt old t place tree
-  pub fit : AreFit (tree_rows tree)
-  pub newest : (key : List ℕ) → newest_before floor (line m.history t.number key) ≡ shown_at key (tree_rows tree)
-
--- The machine respects the floor. By place, a tree of the checkpoint whose root is below the floor has of each key the newest version before it.
-pub record Follows (old : Option Stored) (known : List Table) (places : List TreePlace) (floor : Name) (m : Machine) : Type 0 where
-  pub respects : Respects m floor
-  pub trees : (i : ℕ) (t : Table) (place : TreePlace) → slice_get known i ≡ Some t → slice_get places i ≡ Some place → is_below place.root.link.greatest floor ≡ true → IsTreeBefore old floor m t place
-
--- the tree of the checkpoint there is still that of the table
-pub record IsStill (old : Option Stored) (m : Machine) (t : Table) (place : TreePlace) : Type 0 where
-  pub tree : TableTree
-  pub has : HasTreeAt old t place tree
+  pub parted : IsParted leaves t.number written place tree
   pub is : IsRowsOf m t (tree_rows tree)

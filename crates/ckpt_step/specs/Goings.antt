@@ -1,5 +1,6 @@
 -- Trees that are captured one after the other.
-use Rattle.std.specs.Prelude.{◌≡◌, ◌⊎◌, ◌<◌, ℕ, List, [], ◌∷◌, ◌++◌, drop, length, Option, Some, Result, Ok, Err, slice_get}
+use Rattle.std.specs.Prelude.{◌≡◌, ◌≢◌, ◌⊎◌, ◌<◌, ℕ, List, [], ◌∷◌, ◌++◌, drop, length, take, Option, None, Some, Result, Ok, Err, slice_get}
+use Rattle.std.specs.List.{AllByRecursion, Contains}
 use Rattle.disk_model.specs.Crash.{Keeps, LeavesOnly}
 use Rattle.disk_model.specs.declared.disk.Disk.{Ghosts}
 use Rattle.extent_list.specs.Space.{Space}
@@ -10,25 +11,31 @@ use Rattle.wt_code.specs.declared.store_error.StoreError.{StoreError}
 use Rattle.wt_code.specs.declared.store_error.StoreError.TheVariants.{NoSpace}
 use Rattle.kv_model.specs.History.{Table}
 use Rattle.kv_model.specs.Holds.{Member}
-use Rattle.kv_model.specs.Machine.{Machine}
+use Rattle.engine_world.specs.Worlds.{World}
+use Rattle.tree_dir.specs.declared.leaf.Leaf.{Leaf}
+use Rattle.tree_dir.specs.Leaves.{leaves_of}
 use Rattle.row_page.specs.Rows.{Row}
 use Rattle.stored.specs.Blocks.{Apart, Block}
 use Rattle.stored.specs.Records.{Root}
 use Rattle.stored.specs.Stored.{Stored}
 use Rattle.stored.specs.TableTree.{TableTree, root_entry, table_kind}
-use Rattle.stored.specs.Tree.{tree_blocks}
+use Rattle.stored.specs.Tree.{join, tree_blocks}
 use Rattle.checkpoint_core.specs.Finishes.{IsOld}
 use Rattle.recover_open.specs.Bare.{tree_rows}
 use Rattle.tree_open.specs.declared.place.TreePlace.{TreePlace}
 use Rattle.tree_open.specs.Trees.{HasTree, IsPlaceOf}
 use Rattle.tree_write.specs.Captures.{Captures, IsPlaced, IsSafe, places_of}
 use Rattle.tree_write.specs.Sizes.{LacksAll, WritesTree}
-use Rattle.tree_write.specs.Cuts.{IsCut}
+use Rattle.tree_write.specs.Drafts.{IsCutBy}
+use Rattle.tree_write.specs.Steps.{links_in}
 use Rattle.tree_write.specs.Writes.{KeepSame, LeadApart, MayWriteOver}
 use Rattle.ckpt_step.specs.Checkpoints.{AreRowsOf, IsRowsOf}
-use Rattle.ckpt_step.specs.Halves.{Half, IsNewBlock, TreesKeep}
-use Rattle.ckpt_step.specs.Sizes.{LacksTables, PlacesTables}
-use Rattle.ckpt_step.specs.Trees.{HasTreeAt, leaf_links, leaves_at}
+use Rattle.ckpt_step.specs.Halves.{ByLeaves, Half, IsNewBlock}
+use Rattle.ckpt_step.specs.Parts.{AreOfLeaves, ArePartedBy, IsParted, links_over, part_in, part_leaves, part_of, with_parts}
+use Rattle.ckpt_step.specs.Rooms.{Written}
+use Rattle.ckpt_step.specs.declared.parts.LeafPart.{LeafPart}
+use Rattle.ckpt_step.specs.Sizes.{LacksFront, LacksTables, PlacesTables}
+use Rattle.ckpt_step.specs.Trees.{HasTreeAt, leaves_at}
 
 -- a block begins where one of the tree at a place does
 abbrev pub BeginsIn : List TreePlace → ℕ → Addr → Type 0
@@ -41,17 +48,24 @@ pub record MayGo (seen : List ℕ) (images : List ℕ → Type 0) (first books :
   pub blocks : (p : TreePlace) (a : Addr) → slice_get was i ≡ Some p → Member a p.addrs.items → HasLive first.cells a.offset a.size
   pub listed : (p : TreePlace) (link : Link) → slice_get was i ≡ Some p → Member link p.leaves.items → (link.addr.offset ≡ 0 → ⊥) → Member link.addr p.addrs.items
 
--- the device has no room for all of the tree of these rows
-pub record LacksTree (bytes : List ℕ) (capacity : ℕ) (space : Space) (was : List Link) (rows : List Row) : Type 0 where
+-- what the checkpoint before has at the place of a table that it has: a tree, which is the parts of the table's leaves; each leaf of any other is in a frame, and has no part
+pub record HasPartsAt (old : Option Stored) (leaves : List Leaf) (had : Written) (was : List TreePlace) (t : Table) (i : ℕ) : Type 0 where
+  pub tree : (place : TreePlace) → slice_get was i ≡ Some place → (tree : TableTree) × HasTreeAt old t place tree × IsParted leaves t.number had place tree
+  pub none : slice_get was i ≡ None → (l : Leaf) → Contains leaves l → l.table ≡ t.number → (part_in had l ≡ None) × (l.frame ≢ None)
+
+-- the device has no room for all of the tree of these rows of a table, parted by its leaves
+pub record LacksTree (bytes : List ℕ) (capacity : ℕ) (space : Space) (leaves : List Leaf) (had : Written) (table : ℕ) (rows : List Row) : Type 0 where
   pub root : Root
   pub tree : TableTree
   pub sizes : List ℕ
-  pub cut : IsCut root rows tree
-  pub writes : WritesTree bytes was tree sizes
+  pub parts : List (List (List Row))
+  pub parted : ArePartedBy leaves table (leaves_of table leaves) parts
+  pub cut : IsCutBy parts root rows tree
+  pub writes : WritesTree bytes (links_over had (leaves_of table leaves) parts) tree sizes
   pub lacks : LacksAll space capacity sizes
 
--- i: the place of the table; was: where the trees of the checkpoint before stand
-module _ {D : Type 0} (g : Ghosts D) (old : Option Stored) (first : Books) (was : List TreePlace) (m : Machine) (t : Table) (i : ℕ) (books books' : Books) (places places' : List TreePlace) (captured captured' : List Addr) (before after : D) where
+-- i: the place of the table; was: where the trees of the checkpoint before stand; had: their parts, by leaf; more, more': the leaves that were written before and after
+module _ {D : Type 0} (g : Ghosts D) (old : Option Stored) (first : Books) (was : List TreePlace) (leaves : List Leaf) (had : Written) (w : World) (t : Table) (i : ℕ) (books books' : Books) (places places' : List TreePlace) (more more' : List LeafPart) (captured captured' : List Addr) (before after : D) where
   -- a block is where none was, or where one of the table's was in the checkpoint before
   abbrev pub IsOwnBlock : Addr → Type 0
   IsOwnBlock a = IsPlaced books a ⊎ BeginsIn was i a
@@ -64,11 +78,17 @@ module _ {D : Type 0} (g : Ghosts D) (old : Option Stored) (first : Books) (was 
     pub has : HasTreeAt old t kept tree
     pub root : place.root ≡ kept.root
 
-  -- it is cut out of the rows, and written
+  -- it is cut out of the rows of the table's leaves, and written
   pub record CutsTree (place : TreePlace) (tree : TableTree) (sizes : List ℕ) : Type 0 where
-    pub cut : IsCut place.root (tree_rows tree) tree
-    pub writes : WritesTree (g.seen before) (leaves_at was i) tree sizes
-    pub same : KeepSame (g.seen before) (leaves_at was i) (leaf_links place.root tree) tree.leaves
+    pub parts : List (List (List Row))
+    pub parted : ArePartedBy leaves t.number (leaves_of t.number leaves) parts
+    pub cut : IsCutBy parts place.root (tree_rows tree) tree
+    pub writes : WritesTree (g.seen before) (links_over had (leaves_of t.number leaves) parts) tree sizes
+
+  -- a leaf of the table, as it is now
+  pub record IsLeafNow (written : Written) (place : TreePlace) (tree : TableTree) (l : Leaf) : Type 0 where
+    pub same : KeepSame (g.seen before) (links_in (part_of had l)) (links_in (part_of written l)) (part_leaves place tree (part_of written l))
+    pub shelved : l.frame ≡ None → join (part_leaves place tree (part_of written l)) ≡ w.shelf l.id
 
   -- the tree of the table is captured, and its place stands behind the others
   pub record OneMore : Type 0 where
@@ -78,7 +98,12 @@ module _ {D : Type 0} (g : Ghosts D) (old : Option Stored) (first : Books) (was 
     pub sizes : List ℕ
     pub places_are : places' ≡ places ++ place ∷ []
     pub captured_are : captured' ≡ captured ++ places_of blocks
-    pub rows : IsRowsOf m t (tree_rows tree)
+    pub own_more : List LeafPart
+    pub more_are : more' ≡ more ++ own_more
+    pub of_table : AreOfLeaves (leaves_of t.number leaves) own_more
+    pub rows : IsRowsOf w.machine t (tree_rows tree)
+    pub parted : IsParted leaves t.number (with_parts had own_more) place tree
+    pub each : (l : Leaf) → Contains leaves l → l.table ≡ t.number → IsLeafNow (with_parts had own_more) place tree l
     pub has : HasTree (g.seen after) place.root tree
     pub is : IsPlaceOf place tree
     pub captures : Captures g old first blocks sizes books books' before after
@@ -95,7 +120,7 @@ module _ {D : Type 0} (g : Ghosts D) (old : Option Stored) (first : Books) (was 
     pub captured_are : captured' ≡ captured ++ places_of blocks
     pub captures : IsSafe e → Captures g old first blocks sizes books books' before after
     pub left : LeavesOnly g before after (IsOld (g.may_leave before) old)
-    pub lacks : e ≡ NoSpace → IsRowsOf m t rows × LacksTree (g.seen before) (g.capacity before) books.space (leaves_at was i) rows
+    pub lacks : e ≡ NoSpace → ((front : List Leaf) × LacksFront (g.seen before) (g.capacity before) leaves had w.machine t.number books.space front) ⊎ (IsRowsOf w.machine t rows × LacksTree (g.seen before) (g.capacity before) books.space leaves had t.number rows)
 
   abbrev pub Goes : Result (Unit {0}) StoreError → Type 0
   Goes (Ok done) = OneMore
@@ -105,18 +130,23 @@ module _ {D : Type 0} (g : Ghosts D) (old : Option Stored) (first : Books) (was 
 abbrev pub IsFrom : Option Stored → List TreePlace → ℕ → Addr → Type 0
 IsFrom old was count a = IsNewBlock old a ⊎ ((j : ℕ) × (j < count) × BeginsIn was j a)
 
--- the trees of the first tables are captured, as many as count says
-pub record Going {D : Type 0} (g : Ghosts D) (old : Option Stored) (was : List TreePlace) (m : Machine) (known : List Table) (first books : Books) (places : List TreePlace) (captured : List Addr) (count : ℕ) (before after : D) : Type 0 where
+-- each leaf that is written is of one of these tables
+abbrev pub AreOfTables : List Table → List Leaf → List LeafPart → Type 0
+AreOfTables known leaves more = AllByRecursion (λ (p : LeafPart). (j : ℕ) × (t : Table) × (slice_get known j ≡ Some t) × ((l : Leaf) × Contains (leaves_of t.number leaves) l × (l.id ≡ p.leaf))) more
+
+-- The trees of the first tables are captured, as many as count says. had: what the checkpoint before has of the leaves of the directory; more: the leaves that are written now, all of these tables.
+pub record Going {D : Type 0} (g : Ghosts D) (old : Option Stored) (was : List TreePlace) (leaves : List Leaf) (had : Written) (w : World) (known : List Table) (first books : Books) (places : List TreePlace) (more : List LeafPart) (captured : List Addr) (count : ℕ) (before after : D) : Type 0 where
   pub trees : List TableTree
   pub many : length places ≡ count
   pub half : Half (g.seen after) (g.may_leave after) books old captured places trees
   pub from : (a : Addr) → Member a captured → IsFrom old was count a
   pub left : LeavesOnly g before after (IsOld (g.may_leave before) old)
   pub images : (c : List ℕ) → g.may_leave after c → IsOld (g.may_leave before) old c
-  pub rows : (rest : List TableTree) → AreRowsOf m (drop count known) rest → AreRowsOf m known (trees ++ rest)
-  pub placed : (last : Space) → PlacesTables (g.seen before) (g.capacity before) old m books.space (drop count known) last → PlacesTables (g.seen before) (g.capacity before) old m first.space known last
-  pub lacks : LacksTables (g.seen before) (g.capacity before) old m books.space (drop count known) → LacksTables (g.seen before) (g.capacity before) old m first.space known
-  pub same : TreesKeep (g.seen before) old known places trees
+  pub rows : (rest : List TableTree) → AreRowsOf w.machine (drop count known) rest → AreRowsOf w.machine known (trees ++ rest)
+  pub placed : (last : Space) → PlacesTables (g.seen before) (g.capacity before) old leaves had w.machine books.space (drop count known) last → PlacesTables (g.seen before) (g.capacity before) old leaves had w.machine first.space known last
+  pub lacks : LacksTables (g.seen before) (g.capacity before) old leaves had w.machine books.space (drop count known) → LacksTables (g.seen before) (g.capacity before) old leaves had w.machine first.space known
+  pub by_leaves : ByLeaves (g.seen before) known leaves had w.shelf places trees (with_parts had more)
+  pub of_first : AreOfTables (take count known) leaves more
   pub keeps : Keeps (Has first.cells) (g.seen before) (g.seen after)
   pub used : (at n : ℕ) → Has first.cells at n → Has books.cells at n
   pub live : (at n : ℕ) → HasLive first.cells at n → HasLive books.cells at n

@@ -1,5 +1,6 @@
 -- On what the next checkpoint stands.
-use Rattle.std.specs.Prelude.{◌≡◌, ℕ, ◌≤◌, false, List, [], length, Option, Some, None, slice_get}
+use Rattle.std.specs.Prelude.{◌≡◌, ◌≢◌, ℕ, ◌≤◌, false, List, [], length, Option, Some, None, slice_get}
+use Rattle.std.specs.List.{Contains}
 use Rattle.extent_list.specs.Space.{end_of}
 use Rattle.block_mgr.specs.declared.found.Found.{Found}
 use Rattle.block_mgr.specs.Cells.{AreUnits, cell_at}
@@ -10,12 +11,17 @@ use Rattle.stored.specs.TableTree.{TableTree}
 use Rattle.disk_model.specs.declared.disk.Disk.{Ghosts}
 use Rattle.engine_world.specs.Stands.{Engine, Stands as Stands_engine}
 use Rattle.engine_world.specs.Worlds.{World}
+use Rattle.call_steps.specs.declared.hub.Hub.{Hub}
+use Rattle.tree_dir.specs.declared.leaf.Leaf.{Leaf}
+use Rattle.tree_dir.specs.Leaves.{Directory}
 use Rattle.checkpoint_core.specs.Stands.{Stands, chosen_of}
 use Rattle.tree_open.specs.declared.place.TreePlace.{TreePlace}
 use Rattle.recover_open.specs.Bare.{IsBare}
 use Rattle.recover_open.specs.Damage.{blocks_found}
 use Rattle.ckpt_step.specs.declared.ground.Ground.{Ground}
 use Rattle.ckpt_step.specs.Floors.{Follows}
+use Rattle.ckpt_step.specs.Parts.{IsParted, part_in}
+use Rattle.ckpt_step.specs.Rooms.{Written, known_in}
 use Rattle.ckpt_step.specs.Trees.{HasTreeAt}
 
 -- the number of a checkpoint, 0 where there is none
@@ -28,19 +34,24 @@ abbrev pub found_in : Option Stored → List Found
 found_in None = []
 found_in (Some s) = blocks_found s.slot s.kept.tables s.trees
 
--- the checkpoint has the first of these tables, as many as there are places, each with its tree there
-pub record HasRoots (known : List Table) (places : List TreePlace) (s : Stored) : Type 0 where
+-- The checkpoint has the first of these tables, as many as there are places, each with its tree there, which is the parts of the table's leaves.
+pub record HasRoots (known : List Table) (leaves : List Leaf) (written : Written) (places : List TreePlace) (s : Stored) : Type 0 where
   pub bare : IsBare s.kept
   pub few : length places ≤ length known
   pub count : length s.kept.tables ≡ length places
-  pub trees : (i : ℕ) (t : Table) (place : TreePlace) → slice_get known i ≡ Some t → slice_get places i ≡ Some place → (tree : TableTree) × HasTreeAt (Some s) t place tree
+  pub trees : (i : ℕ) (t : Table) (place : TreePlace) → slice_get known i ≡ Some t → slice_get places i ≡ Some place → (tree : TableTree) × HasTreeAt (Some s) t place tree × IsParted leaves t.number written place tree
 
-abbrev pub AreRoots : List Table → List TreePlace → Option Stored → Type 0
-AreRoots known places None = places ≡ []
-AreRoots known places (Some s) = HasRoots known places s
+abbrev pub AreRoots : List Table → List Leaf → Written → List TreePlace → Option Stored → Type 0
+AreRoots known leaves written places None = places ≡ []
+AreRoots known leaves written places (Some s) = HasRoots known leaves written places s
 
--- The device has this checkpoint, or none, and the ground is that of it: its number, its slot, its blocks and no others in use, and by place the trees of the engine's tables that it has.
-pub record StandsOn (seen : List ℕ) (images : List ℕ → Type 0) (known : List Table) (g : Ground) (old : Option Stored) : Type 0 where
+-- Nothing is written of a leaf whose id comes later, nor of the leaves of tables without a place, which are all in frames.
+pub record AreWritten (known : List Table) (dir : Directory) (written : Written) (places : List TreePlace) : Type 0 where
+  pub later : (id : ℕ) → dir.next ≤ id → written id ≡ None
+  pub made_since : (i : ℕ) (t : Table) (l : Leaf) → slice_get known i ≡ Some t → slice_get places i ≡ None → Contains dir.leaves l → l.table ≡ t.number → (part_in written l ≡ None) × (l.frame ≢ None)
+
+-- The device has this checkpoint, or none, and the ground is that of it: its number, its slot, its blocks and no others in use, by place the trees of the engine's tables that it has, and by leaf the parts of these trees.
+pub record StandsOn (seen : List ℕ) (images : List ℕ → Type 0) (hub : Hub) (g : Ground) (old : Option Stored) : Type 0 where
   pub stands : Stands seen images g.place.blocks old
   pub number : g.number ≡ number_of old
   pub slot : g.place.slot ≡ chosen_of old
@@ -49,16 +60,17 @@ pub record StandsOn (seen : List ℕ) (images : List ℕ → Type 0) (known : Li
   pub idle : g.place.blocks.is_held ≡ false
   pub long : 8192 ≤ length seen
   pub within : end_of g.place.blocks.space ≤ length seen
-  pub roots : AreRoots known g.trees.items old
+  pub roots : AreRoots hub.tables.tables hub.dir.leaves (known_in g.parts) g.trees.items old
+  pub written : AreWritten hub.tables.tables hub.dir (known_in g.parts) g.trees.items
 
--- The engine stands for a world in which no checkpoint runs. The ground is that of the last completed checkpoint of the disk, whose clean trees are those of the machine.
+-- The engine stands for a world in which no checkpoint runs. The ground is that of the last completed checkpoint of the disk, of which the leaves that are not loaded, and those that are clean, have the rows that they had.
 pub record IsOnGround (seen : List ℕ) (images : List ℕ → Type 0) (e : Engine) (g : Ground) : Type 0 where
   pub world : World
   pub stands : Stands_engine e world
   pub idle : world.machine.checkpoint ≡ None
   pub old : Option Stored
-  pub on : StandsOn seen images e.hub.tables.tables g old
-  pub follows : Follows old e.hub.tables.tables g.trees.items g.floor world.machine
+  pub on : StandsOn seen images e.hub g old
+  pub follows : Follows old e.hub g world
 
 -- so where the engine is up
 abbrev pub IsSteady : {D : Type 0} → Ghosts D → Engine → Ground → D → Type 0

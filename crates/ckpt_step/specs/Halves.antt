@@ -1,6 +1,6 @@
 -- A checkpoint that is half written: the trees of the first tables are captured.
-use Rattle.std.specs.Prelude.{◌≡◌, ◌⊎◌, ◌+◌, ◌*◌, ◌/◌, ◌≤◌, ◌==◌, ℕ, true, false, List, length, Option, Some, Result, Ok, Err, slice_get, if◌then◌else◌}
-use Rattle.std.specs.List.{fold}
+use Rattle.std.specs.Prelude.{◌≡◌, ◌⊎◌, ◌+◌, ◌*◌, ◌/◌, ◌≤◌, ◌==◌, ℕ, true, false, List, length, Option, None, Some, Result, Ok, Err, slice_get, if◌then◌else◌}
+use Rattle.std.specs.List.{Contains, fold}
 use Rattle.disk_model.specs.Crash.{LeavesOnly}
 use Rattle.disk_model.specs.declared.disk.Disk.{Ghosts}
 use Rattle.extent_list.specs.Space.{end_of}
@@ -13,19 +13,26 @@ use Rattle.wt_code.specs.declared.store_error.StoreError.{StoreError}
 use Rattle.wt_code.specs.declared.store_error.StoreError.TheVariants.{NoSpace}
 use Rattle.kv_model.specs.History.{Table}
 use Rattle.kv_model.specs.Holds.{Member}
-use Rattle.kv_model.specs.Machine.{Machine}
+use Rattle.row_page.specs.Rows.{Row}
 use Rattle.stored.specs.Blocks.{Apart}
 use Rattle.stored.specs.Stored.{Stored}
 use Rattle.stored.specs.TableTree.{TableTree}
+use Rattle.stored.specs.Tree.{join}
+use Rattle.tree_dir.specs.declared.leaf.Leaf.{Leaf}
+use Rattle.engine_world.specs.Worlds.{World}
 use Rattle.checkpoint_core.specs.Stands.{Stands, AreInUse}
 use Rattle.checkpoint_core.specs.Finishes.{IsOld}
 use Rattle.tree_open.specs.declared.place.TreePlace.{TreePlace}
 use Rattle.tree_write.specs.Captures.{IsSafe, with_addrs}
+use Rattle.tree_write.specs.Steps.{links_in}
 use Rattle.tree_write.specs.Writes.{KeepSame}
 use Rattle.ckpt_step.specs.Checkpoints.{AreRowsOf}
 use Rattle.ckpt_step.specs.Grounds.{found_in}
 use Rattle.ckpt_step.specs.Sizes.{PlacesTables, LacksTables}
-use Rattle.ckpt_step.specs.Trees.{AreTreesAt, addrs_of, leaf_links, links_in, trees_blocks}
+use Rattle.ckpt_step.specs.Parts.{AreOfLeaves, IsParted, part_leaves, part_of, with_parts}
+use Rattle.ckpt_step.specs.Rooms.{Written}
+use Rattle.ckpt_step.specs.Trees.{AreTreesAt, addrs_of, trees_blocks}
+use Rattle.ckpt_step.specs.declared.parts.LeafPart.{LeafPart}
 
 -- ---- the cells of the books
 
@@ -104,28 +111,48 @@ pub record Half (seen : List ℕ) (images : List ℕ → Type 0) (books : Books)
   pub apart : Apart (trees_blocks places trees)
   pub listed : AreListed captured places
 
--- by table and place, a leaf that the checkpoint before has with the same rows stands where it did
-abbrev pub TreesKeep : List ℕ → Option Stored → List Table → List TreePlace → List TableTree → Type 0
-TreesKeep bytes old known places trees =
-    (i : ℕ) (t : Table) (place : TreePlace) (tree : TableTree) → slice_get known i ≡ Some t → slice_get places i ≡ Some place → slice_get trees i ≡ Some tree → KeepSame bytes (links_in old t) (leaf_links place.root tree) tree.leaves
+-- by table and leaf, an image that the checkpoint before has at the same place in the leaf, with the same rows, stands where it did
+abbrev pub TreesKeep : List ℕ → List Table → List Leaf → Written → List TreePlace → List TableTree → Written → Type 0
+TreesKeep bytes known leaves before places trees written =
+    (i : ℕ) (t : Table) (place : TreePlace) (tree : TableTree) (l : Leaf) → slice_get known i ≡ Some t → slice_get places i ≡ Some place → slice_get trees i ≡ Some tree → Contains leaves l → l.table ≡ t.number
+    → KeepSame bytes (links_in (part_of before l)) (links_in (part_of written l)) (part_leaves place tree (part_of written l))
+
+-- by table, its tree is the parts of its leaves
+abbrev pub AreParted : List Table → List Leaf → Written → List TreePlace → List TableTree → Type 0
+AreParted known leaves written places trees =
+    (i : ℕ) (t : Table) (place : TreePlace) (tree : TableTree) → slice_get known i ≡ Some t → slice_get places i ≡ Some place → slice_get trees i ≡ Some tree → IsParted leaves t.number written place tree
+
+-- By table and leaf in no frame, it has the rows of its block.
+abbrev pub AreOnShelf : List Table → List Leaf → Written → List TreePlace → List TableTree → (ℕ → List Row) → Type 0
+AreOnShelf known leaves written places trees shelf =
+    (i : ℕ) (t : Table) (place : TreePlace) (tree : TableTree) (l : Leaf) → slice_get known i ≡ Some t → slice_get places i ≡ Some place → slice_get trees i ≡ Some tree → Contains leaves l → l.table ≡ t.number
+    → l.frame ≡ None → join (part_leaves place tree (part_of written l)) ≡ shelf l.id
+
+-- what the trees of these tables are by leaves
+pub record ByLeaves (bytes : List ℕ) (known : List Table) (leaves : List Leaf) (before : Written) (shelf : ℕ → List Row) (places : List TreePlace) (trees : List TableTree) (written : Written) : Type 0 where
+  pub parted : AreParted known leaves written places trees
+  pub same : TreesKeep bytes known leaves before places trees written
+  pub shelved : AreOnShelf known leaves written places trees shelf
 
 -- ---- writing them
 
-module _ {D : Type 0} (g : Ghosts D) (old : Option Stored) (m : Machine) (known : List Table) (books books' : Books) (places : List TreePlace) (captured : List Addr) (before after : D) where
+-- leaves: those of the directory; had: what the checkpoint before has of them; more: the leaves that are written now
+module _ {D : Type 0} (g : Ghosts D) (old : Option Stored) (w : World) (known : List Table) (leaves : List Leaf) (had : Written) (books books' : Books) (places : List TreePlace) (more : List LeafPart) (captured : List Addr) (before after : D) where
   -- all trees are captured
   pub record AllWritten : Type 0 where
     pub trees : List TableTree
     pub half : Half (g.seen after) (g.may_leave after) books' old captured places trees
-    pub rows : AreRowsOf m known trees
+    pub rows : AreRowsOf w.machine known trees
     pub left : LeavesOnly g before after (IsOld (g.may_leave before) old)
-    pub placed : PlacesTables (g.seen before) (g.capacity before) old m books.space known books'.space
-    pub same : TreesKeep (g.seen before) old known places trees
+    pub placed : PlacesTables (g.seen before) (g.capacity before) old leaves had w.machine books.space known books'.space
+    pub by_leaves : ByLeaves (g.seen before) known leaves had w.shelf places trees (with_parts had more)
+    pub of_leaves : AreOfLeaves leaves more
 
   -- some blocks are
   pub record SomeWritten (e : StoreError) : Type 0 where
     pub runs : IsSafe e → Runs (g.seen after) (g.may_leave after) books' old captured
     pub left : LeavesOnly g before after (IsOld (g.may_leave before) old)
-    pub lacks : e ≡ NoSpace → LacksTables (g.seen before) (g.capacity before) old m books.space known
+    pub lacks : e ≡ NoSpace → LacksTables (g.seen before) (g.capacity before) old leaves had w.machine books.space known
 
   abbrev pub Writes : Result (Unit {0}) StoreError → Type 0
   Writes (Ok done) = AllWritten

@@ -1,6 +1,7 @@
 -- What calls leave as it is, whatever their stamps, but those of a checkpoint.
 use Rattle.std.specs.Prelude.{◌≡◌, ℕ, List, None, MatchOption, slice_index_or}
 use Rattle.wt_code.specs.declared.answers.Answer.{Answer}
+use Rattle.wt_code.specs.declared.refusals.Refusal.{Refusal}
 use Rattle.kv_model.specs.Calls.{Call as ModelCall, CkptStart, CkptStep, CkptFinish, Rts, Close}
 use Rattle.kv_model.specs.Machine.{Event, RollbackToStable, CheckpointStart, CheckpointFinish, CheckpointDrop, GoDown}
 use Rattle.wt_calls.specs.Calls.{session_call_in, system_call_in}
@@ -8,12 +9,13 @@ use Rattle.wt_calls.specs.declared.call.Call.{Call}
 use Rattle.wt_calls.specs.declared.call.Call.TheVariants as call
 use Rattle.call_steps.specs.declared.reply.Reply.{Reply}
 use Rattle.engine_world.specs.Stands.{Engine, Stands}
+use Rattle.engine_world.specs.Steps.{MayKeepOut}
 use Rattle.engine_world.specs.Worlds.{World, Doing, Resting, Asked, Placed, Decided, Ending, doing_of}
 use Rattle.engine.specs.declared.step.Step.{Step}
 use Rattle.engine.specs.declared.step.Step.TheVariants.{Start, Go}
 use Rattle.engine.specs.Runs.{CallFits, MayStep, StepFits}
 use Rattle.engine.specs.Sound.{AreBuilt}
-use Rattle.engine.specs.Whole.{MayAnswer, with_session_more}
+use Rattle.engine.specs.Whole.{KeptBy, MayAnswer, MayCallKept, with_session_more}
 
 -- none of a checkpoint, no rollback to stable and no close
 abbrev pub IsOrdinary : ModelCall → Type 0
@@ -73,3 +75,11 @@ StepsKeep =
     ((w next : World) (step : Step) (told : Reply) → AreOrdinary w → IsOrdinaryStep step → MayStep w step told next → Keeps w next)
     × ((w next : World) (made : Call) (answer : Answer (List ℕ)) → AreOrdinary w → IsOrdinaryCall made → MayAnswer w made answer next → Keeps w next)
     × ((w : World) → AreOrdinary w → Keeps w (with_session_more w))
+
+-- so does a whole call of a session from which its leaf may have been kept
+abbrev pub KeptKeep : Type 0
+KeptKeep = (kept : KeptBy) (w next : World) (session : ℕ) (made : ModelCall) (answer : Answer (List ℕ)) → AreOrdinary w → IsOrdinary made → MayCallKept kept w session made answer next → Keeps w next
+
+-- so does a session's call that is refused the leaf that it waits for
+abbrev pub KeptOutKeep : Type 0
+KeptOutKeep = (w next : World) (session : ℕ) (r : Refusal) → AreOrdinary w → MayKeepOut w session r next → Keeps w next

@@ -13,3 +13,8 @@ pub mod Goings
 pub mod Calm
 pub mod Keeps
 pub mod Floors
+pub mod Parts
+pub mod Steps
+pub mod Drafting
+pub mod Rooms
+pub mod Stays

@@ -27,9 +27,15 @@ use Rattle.tree_write.specs.Captures.{IsSafe}
 use Rattle.engine_world.specs.Stands.{Engine}
 use Rattle.engine_world.specs.Systems.{with_fault}
 use Rattle.ckpt_step.specs.Checkpoints.{IsCheckpointOf, IsRecordOf}
-use Rattle.ckpt_step.specs.Floors.{Follows, Respects}
+use Rattle.ckpt_step.specs.Floors.{Follows, FollowsFrom, Respects}
+use Rattle.ckpt_step.specs.Parts.{AreOfLeaves, with_parts}
+use Rattle.ckpt_step.specs.Rooms.{Written, known_in}
+use Rattle.tree_dir.specs.declared.leaf.Leaf.{Leaf}
+use Rattle.call_steps.specs.declared.hub.Hub.{Hub}
+use Rattle.engine_world.specs.Worlds.{World}
+use Rattle.ckpt_step.specs.declared.parts.LeafPart.{LeafPart}
 use Rattle.ckpt_step.specs.Grounds.{StandsOn, number_of}
-use Rattle.ckpt_step.specs.Halves.{AreListed, AreOwn, IsFresh, Runs, TreesKeep, done_at, half_cell}
+use Rattle.ckpt_step.specs.Halves.{AreListed, AreOwn, ByLeaves, IsFresh, Runs, done_at, half_cell}
 use Rattle.ckpt_step.specs.Records.{roots_by_name, trees_by_name}
 use Rattle.ckpt_step.specs.Sizes.{HasPlaces, HasRoomFor, IsFullFor, KeepsLeaves, LacksPlace}
 use Rattle.ckpt_step.specs.Trees.{AreTreesAt, roots_of, trees_blocks}
@@ -70,49 +76,51 @@ module _ {D : Type 0} (g : Ghosts D) (old : Option Stored) (m : Machine) (before
   abbrev pub LeavesOne : Type 0
   LeavesOne = LeavesOnly g before after (IsOld (g.may_leave before) old) ⊎ ((new : Stored) × IsCheckpointOf m (number_of old) new × LeavesOnly g before after (IsEither (g.may_leave before) old new))
 
-module _ {D : Type 0} (g : Ghosts D) (old : Option Stored) (m : Machine) (known : List Table) (books books' : Books) (places : List TreePlace) (captured : List Addr) (before after : D) where
+-- had: what the checkpoint before has of the leaves of the directory; more: the leaves that are written now
+module _ {D : Type 0} (g : Ghosts D) (old : Option Stored) (w : World) (known : List Table) (leaves : List Leaf) (had : Written) (books books' : Books) (places : List TreePlace) (more : List LeafPart) (captured : List Addr) (before after : D) where
   -- all blocks are written, and the record is installed
   pub record AllPut (a : Addr) : Type 0 where
     pub r : Record
     pub trees : List TableTree
-    pub is : IsCheckpointOf m (number_of old) (made_of r known trees a)
+    pub is : IsCheckpointOf w.machine (number_of old) (made_of r known trees a)
     pub left : LeavesOnly g before after (IsEither (g.may_leave before) old (made_of r known trees a))
     pub each : Each (g.may_leave after) (λ c. IsOn c (made_of r known trees a))
-    pub placed : HasPlaces (g.seen before) (g.capacity before) old m books.space known
-    pub same : TreesKeep (g.seen before) old known places trees
+    pub placed : HasPlaces (g.seen before) (g.capacity before) old leaves had w.machine books.space known
+    pub by_leaves : ByLeaves (g.seen before) known leaves had w.shelf places trees (with_parts had more)
+    pub of_leaves : AreOfLeaves leaves more
     pub done : IsDone (g.seen after) books' old known places trees captured r a
-    pub follows : (floor : Name) → Respects m floor → Follows (Some (made_of r known trees a)) known places floor m
+    pub follows : (floor : Name) → Respects w.machine floor → FollowsFrom (Some (made_of r known trees a)) known leaves (with_parts had more) places floor w
 
   -- they are not
   pub record SomePut (e : StoreError) : Type 0 where
-    pub left : LeavesOne g old m before after
+    pub left : LeavesOne g old w.machine before after
     pub kept : IsSafe e → LeavesOnly g before after (IsOld (g.may_leave before) old)
     pub runs : IsSafe e → Runs (g.seen after) (g.may_leave after) books' old captured
-    pub lacks : e ≡ NoSpace → LacksPlace (g.seen before) (g.capacity before) old m books.space known
+    pub lacks : e ≡ NoSpace → LacksPlace (g.seen before) (g.capacity before) old leaves had w.machine books.space known
 
   abbrev pub Puts : Result Addr StoreError → Type 0
   Puts (Ok a) = AllPut a
   Puts (Err e) = SomePut e
 
-module _ {D : Type 0} (g : Ghosts D) (old : Option Stored) (m : Machine) (known : List Table) (stand stand' : Ground) (before after : D) where
+module _ {D : Type 0} (g : Ghosts D) (old : Option Stored) (w : World) (hub : Hub) (stand stand' : Ground) (before after : D) where
   -- the new checkpoint stands
   pub record NewStands : Type 0 where
     pub new : Stored
-    pub is : IsCheckpointOf m (number_of old) new
+    pub is : IsCheckpointOf w.machine (number_of old) new
     pub left : LeavesOnly g before after (IsEither (g.may_leave before) old new)
     pub each : Each (g.may_leave after) (λ c. IsOn c new)
-    pub on : StandsOn (g.seen after) (g.may_leave after) known stand' (Some new)
-    pub follows : Follows (Some new) known stand'.trees.items stand'.floor m
-    pub had_room : HasRoomFor (g.seen before) (g.capacity before) m
-    pub kept : KeepsLeaves (g.seen before) old new
+    pub on : StandsOn (g.seen after) (g.may_leave after) hub stand' (Some new)
+    pub follows : Follows (Some new) hub stand' w
+    pub had_room : HasRoomFor (g.seen before) (g.capacity before) hub.dir.leaves (known_in stand.parts) w.machine
+    pub kept : KeepsLeaves (g.seen before) hub.tables.tables hub.dir.leaves (known_in stand.parts) new stand'.trees.items (known_in stand'.parts)
 
   -- the one before does
   pub record OldStands (e : StoreError) : Type 0 where
-    pub left : LeavesOne g old m before after
+    pub left : LeavesOne g old w.machine before after
     pub kept : IsSafe e → LeavesOnly g before after (IsOld (g.may_leave before) old)
-    pub on : IsSafe e → StandsOn (g.seen after) (g.may_leave after) known stand' old
-    pub follows : Follows old known stand'.trees.items stand'.floor m
-    pub full : e ≡ NoSpace → IsFullFor (g.seen before) (g.capacity before) m
+    pub on : IsSafe e → StandsOn (g.seen after) (g.may_leave after) hub stand' old
+    pub follows : Follows old hub stand' w
+    pub full : e ≡ NoSpace → IsFullFor (g.seen before) (g.capacity before) hub.dir.leaves (known_in stand.parts) w.machine
 
   abbrev pub Wrote : Result (Unit {0}) StoreError → Type 0
   Wrote (Ok done) = NewStands

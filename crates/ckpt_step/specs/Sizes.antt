@@ -1,5 +1,6 @@
 -- The blocks that a checkpoint writes, and the room that they need.
-use Rattle.std.specs.Prelude.{◌≡◌, ◌⊎◌, ℕ, ◌≤◌, ◌<◌, List, [], ◌∷◌, length, max, reverse, Option, None, Some}
+use Rattle.std.specs.Prelude.{◌≡◌, ◌⊎◌, ℕ, ◌≤◌, ◌<◌, List, [], ◌∷◌, ◌++◌, length, max, reverse, Option, None, Some, slice_get}
+use Rattle.std.specs.List.{AllByRecursion, Contains}
 use Rattle.extent_list.specs.Space.{Space, IsFree, Taken, HasNoRoom, end_of as space_end}
 use Rattle.le_codec.specs.Images.{block_size}
 use Rattle.kv_model.specs.History.{Table, tables}
@@ -12,30 +13,63 @@ use Rattle.stored.specs.TableTree.{TableTree}
 use Rattle.checkpoint_core.specs.Stands.{HasStill, blocks_of}
 use Rattle.checkpoint_core.specs.Room.{InBlocks, end_of}
 use Rattle.recover_open.specs.Bare.{tree_rows}
-use Rattle.tree_write.specs.Cuts.{IsCut}
-use Rattle.tree_write.specs.Sizes.{PlacesAll, LacksAll, WritesTree}
+use Rattle.tree_dir.specs.declared.leaf.Leaf.{Leaf}
+use Rattle.tree_dir.specs.Leaves.{leaves_of}
+use Rattle.tree_open.specs.declared.place.TreePlace.{TreePlace}
+use Rattle.tree_write.specs.Drafts.{IsCutBy}
+use Rattle.tree_write.specs.Steps.{links_in}
+use Rattle.tree_write.specs.Cuts.{AreFullLeaves}
+use Rattle.tree_write.specs.Sizes.{PlacesAll, LacksAll, WritesLeaves, WritesTree}
+use Rattle.stored.specs.Tree.{join}
 use Rattle.tree_write.specs.Writes.{KeepSame}
 use Rattle.ckpt_step.specs.Checkpoints.{IsRecordOf, IsRowsOf}
+use Rattle.ckpt_step.specs.Floors.{AreNewestIn}
 use Rattle.ckpt_step.specs.Grounds.{number_of}
-use Rattle.ckpt_step.specs.Trees.{IsPair, leaf_links, links_in}
+use Rattle.ckpt_step.specs.Parts.{ArePartedBy, links_over, part_leaves, part_of}
+use Rattle.ckpt_step.specs.Rooms.{Written}
+use Rattle.ckpt_step.specs.Trees.{HasTreeAt, IsPair}
 
--- by table and place, a leaf that the checkpoint before has with the same rows stands where it did
-abbrev pub KeepsLeaves : List ℕ → Option Stored → Stored → Type 0
-KeepsLeaves bytes old new = (r : TableRoot) (tree : TableTree) → IsPair r tree new.kept.tables new.trees → KeepSame bytes (links_in old r.table) (leaf_links r.root tree) tree.leaves
+-- By leaf of the directory, an image that the checkpoint before has at the same place in the leaf, with the same rows, stands where it did. places, written: where the trees of the new checkpoint stand, and their parts.
+abbrev pub KeepsLeaves : List ℕ → List Table → List Leaf → Written → Stored → List TreePlace → Written → Type 0
+KeepsLeaves bytes known leaves before new places written =
+    (i : ℕ) (t : Table) (place : TreePlace) (tree : TableTree) (l : Leaf) → slice_get known i ≡ Some t → slice_get places i ≡ Some place → HasTreeAt (Some new) t place tree → Contains leaves l → l.table ≡ t.number
+    → KeepSame bytes (links_in (part_of before l)) (links_in (part_of written l)) (part_leaves place tree (part_of written l))
 
 -- the checkpoint has a tree of the table with these rows
 abbrev pub HasRowsOf : Option Stored → Table → List Row → Type 0
 HasRowsOf None t rows = ⊥
 HasRowsOf (Some s) t rows = (r : TableRoot) × (tree : TableTree) × IsPair r tree s.kept.tables s.trees × (r.table ≡ t) × (tree_rows tree ≡ rows)
 
--- What a checkpoint of the machine writes on a device of this content and capacity, over this last one.
-module _ (bytes : List ℕ) (capacity : ℕ) (old : Option Stored) (m : Machine) where
-  -- a table's rows are cut into leaves, and these and the inner pages are written
+-- by leaf of a table, the images have the newest version of each key that lies in the leaf
+abbrev pub AreNewestOf : Machine → List Leaf → ℕ → List Leaf → List (List (List Row)) → Type 0
+AreNewestOf m all table [] [] = Unit {0}
+AreNewestOf m all table [] (images ∷ parts) = ⊥
+AreNewestOf m all table (l ∷ front) [] = ⊥
+AreNewestOf m all table (l ∷ front) (images ∷ parts) = AreNewestIn m all table l (join images) × AreNewestOf m all table front parts
+
+-- The images of these leaves of a table, its first ones, have no room: not all of those that the checkpoint before does not have at the same place in the leaf, with the same rows.
+pub record LacksFront (bytes : List ℕ) (capacity : ℕ) (leaves : List Leaf) (written : Written) (m : Machine) (table : ℕ) (space : Space) (front : List Leaf) : Type 0 where
+  pub rest : List Leaf
+  pub first : leaves_of table leaves ≡ front ++ rest
+  pub parts : List (List (List Row))
+  pub parted : ArePartedBy leaves table front parts
+  pub newest : AreNewestOf m leaves table front parts
+  pub full : AllByRecursion AreFullLeaves parts
+  pub some : AllByRecursion (λ (rows : List Row). 1 ≤ length rows) (join parts)
+  pub sizes : List ℕ
+  pub writes : WritesLeaves bytes (links_over written front parts) (join parts) sizes
+  pub lacks : LacksAll space capacity sizes
+
+-- What a checkpoint of the machine writes on a device of this content and capacity, over this last one. leaves, written: the leaves of the directory, and what the last one has of them.
+module _ (bytes : List ℕ) (capacity : ℕ) (old : Option Stored) (leaves : List Leaf) (written : Written) (m : Machine) where
+  -- A table's rows are parted by its leaves, the rows of each leaf are cut into images, and these and the inner pages are written: but no image that the checkpoint before has at the same place in the leaf, with the same rows.
   pub record CutWrites (t : Table) (rows : List Row) (sizes : List ℕ) : Type 0 where
     pub root : Root
     pub tree : TableTree
-    pub cut : IsCut root rows tree
-    pub writes : WritesTree bytes (links_in old t) tree sizes
+    pub parts : List (List (List Row))
+    pub parted : ArePartedBy leaves t.number (leaves_of t.number leaves) parts
+    pub cut : IsCutBy parts root rows tree
+    pub writes : WritesTree bytes (links_over written (leaves_of t.number leaves) parts) tree sizes
 
   -- the tree of a table: as it is written, or that of the checkpoint before, where that has the same rows
   pub record TableWrites (t : Table) (sizes : List ℕ) : Type 0 where
@@ -48,10 +82,10 @@ module _ (bytes : List ℕ) (capacity : ℕ) (old : Option Stored) (m : Machine)
   PlacesTables space [] last = last ≡ space
   PlacesTables space (t ∷ tables) last = (sizes : List ℕ) × (next : Space) × TableWrites t sizes × PlacesAll space capacity sizes next × PlacesTables next tables last
 
-  -- one of them has none
+  -- one of them has none: not even the first leaves of its table, or not all of it
   abbrev pub LacksTables : Space → List Table → Type 0
   LacksTables space [] = ⊥
-  LacksTables space (t ∷ tables) = (sizes : List ℕ) × TableWrites t sizes × (LacksAll space capacity sizes ⊎ ((next : Space) × PlacesAll space capacity sizes next × LacksTables next tables))
+  LacksTables space (t ∷ tables) = ((front : List Leaf) × LacksFront bytes capacity leaves written m t.number space front) ⊎ ((sizes : List ℕ) × TableWrites t sizes × (LacksAll space capacity sizes ⊎ ((next : Space) × PlacesAll space capacity sizes next × LacksTables next tables)))
 
   -- the block of the record
   abbrev pub IsRecordSize : ℕ → Type 0
@@ -72,18 +106,18 @@ pub record IsFreeSpace (bytes : List ℕ) (blocks : List Block) (space : Space) 
   pub free : (b : ℕ) → IsFree space b → (8192 ≤ b) × (b < space_end space) × (InBlocks blocks b → ⊥)
   pub rest : (b : ℕ) → 8192 ≤ b → b < space_end space → (InBlocks blocks b → ⊥) → IsFree space b
 
--- The device has no room for the next checkpoint. The trees are written in the order in which their tables were made, each from its leaves up, and then the record.
-pub record IsFullFor (bytes : List ℕ) (capacity : ℕ) (m : Machine) : Type 0 where
+-- The device has no room for the next checkpoint of an engine with these leaves. The trees are written in the order in which their tables were made, each from its leaves up, and then the record.
+pub record IsFullFor (bytes : List ℕ) (capacity : ℕ) (leaves : List Leaf) (written : Written) (m : Machine) : Type 0 where
   pub old : Option Stored
   pub has : HasStill old bytes
   pub space : Space
   pub space_is : IsFreeSpace bytes (blocks_of old) space
-  pub none : LacksPlace bytes capacity old m space (reverse (tables m.history))
+  pub none : LacksPlace bytes capacity old leaves written m space (reverse (tables m.history))
 
 -- it had room
-pub record HasRoomFor (bytes : List ℕ) (capacity : ℕ) (m : Machine) : Type 0 where
+pub record HasRoomFor (bytes : List ℕ) (capacity : ℕ) (leaves : List Leaf) (written : Written) (m : Machine) : Type 0 where
   pub old : Option Stored
   pub has : HasStill old bytes
   pub space : Space
   pub space_is : IsFreeSpace bytes (blocks_of old) space
-  pub some : HasPlaces bytes capacity old m space (reverse (tables m.history))
+  pub some : HasPlaces bytes capacity old leaves written m space (reverse (tables m.history))

@@ -1,5 +1,5 @@
 -- The trees of the tables in a checkpoint.
-use Rattle.std.specs.Prelude.{◌≡◌, ℕ, ◌≤◌, ◌==◌, List, [], ◌∷◌, ◌++◌, map, Option, Some, None, slice_get, slice_index_or, if◌then◌else◌}
+use Rattle.std.specs.Prelude.{◌≡◌, ℕ, ◌≤◌, List, [], ◌∷◌, ◌++◌, map, Option, Some, None, slice_get, slice_index_or}
 use Rattle.std.specs.List.{flat_map, AllByRecursion}
 use Rattle.device_layout.specs.declared.addr.Addr.{Addr}
 use Rattle.device_layout.specs.declared.link.Link.{Link}
@@ -7,26 +7,12 @@ use Rattle.kv_model.specs.History.{Table}
 use Rattle.stored.specs.Blocks.{Block}
 use Rattle.stored.specs.Records.{Root, TableRoot}
 use Rattle.stored.specs.Stored.{Stored}
-use Rattle.stored.specs.TableTree.{Entry, TableTree, root_entry, table_kind}
-use Rattle.stored.specs.Tree.{bottom, tree_blocks}
+use Rattle.stored.specs.TableTree.{TableTree, root_entry, table_kind}
+use Rattle.stored.specs.Tree.{tree_blocks}
 use Rattle.tree_open.specs.declared.place.TreePlace.{TreePlace}
-use Rattle.tree_open.specs.Trees.{HasTree, IsPlaceOf, root_own}
+use Rattle.tree_open.specs.Trees.{HasTree, IsPlaceOf}
 
 -- ---- in a checkpoint
-
--- what leads to the leaves of a tree, in the order of their keys
-abbrev pub leaf_links : Root → TableTree → List Link
-leaf_links root t = map {A = Entry} (λ e. e.link) (bottom (root_own root) t.layers)
-
--- to those of the table of this number; nothing where there is no such table
-abbrev pub links_of : List TableRoot → List TableTree → ℕ → List Link
-links_of [] trees number = []
-links_of (r ∷ later) [] number = []
-links_of (r ∷ later) (t ∷ trees) number = if r.table.number == number then leaf_links r.root t else links_of later trees number
-
-abbrev pub links_in : Option Stored → Table → List Link
-links_in None t = []
-links_in (Some s) t = links_of s.kept.tables s.trees t.number
 
 abbrev pub table_root : Table → Root → TableRoot
 table_root t root = record { table = t; root = root }

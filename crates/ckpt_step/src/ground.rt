@@ -1,4 +1,5 @@
 // On what the next checkpoint of an engine stands.
+use crate::parts::Parts;
 use device_leaf::Place;
 use stamp::Name;
 use tree_open::TreePlace;
@@ -13,6 +14,9 @@ pub struct Ground {
     /// By place of the engine's catalog: where the tree of the table stands. Tables that were made
     /// since have none.
     pub trees: Vec<TreePlace>,
+    /// The entries that this checkpoint has of leaves, by their ids. Of a leaf without any here it has
+    /// the one to which the leaf's entry in the directory leads, or nothing where that has no rows.
+    pub parts: Parts,
     /// Each name before it had ended at the last checkpoint that this engine took. No name is before
     /// run 0 and id 0, with which an engine begins.
     pub floor: Name,

@@ -1,9 +1,11 @@
 // Laws of checkpoints, and of machines on which no commit had a stamp.
 ghost use Rattle.ckpt_step.specs.Laws.{CheckpointsOpen};
-ghost use Rattle.ckpt_step.specs.Calm.{AnswersCalm, OpensCalm, StartsCalm, StepsCalm, StoresCalm};
-ghost use Rattle.ckpt_step.specs.Keeps.{EnginesAreOrdinary, FitsAreOrdinary, StepsKeep};
+ghost use Rattle.ckpt_step.specs.Calm.{AnswersCalm, KeptCalm, KeptOutCalm, OpensCalm, StartsCalm, StepsCalm, StoresCalm};
+ghost use Rattle.ckpt_step.specs.Keeps.{EnginesAreOrdinary, FitsAreOrdinary, KeptKeep, KeptOutKeep, StepsKeep};
 ghost use Rattle.ckpt_step.specs.Plain.{OpensPlain, RollsBackPlain, StartsPlain, StaysPlain};
+ghost use Rattle.ckpt_step.specs.Stays.{GroundsStay};
 
+use disk_model::Disk;
 use stored::what_is_read_is_regular;
 
 /// A device that has a checkpoint of a machine, of each key of which the newest version suffices,
@@ -23,20 +25,30 @@ pub fn plain_stays()
     what_is_read_is_regular();
 }
 
-/// So does it, with the calls that are under way, after each such step and call, and after a
-/// checkpoint in one event, a fault of the device, and a close.
+/// So does it, with the calls that are under way, after each such step and call, after a leaf is kept
+/// from a call, and after a checkpoint in one event, a fault of the device, and a close.
 pub fn calm_stays()
     ensures starts { StartsCalm }
     ensures steps { StepsCalm }
     ensures answers { AnswersCalm }
+    ensures kept { KeptCalm }
+    ensures kept_out { KeptOutCalm }
     ensures opens { OpensCalm }
     ensures stores { StoresCalm }
 {}
 
-/// No step or call of an engine changes the last completed checkpoint, starts one, or takes the
-/// engine down, whatever its stamps.
+/// No step or call of an engine, and no leaf that is kept from a call, changes the last completed
+/// checkpoint, starts one, or takes the engine down, whatever the stamps.
 pub fn checkpoints_are_kept()
     ensures engines { EnginesAreOrdinary }
     ensures fits { FitsAreOrdinary }
     ensures steps { StepsKeep }
+    ensures kept { KeptKeep }
+    ensures kept_out { KeptOutKeep }
+{}
+
+/// The ground of a checkpoint stays that of an engine whose hub goes on, as over calls, steps and
+/// leaves that come into frames, and follows it where its machine goes on and the shelf stays.
+pub fn grounds_stay<D: Disk>()
+    ensures { (disk : D) → GroundsStay (D.seen disk) (D.may_leave disk) }
 {}

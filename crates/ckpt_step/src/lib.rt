@@ -8,10 +8,13 @@
 //! and when a checkpoint may come.
 #![tactic(auto)]
 
+mod before;
 mod books;
 mod clean;
 mod ground;
 mod laws;
+mod leaves;
+mod parts;
 mod record;
 mod roots;
 mod taken;
@@ -20,5 +23,6 @@ mod trees;
 mod writing;
 
 pub use ground::Ground;
-pub use laws::{calm_stays, checkpoints_are_kept, checkpoints_open, plain_stays};
+pub use laws::{calm_stays, checkpoints_are_kept, checkpoints_open, grounds_stay, plain_stays};
+pub use parts::Parts;
 pub use taking::checkpoint;

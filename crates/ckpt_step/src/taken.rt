@@ -1,6 +1,7 @@
 // What a running checkpoint has.
 ghost use Rattle.std.specs.Prelude.{◌≡◌, []};
 
+use crate::parts::LeafPart;
 use device_layout::Addr;
 use std::alloc::Global;
 use tree_open::TreePlace;
@@ -11,6 +12,8 @@ pub(crate) struct Taken {
     // By place of the engine's catalog: the trees of the first tables. None is one that stands where it
     // did at the checkpoint before.
     pub trees: Vec<Option<TreePlace>>,
+    // The leaves that it wrote.
+    pub parts: Vec<LeafPart>,
     // Where the blocks stand that are captured, in turn: also those of a tree that is not whole.
     pub captured: Vec<Addr>,
 }
@@ -19,10 +22,12 @@ impl Taken {
     // Nothing. Takes no memory.
     pub(crate) fn new(alloc: Global) -> Taken
         ensures trees { result.trees.items ≡ [] }
+        ensures parts { result.parts.items ≡ [] }
         ensures captured { result.captured.items ≡ [] }
     {
         Taken {
             trees: Vec::new(alloc),
+            parts: Vec::new(alloc),
             captured: Vec::new(alloc),
         }
     }

@@ -22,8 +22,10 @@ use std::alloc::Global;
 use wt_code::{Refusal, StoreError};
 
 /// A checkpoint in one event: of each table the tree of the newest versions that are committed, the
-/// record, a sync, and the slot that names it. A leaf that the checkpoint before has at the same
-/// place among its table's, with the same rows, keeps its block.
+/// record, a sync, and the slot that names it. A leaf of the directory that is in no frame, or clean,
+/// so that nothing was committed to it since the last checkpoint of this engine, keeps its blocks,
+/// unread. The rows of any other are cut into images, of which one that the checkpoint before has at
+/// the same place in the leaf, with the same rows, keeps its block.
 ///
 /// After `Ok` it is the last completed one. Refused where the engine is down, a prepared
 /// transaction is being resolved or there were too many checkpoints; `28 no space` where a block has
@@ -31,10 +33,10 @@ use wt_code::{Refusal, StoreError};
 /// sync takes it down, and the device has the checkpoint before or, where the gate of the slot was
 /// being opened, the new one.
 ///
-/// `O(blocks)` for a clean table, to which nothing was committed since the last checkpoint of this
-/// engine: it keeps its tree. `O(rows)` for any other, whose rows are copied once into images: a
-/// block of before is read where it may be the same, one is written where it is not, and so is each
-/// inner page.
+/// `O(leaves)`, and `O(blocks)` for a table of clean leaves alone, which keeps its tree. Of any other
+/// table `O(rows)` of each leaf that is not clean, whose rows are copied once into images: a block of
+/// before is read where it may be the same, one is written where it is not, and so is each inner page
+/// of the table.
 pub fn checkpoint<D: Disk>(
     alloc: Global,
     disk: &mut D,
@@ -45,8 +47,8 @@ pub fn checkpoint<D: Disk>(
     requires trees { length ground.old.trees.items ≤ length engine.old.hub.tables.tables }
     requires low { AreLow ground.old.trees.items }
     requires steady { IsTrue (D.honest disk.old) → IsSteady D.Disk engine.old ground.old disk.old }
-    ensures takes { IsTrue (D.honest disk.old) → (w : World) → Stands engine.old w → w.machine.checkpoint ≡ None → (old : Option Stored) → StandsOn (D.seen disk.old) (D.may_leave disk.old) engine.old.hub.tables.tables ground.old old
-        → Follows old engine.old.hub.tables.tables ground.old.trees.items ground.old.floor w.machine → Takes D.Disk old w ground.old ground.new engine.old engine.new disk.old disk.new result }
+    ensures takes { IsTrue (D.honest disk.old) → (w : World) → Stands engine.old w → w.machine.checkpoint ≡ None → (old : Option Stored) → StandsOn (D.seen disk.old) (D.may_leave disk.old) engine.old.hub ground.old old
+        → Follows old engine.old.hub ground.old w → Takes D.Disk old w ground.old ground.new engine.old engine.new disk.old disk.new result }
     ensures down { (fault : AFault) → engine.old.hub.fault ≡ Some fault → (result ≡ Err (Refusal.Panic fault)) × (engine.new ≡ engine.old) × (ground.new ≡ ground.old) × (disk.new ≡ disk.old) }
     ensures steady { IsTrue (D.honest disk.old) → IsSteady D.Disk engine.new ground.new disk.new }
     ensures refusals { IfErr result IsOfCheckpoint }

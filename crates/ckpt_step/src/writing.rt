@@ -15,14 +15,18 @@ ghost use Rattle.stored.specs.Stored.{Stored};
 ghost use Rattle.engine_world.specs.Stands.{Stands};
 ghost use Rattle.engine_world.specs.Worlds.{World};
 ghost use Rattle.ckpt_step.specs.Floors.{Follows};
-ghost use Rattle.ckpt_step.specs.Grounds.{AreRoots, StandsOn, number_of};
+ghost use Rattle.ckpt_step.specs.Grounds.{AreRoots, AreWritten, StandsOn, number_of};
 ghost use Rattle.ckpt_step.specs.Halves.{AreOldBlocks, AreOwn, Half, IsFresh, done_at, settled_at};
+ghost use Rattle.ckpt_step.specs.Parts.{HaveRoom, with_parts};
+ghost use Rattle.ckpt_step.specs.Rooms.{known_in};
 ghost use Rattle.ckpt_step.specs.Runs.{IsImageOf, Puts, Wrote};
 ghost use Rattle.ckpt_step.specs.Trees.{AreKept, AreLow, AreTold, addrs_of, kept_by, placed_by};
 
+use crate::before::Before;
 use crate::books::{give_up, let_go};
 use crate::clean::floor_of;
 use crate::ground::Ground;
+use crate::parts::{LeafPart, Parts};
 use crate::record::record_of;
 use crate::taken::Taken;
 use crate::trees::write_trees;
@@ -53,10 +57,10 @@ pub(crate) fn write<D: Disk>(
     requires sight { snapshot.now.sight ≡ sight_at engine.now.hub.txns.run engine.now.hub.txns.next (unended engine.now.hub.txns) }
     requires trees { length ground.old.trees.items ≤ length engine.now.hub.tables.tables }
     requires low { AreLow ground.old.trees.items }
-    requires ready { IsTrue (D.honest disk.old) → (w : World) × Stands engine.now w × NoneResolves w.machine × SeesCommitted w.machine (length w.machine.history) snapshot.now.sight × ((old : Option Stored) × StandsOn (D.seen disk.old) (D.may_leave disk.old) engine.now.hub.tables.tables ground.old old × Follows old engine.now.hub.tables.tables ground.old.trees.items ground.old.floor w.machine) }
+    requires ready { IsTrue (D.honest disk.old) → (w : World) × Stands engine.now w × NoneResolves w.machine × SeesCommitted w.machine (length w.machine.history) snapshot.now.sight × ((old : Option Stored) × StandsOn (D.seen disk.old) (D.may_leave disk.old) engine.now.hub ground.old old × Follows old engine.now.hub ground.old w) }
     ensures wrote { IsTrue (D.honest disk.old) → (w : World) → Stands engine.now w → NoneResolves w.machine → SeesCommitted w.machine (length w.machine.history) snapshot.now.sight → (old : Option Stored)
-        → StandsOn (D.seen disk.old) (D.may_leave disk.old) engine.now.hub.tables.tables ground.old old → Follows old engine.now.hub.tables.tables ground.old.trees.items ground.old.floor w.machine
-        → Wrote D.Disk old w.machine engine.now.hub.tables.tables ground.old ground.new disk.old disk.new result }
+        → StandsOn (D.seen disk.old) (D.may_leave disk.old) engine.now.hub ground.old old → Follows old engine.now.hub ground.old w
+        → Wrote D.Disk old w engine.now.hub ground.old ground.new disk.old disk.new result }
     ensures number { ground.old.number ≤ ground.new.number }
     ensures trees { length ground.new.trees.items ≤ length engine.now.hub.tables.tables }
     ensures low { AreLow ground.new.trees.items }
@@ -67,7 +71,7 @@ pub(crate) fn write<D: Disk>(
     let mut taken = Taken::new(alloc);
     match write_blocks(alloc, disk, ground, engine, snapshot, &mut taken) {
         Ok(addr) => {
-            settle(ground, taken.trees, addr, floor_of(snapshot));
+            settle(ground, taken.trees, taken.parts, addr, floor_of(snapshot));
             Ok(())
         }
         Err(error) => {
@@ -105,38 +109,40 @@ fn write_blocks<D: Disk>(
     requires held { ground.old.place.blocks.is_held ≡ true }
     requires low { AreLow ground.old.trees.items }
     requires none { taken.old.trees.items ≡ [] }
+    requires unwritten { taken.old.parts.items ≡ [] }
     requires unlisted { taken.old.captured.items ≡ [] }
-    requires ready { IsTrue (D.honest disk.old) → (w : World) × Stands engine.now w × NoneResolves w.machine × SeesCommitted w.machine (length w.machine.history) snapshot.now.sight × ((old : Option Stored) × Half (D.seen disk.old) (D.may_leave disk.old) ground.old.place.blocks old [] [] [] × AreRoots engine.now.hub.tables.tables ground.old.trees.items old × Follows old engine.now.hub.tables.tables ground.old.trees.items ground.old.floor w.machine) }
+    requires ready { IsTrue (D.honest disk.old) → (w : World) × Stands engine.now w × NoneResolves w.machine × SeesCommitted w.machine (length w.machine.history) snapshot.now.sight × ((old : Option Stored) × Half (D.seen disk.old) (D.may_leave disk.old) ground.old.place.blocks old [] [] [] × AreRoots engine.now.hub.tables.tables engine.now.hub.dir.leaves (known_in ground.old.parts) ground.old.trees.items old × AreWritten engine.now.hub.tables.tables engine.now.hub.dir (known_in ground.old.parts) ground.old.trees.items × Follows old engine.now.hub ground.old w) }
     ensures puts { IsTrue (D.honest disk.old) → (w : World) → Stands engine.now w → NoneResolves w.machine → SeesCommitted w.machine (length w.machine.history) snapshot.now.sight → (old : Option Stored)
-        → Half (D.seen disk.old) (D.may_leave disk.old) ground.old.place.blocks old [] [] [] → AreRoots engine.now.hub.tables.tables ground.old.trees.items old → ground.old.number ≡ number_of old
-        → Follows old engine.now.hub.tables.tables ground.old.trees.items ground.old.floor w.machine
-        → Puts D.Disk old w.machine engine.now.hub.tables.tables ground.old.place.blocks ground.new.place.blocks (placed_by ground.old.trees.items taken.new.trees.items) taken.new.captured.items disk.old disk.new result }
+        → Half (D.seen disk.old) (D.may_leave disk.old) ground.old.place.blocks old [] [] [] → AreRoots engine.now.hub.tables.tables engine.now.hub.dir.leaves (known_in ground.old.parts) ground.old.trees.items old → AreWritten engine.now.hub.tables.tables engine.now.hub.dir (known_in ground.old.parts) ground.old.trees.items → ground.old.number ≡ number_of old
+        → Follows old engine.now.hub ground.old w
+        → Puts D.Disk old w engine.now.hub.tables.tables engine.now.hub.dir.leaves (known_in ground.old.parts) ground.old.place.blocks ground.new.place.blocks (placed_by ground.old.trees.items taken.new.trees.items) taken.new.parts.items taken.new.captured.items disk.old disk.new result }
     ensures count { OnOk result (length taken.new.trees.items ≡ length engine.now.hub.tables.tables) }
     ensures told { OnOk result (AreTold ground.old.trees.items taken.new.trees.items) }
     ensures room { OnOk result (length taken.new.trees.items ≤ vec_capacity ground.new.trees) }
+    ensures parts_room { OnOk result (HaveRoom ground.new.parts taken.new.parts.items) }
     ensures held { IfErr result (λ e. ground.new.place.blocks.is_held ≡ true) }
     ensures slot { ground.new.place.slot ≡ ground.old.place.slot }
     ensures number { ground.new.number ≡ ground.old.number }
     ensures trees { ground.new.trees.items ≡ ground.old.trees.items }
+    ensures parts { (leaf : ℕ) → known_in ground.new.parts leaf ≡ known_in ground.old.parts leaf }
     ensures floor { ground.new.floor ≡ ground.old.floor }
     ensures fault { IfErr result (λ e. IsOfDisk e → Rose (D.faults disk.old) (D.faults disk.new)) }
     ensures disk { SameDisk D.Disk disk.old disk.new }
 {
     let blocks = &mut ground.place.blocks;
-    match write_trees(
-        alloc,
-        disk,
-        blocks,
-        &ground.trees,
-        ground.floor,
-        engine,
-        snapshot,
-        taken,
-    ) {
+    let was = Before {
+        trees: &ground.trees,
+        parts: &ground.parts,
+        floor: ground.floor,
+    };
+    match write_trees(alloc, disk, blocks, was, engine, snapshot, taken) {
         Ok(()) => {}
         Err(error) => return Err(error),
     }
     let Ok(()) = reserve_for(&mut ground.trees, engine) else {
+        return Err(StoreError::NoMemory);
+    };
+    let Ok(()) = reserve_parts(&mut ground.parts, &taken.parts) else {
         return Err(StoreError::NoMemory);
     };
     let Ok(image) = image_of(
@@ -165,6 +171,17 @@ fn reserve_for(trees: &mut Vec<TreePlace>, engine: &Local) -> Result<(), NoMemor
     Ok(())
 }
 
+// Makes room for the entries of the leaves that were written. The error is want of memory.
+fn reserve_parts(parts: &mut Parts, written: &[LeafPart]) -> Result<(), NoMemory>
+    ensures known { (leaf : ℕ) → known_in parts.new leaf ≡ known_in parts.old leaf }
+    ensures room { OnOk result (HaveRoom parts.new written.now) }
+{
+    for part in written {
+        parts.reserve(part.leaf)?;
+    }
+    Ok(())
+}
+
 // The image of the record of a checkpoint with these trees.
 fn image_of(
     alloc: Global,
@@ -186,13 +203,21 @@ fn image_of(
     encode(alloc, &record)
 }
 
-// The ground is that of the checkpoint with these trees and this floor, whose record stands at the
+// The ground is that of the checkpoint with these trees, leaves and floor, whose record stands at the
 // address.
-fn settle(ground: &mut Ground, told: Vec<Option<TreePlace>>, addr: Addr, floor: Name)
+fn settle(
+    ground: &mut Ground,
+    told: Vec<Option<TreePlace>>,
+    written: Vec<LeafPart>,
+    addr: Addr,
+    floor: Name,
+)
     requires number { ground.old.number < 2 ^ 62 - 1 }
     requires kept { AreKept ground.old.trees.items told.items }
     requires few { length ground.old.trees.items ≤ length told.items }
     requires room { length told.items ≤ vec_capacity ground.old.trees }
+    requires parts_room { HaveRoom ground.old.parts written.items }
+    ensures parts { (leaf : ℕ) → known_in ground.new.parts leaf ≡ with_parts (known_in ground.old.parts) written.items leaf }
     ensures number { ground.new.number ≡ ground.old.number + 1 }
     ensures trees { ground.new.trees.items ≡ placed_by ground.old.trees.items told.items }
     ensures floor { ground.new.floor ≡ floor }
@@ -204,9 +229,20 @@ fn settle(ground: &mut Ground, told: Vec<Option<TreePlace>>, addr: Addr, floor: 
 {
     let_go(&mut ground.place.blocks, &ground.trees, &told);
     put_trees(&mut ground.trees, told);
+    put_parts(&mut ground.parts, written);
     ground.floor = floor;
     ground.number += 1;
     ground.place.slot = Some(Slot::new(ground.number, addr));
+}
+
+// The leaves that were written have these entries from now on.
+fn put_parts(parts: &mut Parts, written: Vec<LeafPart>)
+    requires room { HaveRoom parts.old written.items }
+    ensures { (leaf : ℕ) → known_in parts.new leaf ≡ with_parts (known_in parts.old) written.items leaf }
+{
+    for part in written {
+        parts.put(part);
+    }
 }
 
 // The trees that are told take the places of those of before.

@@ -5,9 +5,9 @@ ghost use Rattle.ckpt_step.specs.Trees.{AreLow};
 
 use block_sum::sum;
 use catalog::Catalog;
-use ckpt_step::{Ground, checkpoint};
+use ckpt_step::{Ground, Parts, checkpoint};
 use disk_model::{Call as DiskCall, Look, MemDisk};
-use engine::Local;
+use engine::{Called, Local};
 use item::{Format, Formats, Item};
 use plain_disk::PlainDisk;
 use recover_open::{Kept, Recovered, recover};
@@ -15,8 +15,9 @@ use row_page::CellChange;
 use stamp::Name;
 use std::alloc::Global;
 use std::process::Abort;
+use tree_dir::Dir;
 use tree_open::TreePlace;
-use wt_calls::{Call, Demand, SessionCall, SystemCall};
+use wt_calls::{Demand, SessionCall, SystemCall};
 use wt_code::{Answer, Refusal};
 
 const BYTES: Formats = Formats {
@@ -38,10 +39,10 @@ fn item(rt: &impl Abort, alloc: Global, bytes: &[u8]) -> Item {
     Item::new(Vec::from_slice(alloc, bytes).expect(rt, "there is memory"))
 }
 
-#[tactic(auto, using(crate::proofs::Bases::nothing_is_base))]
+#[tactic(auto, using(crate::proofs::Bases::none_owned, crate::proofs::Bases::unset_fit))]
 fn engine_on_nothing(rt: &impl Abort, alloc: Global) -> Local {
     let tables = Catalog::new(alloc);
-    let opened = Local::open(alloc, 1, 0, 0, tables, Vec::new(alloc));
+    let opened = Local::open(alloc, 1, 0, 0, tables, Dir::new(alloc));
     opened.expect(rt, "there is memory")
 }
 
@@ -71,6 +72,7 @@ fn new_bench(
             place: found.place,
             number: 0,
             trees: Vec::new(alloc),
+            parts: Parts::new(alloc),
             floor: Name { run: 0, id: 0 },
         },
         engine,
@@ -84,12 +86,12 @@ fn create(rt: &impl Abort, alloc: Global, engine: &mut Local, name: &[u8]) {
     };
     // That there is an actor of the system.
     let _actors = engine.actors();
-    assert!(rt; engine.call(alloc, Call::System(0, call)) == Answer::Done);
+    assert!(rt; engine.call_system(alloc, 0, call) == Answer::Done);
 }
 
 fn ask(rt: &impl Abort, alloc: Global, engine: &mut Local, call: SessionCall) {
     assert!(rt; engine.sessions() > 0);
-    assert!(rt; engine.call(alloc, Call::Session(0, call)) == Answer::Done);
+    assert!(rt; engine.call(alloc, 0, call) == Called::Ended(Answer::Done));
 }
 
 // A transaction that gives the key `k` of a table a value.
@@ -267,6 +269,22 @@ fn blocks_read(disk: &MemDisk, first: usize) -> usize {
         .count()
 }
 
+// Takes a checkpoint that reads no block and writes this, the content of the device being known.
+fn take_written(
+    rt: &impl Abort,
+    alloc: Global,
+    two: &mut Bench,
+    content: &mut Vec<u8>,
+    written: &Written<'_>,
+) {
+    let first = two.disk.medium.calls().len();
+    assert!(rt; take(rt, alloc, two) == Ok(()));
+    assert_eq!(rt; blocks_read(&two.disk.medium, first), 0);
+    add_written(rt, content, written);
+    let bytes = two.disk.medium.bytes();
+    assert_eq!(rt; first_difference(bytes, content), None);
+}
+
 #[test]
 fn a_checkpoint_writes_what_changed_and_its_record(rt: HostRuntime) {
     let alloc = rt.alloc();
@@ -279,14 +297,14 @@ fn a_checkpoint_writes_what_changed_and_its_record(rt: HostRuntime) {
         if i == 1 {
             put(&rt, alloc, &mut two, b"b", b"2");
         }
-        let first = two.disk.medium.calls().len();
-        assert!(rt; take(&rt, alloc, &mut two) == Ok(()), "checkpoint {i}");
-        assert_eq!(rt; blocks_read(&two.disk.medium, first), 0, "checkpoint {i}");
-        add_written(&rt, &mut content, written);
-        let bytes = two.disk.medium.bytes();
-        assert_eq!(rt; first_difference(bytes, &content), None, "checkpoint {i}");
+        take_written(&rt, alloc, &mut two, &mut content, written);
     }
-    // Three leaves and the record of the checkpoint before, a new leaf and a new record.
+}
+
+// Three leaves and the record of the checkpoint before, a new leaf and a new record.
+#[test]
+fn the_room_of_older_checkpoints_is_used_again(rt: HostRuntime) {
+    let alloc = rt.alloc();
     let mut three = new_bench(&rt, alloc, ROOM, &[], &[b"a", b"b", b"c"]);
     let tables = [b"a", b"b", b"c"];
     for i in 0..1_000usize {

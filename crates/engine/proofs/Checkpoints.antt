@@ -1,7 +1,6 @@
 -- The start of a checkpoint, its snapshot, and the leaves that it reads.
 use Rattle.std.proofs.Common.{◌≡◌, ◌≤◌, ◌<◌, ℕ, refl, ap, sym, ◌∙◌, Bool, true, false, [], ◌∷◌, length, inl, inr, subst, arith}
-use Rattle.std.specs.Prelude.{Option, Some, None, Ok, Err, IfSome, MatchOption, nat_le, option_map, slice_get}
-use Rattle.std.specs.List.{Contains}
+use Rattle.std.specs.Prelude.{Option, Some, None, Ok, Err, IfSome, nat_le, option_map}
 use Rattle.std.specs.Borrow.{Bor}
 use Rattle.std.proofs.lemmas.Bool.{false_from_ne_true, le-leb, leb-true}
 use Rattle.limits.specs.declared.TheConstants.{NUMBER_MAX}
@@ -11,8 +10,7 @@ use Rattle.wt_code.specs.declared.refusals.Limit.TheVariants as counted
 use Rattle.wt_code.specs.declared.refusals.Refusal.TheVariants as told
 use Rattle.kv_model.specs.Allowed.{Allowed}
 use Rattle.kv_model.specs.Decisions.{Outcome, Done, StartCall, checked, decision, first_session, is_resolving, is_there, unless_found}
-use Rattle.kv_model.specs.History.{Table}
-use Rattle.kv_model.specs.Machine.{Machine, Checkpoint, Event, CheckpointDrop, CheckpointStart, GoDown, after}
+use Rattle.kv_model.specs.Machine.{Machine, Checkpoint, Event, CheckpointDrop, CheckpointStart, after}
 use Rattle.kv_model.specs.Valid.{Valid}
 use Rattle.kv_model.proofs.Deciding.{may-decide}
 use Rattle.kv_model.proofs.EveryEvent.{valid-after}
@@ -23,21 +21,14 @@ use Rattle.txn_table.specs.Stands.{TableStands}
 use Rattle.txn_table.specs.TableLaws.{CallsGoOn, LowestAreTheMachines}
 use Rattle.txn_table.specs.SessionData.{is_resolving as resolves}
 use Rattle.txn_table.specs.Tabled.{Table as Txns, first_in, unended}
-use Rattle.rows_shown.specs.Shows.{shown_at}
-use Rattle.update_chain.specs.EventLaws.{StandsFor}
-use Rattle.leaf_chains.specs.Slots.{chain_at}
 use Rattle.leaf_frame.specs.Leaf.{HeldLeaf}
-use Rattle.tree_dir.specs.declared.leaf.Leaf.{Leaf}
 use Rattle.call_steps.specs.declared.frame.Frame.{Frame}
-use Rattle.engine_world.specs.Leaves.{LeafInFrame, frame_in}
+use Rattle.engine_world.specs.Leaves.{frame_in}
 use Rattle.engine_world.specs.Stands.{Engine, Stands}
-use Rattle.engine_world.specs.Systems.{DownsGo, with_fault}
 use Rattle.engine_world.specs.Worlds.{World}
 use Rattle.engine_world.proofs.HubMoves.{decided-down, decided-up}
-use Rattle.engine.specs.Checkpoints.{HeldStands, MayStart}
+use Rattle.engine.specs.Checkpoints.{MayStart}
 use Rattle.engine.specs.Sizes.{LeafFits, LeavesFit}
-use Rattle.engine.specs.Sound.{IsSound}
-use Rattle.engine.proofs.OneLeaf.{LeavesLaid, frame-is, lies-in, placed-stands}
 
 -- ---- the start
 
@@ -103,35 +94,6 @@ sees-now calls law t m valid stands none = record {
 
 -- ---- the leaves
 
--- the leaf of a table is in the frame of its place, and stands for all keys of the table
-pub record HasLeaf (e : Engine) (w : World) (place : ℕ) (t : Table) : Type 0 where
-  pub frame : Frame
-  pub there : frame_in e.pieces place ≡ Some frame
-  pub stands : HeldStands w.machine t frame.leaf
-
-pub has-leaf : (e : Engine) (w : World) (place : ℕ) (t : Table) → IsSound e → Stands e w → slice_get e.hub.tables.tables place ≡ Some t → HasLeaf e w place t
-has-leaf e w place t sound st at = record {
-  frame = own.laid.frame;
-  there = ap (frame_in e.pieces) (sym (frame-is e.hub.dir e.hub.tables e.pieces e.states st.dir st.catalog sound.placed laid l.0 l.1 place t at l.2)) ∙ own.laid.there;
-  stands = λ key. subst (λ n. StandsFor w.machine n key (chain_at key own.laid.frame.leaf.chains) (shown_at key own.laid.frame.leaf.page) []) l.2
-      (own.keys key (lies-in e.hub.dir e.hub.tables e.pieces e.states st.dir st.catalog sound.placed laid l.0 l.1 key));
-} where
-  l : (n : Leaf) × Contains e.hub.dir.leaves n × (n.table ≡ t.number)
-  l = st.begun place t at
-
-  laid : LeavesLaid e.hub.dir.leaves e.pieces e.states
-  laid n there = (placed-stands e w sound.placed st n there).laid
-
-  own : LeafInFrame w.machine e.hub.dir.leaves e.pieces e.states l.0
-  own = placed-stands e w sound.placed st l.0 l.1
-
-pub leaf-given : (e : Engine) (w : World) (place : ℕ) (t : Table) (result : Option (Bor HeldLeaf)) → HasLeaf e w place t
-    → option_map (λ l. l.now) result ≡ option_map (λ (f : Frame). f.leaf) (frame_in e.pieces place) → MatchOption result ⊥ (λ l. HeldStands w.machine t l.now)
-leaf-given e w place t None leaf is = let e : None ≡ Some leaf.frame.leaf = is ∙ ap (option_map (λ (f : Frame). f.leaf)) leaf.there in absurd (cc)
-leaf-given e w place t (Some c) leaf is = subst (HeldStands w.machine t) (sym same) leaf.stands where
-  same : c.now ≡ leaf.frame.leaf
-  same = let e : Some c.now ≡ Some leaf.frame.leaf = is ∙ ap (option_map (λ (f : Frame). f.leaf)) leaf.there in cc
-
 pub leaf-fits : (e : Engine) (place : ℕ) (result : Option (Bor HeldLeaf)) → LeavesFit e.pieces
     → option_map (λ l. l.now) result ≡ option_map (λ (f : Frame). f.leaf) (frame_in e.pieces place) → IfSome result (λ l. LeafFits l.now)
 leaf-fits e place None fit is = tt
@@ -139,21 +101,3 @@ leaf-fits e place (Some c) fit is = by (frame_in e.pieces place) refl is where
   by : (o : Option Frame) → frame_in e.pieces place ≡ o → Some c.now ≡ option_map (λ (f : Frame). f.leaf) o → LeafFits c.now
   by None at is = absurd (cc)
   by (Some f) at is = subst LeafFits (let same : f.leaf ≡ c.now = cc in same) (fit place f at)
-
--- ---- down
-
-pub down-sound : DownsGo → (e : Engine) (fault : Fault) → IsSound e → IsSound (with_fault e fault)
-down-sound law e fault sound = record {
-  running = record {
-    world = (let was = sound.running.world in (record was.0 { machine = after was.0.machine (GoDown fault) }, law e was.0 fault was.1));
-    framed = sound.running.framed;
-  };
-  built = sound.built;
-  actors = sound.actors;
-  pieces = sound.pieces;
-  states = sound.states;
-  numbers = sound.numbers;
-  placed = sound.placed;
-  free = sound.free;
-  sizes = record { leaves = sound.sizes.leaves; sessions = sound.sizes.sessions; names = sound.sizes.names };
-}

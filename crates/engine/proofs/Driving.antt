@@ -1,10 +1,11 @@
 -- One step of a session, over the data of an engine.
-use Rattle.std.proofs.Common.{◌≡◌, ◌<◌, ℕ, refl, ap, sym, ◌∙◌, List, length, subst, get_or}
+use Rattle.std.proofs.Common.{◌≡◌, ◌≢◌, ◌<◌, ℕ, refl, ap, sym, ◌∙◌, List, length, subst, get_or}
 use Rattle.std.specs.Prelude.{Some, slice_get, slice_set}
 use Rattle.std.proofs.lemmas.List.{set-get_or}
 use Rattle.std.proofs.lemmas.Option.{slice_get_read}
 use Rattle.stamp.specs.declared.View.{View}
 use Rattle.wt_code.specs.declared.answers.Answer.TheVariants as answers
+use Rattle.wt_code.specs.declared.refusals.Refusal.{Refusal}
 use Rattle.wt_code.specs.declared.refusals.Refusal.TheVariants as refusal
 use Rattle.wt_code.specs.declared.refusals.Invalid.TheVariants.{NoCall}
 use Rattle.wt_calls.specs.declared.session_call.SessionCall.{SessionCall}
@@ -16,30 +17,28 @@ use Rattle.call_steps.specs.declared.reply.Reply.{Reply}
 use Rattle.call_steps.specs.declared.reply.Reply.TheVariants as reply
 use Rattle.call_steps.specs.declared.stage.Stage.{Stage}
 use Rattle.call_steps.specs.declared.stage.Stage.TheVariants as stage
-use Rattle.call_steps.specs.HubEvents.{Made, IsSeated, hub_made}
+use Rattle.call_steps.specs.HubEvents.{Made, hub_made}
 use Rattle.call_steps.specs.Starts.{Starts}
 use Rattle.call_steps.specs.State.{State}
-use Rattle.call_steps.specs.Words.{next_at, next_of, loaded, stored}
+use Rattle.call_steps.specs.Words.{kept_out, next_at, next_of, loaded, stored}
+use Rattle.call_turns.specs.Turns.{IsHubNext}
 use Rattle.engine_world.specs.Doings.{doing_at}
-use Rattle.engine_world.specs.Laws.{Leads, IsViewOf, LoadGoes, StartsGo, with_hub, with_hazard, with_session}
+use Rattle.engine_world.specs.Laws.{KeepsOutGo, Leads, IsViewOf, LoadGoes, StartsGo, with_hub, with_hazard, with_session}
 use Rattle.engine_world.specs.Leaves.{word_at}
 use Rattle.engine_world.specs.Stands.{Engine, Stands}
-use Rattle.engine_world.specs.Steps.{GoesOn, MayBegin}
+use Rattle.engine_world.specs.Steps.{GoesOn, MayBegin, MayKeepOut}
 use Rattle.engine_world.specs.Worlds.{World, Resting, doing_of}
-use Rattle.engine.specs.Events.{HasWorld, IsFrameEvent, IsOnHub}
-use Rattle.engine.specs.Sound.{AllFramed}
+use Rattle.engine.specs.Events.{IsFrameEvent}
 use Rattle.engine.proofs.Stepping.{HubLaws, FrameLaws, StoreLaws, hub-goes, frame-goes, store-goes}
+use Rattle.engine.proofs.Waited.{at-fill}
 
 -- an element that was lent is that of the list
 pub lent-at : {A : Type 0} (xs : List A) (i : ℕ) (x : A) → i < length xs → x ≡ get_or xs i x → slice_get xs i ≡ Some x
 lent-at xs i x inside is = slice_get_read xs (length xs) i x refl inside is
 
-pub seated-at : (e : Engine) (session : ℕ) (a : State) → HasWorld e → slice_get e.sessions session ≡ Some a → IsSeated e.hub session a
-seated-at e session a world at = (world.1.sessions session a at).seated
-
-pub hub-step : HubLaws → (e : Engine) (session : ℕ) (a a' : State) (hub : Hub) (told : Reply) → slice_get e.sessions session ≡ Some a → AllFramed e.hub.dir.leaves → IsOnHub (next_of a)
+pub hub-step : HubLaws → (e : Engine) (session : ℕ) (a a' : State) (hub : Hub) (told : Reply) → slice_get e.sessions session ≡ Some a → IsHubNext e.hub a
     → (let made : Made = (told, (hub, a')) in made) ≡ hub_made e.hub session a → (w : World) → Stands e w → Leads (with_session (with_hub e hub) session a') w session told
-hub-step laws e session a a' hub told at framed on made w st = subst (λ (m : Made). Leads (with_session (with_hub e m.1.0) session m.1.1) w session m.0) (sym made) (hub-goes laws e w session a st at framed on)
+hub-step laws e session a a' hub told at on made w st = subst (λ (m : Made). Leads (with_session (with_hub e m.1.0) session m.1.1) w session m.0) (sym made) (hub-goes laws e w session a st at on)
 
 pub load-step : LoadGoes → (e : Engine) (session frame seen : ℕ) (a a' : State) → slice_get e.sessions session ≡ Some a → next_of a ≡ next.Load frame → seen ≡ word_at e.states frame → a' ≡ loaded seen a
     → (w : World) → Stands e w → Leads (with_session e session a') w session reply.More
@@ -108,3 +107,8 @@ rest-step e session a at on w st = (
 
   same : later ≡ w
   same = λ i. record w { sessions = (ap (slice_set w.sessions session) (sym rests) ∙ set-get_or w.sessions session Resting) i }
+
+-- a call that is kept from its leaf
+pub keep-out-step : KeepsOutGo → (e : Engine) (session leaf : ℕ) (a a' : State) (r : Refusal) → slice_get e.sessions session ≡ Some a → next_of a ≡ next.Fill leaf → r ≢ refusal.NotFound → a' ≡ kept_out r a
+    → (w : World) → Stands e w → (later : World) × MayKeepOut w session r later × Stands (with_session e session a') later
+keep-out-step law e session leaf a a' r at on other made w st = subst (λ (x : State). (later : World) × MayKeepOut w session r later × Stands (with_session e session x) later) (sym made) (law e w session a r st at (at-fill a leaf on) other)

@@ -1,48 +1,62 @@
--- The steps of a call, one after the other, come to its answer.
-use Rattle.std.proofs.Common.{◌≡◌, ◌<◌, ℕ, zero, suc, refl, ap, sym, ◌∙◌, List, length, inl, inr, subst, arith, get_or}
-use Rattle.std.specs.Prelude.{Some, slice_get, slice_set, true, false}
+-- The steps of a call, one after the other, come to its answer, or to a leaf that it waits for.
+use Rattle.std.proofs.Common.{◌≡◌, ◌⊎◌, ◌<◌, ℕ, zero, suc, refl, ap, sym, ◌∙◌, List, length, inl, inr, subst, arith}
+use Rattle.std.specs.Prelude.{None, Some, slice_set}
 use Rattle.std.proofs.lemmas.List.{get_or-set_same, length-set, set-set}
-use Rattle.std.proofs.lemmas.Option.{slice_get-get_or}
 use Rattle.wt_code.specs.declared.answers.Answer.{Answer}
-use Rattle.kv_model.specs.Machine.{of_some}
-use Rattle.tree_dir.specs.Leaves.{Directory}
 use Rattle.call_steps.specs.declared.reply.Reply.{Reply}
 use Rattle.call_steps.specs.declared.reply.Reply.TheVariants as reply
-use Rattle.call_steps.specs.State.{opened}
-use Rattle.engine_world.specs.Doings.{doing_in}
-use Rattle.engine_world.specs.Laws.{Leads}
+use Rattle.call_turns.specs.Turns.{IsNoAnswer}
 use Rattle.engine_world.specs.Stands.{Engine, Stands}
 use Rattle.engine_world.specs.Steps.{MayGo}
 use Rattle.engine_world.specs.Worlds.{World, Resting, doing_of}
+use Rattle.engine.specs.declared.called.Called.TheVariants as called
+use Rattle.engine.specs.declared.called.Went.{Went}
 use Rattle.engine.specs.declared.step.Actor.TheVariants as actor
-use Rattle.engine.specs.Events.{HasWorld}
-use Rattle.engine.specs.Goings.{IsTaken}
+use Rattle.engine.specs.Goings.{EndsHere, GoesBy, IsTaken, LeadsEach, LeavesFewer, StepsOn}
 use Rattle.engine.specs.Runs.{StepsMore, StepsOut}
-use Rattle.engine.specs.Sound.{AllFramed, IsRunning, Keeps}
-use Rattle.engine.specs.Whole.{Ends, left_of, left_at, moved}
-use Rattle.engine.proofs.Lefts.{ends-or-fewer}
+use Rattle.engine.specs.Sound.{IsSound, Keeps}
+use Rattle.engine.specs.Told.{EndsFrom, TellsFrom, answer_in}
+use Rattle.engine.specs.Waits.{WaitsAs, WaitsFewer, turns_in, waits_in}
+use Rattle.engine.specs.Whole.{Ends, moved}
+use Rattle.engine.proofs.Answered.{ends-or-goes}
+use Rattle.engine.proofs.Soundness.{keeps-same, keeps-then}
+use Rattle.engine.proofs.Waited.{held-away}
 
-pub runs-on : (old new : Engine) → IsRunning old → Keeps old new → HasWorld new → IsRunning new
-runs-on old new running kept world = record { world = world; framed = subst (λ (d : Directory). AllFramed d.leaves) (sym kept.dir) running.framed }
+-- ---- one step
+
+-- by what was taken of its reply
+pub taken-goes : (old new : Engine) (session : ℕ) (told : Reply) (now : Went) (answer : Answer (List ℕ)) → IsTaken told now answer → LeadsEach old new session told → LeavesFewer old new session told → TellsFrom (answer_in old session) told → GoesBy now old new session answer
+taken-goes old new session (reply.Answer a) now answer taken leads fewer own = subst (λ (g : Went). GoesBy g old new session answer) (sym taken.0) (subst (EndsHere old new session) (sym taken.1) (record { leads = leads; own = own }))
+taken-goes old new session reply.More now answer taken leads fewer own = subst (λ (g : Went). GoesBy g old new session answer) (sym taken) (record { told = reply.More; none = λ a e. absurd (cc); leads = leads; fewer = fewer (λ a e. absurd (cc)) })
+taken-goes old new session reply.Started now answer taken leads fewer own = subst (λ (g : Went). GoesBy g old new session answer) (sym taken) (record { told = reply.Started; none = λ a e. absurd (cc); leads = leads; fewer = fewer (λ a e. absurd (cc)) })
+
+-- a call goes on where it is not answered
+is-more : (w later : World) (session : ℕ) (told : Reply) → IsNoAnswer told → MayGo w session told later → told ≡ reply.More
+is-more w later session told none go = elim (ends-or-goes (doing_of w session) w.machine session go.made go.goes) [
+  | inl answered ↦ absurd (none answered.0 (go.tells ∙ answered.1))
+  | inr more ↦ go.tells ∙ more
+]
+
+-- ---- all of them
+
+-- nothing was done yet, or there are fewer steps left
+abbrev HaveFewer : Engine → Engine → ℕ → Type 0
+HaveFewer old now session = (now ≡ old) ⊎ (turns_in now session < turns_in old session)
+
+fewer-then : (old now new : Engine) (session : ℕ) → HaveFewer old now session → turns_in new session < turns_in now session → turns_in new session < turns_in old session
+fewer-then old now new session (inl same) less = subst (λ (e : Engine). turns_in new session < turns_in e session) same less
+fewer-then old now new session (inr fewer) less = omega (arith, fewer, less)
 
 -- steps of the call were made, and it goes on
 pub record IsOnWay (old now : Engine) (session : ℕ) : Type 0 where
   pub open_one : session < length now.sessions
-  pub running : IsRunning now
+  pub sound : IsSound now
   pub kept : Keeps old now
+  pub fewer : HaveFewer old now session
   pub more : (w : World) → Stands old w → (n : ℕ) × (middle : World) × StepsMore n w (actor.Session session) middle × Stands now middle
 
-pub keeps-then : (old middle new : Engine) → Keeps old middle → Keeps middle new → Keeps old new
-keeps-then old middle new k l = record { systems = l.systems ∙ k.systems; pieces = l.pieces ∙ k.pieces; states = l.states ∙ k.states; tables = l.tables ∙ k.tables; dir = l.dir ∙ k.dir; free = λ frame none. l.free frame (k.free frame none); sizes = λ fit. l.sizes (k.sizes fit) }
-
-pub keeps-from : {new : Engine} (e old : Engine) → e ≡ old → Keeps e new → Keeps old new
-keeps-from {new} e old same k = subst (λ x. Keeps x new) same k
-
-pub keeps-same : (e : Engine) → Keeps e e
-keeps-same e = record { systems = refl; pieces = refl; states = refl; tables = refl; dir = refl; free = λ frame none. none; sizes = λ fit. fit }
-
-pub starts-way : (e : Engine) (session : ℕ) → session < length e.sessions → IsRunning e → IsOnWay e e session
-starts-way e session inside running = record { open_one = inside; running = running; kept = keeps-same e; more = λ w st. (0, w, refl, st) }
+pub starts-way : (e : Engine) (session : ℕ) → session < length e.sessions → IsSound e → IsOnWay e e session
+starts-way e session inside sound = record { open_one = inside; sound = sound; kept = keeps-same e; fewer = inl refl; more = λ w st. (0, w, refl, st) }
 
 more-then : (n : ℕ) (w middle last : World) (session : ℕ) → StepsMore n w (actor.Session session) middle → MayGo middle session reply.More last → StepsMore (suc n) w (actor.Session session) last
 more-then zero w middle last session same goes = (last, subst (λ x. MayGo x session reply.More last) same goes, refl)
@@ -52,61 +66,36 @@ out-then : (n : ℕ) (w middle last : World) (session : ℕ) (answer : Answer (L
 out-then zero w middle last session answer same goes = subst (λ x. MayGo x session (reply.Answer answer) last) same goes
 out-then (suc n) w middle last session answer steps goes = (steps.0, steps.1, out-then n steps.0 middle last session answer steps.2 goes)
 
--- the session is still there
-leads-open : (now new : Engine) (w : World) (session : ℕ) (told : Reply) → Stands now w → Leads new w session told → session < length now.sessions → session < length new.sessions
-leads-open now new w session told st leads inside =
-    let later : length leads.0.sessions ≡ length w.sessions = ap (λ (x : World). length x.sessions) leads.1.leaves ∙ length-set w.sessions session leads.1.made.doing in
-    let before = st.doings in let since = leads.2.doings in omega (arith, later, before, since, inside)
+pub goes-way : (old now new : Engine) (session : ℕ) → IsOnWay old now session → StepsOn now new session → Keeps now new → IsOnWay old new session
+goes-way old now new session way steps kept = record {
+  open_one = subst (λ (n : ℕ). session < n) (sym kept.sessions) way.open_one;
+  sound = kept.sound way.sound;
+  kept = keeps-then old now new way.kept kept;
+  fewer = inr (fewer-then old now new session way.fewer steps.fewer);
+  more = λ w st. let m = way.more w st in let l = steps.leads m.1 m.3 in
+      (suc m.0, l.0, more-then m.0 w m.1 l.0 session m.2 (subst (λ t. MayGo m.1 session t l.0) (is-more m.1 l.0 session steps.told steps.none l.1) l.1), l.2);
+}
 
--- it does what the state says, in a world that the engine stands for
-does-at : (e : Engine) (w : World) (session : ℕ) → Stands e w → session < length e.sessions → left_at e session ≡ left_of (doing_of w session)
-does-at e w session st inside = ap (of_some 0 (λ a. left_of (doing_in e.hub.dir.leaves session a))) at ∙ ap left_of (sym (st.doing session (get_or e.sessions session opened) at)) where
-  at : slice_get e.sessions session ≡ Some (get_or e.sessions session opened)
-  at = slice_get-get_or e.sessions session opened inside
+pub ends-way : (old now new : Engine) (session : ℕ) (answer : Answer (List ℕ)) → IsOnWay old now session → EndsHere now new session answer → (w : World) → Stands old w → Ends (called.Ended answer) new w session
+ends-way old now new session answer way ends w st = let m = way.more w st in let l = ends.leads m.1 m.3 in (m.0, l.0, out-then m.0 w m.1 l.0 session answer m.2 l.1, l.2)
 
-abbrev pub IsNoAnswer : Reply → Type 0
-IsNoAnswer told = (answer : Answer (List ℕ)) → told ≡ reply.Answer answer → ⊥
+-- its answer is one of its own
+pub ends-own : (old now new : Engine) (session : ℕ) (answer : Answer (List ℕ)) → IsOnWay old now session → EndsHere now new session answer → EndsFrom (answer_in old session) (called.Ended answer)
+ends-own old now new session answer way ends = λ but is. ends.own but (way.kept.own session but is)
 
-pub goes-way : (old now new : Engine) (session : ℕ) (told : Reply) → IsOnWay old now session → ((w : World) → Stands now w → Leads new w session told) → Keeps now new → IsNoAnswer told
-    → IsOnWay old new session × (left_at new session < left_at now session)
-goes-way old now new session told way steps kept none = (
-  record {
-    open_one = open_new;
-    running = runs-on now new way.running kept (leads.0, leads.2);
-    kept = keeps-then old now new way.kept kept;
-    more = λ w st. let m = way.more w st in let l = steps m.1 m.3 in
-        (suc m.0, l.0, more-then m.0 w m.1 l.0 session m.2 (subst (λ t. MayGo m.1 session t l.0) (is-more m.1 l.0 l.1) l.1), l.2);
-  },
-  fewer,
-) where
-  leads : Leads new way.running.world.0 session told
-  leads = steps way.running.world.0 way.running.world.1
+pub waits-way : (old now new : Engine) (session leaf : ℕ) → IsOnWay old now session → new ≡ now → (w : World) → Stands old w → Ends (called.Waits leaf) new w session
+waits-way old now new session leaf way same w st = let m = way.more w st in (m.0, m.1, m.2, subst (λ (e : Engine). Stands e m.1) (sym same) m.3)
 
-  open_new : session < length new.sessions
-  open_new = leads-open now new way.running.world.0 session told way.running.world.1 leads way.open_one
+-- the leaf is there, in no frame
+pub waits-there : (now new : Engine) (session leaf : ℕ) → new ≡ now → waits_in now session ≡ Some leaf → WaitsAs (called.Waits leaf) new session
+waits-there now new session leaf same is = subst (λ (e : Engine). WaitsAs (called.Waits leaf) e session) (sym same) (is, held-away now session leaf is)
 
-  is-more : (w later : World) → MayGo w session told later → told ≡ reply.More
-  is-more w later go = elim (ends-or-fewer (doing_of w session) w.machine session go.made go.goes) [
-    | inl answered ↦ absurd (none answered.0 (go.tells ∙ answered.1))
-    | inr fewer ↦ go.tells ∙ fewer.0
-  ]
-
-  fewer : left_at new session < left_at now session
-  fewer = elim (ends-or-fewer (doing_of way.running.world.0 session) way.running.world.0.machine session leads.1.made leads.1.goes) [
-    | inl answered ↦ absurd (none answered.0 (leads.1.tells ∙ answered.1))
-    | inr less ↦ subst (λ n. left_at new session < n) (sym (does-at now way.running.world.0 session way.running.world.1 way.open_one))
-        (subst (λ n. n < left_of (doing_of way.running.world.0 session)) (sym (does-at new leads.0 session leads.2 open_new ∙ ap left_of does-now)) less.1)
-  ] where
-    inside : session < length way.running.world.0.sessions
-    inside = let d = way.running.world.1.doings in let o = way.open_one in omega (arith, d, o)
-
-    does-now : doing_of leads.0 session ≡ leads.1.made.doing
-    does-now = ap (λ (x : World). doing_of x session) leads.1.leaves ∙ get_or-set_same way.running.world.0.sessions session leads.1.made.doing Resting inside
-
-pub ends-way : (old now new : Engine) (session : ℕ) (answer : Answer (List ℕ)) → IsOnWay old now session → ((w : World) → Stands now w → Leads new w session (reply.Answer answer))
-    → (w : World) → Stands old w → Ends new w (actor.Session session) answer
-ends-way old now new session answer way steps w st = let m = way.more w st in let l = steps m.1 m.3 in
-    record { steps = m.0; last = l.0; out = out-then m.0 w m.1 l.0 session answer m.2 l.1; stands = l.2 }
+-- a call that was ready made a step before it waited
+pub waits-fewer : (old now new : Engine) (session leaf : ℕ) → IsOnWay old now session → new ≡ now → waits_in now session ≡ Some leaf → WaitsFewer (called.Waits leaf) old new session
+waits-fewer old now new session leaf way same is ready = elim way.fewer [
+  | inl none ↦ absurd (let two : None ≡ Some leaf = sym ready ∙ (ap (λ (e : Engine). waits_in e session) (sym none) ∙ is) in cc)
+  | inr fewer ↦ subst (λ (e : Engine). turns_in e session < turns_in old session) (sym same) fewer
+]
 
 -- ---- a whole call, with nobody between
 
@@ -124,27 +113,3 @@ moved-then w middle last session told inside is go = go.leaves ∙ (ap (λ (x : 
 
       does-is : go.made.doing ≡ doing_of last session
       does-is = sym (ap (λ (x : World). doing_of x session) go.leaves ∙ get_or-set_same middle.sessions session go.made.doing Resting long)
-
--- ---- how many sessions there are
-
-one-length : (w later : World) (session : ℕ) (told : Reply) → MayGo w session told later → length later.sessions ≡ length w.sessions
-one-length w later session told go = ap (λ (x : World). length x.sessions) go.leaves ∙ length-set w.sessions session go.made.doing
-
-out-length : (n : ℕ) (w last : World) (session : ℕ) (answer : Answer (List ℕ)) → StepsOut n w (actor.Session session) answer last → length last.sessions ≡ length w.sessions
-out-length zero w last session answer go = one-length w last session (reply.Answer answer) go
-out-length (suc n) w last session answer steps = out-length n steps.0 last session answer steps.2 ∙ one-length w steps.0 session reply.More steps.1
-
-pub ends-length : (old new : Engine) (w : World) (session : ℕ) (answer : Answer (List ℕ)) → Stands old w → Ends new w (actor.Session session) answer → length new.sessions ≡ length old.sessions
-ends-length old new w session answer st e = sym e.stands.doings ∙ (out-length e.steps w e.last session answer e.out ∙ st.doings)
-
--- ---- a reply, by what was taken of it
-
-pub told-answer : (told : Reply) (answer : Answer (List ℕ)) → IsTaken told true answer → told ≡ reply.Answer answer
-told-answer reply.Started answer t = absurd cc
-told-answer reply.More answer t = absurd cc
-told-answer (reply.Answer a) answer t = ap reply.Answer (sym t.1)
-
-pub told-more : (told : Reply) (answer : Answer (List ℕ)) → IsTaken told false answer → IsNoAnswer told
-told-more reply.Started answer t = λ a e. absurd cc
-told-more reply.More answer t = λ a e. absurd cc
-told-more (reply.Answer a) answer t = absurd cc

@@ -1,7 +1,6 @@
 -- Leaves that fit go on to fit.
-use Rattle.std.proofs.Common.{◌≡◌, ◌≤◌, ◌<◌, ◌^◌, ℕ, zero, suc, refl, ap, sym, ◌∙◌, Bool, true, false, List, [], ◌∷◌, ◌++◌, length, subst, arith}
+use Rattle.std.proofs.Common.{◌≡◌, ◌≤◌, ◌<◌, ◌^◌, ℕ, zero, suc, refl, ap, ◌∙◌, Bool, true, false, List, [], ◌∷◌, ◌++◌, length, subst, arith}
 use Rattle.std.specs.Prelude.{Option, Some, None, ◌==◌, if◌then◌else◌, bytes_eq, option_and_then, option_map, slice_get, slice_set}
-use Rattle.std.specs.List.{AllByRecursion}
 use Rattle.limits.specs.declared.TheConstants.{KEY_MAX, VALUE_MAX}
 use Rattle.item.specs.declared.Change.{Change}
 use Rattle.stamp.specs.declared.Name.{Name}
@@ -47,17 +46,12 @@ filled-fits table id leaf fit f is = subst LeafFits (let same : record { table =
 pub leaves-none : LeavesFit []
 leaves-none place f is = absurd (cc)
 
--- a frame without a leaf, behind the others
-pub leaves-empty : (pieces : List FramePiece) (p : FramePiece) → LeavesFit pieces → p.frame ≡ None → LeavesFit (pieces ++ p ∷ [])
-leaves-empty [] p fit none zero f is = absurd (let other : None ≡ Some f = sym none ∙ is in cc)
-leaves-empty [] p fit none (suc j) f is = absurd (cc)
-leaves-empty (x ∷ xs) p fit none zero f is = fit zero f is
-leaves-empty (x ∷ xs) p fit none (suc j) f is = leaves-empty xs p (λ k g at. fit (suc k) g at) none j f is
-
--- the last leaf, and those before it
-pub last-fits : (leaves : List HeldLeaf) (x : HeldLeaf) → AllByRecursion LeafFits (leaves ++ x ∷ []) → AllByRecursion LeafFits leaves × LeafFits x
-last-fits [] x fit = (tt, fit.0)
-last-fits (y ∷ leaves) x fit = let rest = last-fits leaves x fit.1 in ((fit.0, rest.0), rest.1)
+-- a frame more, behind the others
+pub leaves-more : (pieces : List FramePiece) (p : FramePiece) → LeavesFit pieces → PieceFits p → LeavesFit (pieces ++ p ∷ [])
+leaves-more [] p fit new zero f is = new f is
+leaves-more [] p fit new (suc j) f is = absurd (cc)
+leaves-more (x ∷ xs) p fit new zero f is = fit zero f is
+leaves-more (x ∷ xs) p fit new (suc j) f is = leaves-more xs p (λ k g at. fit (suc k) g at) new j f is
 
 -- ---- a change of a chain
 

@@ -13,16 +13,20 @@ use Rattle.call_steps.specs.declared.stage.Stage.{Stage}
 use Rattle.call_steps.specs.declared.stage.Stage.TheVariants as stage
 use Rattle.call_steps.specs.Starts.{Starts}
 use Rattle.call_steps.specs.State.{State}
+use Rattle.call_turns.specs.Answers.{StartTells}
+use Rattle.call_turns.specs.Seats.{StartRuns, StartSeats}
 use Rattle.engine_world.specs.Doings.{doing_at}
 use Rattle.engine_world.specs.Laws.{StartsGo, with_session}
 use Rattle.engine_world.specs.Stands.{Engine, Stands}
 use Rattle.engine_world.specs.Steps.{MayBegin}
 use Rattle.engine_world.specs.Whole.{nothing_around}
 use Rattle.engine_world.specs.Worlds.{World, Doing, Resting, doing_of}
-use Rattle.engine.specs.Sizes.{SizesFit}
+use Rattle.engine.specs.Sound.{Keeps}
+use Rattle.engine.specs.Told.{TellsFrom}
 use Rattle.engine.specs.Whole.{CallsIn, MayCall}
 use Rattle.engine.proofs.Driving.{start-step}
-use Rattle.engine.proofs.EngineSizes.{start-sizes}
+use Rattle.engine.proofs.Owning.{start-tells-own}
+use Rattle.engine.proofs.Soundness.{keeps-same, start-keeps}
 
 -- what a start by lent items may make of a session
 pub record LentStarts {E : Type 0} (call : SessionCall) (a a' : State) (r : Result Reply E) : Type 0 where
@@ -48,10 +52,13 @@ lent-rests e session a a' call (Err none) at starts = λ w st. (
   subst (λ (x : Engine). Stands x w) (sym (same-engine e session a a' at starts.kept)) st,
 )
 
-pub lent-sizes : {E : Type 0} (e : Engine) (session : ℕ) (a a' : State) (call : SessionCall) (r : Result Reply E) → slice_get e.sessions session ≡ Some a → LentStarts call a a' r
-    → SizesFit e → SizesFit (with_session e session a')
-lent-sizes e session a a' call (Ok told) at starts fit = start-sizes e session a a' call told at starts.started fit
-lent-sizes e session a a' call (Err none) at starts fit = subst SizesFit (sym (same-engine e session a a' at starts.kept)) fit
+pub lent-keeps : {E : Type 0} → StartSeats → StartRuns → StartTells → (e : Engine) (session : ℕ) (a a' : State) (call : SessionCall) (r : Result Reply E) → slice_get e.sessions session ≡ Some a → LentStarts call a a' r → Keeps e (with_session e session a')
+lent-keeps seats runs tells e session a a' call (Ok told) at starts = start-keeps seats runs tells e session a a' call told at starts.started
+lent-keeps seats runs tells e session a a' call (Err none) at starts = subst (λ (x : Engine). Keeps e x) (sym (same-engine e session a a' at starts.kept)) (keeps-same e)
+
+pub lent-tells : {E : Type 0} (call : SessionCall) (a a' : State) (r : Result Reply E) → LentStarts call a a' r → IfOk r (λ told. TellsFrom answers.Done told)
+lent-tells call a a' (Ok told) starts = start-tells-own call a a' told starts.started
+lent-tells call a a' (Err none) starts = tt
 
 -- memory was too short before the event that finds the key
 pub held-up : (w : World) (session : ℕ) (call : Call) → HeldUp nothing_around w.machine session call (answers.Refused refusal.NoMemory) w.machine → doing_of w session ≡ Resting → MayCall w session call (answers.Refused refusal.NoMemory) w

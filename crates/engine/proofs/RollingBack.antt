@@ -1,11 +1,8 @@
 -- The transaction of each session is rolled back, the lowest first.
-use Rattle.std.proofs.Common.{◌≡◌, ◌<◌, ◌≤◌, ◌+◌, ◌^◌, ℕ, refl, ap, sym, ◌∙◌, List, ◌∷◌, length, drop, inl, inr, subst, get_or, arith}
+use Rattle.std.proofs.Common.{◌≡◌, ◌<◌, ◌≤◌, ◌+◌, ℕ, refl, ap, sym, ◌∙◌, List, ◌∷◌, length, drop, inl, inr, subst, get_or, arith}
 use Rattle.std.specs.Prelude.{Option, Some, None}
 use Rattle.std.proofs.lemmas.List.{drop_all, drop_more, drop-set-lt, get_or-set_same}
 use Rattle.std.proofs.lemmas.Option.{slice_get-get_or}
-use Rattle.limits.specs.declared.TheConstants.{TABLES_MAX}
-use Rattle.tree_dir.specs.Leaves.{Directory}
-use Rattle.catalog.specs.Known.{Known}
 use Rattle.wt_code.specs.declared.answers.Answer.{Answer}
 use Rattle.wt_code.specs.declared.refusals.Invalid.TheVariants as why
 use Rattle.kv_model.specs.Calls.{Rollback, SessionAnswers, Settled, rolled_back, settled}
@@ -13,20 +10,26 @@ use Rattle.kv_model.specs.Closing.{after_all, rolling_back}
 use Rattle.kv_model.specs.Decisions.{Outcome, Done, EndCall, RollbackCall, decision, invalid, rollback_decision}
 use Rattle.kv_model.specs.History.{Entry, Undo}
 use Rattle.kv_model.specs.Machine.{Machine, Transaction, Phase, Running, Failed, Prepared, Resolving, Leaving, Event, StartLeaving, EndTransaction, after, appended, in_phase, left, name_of, of_some, transaction_of, with_transaction}
+use Rattle.call_steps.specs.declared.stage.Stage.{Stage}
+use Rattle.call_steps.specs.declared.stage.Stage.TheVariants as stage
 use Rattle.call_steps.specs.State.{opened}
+use Rattle.engine_world.specs.Doings.{doing_at}
 use Rattle.engine_world.specs.Stages.{EndsOnlyDown}
 use Rattle.engine_world.specs.Stands.{Engine, Stands}
-use Rattle.engine_world.specs.Whole.{nothing_around}
-use Rattle.engine_world.specs.Worlds.{World, Doing, Resting, Asked, Placed, Decided, Ending, doing_of}
+use Rattle.engine_world.specs.Whole.{Reached, nothing_around}
+use Rattle.engine_world.specs.Worlds.{World, Doing, Resting, doing_of}
 use Rattle.engine_world.proofs.Deciding.{leave-is}
 use Rattle.engine_world.proofs.HubMoves.{decided-up, none-there, one-there}
 use Rattle.engine_world.proofs.Rollbacks.{up-living}
 use Rattle.engine.specs.Closes.{MayClose}
-use Rattle.engine.specs.Events.{HasWorld}
-use Rattle.engine.specs.Sound.{AreBuilt, IsRunning, IsSound, Keeps, LeavesPlaced}
-use Rattle.engine.specs.Whole.{CallsIn, MayCall}
+use Rattle.engine.specs.declared.called.Called.{Called}
+use Rattle.engine.specs.declared.called.Called.TheVariants as called
+use Rattle.engine.specs.Sound.{IsSound, Keeps}
+use Rattle.engine.specs.Waits.{WaitsAs, waits_in}
+use Rattle.engine.specs.Whole.{CallsIn, CallsTo, IsUnderWay, MayCall}
 use Rattle.engine.proofs.Closes.{close-rests, close-up, resting-ends}
-use Rattle.engine.proofs.Ending.{keeps-same, keeps-then, runs-on}
+use Rattle.engine.proofs.Soundness.{keeps-same, keeps-then}
+use Rattle.engine.proofs.Waited.{IsFilling, IsHeld, filling, held}
 
 -- ---- one session
 
@@ -126,70 +129,61 @@ pub record RolledTo (now : Engine) (w : World) (at : ℕ) : Type 0 where
   pub rest : left_from machine at ≡ rolled_back w.machine
 
 pub record IsRolledTo (old now : Engine) (at : ℕ) : Type 0 where
-  pub running : IsRunning now
+  pub sound : IsSound now
   pub kept : Keeps old now
-  pub count : length now.sessions ≡ length old.sessions
   pub rolled : (w : World) → Stands old w → MayClose w → RolledTo now w at
 
-pub rolls-none : (e : Engine) → IsRunning e → IsRolledTo e e 0
-rolls-none e running = record { running = running; kept = keeps-same e; count = refl; rolled = λ w st may. record { machine = w.machine; stands = st; up = close-up w may; rest = refl } }
+pub rolls-none : (e : Engine) → IsSound e → IsRolledTo e e 0
+rolls-none e sound = record { sound = sound; kept = keeps-same e; rolled = λ w st may. record { machine = w.machine; stands = st; up = close-up w may; rest = refl } }
 
 -- what a call of a session leaves
-abbrev pub Called : Engine → Engine → ℕ → Answer (List ℕ) → Type 0
-Called now new session answer = (v : World) → Stands now v → (later : World) × MayCall v session Rollback answer later × Stands new later
+abbrev pub RollsBack : Called → Engine → Engine → ℕ → Type 0
+RollsBack made now new session = (v : World) → Stands now v → CallsTo made new v session Rollback
 
-called-count : (now new : Engine) (session : ℕ) (answer : Answer (List ℕ)) → HasWorld now → Called now new session answer → length new.sessions ≡ length now.sessions
-called-count now new session answer world call = let later = call world.0 world.1 in
-    sym later.2.doings ∙ (same-count (doing_of world.0 session) world.0 later.0 later.1 ∙ world.1.doings) where
-      same-count : (d : Doing) (w later : World) → CallsIn d w session Rollback answer later → length later.sessions ≡ length w.sessions
-      same-count Resting w later is = ap (λ (x : World). length x.sessions) is.1
-      same-count (Asked call left) w later is = ap (λ (x : World). length x.sessions) is.1
-      same-count (Placed call table left) w later is = ap (λ (x : World). length x.sessions) is.1
-      same-count (Decided told event left) w later is = ap (λ (x : World). length x.sessions) is.1
-      same-count (Ending told left) w later is = ap (λ (x : World). length x.sessions) is.1
+-- a rollback waits for no leaf
+none-waits : (e : Engine) (v x : World) (session leaf : ℕ) → waits_in e session ≡ Some leaf → IsUnderWay None v session Rollback x → Stands e x → ⊥
+none-waits e v x session leaf waits under st = (subst (λ (d : Doing). Reached None v.machine session Rollback d x.machine) does under.reached).1 where
+  h : IsHeld e session leaf
+  h = held e session leaf waits
 
-pub rolls-one : (old now new : Engine) (session : ℕ) (answer : Answer (List ℕ)) → IsRolledTo old now session → session < length now.sessions → Called now new session answer → Keeps now new → IsRolledTo old new (session + 1)
-rolls-one old now new session answer way inside call kept = record {
-  running = runs-on now new way.running kept (let later = call way.running.world.0 way.running.world.1 in (later.0, later.2));
+  f : IsFilling h.state.stage leaf
+  f = filling h.state.stage h.state leaf h.on
+
+  does : doing_of x session ≡ doing_at (stage.Fill f.call f.wanted) e.hub.dir.leaves session h.state
+  does = st.doing session h.state h.at ∙ ap (λ (g : Stage). doing_at g e.hub.dir.leaves session h.state) f.stage_is
+
+-- so it is answered
+answered-back : (made : Called) (now new : Engine) (session : ℕ) (v : World) → RollsBack made now new session → WaitsAs made new session → Stands now v → (answer : Answer (List ℕ)) × (later : World) × MayCall v session Rollback answer later × Stands new later
+answered-back (called.Ended answer) now new session v call waits st = let r = call v st in (answer, r.0, r.1, r.2)
+answered-back (called.Waits leaf) now new session v call waits st = let r = call v st in absurd (none-waits new v r.0 session leaf waits.0 r.1 r.2)
+
+pub rolls-one : (old now new : Engine) (session : ℕ) (made : Called) → IsRolledTo old now session → session < length now.sessions → RollsBack made now new session → WaitsAs made new session → Keeps now new → IsRolledTo old new (session + 1)
+rolls-one old now new session made way inside call waits kept = record {
+  sound = kept.sound way.sound;
   kept = keeps-then old now new way.kept kept;
-  count = called-count now new session answer way.running.world call ∙ way.count;
   rolled = λ w st may. rolled w st may (way.rolled w st may);
 } where
   rolled : (w : World) → Stands old w → MayClose w → RolledTo now w session → RolledTo new w (session + 1)
   rolled w st may r = record {
-    machine = later.0.machine;
-    stands = subst (Stands new) called.1 later.2;
+    machine = back.1.machine;
+    stands = subst (Stands new) told.1 back.3;
     up = one.up;
     rest = one.rest ∙ r.rest;
   } where
-    later : (later : World) × MayCall (with_machine w r.machine) session Rollback answer later × Stands new later
-    later = call (with_machine w r.machine) r.stands
+    back : (answer : Answer (List ℕ)) × (later : World) × MayCall (with_machine w r.machine) session Rollback answer later × Stands new later
+    back = answered-back made now new session (with_machine w r.machine) call waits r.stands
 
     rests : doing_of (with_machine w r.machine) session ≡ Resting
-    rests = close-rests w session may (let a = st.count in let b = way.count in omega (arith, a, b, inside))
+    rests = close-rests w session may (let a = st.count in let b = way.kept.sessions in omega (arith, a, b, inside))
 
-    called : CallsIn Resting (with_machine w r.machine) session Rollback answer later.0
-    called = subst (λ d. CallsIn d (with_machine w r.machine) session Rollback answer later.0) rests later.1
+    told : CallsIn Resting (with_machine w r.machine) session Rollback back.0 back.1
+    told = subst (λ d. CallsIn d (with_machine w r.machine) session Rollback back.0 back.1) rests back.2
 
-    one : IsRolled r.machine session later.0.machine
-    one = answered-rolled r.machine session later.0.machine r.up (let a = r.stands.count in omega (arith, a, inside))
-        (resting-ends now (with_machine w r.machine) session (get_or now.sessions session opened) r.stands (slice_get-get_or now.sessions session opened inside) rests) answer called.0
+    one : IsRolled r.machine session back.1.machine
+    one = answered-rolled r.machine session back.1.machine r.up (let a = r.stands.count in omega (arith, a, inside))
+        (resting-ends now (with_machine w r.machine) session (get_or now.sessions session opened) r.stands (slice_get-get_or now.sessions session opened inside) rests) back.0 told.0
 
 pub rolls-all : (old now : Engine) (at : ℕ) → IsRolledTo old now at → length now.sessions ≤ at → (w : World) → Stands old w → MayClose w → Stands now (record w { machine = rolled_back w.machine })
 rolls-all old now at way over w st may = let r = way.rolled w st may in
     subst (λ (m : Machine). Stands now (record w { machine = m })) (sym (ap (λ (l : List (Option Transaction)). after_all r.machine (rolling_back at l))
     (drop_all at r.machine.sessions (let a = r.stands.count in omega (arith, a, over)))) ∙ r.rest) r.stands
-
--- what holds of every engine is kept
-pub keeps-sound : (old new : Engine) → IsSound old → HasWorld new → Keeps old new → IsSound new
-keeps-sound old new sound world kept = record {
-  running = runs-on old new sound.running kept world;
-  built = subst AreBuilt (sym kept.systems) sound.built;
-  actors = ap length kept.systems ∙ sound.actors;
-  pieces = kept.pieces ∙ sound.pieces;
-  states = ap length kept.states ∙ sound.states;
-  numbers = subst (λ (k : Known). k.next + TABLES_MAX < 2 ^ 32 + length k.tables) (sym kept.tables) sound.numbers;
-  placed = subst (λ (k : Known). LeavesPlaced k.tables new.hub.dir.leaves) (sym kept.tables) (subst (λ (d : Directory). LeavesPlaced old.hub.tables.tables d.leaves) (sym kept.dir) sound.placed);
-  free = λ frame above. kept.free frame (sound.free frame (subst (λ (k : Known). length k.tables ≤ frame) kept.tables above));
-  sizes = kept.sizes sound.sizes;
-}

@@ -1,5 +1,6 @@
 -- Steps of actors, one after the other.
-use Rattle.std.proofs.Common.{◌≡◌, ◌+◌, ◌++◌, refl, ap, sym, ◌∙◌, List, [], ◌∷◌, length, subst}
+use Rattle.std.proofs.Common.{◌≡◌, ◌+◌, ◌++◌, refl, ap, sym, ◌∙◌, List, [], ◌∷◌, length, append_assoc, subst}
+use Rattle.std.specs.Prelude.{take}
 use Rattle.std.proofs.lemmas.List.{length-append}
 use Rattle.call_steps.specs.declared.reply.Reply.{Reply}
 use Rattle.engine_world.specs.Stands.{Engine, Stands}
@@ -34,3 +35,21 @@ one-more first e e' made replies step told run sessions systems goes = record {
 } where
   grown : (made : List Step) (replies : List Reply) → length replies ≡ length made → length (replies ++ told ∷ []) ≡ length (made ++ step ∷ [])
   grown made replies same = length-append replies (told ∷ []) ∙ (ap (λ n. n + 1) same ∙ sym (length-append made (step ∷ [])))
+
+-- the first of all steps were made
+take-front : (made rest : List Step) → take (length made) (made ++ rest) ≡ made
+take-front [] rest = refl
+take-front (step ∷ made) rest = ap (λ (l : List Step). step ∷ l) (take-front made rest)
+
+pub ran-front : (first e : Engine) (made rest steps : List Step) (replies : List Reply) → HasRun first e made replies → steps ≡ made ++ rest
+    → (w : World) → Stands first w → (later : World) × MayRun w (take (length replies) steps) replies later × Stands e later
+ran-front first e made rest steps replies run is w st = let r = run.ran w st in
+    (r.0, subst (λ (l : List Step). MayRun w l replies r.0) (sym (ap (λ n. take n steps) run.count ∙ (ap (take (length made)) is ∙ take-front made rest))) r.1, r.2)
+
+-- no step was made yet
+pub none-run : (e : Engine) (replies : List Reply) → replies ≡ [] → HasRun e e [] replies
+none-run e replies is = record { sessions = refl; systems = refl; count = ap length is; ran = λ w st. (w, subst (λ (l : List Reply). MayRun w [] l w) (sym is) refl, st) }
+
+-- those that are left, where one more was taken
+pub one-left : (yielded left before all : List Step) (step : Step) → before ≡ step ∷ left → yielded ++ before ≡ all → (yielded ++ step ∷ []) ++ left ≡ all
+one-left yielded left before all step taken is = append_assoc yielded (step ∷ []) left ∙ (ap (λ (l : List Step). yielded ++ l) (sym taken) ∙ is)

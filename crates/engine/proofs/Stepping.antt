@@ -1,7 +1,7 @@
 -- What the next event of a session leaves, by the law of its stage.
-use Rattle.std.proofs.Common.{◌≡◌, ◌<◌, ◌≤◌, ℕ, zero, suc, refl, ap, sym, ◌∙◌, List, [], ◌∷◌, length, inl, inr, subst, arith}
+use Rattle.std.proofs.Common.{◌≡◌, ◌<◌, ◌≤◌, ◌⊎◌, ℕ, zero, suc, refl, ap, sym, ◌∙◌, List, [], ◌∷◌, length, inl, inr, subst, arith}
 use Rattle.std.specs.Prelude.{Option, Some, None, option_and_then, slice_get}
-use Rattle.std.proofs.lemmas.Option.{slice_get_within}
+use Rattle.std.proofs.lemmas.Option.{none-some, slice_get_within}
 use Rattle.stamp.specs.declared.View.{View}
 use Rattle.kv_model.specs.Holds.{Member}
 use Rattle.kv_model.specs.Machine.{Transaction, of_some}
@@ -34,8 +34,7 @@ use Rattle.engine_world.specs.Stands.{Engine, Stands}
 use Rattle.tree_dir.specs.Leaves.{leaf_named}
 use Rattle.tree_dir.proofs.Parting.{ids-name}
 use Rattle.engine_world.proofs.Homes.{home-at, in-its-frame, target-frame, target-is}
-use Rattle.engine.specs.Events.{IsOnHub}
-use Rattle.engine.specs.Sound.{AllFramed}
+use Rattle.call_turns.specs.Turns.{IsHubNext, IsReady}
 
 -- ---- the hub
 
@@ -50,35 +49,41 @@ pub record HubLaws : Type 0 where
   pub resolves : ResolvesGo
   pub ends : EndsGo
 
-pub hub-goes : HubLaws → (e : Engine) (w : World) (session : ℕ) (a : State) → Stands e w → slice_get e.sessions session ≡ Some a → AllFramed e.hub.dir.leaves → IsOnHub (next_of a)
+pub hub-goes : HubLaws → (e : Engine) (w : World) (session : ℕ) (a : State) → Stands e w → slice_get e.sessions session ≡ Some a → IsHubNext e.hub a
     → let made = hub_made e.hub session a in Leads (with_session (with_hub e made.1.0) session made.1.1) w session made.0
-hub-goes laws e w session a st at framed on = by-stage a.stage refl on where
-  filled : (call : KeyCall) (wanted : Wanted) → StageStands (stage.Fill call wanted) w.machine e.hub.dir.leaves e.pieces session a → IsFilled e.hub (stage.Fill call wanted)
-  filled call wanted x = let l = x.1.0.0 in let f = framed l x.1.0.1 in
-      (l, f.0, ap (λ id. leaf_named id e.hub.dir.leaves) (sym x.1.0.2) ∙ ids-name e.hub.dir st.dir l x.1.0.1, f.1)
+hub-goes laws e w session a st at on = by-stage a.stage refl on where
+  -- a world has the leaf that is waited for
+  filled : (call : KeyCall) (wanted : Wanted) → StageStands (stage.Fill call wanted) w.machine e.hub.dir.leaves e.pieces session a → IsReady e.hub.dir.leaves (stage.Fill call wanted) → IsFilled e.hub (stage.Fill call wanted)
+  filled call wanted x (inl gone) = let l = x.1.0.0 in absurd (none-some l (sym gone ∙ (ap (λ id. leaf_named id e.hub.dir.leaves) (sym x.1.0.2) ∙ ids-name e.hub.dir st.dir l x.1.0.1)))
+  filled call wanted x (inr there) = there
 
-  by-stage : (s : Stage) → a.stage ≡ s → IsOnHub (next_at s a) → let made = hub_made e.hub session a in Leads (with_session (with_hub e made.1.0) session made.1.1) w session made.0
+  away : (s : Stage) → (next_at s a ≡ next.Hub → ⊥) → (IsReady e.hub.dir.leaves s → ⊥) → (next_at s a ≡ next.Hub) ⊎ IsReady e.hub.dir.leaves s → ⊥
+  away s off none (inl is) = off is
+  away s off none (inr is) = none is
+
+  by-stage : (s : Stage) → a.stage ≡ s → (next_at s a ≡ next.Hub) ⊎ IsReady e.hub.dir.leaves s → let made = hub_made e.hub session a in Leads (with_session (with_hub e made.1.0) session made.1.1) w session made.0
   by-stage (stage.Begin read) is on = laws.begins e w session a st at (subst IsBegin (sym is) tt)
   by-stage (stage.Find call) is on = laws.finds e w session a st at (subst IsFind (sym is) tt)
-  by-stage (stage.Fill call wanted) is on = laws.fills e w session a st at (subst (IsFilled e.hub) (sym is) (filled call wanted (subst (λ x. StageStands x w.machine e.hub.dir.leaves e.pieces session a) is (st.sessions session a at).stage)))
+  by-stage (stage.Fill call wanted) is (inl other) = absurd (cc)
+  by-stage (stage.Fill call wanted) is (inr ready) = laws.fills e w session a st at (subst (IsFilled e.hub) (sym is) (filled call wanted (subst (λ x. StageStands x w.machine e.hub.dir.leaves e.pieces session a) is (st.sessions session a at).stage) ready))
   by-stage (stage.Pass call target) is on = laws.passes e w session a st at (subst IsPass (sym is) tt)
   by-stage (stage.History call target) is on = laws.histories e w session a st at (subst IsHistory (sym is) tt)
   by-stage (stage.Release stamp) is on = laws.releases e w session a st at (subst IsRelease (sym is) tt)
   by-stage (stage.Decide stamps) is on = laws.decides e w session a st at (subst IsDecide (sym is) tt)
   by-stage stage.Resolve is on = laws.resolves e w session a st at (subst IsResolve (sym is) tt)
   by-stage stage.Done is on = laws.ends e w session a st at (subst IsDone (sym is) tt)
-  by-stage stage.Rest is on = absurd on
-  by-stage (stage.Publish call target) is on = absurd on
-  by-stage (stage.Validate call target) is on = absurd on
-  by-stage (stage.Look call target) is on = absurd on
-  by-stage (stage.ClearCursor call target) is on = absurd on
-  by-stage (stage.Clear call target) is on = absurd on
-  by-stage (stage.Reset cursor) is on = absurd on
-  by-stage (stage.Mark stamp left) is on = absurd on
-  by-stage (stage.Order stamps left) is on = absurd on
-  by-stage (stage.Stamp stamps left) is on = absurd on
-  by-stage (stage.Undo left) is on = absurd on
-  by-stage (stage.Unpin cursor) is on = absurd on
+  by-stage stage.Rest is on = absurd (away stage.Rest (λ x. absurd (cc)) (λ x. x) on)
+  by-stage (stage.Publish call target) is on = absurd (away (stage.Publish call target) (λ x. absurd (cc)) (λ x. x) on)
+  by-stage (stage.Validate call target) is on = absurd (away (stage.Validate call target) (λ x. absurd (cc)) (λ x. x) on)
+  by-stage (stage.Look call target) is on = absurd (away (stage.Look call target) (λ x. absurd (cc)) (λ x. x) on)
+  by-stage (stage.ClearCursor call target) is on = absurd (away (stage.ClearCursor call target) (λ x. absurd (cc)) (λ x. x) on)
+  by-stage (stage.Clear call target) is on = absurd (away (stage.Clear call target) (λ x. absurd (cc)) (λ x. x) on)
+  by-stage (stage.Reset cursor) is on = absurd (away (stage.Reset cursor) (λ x. absurd (cc)) (λ x. x) on)
+  by-stage (stage.Mark stamp left) is on = absurd (away (stage.Mark stamp left) (λ x. absurd (cc)) (λ x. x) on)
+  by-stage (stage.Order stamps left) is on = absurd (away (stage.Order stamps left) (λ x. absurd (cc)) (λ x. x) on)
+  by-stage (stage.Stamp stamps left) is on = absurd (away (stage.Stamp stamps left) (λ x. absurd (cc)) (λ x. x) on)
+  by-stage (stage.Undo left) is on = absurd (away (stage.Undo left) (λ x. absurd (cc)) (λ x. x) on)
+  by-stage (stage.Unpin cursor) is on = absurd (away (stage.Unpin cursor) (λ x. absurd (cc)) (λ x. x) on)
 
 -- ---- frames
 
@@ -125,7 +130,7 @@ frame-goes laws e w session frame a a' p p' view st at on piece is-view made = b
   by-stage (stage.Unpin cursor) is to = absurd (cc)
 
 -- what an event on a frame rests on: the frame is there, and the session has a transaction
-pub record IsReady (e : Engine) (session frame : ℕ) : Type 0 where
+pub record HasFrame (e : Engine) (session frame : ℕ) : Type 0 where
   pub there : frame < length e.pieces
   pub busy : phase_of e.hub.txns session ≡ phase.Idle → ⊥
 
@@ -156,22 +161,22 @@ written-there e w session (suc n) a st at some = by-key (slice_get a.written n) 
     past-none (x ∷ ks) (suc i) is = let less = past-none ks i is in omega arith
   by-key (Some k) is = of-key k (member a.written n k is)
 
-pub is-ready : (e : Engine) (w : World) (session frame : ℕ) (a : State) → Stands e w → slice_get e.sessions session ≡ Some a → next_of a ≡ next.Frame frame → IsReady e session frame
-is-ready e w session frame a st at on = by-stage a.stage refl on (st.sessions session a at).stage where
+pub has-frame : (e : Engine) (w : World) (session frame : ℕ) (a : State) → Stands e w → slice_get e.sessions session ≡ Some a → next_of a ≡ next.Frame frame → HasFrame e session frame
+has-frame e w session frame a st at on = by-stage a.stage refl on (st.sessions session a at).stage where
   busy-of : (P : Transaction → Type 0) → HasTransaction w.machine session P → phase_of e.hub.txns session ≡ phase.Idle → ⊥
   busy-of P has idle = let stands : TableSessionStands w.machine (session_of e.hub.txns session) (Some has.0) = subst (TableSessionStands w.machine (session_of e.hub.txns session)) has.1 (st.txns.sessions session) in
       subst (λ p. MayBe p has.0.phase) idle stands.phase
 
-  ready : (place : ℕ) → place < length e.pieces → next.Frame place ≡ next.Frame frame → (phase_of e.hub.txns session ≡ phase.Idle → ⊥) → IsReady e session frame
+  ready : (place : ℕ) → place < length e.pieces → next.Frame place ≡ next.Frame frame → (phase_of e.hub.txns session ≡ phase.Idle → ⊥) → HasFrame e session frame
   ready place there is busy = record { there = subst (λ f. f < length e.pieces) (let x : place ≡ frame = cc in x) there; busy = busy }
 
   leaf-there : (target : Target) → IsLeafOf e.hub.dir.leaves target → target.frame < length e.pieces
   leaf-there target of = let t = target-is of.0 target of.2 in let laid = (in-its-frame w.machine w.shelf e.hub.dir.leaves e.pieces e.states of.0 t.framed t.placed (st.leaves of.0 of.1)).laid in
       piece-there e.pieces target.frame laid.frame (ap (frame_in e.pieces) (sym (target-frame e.pieces e.states of.0 target laid of.2)) ∙ laid.there)
 
-  by-stage : (s : Stage) → a.stage ≡ s → next_at s a ≡ next.Frame frame → StageStands a.stage w.machine e.hub.dir.leaves e.pieces session a → IsReady e session frame
+  by-stage : (s : Stage) → a.stage ≡ s → next_at s a ≡ next.Frame frame → StageStands a.stage w.machine e.hub.dir.leaves e.pieces session a → HasFrame e session frame
   by-stage s is to stands = by-facts s to (subst (λ x. StageStands x w.machine e.hub.dir.leaves e.pieces session a) is stands) where
-    by-facts : (s : Stage) → next_at s a ≡ next.Frame frame → StageStands s w.machine e.hub.dir.leaves e.pieces session a → IsReady e session frame
+    by-facts : (s : Stage) → next_at s a ≡ next.Frame frame → StageStands s w.machine e.hub.dir.leaves e.pieces session a → HasFrame e session frame
     by-facts (stage.Look call target) to on-leaf = ready target.frame (leaf-there target on-leaf.0.1) to (λ idle. busy-of _ on-leaf.0.0 idle)
     by-facts (stage.Mark stamp left) to facts = ready (frame_at a.written left) (written-there e w session left a st at facts.0) to (λ idle. busy-of _ facts.1 idle)
     by-facts (stage.Order stamps left) to facts = ready (frame_at a.written left) (written-there e w session left a st at facts.0) to (λ idle. busy-of _ facts.1 idle)

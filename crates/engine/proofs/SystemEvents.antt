@@ -1,9 +1,9 @@
 -- The events of a create and of a set, over the data of an engine.
-use Rattle.std.proofs.Common.{◌≡◌, ◌≢◌, ◌+◌, ◌<◌, ◌≤◌, ℕ, refl, ap, sym, ◌∙◌, Bool, true, false, not, List, [], ◌∷◌, ◌++◌, length, inl, inr, subst, arith}
-use Rattle.std.specs.Prelude.{Option, Some, None, Result, Ok, Err, nat_le, slice_get, if◌then◌else◌}
+use Rattle.std.proofs.Common.{◌≡◌, ◌≢◌, ◌+◌, ◌<◌, ℕ, refl, ap, sym, ◌∙◌, Bool, true, false, not, List, [], ◌∷◌, ◌++◌, length, inl, inr, subst, arith}
+use Rattle.std.specs.Prelude.{Option, Some, None, Result, Ok, Err, ◌&&◌, ◌==◌, max, nat_le, nat_lt, slice_get, if◌then◌else◌}
 use Rattle.std.specs.List.{Contains}
-use Rattle.std.proofs.lemmas.Bool.{leb-false}
-use Rattle.std.proofs.lemmas.List.{length-set, length-append}
+use Rattle.std.proofs.lemmas.Bool.{cases_eq, leb-false, ltb-false, ne_eqb}
+use Rattle.std.proofs.lemmas.List.{length-append}
 use Rattle.limits.specs.declared.TheConstants.{TABLES_MAX}
 use Rattle.failure.specs.declared.Fault.{Fault}
 use Rattle.item.specs.declared.Formats.{Formats}
@@ -13,6 +13,7 @@ use Rattle.wt_code.specs.declared.refusals.Refusal.TheVariants as refusal
 use Rattle.wt_code.specs.declared.refusals.Invalid.{Invalid}
 use Rattle.wt_code.specs.declared.refusals.Invalid.TheVariants as why
 use Rattle.wt_code.specs.declared.refusals.Limit.TheVariants as counted
+use Rattle.kv_model.specs.Allowed.{StampsFit}
 use Rattle.kv_model.specs.Calls.{Create, Set, IsTableFor}
 use Rattle.kv_model.specs.Decisions.{Outcome, Done, Refused, CreateCall, SetCall, checked, create_decision, decision, is_name, judged, refused, ruled, same_formats, while_up}
 use Rattle.kv_model.specs.History.{Table, named}
@@ -26,17 +27,20 @@ use Rattle.catalog.specs.Creates.{IsCreated, IsRefused, asked, decided}
 use Rattle.catalog.specs.Known.{AreTables, Known}
 use Rattle.catalog.specs.Laws.{CreatesAreJudged, CreatesSuit}
 use Rattle.catalog.specs.declared.created.Created.TheVariants.{New}
-use Rattle.engine_world.specs.Leaves.{frame_in}
+use Rattle.call_steps.specs.declared.frame.FramePiece.{FramePiece}
+use Rattle.call_steps.specs.Tables.{first_word}
+use Rattle.engine_world.specs.Leaves.{LeavesOwned}
 use Rattle.engine_world.specs.Stands.{Engine, Stands}
-use Rattle.engine_world.specs.Systems.{CreatesGo, HasFirstLeaf, SetsGo, first_piece, with_table}
+use Rattle.engine_world.specs.Systems.{CreatesGo, FramesGrow, HasFirstLeaf, SetsGo, first_piece, with_frame, with_table}
 use Rattle.engine_world.specs.Worlds.{World}
 use Rattle.engine_world.proofs.Appended.{append-keeps, append-last}
 use Rattle.engine_world.proofs.NewLeaf.{IsCome, come-cases, comes, new_leaf}
-use Rattle.engine.specs.Sound.{IsPlaced, IsSound, LeavesPlaced}
+use Rattle.engine.specs.Sound.{IsSound}
 use Rattle.engine.specs.Systems.{Makes}
-use Rattle.engine.proofs.LeafSizes.{filled-fits, leaves-set}
-use Rattle.engine.proofs.Laying.{frame-other}
-use Rattle.engine.proofs.OneLeaf.{number-below, placed-framed}
+use Rattle.engine.proofs.FramesMore.{frame-none, one-more, piece-within, pieces-last, states-last, word-within}
+use Rattle.engine.proofs.LeafSizes.{filled-fits, leaves-more}
+use Rattle.engine.proofs.Numbers.{number-below}
+use Rattle.engine.proofs.Soundness.{seated-with}
 
 -- ---- a fault comes first
 
@@ -127,30 +131,26 @@ create-same laws e w name formats st well is = (
   st,
 )
 
--- a table more has its frame
-place-there : (e : Engine) (t : Table) (known : Known) (place : ℕ) → IsCreated e.hub.tables t known (New place) → AreTables known → place < TABLES_MAX
-place-there e t known place made all = let few = all.few in let long = ap (λ (k : Known). length k.tables) made.2 ∙ length-append e.hub.tables.tables (t ∷ []) in let last = made.1 in omega arith
-
 -- no leaf is of a table that is to come
-pub none-yet : (e : Engine) (w : World) → Stands e w → LeavesPlaced e.hub.tables.tables e.hub.dir.leaves → (l : Leaf) → Contains e.hub.dir.leaves l → l.table ≢ e.hub.tables.next
-none-yet e w st placed l there same = let p = placed l there in let below = number-below 1 e.hub.tables.tables e.hub.tables.next p.place p.table st.catalog.numbers p.there in let its = p.number in omega (arith, below, its, same)
+pub none-yet : (e : Engine) → AreTables e.hub.tables → IsSound e → (l : Leaf) → Contains e.hub.dir.leaves l → l.table ≢ e.hub.tables.next
+none-yet e are sound l there same = let o = sound.owned l there in let below = number-below 1 e.hub.tables.tables e.hub.tables.next o.0 o.1 are.numbers o.2 in let its = o.3 in omega (arith, below, its, same)
 
-module _ (laws : CreateLaws) (e : Engine) (name : List ℕ) (formats : Formats) (known : Known) (dir : Directory) (place id : ℕ) (sound : IsSound e) (well : e.hub.fault ≡ None)
-    (made : IsCreated e.hub.tables (table_in e name formats) known (New place)) (all : AreTables known) (first : HasFirstLeaf e.hub.dir dir (table_in e name formats).number id place) (is : IsDirectory dir) where
+-- the engine with a table more, whose first leaf is in a frame more
+abbrev pub created : Engine → Known → Directory → Table → ℕ → Engine
+created e known dir t id = record e { hub = record e.hub { tables = known; dir = dir }; pieces = e.pieces ++ first_piece t id ∷ []; states = e.states ++ first_word ∷ [] }
+
+module _ (e : Engine) (name : List ℕ) (formats : Formats) (known : Known) (dir : Directory) (place id : ℕ) (sound : IsSound e)
+    (made : IsCreated e.hub.tables (table_in e name formats) known (New place)) (all : AreTables known) (first : HasFirstLeaf e.hub.dir dir (table_in e name formats).number id (length e.pieces)) where
   abbrev t : Table
   t = table_in e name formats
 
-  abbrev new : Engine
-  new = with_table e known dir t id place
-
-  there : place < TABLES_MAX
-  there = place-there e t known place made all
-
-  pub create-new : (w : World) → Stands e w → Makes (with_table e known dir (table_in e name formats) id place) w (Create name formats) answers.Done
-  create-new w st = (
+  pub create-new : CreateLaws → FramesGrow → IsDirectory dir → e.hub.fault ≡ None → (w : World) → Stands e w → Makes (created e known dir (table_in e name formats) id) w (Create name formats) answers.Done
+  create-new laws grow is well w st = (
     after w.machine (CreateTable t),
     inr (t, table-suits laws e w name formats st, (Done, (CreateTable t, decision-is laws e w name formats st well ∙ made.0, refl), refl)),
-    laws.goes e w name formats known dir place id place st made all first is (sound.free place (omega (arith, made.1))) (omega (arith, there, sound.pieces)) (omega (arith, there, sound.states)),
+    subst (λ (ps : List FramePiece). Stands (record (created e known dir t id) { pieces = ps }) (record w { machine = after w.machine (CreateTable t) })) (pieces-last e (first_piece t id))
+        (subst (λ (ws : List ℕ). Stands (record (with_table (with_frame e) known dir t id (length e.pieces)) { states = ws }) (record w { machine = after w.machine (CreateTable t) })) (states-last e sound.states first_word)
+        (laws.goes (with_frame e) w name formats known dir place id (length e.pieces) (grow e w st) made all first is (frame-none e) (piece-within e) (word-within e sound.states))),
   )
 
   known-is : known.tables ≡ e.hub.tables.tables ++ t ∷ []
@@ -159,54 +159,29 @@ module _ (laws : CreateLaws) (e : Engine) (name : List ℕ) (formats : Formats) 
   long : length known.tables ≡ length e.hub.tables.tables + 1
   long = ap (λ (ts : List Table). length ts) known-is ∙ length-append e.hub.tables.tables (t ∷ [])
 
-  old-placed : (l : Leaf) → IsPlaced e.hub.tables.tables l → IsPlaced known.tables l
-  old-placed l p = record {
-    place = p.place;
-    table = p.table;
-    there = ap (λ (ts : List Table). slice_get ts p.place) known-is ∙ append-keeps e.hub.tables.tables t p.table p.place p.there;
-    number = p.number;
-    frame = p.frame;
-  }
+  module _ (are : AreTables e.hub.tables) (was : IsDirectory e.hub.dir) where
+    come : IsCome e.hub.dir.leaves dir.leaves (new_leaf t.number id (length e.pieces))
+    come = comes e.hub.dir dir t.number id (length e.pieces) was (none-yet e are sound) first
 
-  new-placed : IsPlaced known.tables (new_leaf t.number id place)
-  new-placed = record {
-    place = place;
-    table = t;
-    there = ap (λ (ts : List Table). slice_get ts place) known-is ∙ (ap (slice_get (e.hub.tables.tables ++ t ∷ [])) made.1 ∙ append-last e.hub.tables.tables t);
-    number = refl;
-    frame = refl;
-  }
+    owned : LeavesOwned known.tables dir.leaves
+    owned l at = elim (come-cases e.hub.dir dir.leaves (new_leaf t.number id (length e.pieces)) was come l at) [
+      | inl old ↦ let o = sound.owned l old in (o.0, o.1, ap (λ (ts : List Table). slice_get ts o.0) known-is ∙ append-keeps e.hub.tables.tables t o.1 o.0 o.2, o.3)
+      | inr same ↦ (length e.hub.tables.tables, t, ap (λ (ts : List Table). slice_get ts (length e.hub.tables.tables)) known-is ∙ append-last e.hub.tables.tables t, ap (λ (x : Leaf). x.table) (sym same))
+    ]
 
-  world : Stands e sound.running.world.0
-  world = sound.running.world.1
-
-  come : IsCome e.hub.dir.leaves dir.leaves (new_leaf t.number id place)
-  come = comes e.hub.dir dir t.number id place world.dir (none-yet e sound.running.world.0 world sound.placed) first
-
-  placed : LeavesPlaced known.tables dir.leaves
-  placed l at = elim (come-cases e.hub.dir dir.leaves (new_leaf t.number id place) world.dir come l at) [
-    | inl old ↦ old-placed l (sound.placed l old)
-    | inr same ↦ subst (IsPlaced known.tables) same new-placed
-  ]
-
-  free : (frame : ℕ) → length known.tables ≤ frame → frame_in new.pieces frame ≡ None
-  free frame above = frame-other e.pieces place frame (first_piece t id) (λ same. omega (arith, made.1, long, above, same)) ∙ sound.free frame (omega (arith, long, above))
-
-  then : Makes new sound.running.world.0 (Create name formats) answers.Done
-  then = create-new sound.running.world.0 world
-
-  pub new-sound : IsSound (with_table e known dir (table_in e name formats) id place)
-  new-sound = record {
-    running = record { world = (record sound.running.world.0 { machine = then.0 }, then.2); framed = placed-framed known.tables dir.leaves placed };
-    built = sound.built;
-    actors = sound.actors;
-    pieces = length-set e.pieces place _ ∙ sound.pieces;
-    states = length-set e.states place _ ∙ sound.states;
-    numbers = (let next = ap (λ (k : Known). k.next) made.2 in omega (arith, sound.numbers, long, next));
-    placed = placed;
-    free = free;
-    sizes = record { leaves = leaves-set e.pieces place _ sound.sizes.leaves (filled-fits t.number id (record { page = []; chains = [] }) (λ key. tt)); sessions = sound.sizes.sessions; names = sound.sizes.names };
-  }
+    pub new-sound : IsSound (created e known dir (table_in e name formats) id)
+    new-sound = record {
+      count = sound.count;
+      seated = seated-with e.hub (record e.hub { tables = known; dir = dir }) e.sessions refl sound.seated;
+      run = sound.run;
+      built = sound.built;
+      actors = sound.actors;
+      states = one-more e sound.states (first_piece t id) first_word;
+      numbers = (let next = ap (λ (k : Known). k.next) made.2 in let before = sound.numbers in omega (arith, before, long, next));
+      owned = owned;
+      stamps = sound.stamps;
+      sizes = record { leaves = leaves-more e.pieces (first_piece t id) sound.sizes.leaves (filled-fits t.number id (record { page = []; chains = [] }) (λ key. tt)); sessions = sound.sizes.sessions; names = sound.sizes.names };
+    }
 
 -- ---- set
 
@@ -265,3 +240,21 @@ set-refused e w oldest stable reason st well is = (
   (Refused (refusal.Invalid reason), (Nothing, set-decision e w oldest stable st well ∙ ruled-not (rules_in e oldest stable) (set_event oldest stable) Nothing reason is, refl), refl),
   st,
 )
+
+-- the stamps as they would be are in order
+second-passes : (a b : Bool) (x y : Invalid) → answer_by ((a, x) ∷ ((b, y) ∷ [])) ≡ Ok tt → b ≡ false
+second-passes true b x y is = absurd (cc)
+second-passes false true x y is = absurd (cc)
+second-passes false false x y is = refl
+
+fit-by : (o s : ℕ) → (not (o == 0) && (not (s == 0) && nat_lt s o)) ≡ false → StampsFit o s
+fit-by o s is = elim (cases_eq o 0) [
+  | inl none ↦ inr (omega (arith, none))
+  | inr some ↦ elim (cases_eq s 0) [
+    | inl unset ↦ inl unset
+    | inr given ↦ inr (let over : nat_lt s o ≡ false = rw (ne_eqb o 0 some, ne_eqb s 0 given) at is in let least = ltb-false s o over in omega (arith, least))
+  ]
+]
+
+pub raised-fit : (e : Engine) (oldest stable : Option ℕ) → answer_by (rules_in e oldest stable) ≡ Ok tt → let s = raised e.hub.stamps oldest stable in StampsFit s.oldest s.stable
+raised-fit e oldest stable is = fit-by (max e.hub.stamps.oldest (stamp_of oldest)) (max e.hub.stamps.stable (stamp_of stable)) (second-passes _ _ _ _ is)

@@ -1,23 +1,29 @@
 -- Calls of the system, over the data of an engine.
-use Rattle.std.proofs.Common.{◌≡◌, ◌<◌, ℕ, zero, suc, refl, ap, sym, ◌∙◌, false, List, [], ◌∷◌, length, subst, map}
+use Rattle.std.proofs.Common.{◌≡◌, ◌<◌, ◌+◌, ℕ, zero, suc, refl, ap, sym, ◌∙◌, false, List, [], ◌∷◌, ◌++◌, length, inl, inr, subst, map, arith}
 use Rattle.std.specs.Prelude.{Option, Some, None, option_map, slice_set, slice_index_or}
 use Rattle.std.proofs.Math.ListN.{get_or-map}
-use Rattle.std.proofs.lemmas.List.{map-set, length-set}
+use Rattle.std.proofs.lemmas.List.{map-set, length-append, length-set}
 use Rattle.std.proofs.lemmas.Option.{get_or_from_slice_get}
 use Rattle.std.specs.Option.{is_some}
 use Rattle.wt_code.specs.declared.answers.Answer.{Answer}
 use Rattle.kv_model.specs.Calls.{Call}
 use Rattle.wt_calls.specs.declared.system_call.SystemCall.{SystemCall}
 use Rattle.wt_calls.specs.Calls.{system_call_in}
+use Rattle.txn_table.specs.SessionData.{SessionData, opened as no_session}
+use Rattle.txn_table.specs.Tabled.{one_more, phase_of}
 use Rattle.call_steps.specs.declared.reply.Reply.TheVariants as reply
+use Rattle.call_steps.specs.HubEvents.{known_phase}
+use Rattle.call_steps.specs.State.{State, opened}
+use Rattle.call_turns.specs.Seats.{AllRun, AreSeated, RunsAtLeaf}
 use Rattle.engine_world.specs.Stands.{Engine, Stands}
-use Rattle.engine_world.specs.Systems.{OpensGo, with_opened}
+use Rattle.engine_world.specs.Systems.{with_opened}
 use Rattle.engine_world.specs.Worlds.{World}
+use Rattle.engine_world.proofs.Appended.{append-default, append-finds}
 use Rattle.engine.specs.declared.step.Actor.TheVariants as actor
 use Rattle.engine.specs.Runs.{AsksIn, IsBuilt, MakesIn, MayAsk, StepsOut}
 use Rattle.engine.specs.Sound.{AreBuilt, IsSound}
 use Rattle.engine.specs.Systems.{Makes}
-use Rattle.engine.specs.Whole.{MakesAt, with_session_more}
+use Rattle.engine.specs.Whole.{MakesAt}
 use Rattle.engine.proofs.EngineSizes.{opened-sizes}
 use Rattle.engine.proofs.Driving.{lent-at}
 
@@ -60,34 +66,58 @@ set-built (y ∷ ys) (suc n) x built new (suc i) asked is = set-built ys n x (λ
 
 pub set-sound : (e : Engine) (number : ℕ) (x : Option SystemCall) → IsSound e → ((asked : SystemCall) → x ≡ Some asked → IsBuilt asked) → IsSound (record e { systems = slice_set e.systems number x })
 set-sound e number x sound new = record {
-  running = record {
-    world = (let was = sound.running.world in (record was.0 { systems = slice_set was.0.systems number (option_map system_call_in x) }, set-stands e was.0 number x was.1));
-    framed = sound.running.framed;
-  };
+  count = sound.count;
+  seated = sound.seated;
+  run = sound.run;
   built = set-built e.systems number x sound.built new;
   actors = length-set e.systems number x ∙ sound.actors;
-  pieces = sound.pieces;
   states = sound.states;
   numbers = sound.numbers;
-  placed = sound.placed;
-  free = sound.free;
+  owned = sound.owned;
+  stamps = sound.stamps;
   sizes = record { leaves = sound.sizes.leaves; sessions = sound.sizes.sessions; names = sound.sizes.names };
 }
 
--- a session more, which rests
-pub more-sound : OpensGo → (e : Engine) → IsSound e → IsSound (with_opened e)
-more-sound law e sound = record {
-  running = record {
-    world = (let was = sound.running.world in (with_session_more was.0, law e was.0 was.1));
-    framed = sound.running.framed;
-  };
+-- ---- a session more, which rests
+
+past-end : {A : Type 0} (xs : List A) (d : A) → slice_index_or xs (length xs) d ≡ d
+past-end [] d = refl
+past-end (x ∷ xs) d = past-end xs d
+
+more-seated : (e : Engine) → IsSound e → AreSeated (with_opened e).hub (with_opened e).sessions
+more-seated e sound session a at = elim (append-finds e.sessions opened a session at) [
+  | inl old ↦ let seat = sound.seated session a old in record {
+    opened = (let more = long in let before = seat.opened in omega (arith, more, before));
+    phase = same ∙ seat.phase;
+  }
+  | inr last ↦ record {
+    opened = (let more = long in let count = sound.count in let here = last.0 in omega (arith, more, count, here));
+    phase = same ∙ (ap (λ (x : SessionData). x.phase) (ap (λ (n : ℕ). slice_index_or e.hub.txns.sessions n (no_session e.hub.txns.run)) (last.0 ∙ sym sound.count) ∙ past-end e.hub.txns.sessions (no_session e.hub.txns.run)) ∙ ap (λ (x : State). known_phase x.phase) last.1);
+  }
+] where
+  long : length (e.hub.txns.sessions ++ no_session e.hub.txns.run ∷ []) ≡ length e.hub.txns.sessions + 1
+  long = length-append e.hub.txns.sessions (no_session e.hub.txns.run ∷ [])
+
+  same : phase_of (one_more e.hub.txns) session ≡ phase_of e.hub.txns session
+  same = ap (λ (x : SessionData). x.phase) (append-default e.hub.txns.sessions (no_session e.hub.txns.run) session)
+
+more-run : (sessions : List State) → AllRun sessions → AllRun (sessions ++ opened ∷ [])
+more-run sessions run session a at = elim (append-finds sessions opened a session at) [
+  | inl old ↦ run session a old
+  | inr last ↦ subst RunsAtLeaf last.1 (record { runs = λ on. absurd on })
+]
+
+pub more-sound : (e : Engine) → IsSound e → IsSound (with_opened e)
+more-sound e sound = record {
+  count = length-append e.hub.txns.sessions (no_session e.hub.txns.run ∷ []) ∙ (ap (λ (n : ℕ). n + 1) sound.count ∙ sym (length-append e.sessions (opened ∷ [])));
+  seated = more-seated e sound;
+  run = more-run e.sessions sound.run;
   built = sound.built;
   actors = sound.actors;
-  pieces = sound.pieces;
   states = sound.states;
   numbers = sound.numbers;
-  placed = sound.placed;
-  free = sound.free;
+  owned = sound.owned;
+  stamps = sound.stamps;
   sizes = opened-sizes e sound.sizes;
 }
 

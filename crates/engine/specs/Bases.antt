@@ -1,23 +1,19 @@
 -- On what an engine begins.
-use Rattle.std.specs.Prelude.{◌≡◌, ◌+◌, ℕ, List}
-use Rattle.kv_model.specs.Content.{Content, base, descending, table_lt}
-use Rattle.kv_model.specs.History.{Table, line}
-use Rattle.rows_shown.specs.Shows.{shown_at}
-use Rattle.leaf_frame.specs.Leaf.{HeldLeaf}
-use Rattle.leaf_chains.specs.Slots.{chain_at}
+use Rattle.std.specs.Prelude.{◌≡◌, ◌+◌, ℕ, List, reverse}
+use Rattle.std.specs.List.{Contains}
+use Rattle.kv_model.specs.Content.{Content, descending, table_lt}
+use Rattle.row_page.specs.Rows.{Row}
+use Rattle.tree_dir.specs.declared.leaf.Leaf.{Leaf}
+use Rattle.tree_dir.specs.Leaves.{Directory}
 use Rattle.catalog.specs.Known.{Known}
-use Rattle.engine_world.specs.Systems.{IsFirstOf}
-use Rattle.std.specs.Prelude.{Some, reverse, slice_get}
+use Rattle.engine_world.specs.Leaves.{TablesBegun}
+use Rattle.engine_world.specs.Systems.{StartsOnDevice}
 
--- the versions that a content keeps are in the leaf of the table at each place
-abbrev pub LeavesKeep : Content → List Table → List HeldLeaf → Type 0
-LeavesKeep c tables leaves = (place : ℕ) (t : Table) → slice_get tables place ≡ Some t
-    → (leaf : HeldLeaf) × (slice_get leaves place ≡ Some leaf) × ((key : List ℕ) → IsFirstOf (line (base c) t.number key) (chain_at key leaf.chains) (shown_at key leaf.page))
-
--- what is handed to an engine is this content
-pub record IsBaseOf (c : Content) (run oldest stable : ℕ) (known : Known) (leaves : List HeldLeaf) : Type 0 where
+-- what is handed to an engine is this content, whose leaves are on the device alone
+pub record IsBaseOf (c : Content) (shelf : ℕ → List Row) (run oldest stable : ℕ) (known : Known) (dir : Directory) : Type 0 where
   pub run_is : run ≡ c.run + 1
   pub oldest_is : oldest ≡ c.oldest
   pub stable_is : stable ≡ c.stable
   pub tables_are : reverse known.tables ≡ descending table_lt c.tables
-  pub leaves_are : LeavesKeep c known.tables leaves
+  pub begun : TablesBegun known.tables dir.leaves
+  pub leaves : (l : Leaf) → Contains dir.leaves l → StartsOnDevice c shelf dir.leaves l

@@ -9,3 +9,7 @@ pub mod Openings
 pub mod Goings
 pub mod Checkpoints
 pub mod Closes
+pub mod Waits
+pub mod Frames
+pub mod Directories
+pub mod Told

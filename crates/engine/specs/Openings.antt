@@ -1,51 +1,24 @@
--- What an engine is opened on, and how its leaves are laid into the frames.
-use Rattle.std.specs.Prelude.{◌≡◌, ◌≤◌, ℕ, List, [], Some, None, slice_get}
-use Rattle.std.specs.List.{Contains}
-use Rattle.kv_model.specs.Content.{Content}
-use Rattle.kv_model.specs.History.{Table}
-use Rattle.kv_model.specs.Machine.{of_some}
-use Rattle.kv_model.specs.Regular.{IsRegular}
-use Rattle.row_page.specs.Rows.{Row}
-use Rattle.leaf_frame.specs.Leaf.{HeldLeaf}
+-- The data with which an engine begins.
+use Rattle.std.specs.Prelude.{◌≡◌, ℕ, List, [], ◌∷◌, Option, None}
+use Rattle.tree_dir.specs.Leaves.{Directory}
+use Rattle.txn_table.specs.Tabled.{fresh}
 use Rattle.catalog.specs.Known.{Known}
-use Rattle.call_steps.specs.declared.frame.FramePiece.{FramePiece}
-use Rattle.tree_dir.specs.declared.leaf.Leaf.{Leaf}
-use Rattle.engine_world.specs.Leaves.{frame_in}
+use Rattle.wt_calls.specs.declared.system_call.SystemCall.{SystemCall}
+use Rattle.call_steps.specs.declared.hub.Hub.{Hub}
 use Rattle.engine_world.specs.Stands.{Engine}
-use Rattle.engine_world.specs.Systems.{first_world as world_on}
-use Rattle.engine_world.specs.Worlds.{World}
-use Rattle.engine.specs.Bases.{IsBaseOf}
-use Rattle.engine.specs.Sound.{IsPlaced}
 
--- no leaf is on the device alone
-abbrev pub no_shelf : ℕ → List Row
-no_shelf id = []
+-- four actors without a call
+abbrev pub no_calls : List (Option SystemCall)
+no_calls = None ∷ (None ∷ (None ∷ (None ∷ [])))
 
--- the world with which an engine begins that has each of its leaves in a frame
-abbrev pub first_world : Content → Engine → World
-first_world c e = world_on c no_shelf e
+-- what the sessions share at first
+abbrev pub first_hub : ℕ → ℕ → ℕ → Known → Directory → Hub
+first_hub run oldest stable known dir = record { txns = fresh run 0; stamps = record { oldest = oldest; stable = stable }; tables = known; dir = dir; fault = None }
 
--- what is handed to an engine is some content that a device may hold
-abbrev pub HasBase : ℕ → ℕ → ℕ → Known → List HeldLeaf → Type 0
-HasBase run oldest stable known leaves = (c : Content) × IsRegular c × IsBaseOf c run oldest stable known leaves
-
--- the number of the table at a place, 0 where there is none
-abbrev pub number_at : List Table → ℕ → ℕ
-number_at known place = of_some 0 (λ (t : Table). t.number) (slice_get known place)
-
--- the leaf of the directory is that of the table at a place, from this one on, and its frame has what was held for it
-pub record IsHeld (from : ℕ) (known : List Table) (helds : List HeldLeaf) (pieces : List FramePiece) (l : Leaf) : Type 0 where
-  pub placed : IsPlaced known l
-  pub from_on : from ≤ placed.place
-  pub held : HeldLeaf
-  pub given : slice_get helds placed.place ≡ Some held
-  pub there : frame_in pieces placed.place ≡ Some (record { table = l.table; id = l.id; leaf = held })
-
--- the tables from this place on have their leaves in the directory, and it has no others
-pub record AreLaid (from : ℕ) (known : List Table) (helds : List HeldLeaf) (leaves : List Leaf) (pieces : List FramePiece) : Type 0 where
-  pub held : (l : Leaf) → Contains leaves l → IsHeld from known helds pieces l
-  pub begun : (place : ℕ) (t : Table) → from ≤ place → slice_get known place ≡ Some t → (l : Leaf) × Contains leaves l × (l.table ≡ t.number)
-
--- the frames from this one on have no leaf
-abbrev pub AreBare : ℕ → List FramePiece → Type 0
-AreBare from pieces = (frame : ℕ) → from ≤ frame → frame_in pieces frame ≡ None
+-- no frame, no session, and no call
+pub record IsOpened (run oldest stable : ℕ) (known : Known) (dir : Directory) (e : Engine) : Type 0 where
+  pub hub : e.hub ≡ first_hub run oldest stable known dir
+  pub pieces : e.pieces ≡ []
+  pub states : e.states ≡ []
+  pub sessions : e.sessions ≡ []
+  pub systems : e.systems ≡ no_calls

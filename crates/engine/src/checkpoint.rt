@@ -1,24 +1,24 @@
 // What a checkpoint in one go asks of an engine, and what it leaves. The layer above has the device:
-// it asks whether a checkpoint may start, takes its snapshot, reads the leaf of each table, writes, and
-// tells the engine how that went, with nobody between. A function calls the laws that its proof rests
+// it asks whether a checkpoint may start, takes its snapshot, reads the leaves of each table, writes,
+// and tells the engine how that went, with nobody between. A function calls the laws that its proof rests
 // on, which do nothing.
 
-ghost use Rattle.std.specs.Prelude.{◌≡◌, ◌<◌, ◌≤◌, ◌-◌, ◌^◌, ℕ, None, Some, Err, length, reverse, slice_get, option_map, IfErr, IfOk, IfSome, OnOk, MatchOption};
+ghost use Rattle.std.specs.Prelude.{◌≡◌, ◌<◌, ◌≤◌, ◌-◌, ◌^◌, ℕ, None, Some, Err, length, reverse, option_map, IfErr, IfOk, IfSome, OnOk};
 ghost use Rattle.limits.specs.declared.TheConstants.{SESSIONS_MAX};
 ghost use Rattle.failure.specs.declared.Fault.{Fault as AFault};
-ghost use Rattle.kv_model.specs.History.{Table, tables};
+ghost use Rattle.kv_model.specs.History.{tables};
 ghost use Rattle.kv_model.specs.Machine.{GoDown, after};
 ghost use Rattle.snapshot.specs.Matters.{AreUnended, NoneResolves, SeesCommitted};
 ghost use Rattle.snapshot.specs.Sight.{sight_at};
 ghost use Rattle.txn_table.specs.Tabled.{unended};
 ghost use Rattle.leaf_capture.specs.Capture.{ChainsFit};
+ghost use Rattle.tree_dir.specs.Leaves.{IsDirectory};
 ghost use Rattle.catalog.specs.Known.{AreTables};
 ghost use Rattle.engine_world.specs.Leaves.{frame_in};
 ghost use Rattle.engine_world.specs.Stands.{Stands};
 ghost use Rattle.engine_world.specs.Systems.{checkpointed, with_fault};
 ghost use Rattle.engine_world.specs.Worlds.{World};
-ghost use Rattle.engine.specs.Events.{HasWorld};
-ghost use Rattle.engine.specs.Checkpoints.{HeldStands, IsOfStart, MarksFit, MayStart, marks_in, marks_of};
+ghost use Rattle.engine.specs.Checkpoints.{IsOfStart, MarksFit, MayStart, marks_in, marks_of};
 ghost use Rattle.engine.specs.Sound.{IsSound};
 
 use crate::local::Local;
@@ -30,6 +30,7 @@ use leaf_frame::LeafFrame;
 use limits::{NUMBER_MAX, SESSIONS_MAX};
 use snapshot::Snapshot;
 use std::alloc::Global;
+use tree_dir::Dir;
 use txn_table::{calls_stand, checkpoints_see, lowest_are_the_machines};
 use wt_code::{Busy, Limit, Refusal};
 
@@ -57,7 +58,6 @@ impl Local {
         ensures resolves { (w : World) → Stands self.now w → OnOk result (NoneResolves w.machine) }
         ensures number { OnOk result (number < 2 ^ 62 - 1) }
         ensures refusals { IfErr result IsOfStart }
-        ensures world { HasWorld self.now }
     {
         self.parts.may_checkpoint(number)
     }
@@ -82,7 +82,7 @@ impl Local {
         self.parts.marks()
     }
 
-    /// The tables: `leaf` gives that of the one at each place. `O(1)`.
+    /// The tables. `O(1)`.
     pub fn tables(&self) -> &Catalog
         ensures are { result.now ≡ self.now.hub.tables }
         ensures known { AreTables result.now }
@@ -91,12 +91,27 @@ impl Local {
         self.parts.tables()
     }
 
-    /// The leaf of the table at a place of the catalog. Each update of its chains fits a row. `O(1)`.
-    pub fn leaf(&self, place: u32) -> Option<&LeafFrame>
-        ensures fit { IfSome result (λ l. ChainsFit l.now.chains) }
-        ensures stands { (w : World) → Stands self.now w → (t : Table) → slice_get self.now.hub.tables.tables place ≡ Some t → MatchOption result ⊥ (λ l. HeldStands w.machine t l.now) }
+    /// The fault by which the engine is down, if it is. `O(1)`.
+    pub fn fault(&self) -> Option<Fault>
+        ensures { result ≡ self.now.hub.fault }
     {
-        self.parts.leaf(place)
+        self.parts.fault()
+    }
+
+    /// The leaves of all tables, and the frames that have them. `O(1)`.
+    pub fn leaves(&self) -> &Dir
+        ensures are { result.now ≡ self.now.hub.dir }
+        ensures stand { IsDirectory result.now }
+    {
+        self.parts.leaves()
+    }
+
+    /// The leaf in a frame. Each update of its chains fits a row. `O(1)`.
+    pub fn leaf_in(&self, frame: u32) -> Option<&LeafFrame>
+        ensures is { option_map (λ l. l.now) result ≡ option_map (λ f. f.leaf) (frame_in self.now.pieces frame) }
+        ensures fit { IfSome result (λ l. ChainsFit l.now.chains) }
+    {
+        self.parts.leaf_in(frame)
     }
 
     /// A checkpoint was completed, with nobody between its start and its finish. Nothing changes.
@@ -170,20 +185,29 @@ impl Parts {
 
     /// The tables.
     pub(crate) fn tables(&self) -> &Catalog
-        ensures { result.now ≡ self.now.hub.tables }
+        ensures are { result.now ≡ self.now.hub.tables }
+        ensures known { AreTables result.now }
     {
+        // What holds of every catalog holds of this one.
+        let _count = self.hub.tables.len();
         &self.hub.tables
     }
 
-    /// The leaf in a frame.
-    pub(crate) fn leaf(&self, frame: u32) -> Option<&LeafFrame>
-        ensures { option_map (λ leaf. leaf.now) result ≡ option_map (λ f. f.leaf) (frame_in self.now.pieces frame) }
+    /// The fault by which the engine is down.
+    pub(crate) fn fault(&self) -> Option<Fault>
+        ensures { result ≡ self.now.hub.fault }
     {
-        let piece = self.pieces.get(frame as usize)?;
-        match &piece.frame {
-            None => None,
-            Some(frame) => Some(&frame.leaf),
-        }
+        self.hub.fault
+    }
+
+    /// The leaves of all tables.
+    pub(crate) fn leaves(&self) -> &Dir
+        ensures are { result.now ≡ self.now.hub.dir }
+        ensures stand { IsDirectory result.now }
+    {
+        // What holds of every directory holds of this one.
+        self.hub.dir.stands();
+        &self.hub.dir
     }
 
     /// The engine is down from now on.

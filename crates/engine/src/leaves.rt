@@ -1,15 +1,13 @@
-// The one leaf of a table.
+// The first leaf of a table.
 
-ghost use Rattle.std.specs.Prelude.{◌≡◌, ◌≢◌, ◌∷◌, [], Some, slice_set, IfOk, OnErr};
+ghost use Rattle.std.specs.Prelude.{◌≡◌, ◌≢◌, ◌∷◌, [], IfOk, OnErr};
 ghost use Rattle.std.specs.List.{All};
 ghost use Rattle.engine_world.specs.Systems.{HasFirstLeaf, first_entry};
 
-use call_steps::{Frame, FramePiece};
 use device_layout::{Addr, Link};
 use failure::NoMemory;
 use inner_page::Entry;
 use item::Item;
-use leaf_frame::LeafFrame;
 use stamp::Name;
 use std::alloc::Global;
 use tree_dir::{Dir, Framed};
@@ -42,19 +40,6 @@ pub(crate) fn add_leaf(
             );
             Ok(id)
         }
-    }
-}
-
-// The leaf of the table of this number, with this id, into the frame of its place.
-pub(crate) fn put_leaf(pieces: &mut [FramePiece], place: u32, table: u32, id: u64, leaf: LeafFrame)
-    ensures { pieces.new ≡ slice_set pieces.old place (record { generation = 0; frame = Some (record { table = table; id = id; leaf = leaf }) }) }
-{
-    let at = place as usize;
-    if at < pieces.len() {
-        pieces[at] = FramePiece {
-            generation: 0,
-            frame: Some(Frame { table, id, leaf }),
-        };
     }
 }
 

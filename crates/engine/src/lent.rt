@@ -5,17 +5,21 @@ ghost use Rattle.wt_calls.specs.Calls.{session_call_in};
 ghost use Rattle.engine_world.specs.Stands.{Stands};
 ghost use Rattle.engine_world.specs.Steps.{MayBegin};
 ghost use Rattle.engine_world.specs.Worlds.{World, Resting, doing_of};
-ghost use Rattle.engine.specs.Sound.{IsRunning, Keeps};
-ghost use Rattle.engine.specs.Whole.{MayAnswer, MayCall};
+ghost use Rattle.engine.specs.Directories.{HubGoesOn};
+ghost use Rattle.engine.specs.Sound.{IsSound, Keeps};
+ghost use Rattle.engine.specs.Told.{EndsFrom, KeepOwn, TellsFrom, answer_in};
+ghost use Rattle.engine.specs.Waits.{WaitsAs};
+ghost use Rattle.engine.specs.Whole.{CallsTo};
 
+use crate::called::Called;
 use crate::local::Local;
 use crate::parts::Parts;
 use call_steps::Reply;
+use call_turns::{answers_are_own, calls_run, seats_stay};
 use engine_world::starts_go;
 use failure::NoMemory;
-use item::Item;
 use std::alloc::Global;
-use wt_calls::{Call, Demand, SessionCall};
+use wt_calls::{Demand, SessionCall};
 use wt_code::{Answer, Refusal};
 
 impl Parts {
@@ -30,21 +34,27 @@ impl Parts {
         ensures begun { IfOk result (λ told. (w : World) → Stands self.old w → (later : World) × MayBegin w session (session_call_in (SessionCall.Get table.now key.now)) told later × Stands self.new later) }
         ensures rests { OnErr result ((w : World) → Stands self.old w → (doing_of w session ≡ Resting) × Stands self.new w) }
         ensures kept { Keeps self.old self.new }
+        ensures tells { IfOk result (λ told. TellsFrom Answer.Done told) }
     {
         starts_go();
+        seats_stay();
+        calls_run();
+        answers_are_own();
         self.sessions[session as usize].start_get(alloc, table, key)
     }
 
     /// A whole get of a session.
-    fn get(&mut self, alloc: Global, session: u32, table: &[u8], key: &[u8]) -> Answer<Item>
+    fn get(&mut self, alloc: Global, session: u32, table: &[u8], key: &[u8]) -> Called
         requires open { session < length self.old.sessions }
-        requires running { IsRunning self.old }
-        ensures answer { (w : World) → Stands self.old w → (later : World) × MayCall w session (session_call_in (SessionCall.Get table.now key.now)) result later × Stands self.new later }
+        requires sound { IsSound self.old }
+        ensures answer { (w : World) → Stands self.old w → CallsTo result self.new w session (session_call_in (SessionCall.Get table.now key.now)) }
+        ensures waits { WaitsAs result self.new session }
         ensures kept { Keeps self.old self.new }
+        ensures tells { EndsFrom (answer_in self.old session) result }
     {
         match self.start_get(alloc, session, table, key) {
             Ok(told) => self.go_through(alloc, session, told),
-            Err(NoMemory) => Answer::Refused(Refusal::NoMemory),
+            Err(NoMemory) => Called::Ended(Answer::Refused(Refusal::NoMemory)),
         }
     }
 
@@ -61,8 +71,12 @@ impl Parts {
         ensures begun { IfOk result (λ told. (w : World) → Stands self.old w → (later : World) × MayBegin w session (session_call_in (SessionCall.Put table.now key.now value.now demand)) told later × Stands self.new later) }
         ensures rests { OnErr result ((w : World) → Stands self.old w → (doing_of w session ≡ Resting) × Stands self.new w) }
         ensures kept { Keeps self.old self.new }
+        ensures tells { IfOk result (λ told. TellsFrom Answer.Done told) }
     {
         starts_go();
+        seats_stay();
+        calls_run();
+        answers_are_own();
         self.sessions[session as usize].start_put(alloc, table, key, value, demand)
     }
 
@@ -75,15 +89,17 @@ impl Parts {
         key: &[u8],
         value: &[u8],
         demand: Demand,
-    ) -> Answer<Item>
+    ) -> Called
         requires open { session < length self.old.sessions }
-        requires running { IsRunning self.old }
-        ensures answer { (w : World) → Stands self.old w → (later : World) × MayCall w session (session_call_in (SessionCall.Put table.now key.now value.now demand)) result later × Stands self.new later }
+        requires sound { IsSound self.old }
+        ensures answer { (w : World) → Stands self.old w → CallsTo result self.new w session (session_call_in (SessionCall.Put table.now key.now value.now demand)) }
+        ensures waits { WaitsAs result self.new session }
         ensures kept { Keeps self.old self.new }
+        ensures tells { EndsFrom (answer_in self.old session) result }
     {
         match self.start_put(alloc, session, table, key, value, demand) {
             Ok(told) => self.go_through(alloc, session, told),
-            Err(NoMemory) => Answer::Refused(Refusal::NoMemory),
+            Err(NoMemory) => Called::Ended(Answer::Refused(Refusal::NoMemory)),
         }
     }
 }
@@ -91,10 +107,15 @@ impl Parts {
 impl Local {
     /// A whole get, as `call` with `SessionCall::Get`, of bytes that are lent: they are copied into
     /// buffers of the session that are used again. One allocation, for the value that it answers.
-    pub fn get(&mut self, alloc: Global, session: u32, table: &[u8], key: &[u8]) -> Answer<Item>
+    pub fn get(&mut self, alloc: Global, session: u32, table: &[u8], key: &[u8]) -> Called
         requires { session < length self.old.sessions }
-        ensures answer { (w : World) → Stands self.old w → (later : World) × MayAnswer w (Call.Session session (SessionCall.Get table.now key.now)) result later × Stands self.new later }
+        ensures answer { (w : World) → Stands self.old w → CallsTo result self.new w session (session_call_in (SessionCall.Get table.now key.now)) }
+        ensures waits { WaitsAs result self.new session }
+        ensures dir { self.new.hub.dir ≡ self.old.hub.dir }
         ensures sessions { length self.new.sessions ≡ length self.old.sessions }
+        ensures goes { HubGoesOn self.old.hub self.new.hub }
+        ensures own { KeepOwn self.old self.new }
+        ensures tells { EndsFrom (answer_in self.old session) result }
     {
         self.parts.get(alloc, session, table, key)
     }
@@ -110,10 +131,15 @@ impl Local {
         key: &[u8],
         value: &[u8],
         demand: Demand,
-    ) -> Answer<Item>
+    ) -> Called
         requires { session < length self.old.sessions }
-        ensures answer { (w : World) → Stands self.old w → (later : World) × MayAnswer w (Call.Session session (SessionCall.Put table.now key.now value.now demand)) result later × Stands self.new later }
+        ensures answer { (w : World) → Stands self.old w → CallsTo result self.new w session (session_call_in (SessionCall.Put table.now key.now value.now demand)) }
+        ensures waits { WaitsAs result self.new session }
+        ensures dir { self.new.hub.dir ≡ self.old.hub.dir }
         ensures sessions { length self.new.sessions ≡ length self.old.sessions }
+        ensures goes { HubGoesOn self.old.hub self.new.hub }
+        ensures own { KeepOwn self.old self.new }
+        ensures tells { EndsFrom (answer_in self.old session) result }
     {
         self.parts.put(alloc, session, table, key, value, demand)
     }

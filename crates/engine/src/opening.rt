@@ -1,25 +1,24 @@
 // An engine on what a device holds.
 
-ghost use Rattle.std.specs.Prelude.{◌≡◌, ◌<◌, ◌≤◌, ◌+◌, ◌++◌, ◌^◌, ◌∷◌, [], None, length, replicate, IfOk, OnOk};
-ghost use Rattle.std.specs.List.{AllByRecursion};
+ghost use Rattle.std.specs.Prelude.{◌≡◌, ◌<◌, ◌≤◌, ◌+◌, ◌^◌, ◌∷◌, ℕ, [], None, List, length, IfOk};
 ghost use Rattle.limits.specs.declared.TheConstants.{NUMBER_MAX, TABLES_MAX};
+ghost use Rattle.kv_model.specs.Allowed.{StampsFit};
 ghost use Rattle.kv_model.specs.Content.{Content};
 ghost use Rattle.kv_model.specs.Regular.{IsRegular};
-ghost use Rattle.tree_dir.specs.Leaves.{no_leaves};
+ghost use Rattle.row_page.specs.Rows.{Row as ARow};
+ghost use Rattle.engine_world.specs.Leaves.{LeavesOwned};
 ghost use Rattle.engine_world.specs.Stands.{Stands};
+ghost use Rattle.engine_world.specs.Systems.{first_world};
 ghost use Rattle.engine.specs.Bases.{IsBaseOf};
-ghost use Rattle.engine.specs.Openings.{AreBare, AreLaid, HasBase, first_world, number_at};
-ghost use Rattle.engine.specs.Sizes.{LeafFits, LeavesFit};
+ghost use Rattle.engine.specs.Openings.{IsOpened};
 ghost use Rattle.engine.specs.Sound.{IsSound};
 
-use crate::leaves::{add_leaf, put_leaf};
 use crate::parts::Parts;
-use call_steps::{FramePiece, Hub};
+use call_steps::Hub;
 use catalog::Catalog;
 use engine_world::engines_start;
 use failure::NoMemory;
-use leaf_frame::LeafFrame;
-use limits::{SESSIONS_MAX, TABLES_MAX};
+use limits::SESSIONS_MAX;
 use std::alloc::Global;
 use tree_dir::Dir;
 use ts_rules::Stamps;
@@ -30,35 +29,31 @@ use wt_calls::SystemCall;
 const HAZARDS: usize = 5 * SESSIONS_MAX;
 
 impl Parts {
-    /// An engine on what a device holds: the run that begins, its two stamps, its tables, and the
-    /// leaf of the table at each place. The error is want of memory.
+    /// An engine on what a device holds: the run that begins, its two stamps, its tables, and their
+    /// leaves, which are in no frame. The error is want of memory.
     pub(crate) fn new(
         alloc: Global,
         run: u64,
         oldest: u64,
         stable: u64,
         tables: Catalog,
-        leaves: Vec<LeafFrame>,
+        dir: Dir,
     ) -> Result<Parts, NoMemory>
         requires numbers { tables.next + TABLES_MAX < 2 ^ 32 + length tables.tables }
-        requires leaves { length leaves.items ≡ length tables.tables }
-        requires base { HasBase run oldest stable tables leaves.items }
+        requires owned { LeavesOwned tables.tables dir.leaves }
+        requires stamps { StampsFit oldest stable }
+        requires begun { 1 ≤ run }
         requires run { run ≤ NUMBER_MAX }
-        requires fit { AllByRecursion LeafFits leaves.items }
-        ensures stands { (c : Content) → IsRegular c → IsBaseOf c run oldest stable tables leaves.items → IfOk result (λ p. Stands p (first_world c p)) }
-        ensures sessions { IfOk result (λ p. p.sessions ≡ []) }
+        ensures stands { (c : Content) (shelf : ℕ → List ARow) → IsRegular c → IsBaseOf c shelf run oldest stable tables dir → IfOk result (λ p. Stands p (first_world c shelf p)) }
+        ensures opened { IfOk result (λ p. IsOpened run oldest stable tables dir p) }
         ensures sound { IfOk result (λ p. IsSound p) }
     {
         engines_start();
-        let count = tables.len();
-        let txns = Txns::new(alloc, run, 0)?;
-        let mut pieces = empty_pieces(alloc)?;
-        let mut dir = Dir::new(alloc);
-        lay_leaves(alloc, &mut dir, pieces.as_mut_slice(), &tables, leaves)?;
-        // What holds of every directory holds of this one.
+        // What holds of every catalog and of every directory holds of these.
+        let _count = tables.len();
         dir.stands();
-        let states = words(alloc, count, 1, TABLES_MAX - count)?;
-        let hazards = words(alloc, 0, 1, HAZARDS)?;
+        let txns = Txns::new(alloc, run, 0)?;
+        let hazards = zeros(alloc, HAZARDS)?;
         let systems = no_calls(alloc)?;
         Ok(Parts {
             hub: Hub {
@@ -68,8 +63,8 @@ impl Parts {
                 dir,
                 fault: None,
             },
-            pieces,
-            states,
+            pieces: Vec::new(alloc),
+            states: Vec::new(alloc),
             hazards,
             sessions: Vec::new(alloc),
             systems,
@@ -77,83 +72,15 @@ impl Parts {
     }
 }
 
-// A frame for each table that there may be, without a leaf.
-fn empty_pieces(alloc: Global) -> Result<Vec<FramePiece>, NoMemory>
-    ensures count { IfOk result (λ v. length v.items ≡ TABLES_MAX) }
-    ensures bare { IfOk result (λ v. AreBare 0 v.items) }
-    ensures fit { IfOk result (λ v. LeavesFit v.items) }
-{
-    let mut pieces = Vec::with_capacity(alloc, TABLES_MAX)?;
-    for _ in 0..TABLES_MAX {
-        if let Err(_) = pieces.push(FramePiece {
-            generation: 0,
-            frame: None,
-        }) {
-            return Err(NoMemory);
-        }
-    }
-    Ok(pieces)
-}
-
-// Each leaf into the frame of its place, and into the directory.
-fn lay_leaves(
-    alloc: Global,
-    dir: &mut Dir,
-    pieces: &mut [FramePiece],
-    tables: &Catalog,
-    mut leaves: Vec<LeafFrame>,
-) -> Result<(), NoMemory>
-    requires empty { dir.old ≡ no_leaves }
-    requires bare { AreBare 0 pieces.old }
-    requires tables { length leaves.items ≡ length tables.now.tables }
-    requires room { length leaves.items ≤ length pieces.old }
-    requires few { length pieces.old ≤ TABLES_MAX }
-    ensures laid { OnOk result (AreLaid 0 tables.now.tables leaves.items dir.new.leaves pieces.new) }
-    ensures bare { OnOk result (AreBare (length leaves.items) pieces.new) }
-    ensures fit { LeavesFit pieces.old → AllByRecursion LeafFits leaves.items → OnOk result (LeavesFit pieces.new) }
-{
-    // What holds of every catalog holds of this one.
-    let _count = tables.len();
-    while let Some(leaf) = leaves.pop() {
-        let place = leaves.len() as u32;
-        let table = number_at(tables, place);
-        dir.stands();
-        let id = add_leaf(alloc, dir, table, place)?;
-        put_leaf(pieces, place, table, id, leaf);
-    }
-    Ok(())
-}
-
-// The number of the table at a place, 0 where there is none.
-fn number_at(tables: &Catalog, place: u32) -> u32
-    ensures { result ≡ number_at tables.now.tables place }
-{
-    match tables.table(place) {
-        None => 0,
-        Some(table) => table.number,
-    }
-}
-
-// So many words of this value, and after them so many zeros.
-fn words(alloc: Global, count: usize, value: u64, zeros: usize) -> Result<Vec<u64>, NoMemory>
-    requires { count + zeros ≤ TABLES_MAX }
-    ensures { IfOk result (λ v. v.items ≡ replicate count value ++ replicate zeros 0) }
-{
-    let mut words = Vec::with_capacity(alloc, count + zeros)?;
-    fill(&mut words, count, value)?;
-    fill(&mut words, zeros, 0)?;
-    Ok(words)
-}
-
-fn fill(words: &mut Vec<u64>, count: usize, value: u64) -> Result<(), NoMemory>
-    ensures { OnOk result (words.new.items ≡ words.old.items ++ replicate count value) }
-{
+// So many zeros.
+fn zeros(alloc: Global, count: usize) -> Result<Vec<u64>, NoMemory> {
+    let mut words = Vec::with_capacity(alloc, count)?;
     for _ in 0..count {
-        if let Err(_) = words.push(value) {
+        if let Err(_) = words.push(0) {
             return Err(NoMemory);
         }
     }
-    Ok(())
+    Ok(words)
 }
 
 // Four actors of the system, without a call.

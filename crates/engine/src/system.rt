@@ -1,26 +1,27 @@
 // What an engine does beside the steps of sessions: sessions are opened, and calls of the system are
 // made, each by one event. A function calls the laws that its proof rests on, which do nothing.
 
-ghost use Rattle.std.specs.Prelude.{◌≡◌, ◌⊎◌, ◌<◌, ◌≤◌, ◌+◌, [], None, Some, length, slice_index_or, slice_set, option_map, IfOk, IfErr, OnErr};
+ghost use Rattle.std.specs.Prelude.{◌≡◌, ◌⊎◌, ◌<◌, ◌≤◌, ◌+◌, [], None, Some, length, slice_index_or, option_map, IfOk, IfErr, OnErr};
 ghost use Rattle.kv_model.specs.Calls.{Create, Set};
 ghost use Rattle.kv_model.specs.Decisions.{is_there};
 ghost use Rattle.kv_model.specs.History.{named, tables};
 ghost use Rattle.wt_calls.specs.Calls.{system_call_in};
-ghost use Rattle.call_steps.specs.Tables.{first_word};
 ghost use Rattle.engine_world.specs.Stands.{Stands};
 ghost use Rattle.engine_world.specs.Worlds.{World};
-ghost use Rattle.engine.specs.Events.{HasWorld};
+ghost use Rattle.engine.specs.Directories.{HubGoesOn};
 ghost use Rattle.engine.specs.Runs.{IsBuilt, MayAsk, MayMake, StepsOut};
 ghost use Rattle.engine.specs.Sound.{IsSound};
 ghost use Rattle.engine.specs.Systems.{Makes};
+ghost use Rattle.engine.specs.Told.{IsOwnAlways, KeepOwn, TellsFrom};
 ghost use Rattle.engine.specs.Whole.{MayAnswer, with_session_more};
 
-use crate::leaves::{add_leaf, put_leaf};
+use crate::frames::{FIRST_WORD, piece_of, room_for_one};
+use crate::leaves::add_leaf;
 use crate::parts::Parts;
 use crate::step::Actor;
 use call_steps::{Reply, SessionState};
 use catalog::{Created, creates_are_judged, creates_suit, names_turn, places_are_named};
-use engine_world::{creates_go, opens_go, sets_go};
+use engine_world::{creates_go, frames_grow, opens_go, sets_go};
 use failure::NoMemory;
 use item::{Formats, Item};
 use leaf_frame::LeafFrame;
@@ -32,7 +33,7 @@ use wt_code::{Answer, Invalid, Limit, Refusal};
 impl Parts {
     /// How many sessions are open.
     pub(crate) fn count(&self) -> u32
-        requires { HasWorld self.now }
+        requires { IsSound self.now }
         ensures { result ≡ length self.now.sessions }
     {
         self.hub.txns.sessions()
@@ -66,7 +67,12 @@ impl Parts {
         ensures more { IfOk result (λ n. length self.new.sessions ≡ length self.old.sessions + 1) }
         ensures refused { IfErr result (λ r. (r ≡ Refusal.NoMemory) ⊎ ((r ≡ Refusal.Limit Limit.Sessions) × (SESSIONS_MAX ≤ length self.old.sessions))) }
         ensures kept { OnErr result (self.new ≡ self.old) }
+        ensures run { self.new.hub.txns.run ≡ self.old.hub.txns.run }
+        ensures fault { self.new.hub.fault ≡ self.old.hub.fault }
+        ensures tables { self.new.hub.tables ≡ self.old.hub.tables }
+        ensures dir { self.new.hub.dir ≡ self.old.hub.dir }
         ensures sound { IsSound self.new }
+        ensures own { KeepOwn self.old self.new }
     {
         opens_go();
         let state = SessionState::new(alloc)?;
@@ -83,7 +89,9 @@ impl Parts {
         requires sound { IsSound self.old }
         ensures steps { (w : World) → Stands self.old w → (later : World) × MayAsk w number (system_call_in call) result later × Stands self.new later }
         ensures sessions { self.new.sessions ≡ self.old.sessions }
+        ensures hub { self.new.hub ≡ self.old.hub }
         ensures sound { IsSound self.new }
+        ensures tells { TellsFrom Answer.Done result }
     {
         if self.systems[number as usize].is_some() {
             return Reply::Answer(Answer::Refused(Refusal::Invalid(Invalid::InCall)));
@@ -98,7 +106,9 @@ impl Parts {
         requires sound { IsSound self.old }
         ensures steps { (w : World) → Stands self.old w → (later : World) × MayMake w number result later × Stands self.new later }
         ensures sessions { self.new.sessions ≡ self.old.sessions }
+        ensures goes { HubGoesOn self.old.hub self.new.hub }
         ensures sound { IsSound self.new }
+        ensures tells { TellsFrom Answer.Done result }
     {
         Reply::Answer(self.make_whole(alloc, number))
     }
@@ -109,7 +119,9 @@ impl Parts {
         requires sound { IsSound self.old }
         ensures steps { (w : World) → Stands self.old w → (later : World) × StepsOut 0 w (Actor.System number) result later × Stands self.new later }
         ensures sessions { self.new.sessions ≡ self.old.sessions }
+        ensures goes { HubGoesOn self.old.hub self.new.hub }
         ensures sound { IsSound self.new }
+        ensures tells { IsOwnAlways result }
     {
         match self.systems[number as usize].take() {
             None => Answer::Refused(Refusal::Invalid(Invalid::NoCall)),
@@ -129,7 +141,9 @@ impl Parts {
         requires sound { IsSound self.old }
         ensures steps { (w : World) → Stands self.old w → (later : World) × MayAnswer w (Call.System number call) result later × Stands self.new later }
         ensures sessions { self.new.sessions ≡ self.old.sessions }
+        ensures goes { HubGoesOn self.old.hub self.new.hub }
         ensures sound { IsSound self.new }
+        ensures tells { IsOwnAlways result }
     {
         if self.systems[number as usize].is_some() {
             return Answer::Refused(Refusal::Invalid(Invalid::InCall));
@@ -144,7 +158,9 @@ impl Parts {
         ensures makes { (w : World) → Stands self.old w → Makes self.new w (system_call_in call) result }
         ensures systems { self.new.systems ≡ self.old.systems }
         ensures sessions { self.new.sessions ≡ self.old.sessions }
+        ensures goes { HubGoesOn self.old.hub self.new.hub }
         ensures sound { IsSound self.new }
+        ensures tells { IsOwnAlways result }
     {
         match call {
             SystemCall::Create { table, formats } => self.create(alloc, table.as_bytes(), formats),
@@ -153,29 +169,39 @@ impl Parts {
         }
     }
 
-    /// Makes a table, or finds it. Its leaf is empty, in the frame of its place. `O(log n)` in the
-    /// tables, and for a new one a copy of the name.
+    /// Makes a table, or finds it. Its first leaf is empty, in a frame more, for which there is room
+    /// before the table is made. `O(log n)` in the tables, and for a new one a copy of the name.
     pub(crate) fn create(&mut self, alloc: Global, name: &[u8], formats: Formats) -> Answer<Item>
         requires { IsSound self.old }
         ensures makes { (w : World) → Stands self.old w → Makes self.new w (Create name.now formats) result }
         ensures systems { self.new.systems ≡ self.old.systems }
         ensures sessions { self.new.sessions ≡ self.old.sessions }
+        ensures goes { HubGoesOn self.old.hub self.new.hub }
         ensures sound { IsSound self.new }
+        ensures tells { IsOwnAlways result }
     {
         creates_go();
+        frames_grow();
         creates_are_judged();
         creates_suit();
         if let Some(fault) = self.hub.fault {
             return Answer::Refused(Refusal::Panic { fault });
         }
+        // What holds of every catalog and of every directory holds of these.
+        let _known = self.hub.tables.len();
+        self.hub.dir.stands();
         let number = self.hub.tables.next_number();
+        let frame = match room_for_one(&mut self.pieces, &mut self.states) {
+            Err(NoMemory) => return Answer::Refused(Refusal::NoMemory),
+            Ok(frame) => frame,
+        };
         match self.hub.tables.create(alloc, name, formats) {
             Err(refusal) => Answer::Refused(refusal),
             Ok(Created::Same(_)) => Answer::Done,
-            Ok(Created::New(place)) => {
+            Ok(Created::New(_)) => {
                 // What holds of every catalog holds of the one with the new table.
                 let _count = self.hub.tables.len();
-                match add_leaf(alloc, &mut self.hub.dir, number, place) {
+                match add_leaf(alloc, &mut self.hub.dir, number, frame) {
                     Err(NoMemory) => {
                         self.hub.tables.take_back();
                         Answer::Refused(Refusal::NoMemory)
@@ -184,8 +210,8 @@ impl Parts {
                         // What holds of every directory holds of this one.
                         self.hub.dir.stands();
                         let leaf = LeafFrame::new(alloc);
-                        put_leaf(self.pieces.as_mut_slice(), place, number, id, leaf);
-                        set_first_word(self.states.as_mut_slice(), place);
+                        self.pieces.push_reserved(piece_of(number, id, leaf));
+                        self.states.push_reserved(FIRST_WORD);
                         Answer::Done
                     }
                 }
@@ -199,7 +225,9 @@ impl Parts {
         ensures makes { (w : World) → Stands self.old w → Makes self.new w (Set oldest stable) result }
         ensures systems { self.new.systems ≡ self.old.systems }
         ensures sessions { self.new.sessions ≡ self.old.sessions }
+        ensures goes { HubGoesOn self.old.hub self.new.hub }
         ensures sound { IsSound self.new }
+        ensures tells { IsOwnAlways result }
     {
         sets_go();
         if let Some(fault) = self.hub.fault {
@@ -209,17 +237,5 @@ impl Parts {
             return Answer::Refused(Refusal::Invalid(reason));
         }
         Answer::Done
-    }
-}
-
-// The state word of a frame that has the first leaf that it ever had.
-const FIRST_WORD: u64 = 1;
-
-fn set_first_word(states: &mut [u64], place: u32)
-    ensures { states.new ≡ slice_set states.old place first_word }
-{
-    let at = place as usize;
-    if at < states.len() {
-        states[at] = FIRST_WORD;
     }
 }

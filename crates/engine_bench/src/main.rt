@@ -8,13 +8,14 @@
 #![tactic(auto)]
 
 use catalog::Catalog;
-use engine::Local;
+use engine::{Called, Local};
 use failure::NoMemory;
 use item::{Format, Formats, Item};
 use std::alloc::{AllocError, Global};
 use std::mem::forget;
 use std::{env, io};
-use wt_calls::{Call, Demand, SessionCall, SystemCall, Way};
+use tree_dir::Dir;
+use wt_calls::{Demand, SessionCall, SystemCall, Way};
 use wt_code::{Answer, Invalid, Refusal};
 
 /// What is done in each round.
@@ -75,7 +76,7 @@ fn ask(alloc: Global, engine: &mut Local, call: SessionCall) -> Answer<Item> {
     if engine.sessions() == 0 {
         return no_session();
     }
-    engine.call(alloc, Call::Session(0, call))
+    answer_of(engine.call(alloc, 0, call))
 }
 
 // Inlined, as the next: all that is wanted of the answer is whether it is a refusal.
@@ -93,6 +94,15 @@ fn commit(alloc: Global, engine: &mut Local) -> Answer<Item> {
     ask(alloc, engine, call)
 }
 
+// The answer of a call. None waits: the one leaf is in a frame from the start.
+#[inline(always)]
+fn answer_of(called: Called) -> Answer<Item> {
+    match called {
+        Called::Ended(answer) => answer,
+        Called::Waits(_) => Answer::Refused(Refusal::CacheFull),
+    }
+}
+
 fn no_session() -> Answer<Item> {
     Answer::Refused(Refusal::Invalid(Invalid::NoCall))
 }
@@ -103,21 +113,21 @@ fn put(alloc: Global, engine: &mut Local, number: u64) -> Answer<Item> {
     }
     let key = key_of(number);
     let value = [7u8; 100];
-    engine.put(
+    answer_of(engine.put(
         alloc,
         0,
         TABLE,
         key.as_slice(),
         value.as_slice(),
         Demand::Anything,
-    )
+    ))
 }
 
 fn get(alloc: Global, engine: &mut Local, number: u64) -> Answer<Item> {
     if engine.sessions() == 0 {
         return no_session();
     }
-    engine.get(alloc, 0, TABLE, key_of(number).as_slice())
+    answer_of(engine.get(alloc, 0, TABLE, key_of(number).as_slice()))
 }
 
 fn next(alloc: Global, engine: &mut Local) -> Result<Answer<Item>, NoMemory> {
@@ -149,17 +159,17 @@ fn empty_alone(alloc: Global, engine: &mut Local) -> bool {
 }
 
 // An engine on nothing, with one table, which is empty, and one session.
-#[tactic(auto, using(crate::proofs::Bases::nothing_is_base))]
+#[tactic(auto, using(crate::proofs::Bases::none_owned, crate::proofs::Bases::unset_fit))]
 fn open(alloc: Global) -> Result<Local, NoMemory> {
     let tables = Catalog::new(alloc);
-    let mut engine = Local::open(alloc, 1, 0, 0, tables, Vec::new(alloc))?;
+    let mut engine = Local::open(alloc, 1, 0, 0, tables, Dir::new(alloc))?;
     let create = SystemCall::Create {
         table: item(alloc, TABLE)?,
         formats: BYTES,
     };
     // That there is an actor of the system.
     let _actors = engine.actors();
-    let _made = engine.call(alloc, Call::System(0, create));
+    let _made = engine.call_system(alloc, 0, create);
     match engine.open_session(alloc) {
         Ok(_) => Ok(engine),
         Err(_) => Err(NoMemory),

@@ -1,4 +1,4 @@
--- What an opening keeps of a device whose tables have one leaf each, and the versions of each key.
+-- What an opening keeps of a device, by its tables with all their rows, and the versions of each key.
 use Rattle.std.proofs.Common.{◌≡◌, ℕ, true, false, List, [], ◌∷◌, ◌++◌, map, None, refl, sym, ap, subst, ◌∙◌, inl, inr}
 use Rattle.std.specs.Prelude.{filter, ◌==◌}
 use Rattle.std.specs.Option.{option_to_list}
@@ -21,8 +21,7 @@ use Rattle.leaf_rows.specs.Contents.{is_seen_row, seen_rows}
 use Rattle.leaf_rows.specs.Rows.{AreFit}
 use Rattle.rows_shown.specs.Shows.{shown_at}
 use Rattle.rows_shown.proofs.Keyed.{of_key_rows, of_key_elsewhere, of_key_descending}
-use Rattle.engine_start.specs.declared.table_leaf.TableLeaf.{TableLeaf}
-use Rattle.engine_start.specs.Contents.{cells_in, kept_leaves, leaves_content, leaves_content_with, seen_leaves, tables_in}
+use Rattle.engine_start.specs.Contents.{TableLeaf, cells_in, kept_leaves, leaves_content, leaves_content_with, seen_leaves, tables_in}
 
 -- ---- what an opening keeps
 
@@ -57,7 +56,7 @@ seen_are m ids all = append-nil (kept_cells (leaves_content_with m ids all)) ∙
 pub kept_are : (m : Marks) (all : List TableLeaf) → kept (leaves_content m all) ≡ cells_in (kept_leaves m all)
 kept_are m all = seen_are m [] all
 
-tables_seen : (m : Marks) (ids : List ℕ) (all : List TableLeaf) → tables_in (seen_leaves m ids all) ≡ tables_in all
+pub tables_seen : (m : Marks) (ids : List ℕ) (all : List TableLeaf) → tables_in (seen_leaves m ids all) ≡ tables_in all
 tables_seen m ids [] = refl
 tables_seen m ids (l ∷ all) = ap (λ (ts : List Table). l.table ∷ ts) (tables_seen m ids all)
 

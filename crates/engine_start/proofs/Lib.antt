@@ -1,6 +1,10 @@
 pub mod Inserting
-pub mod RowChains
 pub mod LeafCells
 pub mod Regularity
+pub mod KeyedRows
+pub mod EntryLeaves
+pub mod TablesAdded
 pub mod Placing
+pub mod EntriesBegun
+pub mod LedRows
 pub mod Starting

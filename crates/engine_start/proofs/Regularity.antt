@@ -1,4 +1,4 @@
--- A device whose tables have one leaf each is regular.
+-- A device is regular, by its tables with all their rows.
 use Rattle.std.proofs.Common.{◌≡◌, ◌⊎◌, ◌≤◌, ℕ, true, List, [], ◌∷◌, ◌++◌, Option, Some, None, refl, sym, ap, subst, ◌∙◌, inl, inr}
 use Rattle.std.specs.List.{AllByRecursion}
 use Rattle.kv_model.specs.Holds.{Member}
@@ -14,8 +14,7 @@ use Rattle.catalog.specs.Opens.{AreRecorded}
 use Rattle.catalog.specs.Order.{Ascend}
 use Rattle.catalog.proofs.InOrder.{below_member, unchained}
 use Rattle.catalog.proofs.NameOrder.{below_self as name_below_self}
-use Rattle.engine_start.specs.declared.table_leaf.TableLeaf.{TableLeaf}
-use Rattle.engine_start.specs.Contents.{cells_in, leaves_content, tables_in}
+use Rattle.engine_start.specs.Contents.{TableLeaf, cells_in, leaves_content_with, tables_in}
 use Rattle.engine_start.proofs.LeafCells.{AllFit}
 
 -- ---- names
@@ -90,8 +89,9 @@ stamps_in (l ∷ leaves) fit p there = elim (member_append (placed_in l.table.nu
   | inr later ↦ stamps_in leaves fit.1 p later
 ]
 
-pub regular : (m : Marks) (leaves : List TableLeaf) (next : ℕ) → AreRecorded (tables_in leaves) next → StampsFit m.oldest m.stable → AllFit leaves → IsRegular (leaves_content m leaves)
-regular m leaves next are stamps fit = record {
+-- whichever ids had not ended
+pub regular_with : (m : Marks) (ids : List ℕ) (leaves : List TableLeaf) (next : ℕ) → AreRecorded (tables_in leaves) next → StampsFit m.oldest m.stable → AllFit leaves → IsRegular (leaves_content_with m ids leaves)
+regular_with m ids leaves next are stamps fit = record {
   numbers = are.once;
   names = λ t u there also same. ap (λ (x : Table). x.number) (one_named (tables_in leaves) t u (unchained (tables_in leaves) are.ascend) there also same);
   cells = cells_apart leaves are.once fit;

@@ -1,12 +1,7 @@
 -- What of a device an opening keeps.
 use Rattle.std.specs.Prelude.{◌≡◌, ℕ, List}
 use Rattle.leaf_rows.specs.declared.marks.Marks.{Marks}
-use Rattle.engine_start.specs.declared.table_leaf.TableLeaf.{TableLeaf}
-use Rattle.engine_start.specs.Contents.{kept_leaves, seen_leaves}
-
--- what an opening keeps, a second one keeps
-abbrev pub KeptStay : Type 0
-KeptStay = (m : Marks) (leaves : List TableLeaf) → kept_leaves m (kept_leaves m leaves) ≡ kept_leaves m leaves
+use Rattle.engine_start.specs.Contents.{TableLeaf, kept_leaves, seen_leaves}
 
 -- what an opening keeps where some ids had not ended, one keeps where each had
 abbrev pub SeenStay : Type 0

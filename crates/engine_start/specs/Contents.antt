@@ -1,11 +1,17 @@
--- What a device holds whose tables have one leaf each.
+-- What a device holds, by its tables with all their rows.
 use Rattle.std.specs.Prelude.{ℕ, List, [], ◌∷◌, ◌++◌, map}
 use Rattle.kv_model.specs.History.{Table, Placed}
 use Rattle.kv_model.specs.Content.{Content}
+use Rattle.row_page.specs.Rows.{Row}
 use Rattle.stored.specs.Stored.{placed_in}
 use Rattle.leaf_rows.specs.declared.marks.Marks.{Marks}
 use Rattle.leaf_rows.specs.Contents.{kept_rows, seen_rows}
-use Rattle.engine_start.specs.declared.table_leaf.TableLeaf.{TableLeaf}
+
+-- a table with its rows
+pub record TableLeaf : Type 0 where
+  pub table : Table
+  -- each key with its newest version
+  pub rows : List Row
 
 abbrev pub tables_in : List TableLeaf → List Table
 tables_in leaves = map {A = TableLeaf} (λ l. l.table) leaves
@@ -15,7 +21,7 @@ abbrev pub cells_in : List TableLeaf → List Placed
 cells_in [] = []
 cells_in (l ∷ leaves) = placed_in l.table.number l.rows ++ cells_in leaves
 
--- tables in this order, each with a leaf of these rows, and no history; these ids had not ended when the checkpoint started
+-- tables in this order, each with these rows, and no history; these ids had not ended when the checkpoint started
 abbrev pub leaves_content_with : Marks → List ℕ → List TableLeaf → Content
 leaves_content_with m ids leaves = record {
   run = m.run;

@@ -1,4 +1,4 @@
 pub mod Contents
 pub mod ContentLaws
-pub mod Chains
-pub mod ByNumber
+pub mod Entries
+pub mod EntryLaws

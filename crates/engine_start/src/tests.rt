@@ -1,75 +1,96 @@
-// Two tables whose order by name is not that by number, read by a session.
-ghost use Rattle.std.specs.Prelude.{◌≡◌, ◌≤◌, ◌++◌, ◌∷◌, [], length};
+// Two tables whose order by name is not that by number: their leaves as they came, and a get of a key
+// whose leaf comes when the get waits for it.
+ghost use Rattle.std.specs.Prelude.{◌≡◌, [], IfOk};
 ghost use Rattle.item.specs.declared.Format.TheVariants.{U};
-ghost use Rattle.row_page.specs.Rows.{value_of};
-ghost use Rattle.leaf_rows.specs.Rows.{IsAboveLast};
+ghost use Rattle.stored.specs.TableTree.{Climbs};
 
-use crate::{TableLeaf, start};
+use crate::{NoMemory, TableEntries, start};
 use catalog::Table;
-use engine::Local;
+use device_layout::{Addr, Link};
+use engine::{Called, Local};
+use inner_page::Entry;
 use item::{Format, Formats, Item};
-use leaf_rows::{Marks, Rows};
-use row_page::CellChange;
-use stamp::{Name, Version, Window};
+use leaf_frame::LeafFrame;
+use leaf_rows::Marks;
+use row_page::{Cell, CellChange, Leaf, LeafWriter};
+use stamp::{Name, Window};
 use std::alloc::Global;
-use std::process::Abort;
-use wt_calls::{Call, SessionCall};
-use wt_code::{Answer, Invalid, Refusal};
+use tree_dir::Leaf as DirLeaf;
+use wt_calls::SessionCall;
+use wt_code::Answer;
 
-fn item(rt: &impl Abort, alloc: Global, bytes: &[u8]) -> Item
-    ensures { result ≡ bytes.now }
+// The rows of the leaf are of this transaction.
+const WRITER: Name = Name { run: 3, id: 1 };
+
+fn item(alloc: Global, bytes: &[u8]) -> Result<Item, NoMemory>
+    ensures { IfOk result (λ i. i ≡ bytes.now) }
 {
-    Item::new(Vec::from_slice(alloc, bytes).expect(rt, "there is memory"))
+    Ok(Item::new(Vec::from_slice(alloc, bytes)?))
 }
 
-fn put(rt: &impl Abort, rows: &mut Rows, key: Item, change: CellChange<Item>)
-    requires key { length key ≤ 1024 }
-    requires value { length (value_of change) ≤ 16384 }
-    requires above { IsAboveLast key rows.old }
-    ensures { rows.new ≡ rows.old ++ (key, record { window = record { name = record { run = 3; id = 1 }; commit = 0; durable = 0 }; change = change }) ∷ [] }
+// A leaf from this key on, with its block at this place.
+fn entry(alloc: Global, key: &[u8], offset: u64) -> Result<Entry, NoMemory>
+    ensures { IfOk result (λ e. e.key ≡ key.now) }
 {
-    let window = Window {
-        name: Name { run: 3, id: 1 },
-        commit: 0,
+    let link = Link {
+        addr: Addr {
+            offset,
+            size: 4_096,
+            sum: 0,
+        },
+        greatest: WRITER,
         durable: 0,
     };
-    rows.push(key, Version { window, change })
-        .expect(rt, "there is memory");
+    Ok(Entry {
+        key: item(alloc, key)?,
+        link,
+    })
 }
 
-fn leaf(number: u32, name: Item, rows: Rows) -> TableLeaf
-    ensures { result ≡ record { table = record { number = number; name = name; formats = record { key = U; value = U } }; rows = rows } }
+// Leaves from the empty key and from m on.
+fn two(alloc: Global) -> Result<Vec<Entry>, NoMemory>
+    ensures { IfOk result (λ v. Climbs v.items) }
+{
+    let first = entry(alloc, b"", 8_192)?;
+    let second = entry(alloc, b"m", 12_288)?;
+    let mut entries = Vec::with_capacity(alloc, 2)?;
+    entries.push_reserved(first);
+    entries.push_reserved(second);
+    Ok(entries)
+}
+
+fn one(alloc: Global) -> Result<Vec<Entry>, NoMemory>
+    ensures { IfOk result (λ v. Climbs v.items) }
+{
+    let first = entry(alloc, b"", 16_384)?;
+    let mut entries = Vec::with_capacity(alloc, 1)?;
+    entries.push_reserved(first);
+    Ok(entries)
+}
+
+fn table(number: u32, name: Item, entries: Vec<Entry>) -> TableEntries
+    ensures { result ≡ record { table = record { number = number; name = name; formats = record { key = U; value = U } }; entries = entries } }
 {
     let formats = Formats {
         key: Format::U,
         value: Format::U,
     };
-    TableLeaf {
+    TableEntries {
         table: Table {
             number,
             name,
             formats,
         },
-        rows,
+        entries,
     }
 }
 
-fn engine(rt: &impl Abort, alloc: Global) -> Local {
-    let mut ape = Rows::new(alloc);
-    let gone = item(rt, alloc, b"j");
-    put(rt, &mut ape, gone, CellChange::Remove);
-    let key = item(rt, alloc, b"k");
-    let value = item(rt, alloc, b"1");
-    put(rt, &mut ape, key, CellChange::Put(value));
-    let mut bee = Rows::new(alloc);
-    let other = item(rt, alloc, b"k");
-    let two = item(rt, alloc, b"2");
-    put(rt, &mut bee, other, CellChange::Put(two));
-    let first = leaf(2, item(rt, alloc, b"ape"), ape);
-    let second = leaf(1, item(rt, alloc, b"bee"), bee);
-    let mut tables = Vec::with_capacity(alloc, 2).expect(rt, "there is memory");
-    tables.push_reserved(first);
-    tables.push_reserved(second);
+fn engine(alloc: Global) -> Result<Local, NoMemory> {
+    let ape = table(2, item(alloc, b"ape")?, two(alloc)?);
+    let bee = table(1, item(alloc, b"bee")?, one(alloc)?);
+    let mut tables = Vec::with_capacity(alloc, 2)?;
+    tables.push_reserved(ape);
+    tables.push_reserved(bee);
     let marks = Marks {
         run: 4,
         oldest: 0,
@@ -77,41 +98,87 @@ fn engine(rt: &impl Abort, alloc: Global) -> Local {
         min: 9,
         max: 9,
     };
-    start(alloc, marks, 3, tables).expect(rt, "there is memory")
+    start(alloc, marks, 3, tables)
 }
 
-fn ask(alloc: Global, local: &mut Local, call: SessionCall) -> Answer<Item> {
-    if local.sessions() == 0 {
-        return Answer::Refused(Refusal::Invalid(Invalid::NoCall));
+// Where the block of a leaf stands.
+fn block_of(leaf: Option<&DirLeaf>) -> Option<u64> {
+    let leaf = leaf?;
+    Some(leaf.entry.link.addr.offset)
+}
+
+// Where the blocks of the first three leaves of a table stand.
+fn blocks(engine: &Local, table: u32) -> [Option<u64>; 3] {
+    let mut leaves = engine.leaves().leaves_of(table);
+    [
+        block_of(leaves.next_leaf()),
+        block_of(leaves.next_leaf()),
+        block_of(leaves.next_leaf()),
+    ]
+}
+
+// A leaf of one row, the key n with the value 1.
+fn page(alloc: Global) -> Result<LeafFrame, NoMemory>
+    ensures { IfOk result (λ leaf. leaf.chains ≡ []) }
+{
+    let mut writer = LeafWriter::new(alloc, 4_096)?;
+    let cell = Cell {
+        key: b"n".as_slice(),
+        window: Window {
+            name: WRITER,
+            commit: 0,
+            durable: 0,
+        },
+        change: CellChange::Put(b"1".as_slice()),
+    };
+    let _written = writer.push(&cell);
+    match Leaf::of_block(alloc, writer.finish())? {
+        None => Err(NoMemory),
+        Some(leaf) => Ok(LeafFrame::of_page(alloc, leaf)),
     }
-    local.call(alloc, Call::Session(0, call))
 }
 
-// A value, or in words what is not one.
-fn told(answer: &Answer<Item>) -> &[u8] {
-    match answer {
-        Answer::Value(value) => value.as_bytes(),
-        Answer::Refused(Refusal::NotFound) => b"not found",
-        _ => b"else",
+fn begins(alloc: Global, engine: &mut Local) -> bool {
+    if engine.sessions() == 0 {
+        return false;
+    }
+    engine.call(alloc, 0, SessionCall::Begin(None)) == Called::Ended(Answer::Done)
+}
+
+// What a get answers that waits for the leaf of this block, once the leaf has come; none where it
+// does not wait for that.
+fn get(
+    alloc: Global,
+    engine: &mut Local,
+    table: &[u8],
+    key: &[u8],
+    block: u64,
+) -> Result<Option<Answer<Item>>, NoMemory> {
+    if engine.sessions() == 0 {
+        return Ok(None);
+    }
+    let Called::Waits(leaf) = engine.get(alloc, 0, table, key) else {
+        return Ok(None);
+    };
+    if block_of(engine.leaves().leaf(leaf)) != Some(block) {
+        return Ok(None);
+    }
+    engine.fill(leaf, page(alloc)?)?;
+    match engine.resume(alloc, 0) {
+        Called::Ended(answer) => Ok(Some(answer)),
+        Called::Waits(_) => Ok(None),
     }
 }
 
 #[test]
-fn each_table_has_its_own_rows(rt: HostRuntime) {
+fn a_leaf_comes_when_a_get_waits_for_it(rt: HostRuntime) -> Result<(), NoMemory> {
     let alloc = rt.alloc();
-    let mut local = engine(&rt, alloc);
-    assert!(&rt; local.open_session(alloc).is_ok());
-    let _begun = ask(alloc, &mut local, SessionCall::Begin(None));
-    let reads = [
-        (b"ape", b"j", b"not found".as_slice()),
-        (b"ape", b"k", b"1".as_slice()),
-        (b"bee", b"j", b"not found".as_slice()),
-        (b"bee", b"k", b"2".as_slice()),
-    ];
-    for (table, key, wanted) in reads {
-        let table = item(&rt, alloc, table);
-        let key = item(&rt, alloc, key);
-        let answer = ask(alloc, &mut local, SessionCall::Get { table, key });
-        assert!(&rt; told(&answer) == wanted);
-    }
+    let mut engine = engine(alloc)?;
+    assert!(rt; blocks(&engine, 1) == [Some(16_384), None, None]);
+    assert!(rt; blocks(&engine, 2) == [Some(8_192), Some(12_288), None]);
+    assert!(rt; engine.open_session(alloc).is_ok());
+    assert!(rt; begins(alloc, &mut engine));
+    let read = get(alloc, &mut engine, b"ape", b"n", 12_288)?;
+    assert!(rt; read == Some(Answer::Value(item(alloc, b"1")?)));
+    Ok(())
 }

@@ -1,140 +1,162 @@
--- What is made of a recovery: an engine and its ground.
-use Rattle.std.proofs.Common.{◌≡◌, ◌≤◌, ◌<◌, ℕ, ◌+◌, ◌^◌, List, [], ◌∷◌, length, map, reverse, Option, Some, None, refl, sym, ap, subst, ◌∙◌, inl, inr, arith}
-use Rattle.std.specs.List.{AllByRecursion}
+-- What is made of a survey: an engine and its ground.
+use Rattle.std.proofs.Common.{◌≡◌, ◌≤◌, ◌<◌, ℕ, ◌+◌, ◌^◌, List, [], length, reverse, Option, Some, None, refl, sym, ap, subst, ◌∙◌, arith}
+use Rattle.std.specs.Prelude.{slice_get}
+use Rattle.std.specs.List.{Contains}
 use Rattle.std.proofs.lemmas.Bool.{false≢true}
-use Rattle.std.proofs.lemmas.List.{length-map}
 use Rattle.limits.specs.declared.TheConstants.{TABLES_MAX}
-use Rattle.wt_code.specs.declared.refusals.Refusal.{Refusal}
-use Rattle.kv_model.specs.Content.{Content, descending, kept, nothing, placed_lt, table_lt}
+use Rattle.kv_model.specs.Content.{descending, nothing, table_lt}
 use Rattle.kv_model.specs.Holds.{Member}
-use Rattle.kv_model.proofs.Finishing.{tables-base}
-use Rattle.kv_model.proofs.Sorting.{member-descending}
+use Rattle.kv_model.specs.History.{Table}
+use Rattle.stamp.specs.declared.Name.{Name}
+use Rattle.catalog.specs.Opens.{AreRecorded}
 use Rattle.row_page.specs.Greatest.{no_name}
 use Rattle.row_page.specs.Rows.{Row}
-use Rattle.stored.specs.Records.{Root, TableFits, TableRoot}
-use Rattle.stored.specs.Stored.{Stored, IsOn, tables_of}
+use Rattle.stored.specs.Records.{IsRecord}
+use Rattle.stored.specs.Stored.{Stored, content_of, tables_of as record_tables}
 use Rattle.stored.specs.TableTree.{TableTree}
+use Rattle.stored.specs.Tree.{join}
 use Rattle.checkpoint_core.specs.Stands.{HasStill}
 use Rattle.device_leaf.specs.declared.place.Place.{Place}
-use Rattle.device_leaf.specs.Closings.{content_was}
-use Rattle.recover_open.specs.declared.opening.Kept.{Kept}
-use Rattle.recover_open.specs.declared.opening.Recovered.{Recovered}
+use Rattle.device_leaf.specs.Openings.{Serves, last_number}
 use Rattle.tree_open.specs.declared.place.TreePlace.{TreePlace}
-use Rattle.recover_open.specs.Bare.{bare_stored, kept_of, marks_of, tree_rows}
-use Rattle.recover_open.specs.Recoveries.{IsRecovered, Keeps, KeepsNone, KeepsOr, KeptInForm, placed_roots, table_roots}
+use Rattle.tree_dir.specs.declared.leaf.Leaf.{Leaf}
+use Rattle.tree_dir.specs.Leaves.{Directory, leaves_of}
+use Rattle.recover_open.specs.declared.surveying.Above.{Above}
+use Rattle.recover_open.specs.Bare.{ArePlaces, IsBare, marks_of}
+use Rattle.recover_open.specs.Recoveries.{Counts, KeepsNone}
 use Rattle.engine_world.specs.Stands.{Engine, Stands}
-use Rattle.engine.specs.Openings.{first_world}
-use Rattle.engine_start.specs.Contents.{leaves_content_with, seen_leaves}
-use Rattle.ckpt_step.specs.Grounds.{AreRoots}
-use Rattle.ckpt_step.specs.Trees.{AreLow}
-use Rattle.engine_start.proofs.Placing.{map_map, member_turned}
-use Rattle.engine_store.specs.declared.by_place.NumberedTree.{NumberedTree}
+use Rattle.engine_world.specs.Systems.{first_world}
+use Rattle.engine_world.specs.Worlds.{World}
+use Rattle.engine.specs.Directories.{HubGoesOn}
+use Rattle.engine_start.specs.declared.table_entries.TableEntries.{TableEntries}
+use Rattle.engine_start.specs.Entries.{IsUnread, entries_of}
+use Rattle.ckpt_step.specs.Floors.{Follows, FollowsFrom}
+use Rattle.ckpt_step.specs.Grounds.{AreRoots, AreWritten, found_in}
+use Rattle.ckpt_step.specs.Parts.{part_leaves, part_of}
+use Rattle.ckpt_step.specs.Rooms.{Rooms, known_in}
+use Rattle.ckpt_step.specs.Trees.{HasTreeAt, table_root}
+use Rattle.ckpt_step.proofs.Members.{none_some}
+use Rattle.ckpt_step.proofs.TableLeaves.{contains_of, in_table, member_of, table_in}
 use Rattle.engine_store.specs.declared.store.Store.{Store}
-use Rattle.engine_store.specs.ByPlace.{numbered_trees, places_in, their_place, tree_lt}
-use Rattle.engine_store.specs.Found.{HasLack, IsFound, LacksNumbers, RefusesBegin}
-use Rattle.engine_store.specs.Opened.{IsOpened, IsReady, OpenRefused}
-use Rattle.engine_store.specs.Tables.{with_leaves}
-use Rattle.engine_store.proofs.Places.{has_roots, length_known, length_places}
-use Rattle.engine_store.proofs.WithLeaves.{content_is, seen_with}
-
--- ---- an engine that begins with a content
-
-pub known_of : (e : Engine) (c : Content) → Stands e (first_world c e) → reverse e.hub.tables.tables ≡ descending table_lt c.tables
-known_of e c st = st.made ∙ tables-base (descending table_lt c.tables) (descending placed_lt (kept c))
-
-run_of : (e : Engine) (c : Content) → Stands e (first_world c e) → e.hub.txns.run ≡ c.run + 1
-run_of e c st = st.txns.run
-
--- ---- where trees stand
-
-levels_of : (next : ℕ) (tables : List TableRoot) → AllByRecursion (λ (t : TableRoot). TableFits next t) tables → AllByRecursion (λ (t : TableRoot). t.root.level ≤ 60) tables
-levels_of next [] fit = tt
-levels_of next (t ∷ tables) fit = (fit.0.root.level, levels_of next tables fit.1)
-
-low_roots : (tables : List TableRoot) (places : List TreePlace) → AllByRecursion (λ (t : TableRoot). t.root.level ≤ 60) tables → placed_roots places ≡ table_roots tables → AreLow places
-low_roots tables [] low same = tt
-low_roots [] (p ∷ places) low same = absurd cc
-low_roots (t ∷ tables) (p ∷ places) low same =
-    let here : p.root ≡ t.root = cc in
-    let later : placed_roots places ≡ table_roots tables = cc in
-    (subst (λ (r : Root). r.level ≤ 60) (sym here) low.0, low_roots tables places low.1 later)
-
-low_member : (places : List TreePlace) (p : TreePlace) → AreLow places → Member p places → p.root.level ≤ 60
-low_member [] p low there = absurd there
-low_member (q ∷ places) p low (inl same) = subst (λ (x : TreePlace). x.root.level ≤ 60) (sym same) low.0
-low_member (q ∷ places) p low (inr later) = low_member places p low.1 later
-
-numbered_low : (tables : List TableRoot) (places : List TreePlace) (n : NumberedTree) → AreLow places → Member n (numbered_trees tables places) → n.tree.root.level ≤ 60
-numbered_low [] places n low there = absurd there
-numbered_low (t ∷ tables) [] n low there = absurd there
-numbered_low (t ∷ tables) (p ∷ places) n low (inl same) = subst (λ (x : NumberedTree). x.tree.root.level ≤ 60) (sym same) low.0
-numbered_low (t ∷ tables) (p ∷ places) n low (inr later) = numbered_low tables places n low.1 later
-
-all_low : (ns : List NumberedTree) → ((n : NumberedTree) → Member n ns → n.tree.root.level ≤ 60) → AreLow (map their_place ns)
-all_low [] each = tt
-all_low (n ∷ ns) each = (each n (inl refl), all_low ns (λ x there. each x (inr there)))
-
-low_places : (tables : List TableRoot) (places : List TreePlace) → AreLow places → AreLow (places_in tables places)
-low_places tables places low = all_low (reverse (descending tree_lt (numbered_trees tables places))) (λ n there. numbered_low tables places n low (member-descending tree_lt (numbered_trees tables places) n (member_turned n (descending tree_lt (numbered_trees tables places)) there)))
-
-pub count_places : (k : Kept) → KeptInForm k → length k.trees.items ≡ length k.record.tables
-count_places k form = sym (length-map k.trees.items (λ (p : TreePlace). p.root)) ∙ (ap (λ (l : List Root). length l) form.roots ∙ length-map k.record.tables (λ (t : TableRoot). t.root))
+use Rattle.engine_store.specs.ByPlace.{places_in}
+use Rattle.engine_store.specs.Found.{IsFound}
+use Rattle.engine_store.specs.Marked.{AreAway, IsUnmarked}
+use Rattle.engine_store.specs.Opened.{IsOpened}
+use Rattle.engine_store.specs.Places.{AreOver}
+use Rattle.engine_store.specs.Tables.{AreWithEntries}
+use Rattle.engine_store.proofs.LeafBehind.{entries_in}
+use Rattle.engine_store.proofs.LeavesGo.{leaf_went}
+use Rattle.engine_store.proofs.Nothing.{no_shelf}
+use Rattle.engine_store.proofs.OpenedEngine.{begun, begun_kept, begun_own, known_at, own_went, shelf, still_first}
+use Rattle.engine_store.proofs.OpenedFollows.{follows_from, shelf_same, starts_below}
+use Rattle.engine_store.proofs.OpenedParts.{rows_are, rows_of, under}
+use Rattle.engine_store.proofs.OpenedRoots.{own_tree, pair_entries, root_fits, roots_are, tree_leads, tree_there, written_are}
+use Rattle.engine_store.proofs.SurveyedTrees.{IsSurveyedOf, old_of, places_over}
+use Rattle.engine_store.proofs.ReadyAbove.{known_are, many}
 
 -- ---- with a checkpoint
 
-pub ready_kept : (s : Store) (k : Kept) (c : Content) → KeptInForm k → Stands s.engine (first_world c s.engine) → c.run ≡ k.record.run → c.tables ≡ tables_of k.record.tables → s.ground.number ≡ k.record.sequence → s.ground.trees.items ≡ places_in k.record.tables k.trees.items → IsReady s
-ready_kept s k c form st run tables number places =
-    let r = k.record in
-    let known = length_known r.tables s.engine.hub.tables.tables (known_of s.engine c st ∙ ap (descending table_lt) tables) in
-    let count = ap (λ (l : List TreePlace). length l) places ∙ length_places r.tables k.trees.items (count_places k form) in
-    let engine_run = run_of s.engine c st in
-    record {
-      run = omega (arith, engine_run, run, number, form.is_record.run.1);
-      trees = omega (arith, known, count);
-      low = subst AreLow (sym places) (low_places r.tables k.trees.items (low_roots r.tables k.trees.items (levels_of r.next_table r.tables form.is_record.tables) form.roots));
-    }
+module _ (a : Above) (is_record : IsRecord a.record) (both : List TableEntries) (with : AreWithEntries both a.record.tables a.uppers.items) (e : Engine) (unread : IsUnread (marks_of a.record) both e) (s : Store) (goes : HubGoesOn e.hub s.engine.hub)
+    (ps : List TreePlace) (over : AreOver ps a.record.tables a.uppers.items) (trees_are : s.ground.trees.items ≡ places_in a.record.tables ps) (number : s.ground.number ≡ a.record.sequence) where
+  -- ---- on a device that reads
 
-count_kept : (bytes : List ℕ) (place : Place) (k : Kept) (keeps : Keeps bytes place k) → KeptInForm k → length keeps.trees ≡ length k.record.tables
-count_kept bytes place k keeps form = sym (length-map keeps.trees (λ (t : TableTree). kept_of k.record (tree_rows t))) ∙ (sym (ap (λ (l : List (List Row)). length l) keeps.kept) ∙ form.count)
+  module _ (bytes : List ℕ) (place : Place) (bare : IsBare a.record) (of : IsSurveyedOf bytes place a) (recorded : AreRecorded (record_tables a.record.tables) a.record.next_table)
+      (first : Stands e (begun bytes place a of both with recorded e unread)) (now : Stands s.engine (begun bytes place a of both with recorded e unread)) (unmarked : (l : Leaf) → Contains s.engine.hub.dir.leaves l → l.frame ≡ None → IsUnmarked (marks_of a.record) l) where
+    abbrev d : Directory
+    d = s.engine.hub.dir
 
-pub seen_kept : (bytes : List ℕ) (place : Place) (k : Kept) (keeps : Keeps bytes place k) → seen_leaves (marks_of k.record) k.record.snapshot.ids (with_leaves k.record.tables (map tree_rows keeps.trees)) ≡ with_leaves k.record.tables k.leaves.items
-seen_kept bytes place k keeps =
-    seen_with (marks_of k.record) k.record.snapshot.ids k.record.tables (map tree_rows keeps.trees)
-    ∙ ap (with_leaves k.record.tables) (map_map (kept_of k.record) tree_rows keeps.trees ∙ sym keeps.kept)
+    abbrev old : Stored
+    old = old_of bytes place a of
 
-pub found_kept : (bytes : List ℕ) (k : Kept) (s : Store) (keeps : Keeps bytes s.ground.place k) → KeptInForm k → k.record.next_table + TABLES_MAX < 2 ^ 32 + length k.record.tables → s.ground.number ≡ k.record.sequence → s.ground.trees.items ≡ places_in k.record.tables k.trees.items → s.ground.floor ≡ no_name
-    → Stands s.engine (first_world (leaves_content_with (marks_of k.record) k.record.snapshot.ids (with_leaves k.record.tables (map tree_rows keeps.trees))) s.engine) → IsFound bytes s
-found_kept bytes k s keeps form numbers number places floor st =
-    let old : Stored = bare_stored keeps.slot k.record keeps.trees in
-    let same = content_is keeps.slot k.record keeps.trees (count_kept bytes s.ground.place k keeps form) in
-    let world = subst (λ (c : Content). Stands s.engine (first_world c s.engine)) same st in
-    record {
+    abbrev on_shelf : ℕ → List Row
+    on_shelf = shelf bytes place a of both with recorded e unread
+
+    known_now : reverse s.engine.hub.tables.tables ≡ descending table_lt (record_tables a.record.tables)
+    known_now = now.made ∙ (sym first.made ∙ known_are a is_record both with e unread s goes ps over trees_are number)
+
+    own : (t : TableEntries) → Member t both → entries_in (leaves_of t.table.number d.leaves) ≡ entries_of t
+    own = own_went (marks_of a.record) both e s.engine unread goes (begun_own bytes place a of both with recorded e unread)
+
+    are : ArePlaces ps a.record.tables of.trees
+    are = places_over bytes a.record.tables a.uppers.items of.trees ps of.have of.uppers over
+
+    roots : AreRoots s.engine.hub.tables.tables d.leaves (known_in []) (places_in a.record.tables ps) (Some old)
+    roots = roots_are bytes place a is_record bare of both with d now.dir own ps (many a is_record both with e unread s goes ps over trees_are number) are s.engine.hub.tables.tables known_now
+
+    written : AreWritten s.engine.hub.tables.tables d (known_in []) (places_in a.record.tables ps)
+    written = written_are bytes place a is_record bare of both with d now.dir own ps (many a is_record both with e unread s goes ps over trees_are number) are s.engine.hub.tables.tables known_now
+
+    -- a leaf that is in no frame has on the shelf what the device has
+    same : (t : Table) (p : TreePlace) (tree : TableTree) (l : Leaf) → HasTreeAt (Some old) t p tree → Contains d.leaves l → l.table ≡ t.number → l.frame ≡ None → join (part_leaves p tree (part_of (known_in []) l)) ≡ on_shelf l.id
+    same t p tree l at there its none =
+        let has = tree_there bytes place a is_record bare of t p tree at in
+        let leads = tree_leads bytes place a is_record bare of t p tree at in
+        let entries = own_tree bytes place a is_record bare of both with d now.dir own t p tree at in
+        let fits = root_fits bytes place a is_record bare of t p tree at in
+        let pair = pair_entries both a.record.tables a.uppers.items of.trees (table_root t p.root) tree with of.uppers at.0 in
+        let place_of = known_at (marks_of a.record) both e unread pair.its pair.among in
+        let number_is : l.table ≡ pair.its.table.number = its ∙ sym (ap (λ (x : Table). x.number) pair.table) in
+        let was = leaf_went (leaves_of pair.its.table.number e.hub.dir.leaves) (leaves_of pair.its.table.number d.leaves) l (goes.dir.kept place_of.0 pair.its.table place_of.1) (table_in pair.its.table.number d.leaves l (member_of d.leaves l there) number_is) in
+        let before : Contains e.hub.dir.leaves was.0 = contains_of e.hub.dir.leaves was.0 (in_table pair.its.table.number e.hub.dir.leaves was.0 was.1).0 in
+        rows_are bytes d now.dir t.number p tree has at.1 leads entries fits l there its
+        ∙ shelf_same bytes e.hub.dir (marks_of a.record) a.record.snapshot.ids on_shelf was.0 l (rows_of bytes d now.dir t.number p tree has at.1 leads entries fits l.entry)
+        (begun_kept bytes place a of both with recorded e unread was.0 before) was.2.id was.2.entry (unmarked l there none) (under bytes d now.dir t.number p tree has at.1 leads entries fits l there its).leaf
+
+    follows : FollowsFrom (Some old) s.engine.hub.tables.tables d.leaves (known_in []) (places_in a.record.tables ps) no_name (first_world (content_of old) on_shelf s.engine)
+    follows = follows_from (Some old) s.engine.hub.tables.tables d.leaves (places_in a.record.tables ps) (first_world (content_of old) on_shelf s.engine) (starts_below (content_of old)) same
+
+    pub found_above : s.ground.place ≡ place → s.ground.parts ≡ [] → s.ground.floor ≡ no_name → a.record.run < last_number → a.record.next_table + TABLES_MAX < 2 ^ 32 + length a.record.tables → IsFound bytes s
+    found_above place_is parts floor run numbers = record {
       old = Some old;
-      numbers = (keeps.run, numbers);
+      numbers = (run, numbers);
       on = record {
-        serves = keeps.serves;
-        books = keeps.books;
+        serves = subst (λ (x : Place). Serves bytes x (Some old)) (sym place_is) of.serves;
+        books = subst (λ (x : Place). Counts (found_in (Some old)) x.blocks) (sym place_is) of.books;
         number = number;
-        roots = subst (λ (l : List TreePlace). AreRoots s.engine.hub.tables.tables l (Some old)) (sym places) (has_roots keeps.slot k.record s.engine.hub.tables.tables k.trees.items keeps.trees form.bare (count_places k form) keeps.places (known_of s.engine (content_was (Some old)) world));
+        roots = subst (λ (r : Rooms). AreRoots s.engine.hub.tables.tables d.leaves (known_in r) s.ground.trees.items (Some old)) (sym parts) (subst (λ (l : List TreePlace). AreRoots s.engine.hub.tables.tables d.leaves (known_in []) l (Some old)) (sym trees_are) roots);
+        written = subst (λ (r : Rooms). AreWritten s.engine.hub.tables.tables d (known_in r) s.ground.trees.items) (sym parts) (subst (λ (l : List TreePlace). AreWritten s.engine.hub.tables.tables d (known_in []) l) (sym trees_are) written);
+        parts = parts;
         floor = floor;
       };
-      world = world;
+      shelf = on_shelf;
+      world = still_first (content_of old) on_shelf e s.engine now;
+      follows = following parts floor;
+      away = subst (λ (r : Rooms). AreAway d.leaves (known_in r)) (sym parts) (λ l there none. (refl, (unmarked l there none).leads));
     }
+      where
+        w : World
+        w = first_world (content_of old) on_shelf s.engine
+
+        following : s.ground.parts ≡ [] → s.ground.floor ≡ no_name → Follows (Some old) s.engine.hub s.ground w
+        following parts floor =
+            subst (λ (r : Rooms). FollowsFrom (Some old) s.engine.hub.tables.tables d.leaves (known_in r) s.ground.trees.items s.ground.floor w) (sym parts)
+            (subst (λ (f : Name). FollowsFrom (Some old) s.engine.hub.tables.tables d.leaves (known_in []) s.ground.trees.items f w) (sym floor)
+            (subst (λ (l : List TreePlace). FollowsFrom (Some old) s.engine.hub.tables.tables d.leaves (known_in []) l no_name w) (sym trees_are) follows))
 
 -- ---- without one
 
-pub found_none : (bytes : List ℕ) (s : Store) → KeepsNone bytes s.ground.place → s.ground.number ≡ 0 → s.ground.trees.items ≡ [] → s.ground.floor ≡ no_name → Stands s.engine (first_world nothing s.engine) → IsFound bytes s
-found_none bytes s keeps number links floor st = record {
+pub found_none : (bytes : List ℕ) (s : Store) → KeepsNone bytes s.ground.place → s.ground.number ≡ 0 → s.ground.trees.items ≡ [] → s.ground.parts ≡ [] → s.ground.floor ≡ no_name → s.engine.hub.tables.tables ≡ [] → s.engine.hub.dir.leaves ≡ [] → Stands s.engine (first_world nothing no_shelf s.engine) → IsFound bytes s
+found_none bytes s keeps number none parts floor known bare st = record {
   old = None;
   numbers = tt;
-  on = record { serves = keeps.serves; books = keeps.books; number = number; roots = links; floor = floor };
+  on = record {
+    serves = keeps.serves;
+    books = keeps.books;
+    number = number;
+    roots = none;
+    written = subst (λ (r : Rooms). AreWritten s.engine.hub.tables.tables s.engine.hub.dir (known_in r) s.ground.trees.items) (sym parts) (record {
+      later = λ id le. refl;
+      made_since = λ i t l there at among its. absurd (none_some (ap (λ (ts : List Table). slice_get ts i) (sym known) ∙ there));
+    });
+    parts = parts;
+    floor = floor;
+  };
+  shelf = no_shelf;
   world = st;
+  follows = subst (λ (f : Name). FollowsFrom None s.engine.hub.tables.tables s.engine.hub.dir.leaves (known_in s.ground.parts) s.ground.trees.items f (first_world nothing no_shelf s.engine)) (sym floor)
+      (record { respects = starts_below nothing; leaf = λ i t p tree l there stands at among its. absurd at });
+  away = λ l there free. let nothing_there : Contains [] l = subst (λ (ls : List Leaf). Contains ls l) bare there in absurd (omega (arith, nothing_there.1));
 }
-
-pub ready_none : (s : Store) → Stands s.engine (first_world nothing s.engine) → s.ground.trees.items ≡ [] → IsReady s
-ready_none s st none =
-    let run = run_of s.engine nothing st in
-    record { run = omega (arith, run); trees = omega (arith, ap (λ (l : List TreePlace). length l) none); low = subst AreLow (sym none) tt }
 
 -- ---- whatever it was
 
@@ -160,17 +182,11 @@ opened_of bytes images s found = record {
     long = long_of bytes found.old found.on.serves.still;
     within = found.on.serves.within;
     roots = found.on.roots;
+    written = found.on.written;
   };
   floor = found.on.floor;
+  shelf = found.shelf;
   world = found.world;
+  follows = found.follows;
+  away = found.away;
 }
-
--- ---- why there is none
-
-lack_on : (bytes : List ℕ) (place : Place) (kept : Option Kept) → KeepsOr bytes place kept → HasLack kept → (s : Stored) × IsOn bytes s × LacksNumbers s.kept
-lack_on bytes place None keeps lack = absurd lack
-lack_on bytes place (Some k) keeps lack = (bare_stored keeps.slot k.record keeps.trees, keeps.serves.still, lack)
-
-pub refused_of : (fault known : Type 0) (bytes : List ℕ) (o : Recovered) (r : Refusal) → (known → IsRecovered bytes o) → RefusesBegin (HasLack o.kept) r → OpenRefused fault known bytes r
-refused_of fault known bytes o r found (inl none) = inl (inr (inl none))
-refused_of fault known bytes o r found (inr (is, lack)) = inr (is, λ k. lack_on bytes o.place o.kept (found k) lack)

@@ -1,9 +1,10 @@
 -- An engine that begins on nothing.
-use Rattle.std.proofs.Common.{◌≡◌, [], List, inl, inr, refl, subst, sym}
+use Rattle.std.proofs.Common.{◌≡◌, ℕ, [], List, inl, inr, refl, subst, sym, arith}
 use Rattle.kv_model.specs.Content.{nothing}
 use Rattle.kv_model.specs.History.{Placed}
 use Rattle.kv_model.specs.Regular.{IsRegular, IsVersionOf}
-use Rattle.leaf_frame.specs.Leaf.{HeldLeaf}
+use Rattle.row_page.specs.Rows.{Row}
+use Rattle.tree_dir.specs.Leaves.{Directory, no_leaves}
 use Rattle.catalog.specs.Known.{Known}
 use Rattle.engine.specs.Bases.{IsBaseOf}
 
@@ -21,9 +22,12 @@ nothing_is_regular = record {
   fit = inl refl;
 }
 
+abbrev pub no_shelf : ℕ → List Row
+no_shelf id = []
+
 -- no tables and no leaves
-pub nothing_is_base : (known : Known) (leaves : List HeldLeaf) → known ≡ record { tables = []; next = 1 } → leaves ≡ [] → IsBaseOf nothing 1 0 0 known leaves
-nothing_is_base known leaves is none =
+pub nothing_is_base : (known : Known) (dir : Directory) → known ≡ record { tables = []; next = 1 } → dir ≡ no_leaves → IsBaseOf nothing no_shelf 1 0 0 known dir
+nothing_is_base known dir is none =
     let plain : Known = record { tables = []; next = 1 } in
-    subst (λ (k : Known). IsBaseOf nothing 1 0 0 k leaves) (sym is) (subst (λ (l : List HeldLeaf). IsBaseOf nothing 1 0 0 plain l) (sym none)
-    (record { run_is = refl; oldest_is = refl; stable_is = refl; tables_are = refl; leaves_are = λ place t there. absurd cc }))
+    subst (λ (k : Known). IsBaseOf nothing no_shelf 1 0 0 k dir) (sym is) (subst (λ (d : Directory). IsBaseOf nothing no_shelf 1 0 0 plain d) (sym none)
+    (record { run_is = refl; oldest_is = refl; stable_is = refl; tables_are = refl; begun = λ place t there. absurd cc; leaves = λ l there. absurd (omega (arith, there.1)) }))

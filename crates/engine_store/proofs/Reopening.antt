@@ -1,72 +1,65 @@
 -- What an opening anew finds, and what it leaves of what holds between two calls.
-use Rattle.std.proofs.Common.{◌≡◌, ◌≤◌, ℕ, List, [], ◌∷◌, length, Option, Some, None, refl, sym, subst, ◌∙◌, inl, inr, arith}
+use Rattle.std.proofs.Common.{◌≡◌, ℕ, List, [], ◌∷◌, Option, Some, None, refl, sym, subst, ◌∙◌, inl, inr, arith}
 use Rattle.failure.specs.Counts.{Rose}
 use Rattle.disk_model.specs.Crash.{Each, LeavesOnly, Looked}
-use Rattle.disk_model.specs.Disk.{NoMore}
 use Rattle.disk_model.specs.declared.disk.Disk.{Ghosts}
-use Rattle.extent_list.specs.Space.{end_of}
 use Rattle.wt_code.specs.declared.refusals.Refusal.{Refusal}
 use Rattle.wt_code.specs.declared.refusals.Refusal.TheVariants.{Corrupt, DiskFault, NoMemory, Limit as Refusal_Limit}
 use Rattle.wt_code.specs.declared.refusals.Limit.TheVariants.{Checkpoints, Image, Tables}
-use Rattle.stamp.specs.declared.Name.{Name}
 use Rattle.kv_model.specs.Content.{Content, OpensAs, start}
 use Rattle.kv_model.specs.History.{Table}
 use Rattle.kv_model.specs.Holds.{Member}
 use Rattle.kv_model.specs.Machine.{Completed}
 use Rattle.stored.specs.Stored.{Stored, Reads, IsBlank, IsOn}
 use Rattle.stored.proofs.Device.{one_content}
-use Rattle.checkpoint_core.specs.Stands.{HasStill}
 use Rattle.device_leaf.specs.Closings.{content_was}
 use Rattle.recover_open.specs.Damage.{IsDamage}
 use Rattle.tree_open.specs.declared.place.TreePlace.{TreePlace}
 use Rattle.recover_open.specs.Bare.{IsBare}
 use Rattle.recover_open.proofs.Devices.{damage_no_content}
-use Rattle.engine.specs.Openings.{first_world}
+use Rattle.tree_dir.specs.declared.leaf.Leaf.{Leaf}
+use Rattle.engine_world.specs.Systems.{first_world}
 use Rattle.engine_world.specs.Worlds.{World}
-use Rattle.ckpt_step.specs.declared.ground.Ground.{Ground}
-use Rattle.ckpt_step.specs.Floors.{Follows}
-use Rattle.ckpt_step.specs.Grounds.{AreRoots, IsOnGround, StandsOn}
+use Rattle.ckpt_step.specs.Grounds.{AreRoots}
 use Rattle.ckpt_step.specs.Plain.{IsBareStill, StartsPlain}
-use Rattle.ckpt_step.proofs.Floors.{follows_none}
+use Rattle.ckpt_step.specs.Rooms.{Written, known_in}
 use Rattle.engine_store.specs.declared.store.Store.{Store}
 use Rattle.engine_store.specs.Answers.{RefusesReopening}
 use Rattle.engine_store.specs.Devices.{Installed, IsWide, device_of, may_open_to}
 use Rattle.engine_store.specs.Held.{IsHeld, NotReopened, Reopens}
 use Rattle.engine_store.specs.Images.{OpensToAny, OpensToLast, OpensToOne}
-use Rattle.engine_store.specs.Opened.{IsOpened, OpenRefused}
+use Rattle.engine_store.specs.Opened.{IsOpened, IsWell, OpenRefused}
+use Rattle.engine_store.proofs.Backed.{stands_looked}
 use Rattle.engine_store.proofs.Contents.{start_opens, still_reads}
 use Rattle.engine_store.proofs.Installing.{past_later, stays_on}
 
+bare_still : (known : List Table) (leaves : List Leaf) (written : Written) (places : List TreePlace) (old : Option Stored) → AreRoots known leaves written places old → IsBareStill old
+bare_still known leaves written places None roots = tt
+bare_still known leaves written places (Some s) roots = roots.bare
+
 -- ---- a device that was only looked at
 
-pub stands_looked : (bytes seen : List ℕ) (was images : List ℕ → Type 0) (known : List Table) (g : Ground) (old : Option Stored) → seen ≡ bytes → NoMore was images → StandsOn bytes was known g old → StandsOn seen images known g old
-stands_looked bytes seen was images known g old same fewer on = record {
-  stands = record {
-    seen_has = subst (λ (l : List ℕ). HasStill old l) (sym same) on.stands.seen_has;
-    images_have = λ synced c left. on.stands.images_have synced c (fewer c left);
-    in_use = on.stands.in_use;
+-- the store stays well
+pub well_looked : {D : Type 0} (g : Ghosts D) (before after : D) → Looked g before after → (s : Store) → IsWell g s before → IsWell g s after
+well_looked g before after looked s well = record {
+  world = well.world;
+  stands = well.stands;
+  idle = well.idle;
+  steady = λ up. let x = well.steady up in record {
+    world = x.world;
+    stands = x.stands;
+    idle = x.idle;
+    old = x.old;
+    on = stands_looked (g.seen before) (g.seen after) (g.may_leave before) (g.may_leave after) s.engine.hub s.ground x.old looked.content looked.images x.on;
+    follows = x.follows;
   };
-  number = on.number;
-  slot = on.slot;
-  cells = on.cells;
-  units = on.units;
-  idle = on.idle;
-  long = subst (λ (l : List ℕ). 8192 ≤ length l) (sym same) on.long;
-  within = subst (λ (l : List ℕ). end_of g.place.blocks.space ≤ length l) (sym same) on.within;
-  roots = on.roots;
 }
 
-bare_still : (known : List Table) (places : List TreePlace) (old : Option Stored) → AreRoots known places old → IsBareStill old
-bare_still known places None roots = tt
-bare_still known places (Some s) roots = roots.bare
-
--- no leaf is clean at first
-pub follows_opened : {seen : List ℕ} {images : List ℕ → Type 0} (s : Store) (is : IsOpened seen images s) → Follows is.old s.engine.hub.tables.tables s.ground.trees.items s.ground.floor (first_world (content_was is.old) s.engine).machine
-follows_opened s is = subst (λ (n : Name). Follows is.old s.engine.hub.tables.tables s.ground.trees.items n (first_world (content_was is.old) s.engine).machine) (sym is.floor)
-    (follows_none is.old s.engine.hub.tables.tables s.ground.trees.items (first_world (content_was is.old) s.engine).machine)
-
-pub steady_opened : {seen : List ℕ} {images : List ℕ → Type 0} (s : Store) → IsOpened seen images s → IsOnGround seen images s.engine s.ground
-steady_opened s is = record { world = first_world (content_was is.old) s.engine; stands = is.world; idle = refl; old = is.old; on = is.on; follows = follows_opened s is }
+-- what was opened is well
+pub well_opened : {D : Type 0} (g : Ghosts D) (disk : D) (s : Store) → IsOpened (g.seen disk) (g.may_leave disk) s → IsWell g s disk
+well_opened g disk s is =
+    let w : World = first_world (content_was is.old) is.shelf s.engine in
+    record { world = w; stands = is.world; idle = refl; steady = λ up. record { world = w; stands = is.world; idle = refl; old = is.old; on = is.on; follows = is.follows } }
 
 module _ {D : Type 0} (g : Ghosts D) (start_disk before after : D) (looked : Looked g before after) (image : g.may_leave before (g.seen before)) (s : Store) (w : World) (first : Completed) (made : List Installed) (held : IsHeld g start_disk s before w first made) where
   images_looked : Each (g.may_leave after) (OpensToAny (may_open_to (first ∷ []) made))
@@ -86,7 +79,7 @@ module _ {D : Type 0} (g : Ghosts D) (start_disk before after : D) (looked : Loo
     idle = held.idle;
     on = λ up. let on = held.on up in record {
       old = on.old;
-      on = stands_looked (g.seen before) (g.seen after) (g.may_leave before) (g.may_leave after) s.engine.hub.tables.tables s.ground on.old looked.content looked.images on.on;
+      on = stands_looked (g.seen before) (g.seen after) (g.may_leave before) (g.may_leave after) s.engine.hub s.ground on.old looked.content looked.images on.on;
       follows = on.follows;
       opens = on.opens;
       one = on.one;
@@ -126,11 +119,11 @@ module _ {D : Type 0} (g : Ghosts D) (start_disk before after : D) (looked : Loo
         inl (content, ((λ c left. subst (λ (x : Content). Reads c x) same (each.0 c (looked.images c left))), one.2.layered), opens)
     last_reopened (inr (pending, there, each)) = inr (pending, there, images_looked)
 
-    held_reopened : IsHeld g start_disk s' after (first_world content s'.engine) first made
+    held_reopened : IsHeld g start_disk s' after (first_world content is.shelf s'.engine) first made
     held_reopened = record {
       stands = is.world;
       idle = refl;
-      on = λ up. record { old = is.old; on = is.on; follows = follows_opened s' is; opens = opens; one = one };
+      on = λ up. record { old = is.old; on = is.on; follows = is.follows; opens = opens; one = one };
       images = images_looked;
       last = last_reopened held.last;
       ever = ever_looked;
@@ -146,23 +139,24 @@ module _ {D : Type 0} (g : Ghosts D) (start_disk before after : D) (looked : Loo
       later = record { faults = looked.count; moment = looked.later };
       seen = looked.content;
       capacity = looked.capacity;
+      shelf = is.shelf;
       held = held_reopened;
-      plain = plain (g.seen after) is.old is.on.stands.seen_has (bare_still s'.engine.hub.tables.tables s'.ground.trees.items is.old is.on.roots);
+      plain = plain (g.seen after) is.old is.on.stands.seen_has (bare_still s'.engine.hub.tables.tables s'.engine.hub.dir.leaves (known_in s'.ground.parts) s'.ground.trees.items is.old is.on.roots);
     }
 
   -- ---- it is not
 
   wide : (content : Content) → Reads (g.seen before) content → ((s : Stored) → IsOn (g.seen before) s → IsBare s.kept → ⊥) → (IsBlank (g.seen before) → ⊥) → IsWide (g.seen before)
-  wide content (inl blank) not_bare not_blank = absurd (not_blank blank.0)
-  wide content (inr (s, on, same)) not_bare not_blank = (s, on, not_bare s on)
+  wide had (inl blank) not_bare not_blank = absurd (not_blank blank.0)
+  wide had (inr (s, on, same)) not_bare not_blank = (s, on, not_bare s on)
 
   why_not : (known : Type 0) → known → (content : Content) → Reads (g.seen before) content → (r : Refusal) → OpenRefused (Rose (g.faults before) (g.faults after)) known (g.seen before) r → RefusesReopening (device_of g before) (device_of g after) r
-  why_not known k content reads r (inl (inl disk)) = inl disk
-  why_not known k content reads r (inl (inr (inl none))) = inr (inl none)
-  why_not known k content reads r (inl (inr (inr (inl (is, last))))) = inr (inr (inr (inr (is, last k))))
-  why_not known k content reads r (inl (inr (inr (inr (inl (is, not_bare, not_blank)))))) = inr (inr (inl (is, wide content reads (not_bare k) (not_blank k))))
-  why_not known k content reads r (inl (inr (inr (inr (inr (at, want, found, is, damage)))))) = absurd (damage_no_content (g.seen before) at want found content (damage k) reads)
-  why_not known k content reads r (inr (is, used)) = inr (inr (inr (inl (is, used k))))
+  why_not known k had read r (inl (inl disk)) = inl disk
+  why_not known k had read r (inl (inr (inl none))) = inr (inl none)
+  why_not known k had read r (inl (inr (inr (inl (is, last))))) = inr (inr (inr (inr (is, last k))))
+  why_not known k had read r (inl (inr (inr (inr (inl (is, not_bare, not_blank)))))) = inr (inr (inl (is, wide had read (not_bare k) (not_blank k))))
+  why_not known k had read r (inl (inr (inr (inr (inr (at, want, found, is, damage)))))) = absurd (damage_no_content (g.seen before) at want found had (damage k) read)
+  why_not known k had read r (inr (is, used)) = inr (inr (inr (inl (is, used k))))
 
   pub not_reopened : (known : Type 0) → known → (s' : Store) → s' ≡ s → (r : Refusal) → OpenRefused (Rose (g.faults before) (g.faults after)) known (g.seen before) r → NotReopened g start_disk w first made s s' before after r
   not_reopened known k s' same r why = record {

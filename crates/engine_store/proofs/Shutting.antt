@@ -16,7 +16,6 @@ use Rattle.kv_model.specs.Calls.{rolled_back}
 use Rattle.kv_model.specs.Closing.{close_busy, close_decision, close_refused, closing, last_checkpoint, last_stored, rolling_back, after_all}
 use Rattle.kv_model.specs.Content.{OpensAs}
 use Rattle.kv_model.specs.Decisions.{Outcome, Done as IsDone, Refused as NotDone, StartCall, checked, decision, first_session, is_resolving, is_there, unless_found}
-use Rattle.kv_model.specs.History.{Table}
 use Rattle.kv_model.specs.Machine.{Machine, Checkpoint, Completed, Transaction, Event, CheckpointStart, of_some, after, transaction_of}
 use Rattle.kv_model.specs.Outside.{Storing, Stored as StoredWhole, NoPlace, Unfinished}
 use Rattle.kv_model.proofs.Closes.{close-ends}
@@ -29,12 +28,14 @@ use Rattle.engine_world.specs.Worlds.{World}
 use Rattle.engine_world.proofs.HubMoves.{decided-up}
 use Rattle.engine.specs.Checkpoints.{MayStart, started_as}
 use Rattle.engine.specs.Closes.{MayClose, busy_in, close_told, unfinished_in}
+use Rattle.engine.specs.Directories.{HubGoesOn}
 use Rattle.ckpt_step.specs.Floors.{Follows}
-use Rattle.ckpt_step.specs.Grounds.{IsOnGround, StandsOn}
+use Rattle.ckpt_step.specs.Grounds.{IsSteady, StandsOn}
 use Rattle.ckpt_step.specs.declared.ground.Ground.{Ground}
 use Rattle.ckpt_step.specs.Laws.{CheckpointsOpen}
 use Rattle.ckpt_step.specs.Plain.{GoesPlain, IsPlain}
-use Rattle.ckpt_step.proofs.Floors.{follows_goes, goes_rolled}
+use Rattle.ckpt_step.proofs.Floors.{goes_rolled}
+use Rattle.ckpt_step.proofs.Staying.{grounds_stay}
 use Rattle.ckpt_step.specs.Takes.{Takes}
 use Rattle.engine_store.specs.declared.store.Store.{Store}
 use Rattle.engine_store.specs.Answers.{CheckpointTakes, CloseTakes, StartedAs, answer_of}
@@ -42,7 +43,8 @@ use Rattle.engine_store.specs.Closes.{rolled}
 use Rattle.engine_store.specs.Devices.{Device, Installed, IsNumberOf, device_of, last_number, may_open_to}
 use Rattle.engine_store.specs.Held.{Checkpoints, IsGrounded, IsHeld, Shuts}
 use Rattle.engine_store.specs.Images.{OpensToLast}
-use Rattle.engine_store.proofs.Closings.{stays_rolled, free_of, up_of}
+use Rattle.engine_store.specs.Opened.{IsWell}
+use Rattle.engine_store.proofs.Closings.{checkpoint_rolled, free_of, up_of}
 use Rattle.engine_store.proofs.Contents.{most_number}
 use Rattle.engine_store.proofs.Taking.{by_takes, number_held}
 
@@ -193,20 +195,31 @@ refused_takes old new w r number counted why = inr (inr (
 
 -- ---- what the rolling back leaves of the ground
 
-pub follows_rolled : (old : Option Stored) (w : World) (ground : Ground) (e middle : Engine) → middle.hub.tables.tables ≡ e.hub.tables.tables → Follows old e.hub.tables.tables ground.trees.items ground.floor w.machine → Follows old middle.hub.tables.tables ground.trees.items ground.floor (rolled_back w.machine)
-follows_rolled old w ground e middle same follows =
-    subst (λ (l : List Table). Follows old l ground.trees.items ground.floor (rolled_back w.machine)) (sym same)
-    (follows_goes old e.hub.tables.tables ground.trees.items ground.floor w.machine (rolled_back w.machine) (goes_rolled w.machine) follows)
+-- it is the same ground, which follows the world that is rolled back
+pub record IsRolled (seen : List ℕ) (images : List ℕ → Type 0) (old : Option Stored) (w : World) (ground : Ground) (middle : Engine) : Type 0 where
+  pub on : StandsOn seen images middle.hub ground old
+  pub follows : Follows old middle.hub ground (rolled w)
 
-pub steady_rolled : (seen : List ℕ) (images : List ℕ → Type 0) (e middle : Engine) (ground : Ground) (on : IsOnGround seen images e ground) → Stands middle (rolled on.world) → middle.hub.tables.tables ≡ e.hub.tables.tables → IsOnGround seen images middle ground
-steady_rolled seen images e middle ground on stands same = record {
-  world = rolled on.world;
-  stands = stands;
-  idle = (stays_rolled on.world.machine).checkpoint ∙ on.idle;
-  old = on.old;
-  on = subst (λ (l : List Table). StandsOn seen images l ground on.old) (sym same) on.on;
-  follows = follows_rolled on.old on.world ground e middle same on.follows;
-}
+pub is_rolled : (seen : List ℕ) (images : List ℕ → Type 0) (old : Option Stored) (w : World) (ground : Ground) (e middle : Engine) → HubGoesOn e.hub middle.hub → Stands e w → Stands middle (rolled w)
+    → StandsOn seen images e.hub ground old → Follows old e.hub ground w → IsRolled seen images old w ground middle
+is_rolled seen images old w ground e middle goes st later on follows =
+    let stay = grounds_stay seen images e.hub middle.hub ground old goes st.dir later.dir later.catalog on in
+    record { on = stay.0; follows = stay.1 w (rolled w) (goes_rolled w.machine) refl follows }
+
+-- with the transactions rolled back
+abbrev pub with_rolled : Store → Engine → Store
+with_rolled s middle = record { engine = middle; ground = s.ground }
+
+module _ {D : Type 0} (g : Ghosts D) (disk : D) (s : Store) (middle : Engine) (goes : HubGoesOn s.engine.hub middle.hub) (rolls : (w : World) → Stands s.engine w → w.machine.checkpoint ≡ None → Stands middle (rolled w)) (well : IsWell g s disk) where
+  pub steady_rolled : IsSteady g middle s.ground disk
+  steady_rolled up =
+      let x = well.steady (sym goes.fault ∙ up) in
+      let later = rolls x.world x.stands x.idle in
+      let r = is_rolled (g.seen disk) (g.may_leave disk) x.old x.world s.ground s.engine middle goes x.stands later x.on x.follows in
+      record { world = rolled x.world; stands = later; idle = checkpoint_rolled x.world.machine ∙ x.idle; old = x.old; on = r.on; follows = r.follows }
+
+  pub well_rolled : IsWell g (with_rolled s middle) disk
+  well_rolled = record { world = rolled well.world; stands = rolls well.world well.stands well.idle; idle = checkpoint_rolled well.world.machine ∙ well.idle; steady = steady_rolled }
 
 -- ---- what it leaves
 
@@ -226,21 +239,22 @@ module _ {D : Type 0} (g : Ghosts D) (start_disk before : D) (image : g.may_leav
         plain = plain;
       }))
 
-  module _ (may : MayClose w) (goes : GoesPlain w.machine (rolled_back w.machine)) (middle : Engine) (stands : Stands middle (rolled w)) (tables_are : middle.hub.tables.tables ≡ s.engine.hub.tables.tables) where
-    -- with the transactions rolled back
+  module _ (may : MayClose w) (goes : GoesPlain w.machine (rolled_back w.machine)) (middle : Engine) (stands : Stands middle (rolled w)) (hub : HubGoesOn s.engine.hub middle.hub) where
     abbrev s1 : Store
-    s1 = record { engine = middle; ground = s.ground }
+    s1 = with_rolled s middle
 
-    grounded_rolled : IsGrounded (g.seen before) (g.may_leave before) s w.machine (may_open_to (first ∷ []) made) → IsGrounded (g.seen before) (g.may_leave before) s1 (rolled_back w.machine) (may_open_to (first ∷ []) made)
-    grounded_rolled on = record {
-      old = on.old;
-      on = subst (λ (l : List Table). StandsOn (g.seen before) (g.may_leave before) l s.ground on.old) (sym tables_are) on.on;
-      follows = follows_rolled on.old w s.ground s.engine middle tables_are on.follows;
-      opens = subst (λ (k : Completed). OpensAs (content_was on.old) k) (sym goes.completed) on.opens;
-      one = on.one;
-    }
+    grounded_rolled : IsGrounded (g.seen before) (g.may_leave before) s w (may_open_to (first ∷ []) made) → IsGrounded (g.seen before) (g.may_leave before) s1 (rolled w) (may_open_to (first ∷ []) made)
+    grounded_rolled on =
+        let r = is_rolled (g.seen before) (g.may_leave before) on.old w s.ground s.engine middle hub held.stands stands on.on on.follows in
+        record {
+          old = on.old;
+          on = r.on;
+          follows = r.follows;
+          opens = subst (λ (k : Completed). OpensAs (content_was on.old) k) (sym goes.completed) on.opens;
+          one = on.one;
+        }
 
-    on_rolled : IsGrounded (g.seen before) (g.may_leave before) s1 (rolled_back w.machine) (may_open_to (first ∷ []) made)
+    on_rolled : IsGrounded (g.seen before) (g.may_leave before) s1 (rolled w) (may_open_to (first ∷ []) made)
     on_rolled = grounded_rolled (held.on (up_of w may))
 
     held_rolled : IsHeld g start_disk s1 before (rolled w) first made
@@ -268,5 +282,5 @@ module _ {D : Type 0} (g : Ghosts D) (start_disk before : D) (image : g.may_leav
         plain = t.plain;
       }
 
-      pub shuts_by : ((old : Option Stored) → StandsOn (g.seen before) (g.may_leave before) middle.hub.tables.tables s.ground old → Follows old middle.hub.tables.tables s.ground.trees.items s.ground.floor (rolled_back w.machine) → Takes g old (rolled w) s.ground s'.ground middle s'.engine before after result) → Shuts g start_disk w first made s s' before after result
+      pub shuts_by : ((old : Option Stored) → StandsOn (g.seen before) (g.may_leave before) middle.hub s.ground old → Follows old middle.hub s.ground (rolled w) → Takes g old (rolled w) s.ground s'.ground middle s'.engine before after result) → Shuts g start_disk w first made s s' before after result
       shuts_by takes = from_checkpoint (by_takes g start_disk before after counts only image s1 s' (rolled w) first made held_rolled on_rolled count room law downs goes.plain result (takes on_rolled.old on_rolled.on on_rolled.follows))

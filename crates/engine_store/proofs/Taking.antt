@@ -1,5 +1,6 @@
 -- What a checkpoint in one event leaves of what holds between two calls.
-use Rattle.std.proofs.Common.{◌≡◌, ◌⊎◌, ◌≤◌, ℕ, List, [], ◌∷◌, ◌++◌, Option, Some, None, Result, Ok, Err, refl, sym, ap, subst, ◌∙◌, inl, inr, arith}
+use Rattle.std.proofs.Common.{◌≡◌, ◌⊎◌, ◌≤◌, ℕ, List, [], ◌∷◌, ◌++◌, reverse, Option, Some, None, Result, Ok, Err, refl, sym, ap, subst, ◌∙◌, inl, inr, arith}
+use Rattle.std.proofs.lemmas.List.{reverse-reverse}
 use Rattle.failure.specs.Counts.{Rose}
 use Rattle.failure.specs.declared.Fault.{Fault}
 use Rattle.disk_model.specs.Crash.{Each, LeavesOnly}
@@ -10,6 +11,7 @@ use Rattle.wt_code.specs.declared.refusals.Refusal.{Refusal}
 use Rattle.wt_code.specs.declared.refusals.Refusal.TheVariants.{DiskFault, Panic}
 use Rattle.kv_model.specs.Content.{Content, OpensAs}
 use Rattle.kv_model.specs.Decisions.{StartCall}
+use Rattle.kv_model.specs.History.{Table, tables}
 use Rattle.kv_model.specs.Machine.{Machine, Completed, GoDown, after as after_event}
 use Rattle.kv_model.specs.Outside.{Stored as StoredWhole, NoPlace, ReadFailed, WriteFailed}
 use Rattle.stored.specs.Opens.{Opens}
@@ -17,6 +19,7 @@ use Rattle.stored.specs.Stored.{Stored, Reads, IsOn, content_of}
 use Rattle.stored.proofs.Device.{one_content}
 use Rattle.checkpoint_core.specs.Finishes.{IsOld, IsEither}
 use Rattle.device_leaf.specs.Closings.{content_was}
+use Rattle.engine_world.specs.Leaves.{TablesBegun}
 use Rattle.engine_world.specs.Stands.{Engine, Stands}
 use Rattle.engine_world.specs.Systems.{DownsGo, checkpointed, with_fault}
 use Rattle.engine_world.specs.Worlds.{World}
@@ -25,15 +28,17 @@ use Rattle.engine.specs.Checkpoints.{MayStart}
 use Rattle.ckpt_step.specs.declared.ground.Ground.{Ground}
 use Rattle.ckpt_step.specs.Checkpoints.{IsCheckpointOf}
 use Rattle.ckpt_step.specs.Floors.{Follows}
-use Rattle.ckpt_step.specs.Grounds.{StandsOn, number_of}
+use Rattle.ckpt_step.specs.Grounds.{AreRoots, IsSteady, StandsOn, number_of}
 use Rattle.ckpt_step.specs.Laws.{CheckpointsOpen}
 use Rattle.ckpt_step.specs.Plain.{IsPlain}
+use Rattle.ckpt_step.specs.Rooms.{known_in}
 use Rattle.ckpt_step.specs.Takes.{Fallen, NotTaken, Taken, Takes, WhyNot}
 use Rattle.engine_store.specs.declared.store.Store.{Store}
 use Rattle.engine_store.specs.Answers.{CheckpointTakes}
-use Rattle.engine_store.specs.Devices.{Installed, IsLater, IsNumberOf, device_of, may_open_to}
+use Rattle.engine_store.specs.Devices.{ArePartedOn, Installed, IsLater, IsNumberOf, device_of, may_open_to}
 use Rattle.engine_store.specs.Held.{Checkpoints, IsGrounded, IsHeld}
 use Rattle.engine_store.specs.Images.{OpensToAny, OpensToLast, OpensToOne}
+use Rattle.engine_store.specs.Opened.{IsWell}
 use Rattle.engine_store.proofs.Contents.{number_read, numbered, still_reads}
 use Rattle.engine_store.proofs.Installing.{any_last, any_more, any_one, last_opens, one_last, one_more, past_later, past_more, pending_last, stays_more, stays_on}
 
@@ -42,7 +47,7 @@ use Rattle.engine_store.proofs.Installing.{any_last, any_more, any_one, last_ope
 module _ {D : Type 0} (g : Ghosts D) (start_disk before after : D)
     (counts : g.moment before ≤ g.moment after → (c : List ℕ) → g.may_leave after c → g.left_since after (g.moment before) c) (only : (c : List ℕ) → g.left_since after (g.moment after) c → g.may_leave after c)
     (image : g.may_leave before (g.seen before)) (s s' : Store) (w : World) (first : Completed) (made : List Installed) (held : IsHeld g start_disk s before w first made)
-    (grounded : IsGrounded (g.seen before) (g.may_leave before) s w.machine (may_open_to (first ∷ []) made)) where
+    (grounded : IsGrounded (g.seen before) (g.may_leave before) s w (may_open_to (first ∷ []) made)) where
   abbrev Old : List ℕ → Type 0
   Old = IsOld (g.may_leave before) grounded.old
 
@@ -69,7 +74,7 @@ module _ {D : Type 0} (g : Ghosts D) (start_disk before after : D)
 
   -- nothing was installed
   kept_held : (next : World) → Stands s'.engine next → next.machine.checkpoint ≡ None → next.machine.completed ≡ w.machine.completed → KeptAll
-      → (next.machine.fault ≡ None → StandsOn (g.seen after) (g.may_leave after) s'.engine.hub.tables.tables s'.ground grounded.old × Follows grounded.old s'.engine.hub.tables.tables s'.ground.trees.items s'.ground.floor next.machine) → IsHeld g start_disk s' after next first made
+      → (next.machine.fault ≡ None → StandsOn (g.seen after) (g.may_leave after) s'.engine.hub s'.ground grounded.old × Follows grounded.old s'.engine.hub s'.ground next) → IsHeld g start_disk s' after next first made
   kept_held next stands idle same kept on = record {
     stands = stands;
     idle = idle;
@@ -102,7 +107,7 @@ module _ {D : Type 0} (g : Ghosts D) (start_disk before after : D)
 
     -- each image has it
     done_held : (next : World) → Stands s'.engine next → next.machine.checkpoint ≡ None → own.at ≡ g.moment after → next.machine.completed ≡ own.checkpoint → Each (g.may_leave after) (λ c. IsOn c new)
-        → StandsOn (g.seen after) (g.may_leave after) s'.engine.hub.tables.tables s'.ground (Some new) → Follows (Some new) s'.engine.hub.tables.tables s'.ground.trees.items s'.ground.floor next.machine → OpensAs (content_of new) own.checkpoint → IsHeld g start_disk s' after next first (made ++ own ∷ [])
+        → StandsOn (g.seen after) (g.may_leave after) s'.engine.hub s'.ground (Some new) → Follows (Some new) s'.engine.hub s'.ground next → OpensAs (content_of new) own.checkpoint → IsHeld g start_disk s' after next first (made ++ own ∷ [])
     done_held next stands idle now same each on follows new_opens = record {
       stands = stands;
       idle = idle;
@@ -158,6 +163,19 @@ module _ {D : Type 0} (g : Ghosts D) (start_disk before after : D)
     counted : IsNumberOf (g.seen before) number
     counted = numbered (g.seen before) grounded.old grounded.on.stands.seen_has
 
+    -- the leaves of the engine, with what it wrote, part the machine's tables
+    parted : ArePartedOn (g.seen before) m s.engine.hub.dir.leaves (known_in s.ground.parts)
+    parted = record {
+      old = grounded.old;
+      has = grounded.on.stands.seen_has;
+      places = s.ground.trees.items;
+      roots = subst (λ (l : List Table). AreRoots l s.engine.hub.dir.leaves (known_in s.ground.parts) s.ground.trees.items grounded.old) known grounded.on.roots;
+      begun = subst (λ (l : List Table). TablesBegun l s.engine.hub.dir.leaves) known held.stands.begun;
+    }
+      where
+        known : s.engine.hub.tables.tables ≡ reverse (tables m.history)
+        known = sym (reverse-reverse s.engine.hub.tables.tables) ∙ ap (λ (l : List Table). reverse l) held.stands.made
+
     abbrev installed : Option Refusal → Installed
     installed refused = record { checkpoint = (checkpointed m).completed; refused = refused; at = g.moment after }
 
@@ -173,18 +191,18 @@ module _ {D : Type 0} (g : Ghosts D) (start_disk before after : D)
       next = checkpointed m;
       now = made ++ installed None ∷ [];
       behind = record { later = is_later t.leaves.later; capacity = room; has = (t.new, number, t.is, t.on.stands.seen_has) };
-      takes = inr (number, Ok tt, counted, t.may, record { storing = StoredWhole; takes = t.had_room; told = refl; leaves = refl });
+      takes = inr (number, Ok tt, counted, t.may, record { storing = StoredWhole; takes = (s.engine.hub.dir.leaves, known_in s.ground.parts, parted, t.had_room); told = refl; leaves = refl });
       installs = refl;
       held = done_held t.new (installed None) (opens_new t.new t.is) t.leaves (record w { machine = checkpointed m }) t.stands refl refl refl t.each
-          (subst (λ (e : Engine). StandsOn (g.seen after) (g.may_leave after) e.hub.tables.tables s'.ground (Some t.new)) (sym t.same) t.on)
-          (subst (λ (e : Engine). Follows (Some t.new) e.hub.tables.tables s'.ground.trees.items s'.ground.floor (checkpointed m)) (sym t.same) t.follows) (new_opens t.new t.is (g.seen after) t.on.stands.seen_has);
+          (subst (λ (e : Engine). StandsOn (g.seen after) (g.may_leave after) e.hub s'.ground (Some t.new)) (sym t.same) t.on)
+          (subst (λ (e : Engine). Follows (Some t.new) e.hub s'.ground (record w { machine = checkpointed m })) (sym t.same) t.follows) (new_opens t.new t.is (g.seen after) t.on.stands.seen_has);
       plain = record { idle = refl; suffice = λ table key. record { reached = (plain.suffice table key).reached } };
     }
 
-    refused_by : (r : Refusal) → WhyNot (Rose (g.faults before) (g.faults after)) (g.seen before) (g.capacity before) m number r → CheckpointTakes (device_of g before) (device_of g after) m (Refused r) m
+    refused_by : (r : Refusal) → WhyNot (Rose (g.faults before) (g.faults after)) (g.seen before) (g.capacity before) s.engine.hub.dir.leaves (known_in s.ground.parts) m number r → CheckpointTakes (device_of g before) (device_of g after) m (Refused r) m
     refused_by r (inl barred) = inr (number, Err r, counted, barred, (refl, refl))
     refused_by r (inr (inl none)) = inl (cc, refl)
-    refused_by r (inr (inr (may, inl (is, full)))) = inr (number, Ok tt, counted, may, record { storing = NoPlace; takes = full; told = cc; leaves = refl })
+    refused_by r (inr (inr (may, inl (is, full)))) = inr (number, Ok tt, counted, may, record { storing = NoPlace; takes = (s.engine.hub.dir.leaves, known_in s.ground.parts, parted, full); told = cc; leaves = refl })
     refused_by r (inr (inr (may, inr (is, rose)))) = inr (number, Ok tt, counted, may, record { storing = ReadFailed; takes = rose; told = cc; leaves = refl })
 
     not_taken : (r : Refusal) → NotTaken g grounded.old w s.ground s'.ground s.engine s'.engine before after r → Gives (Err r)
@@ -196,8 +214,8 @@ module _ {D : Type 0} (g : Ghosts D) (start_disk before after : D)
       installs = inl refl;
       held = kept_held w (subst (λ (e : Engine). Stands e w) (sym n.same) held.stands) held.idle refl n.leaves
           (λ up. (
-            subst (λ (e : Engine). StandsOn (g.seen after) (g.may_leave after) e.hub.tables.tables s'.ground grounded.old) (sym n.same) n.on,
-            subst (λ (e : Engine). Follows grounded.old e.hub.tables.tables s'.ground.trees.items s'.ground.floor m) (sym n.same) n.follows,
+            subst (λ (e : Engine). StandsOn (g.seen after) (g.may_leave after) e.hub s'.ground grounded.old) (sym n.same) n.on,
+            subst (λ (e : Engine). Follows grounded.old e.hub s'.ground w) (sym n.same) n.follows,
           ));
       plain = plain;
     }
@@ -260,6 +278,12 @@ goes_on downs e e' (inr (fault, is)) w stands idle =
     let down : Machine = after_event w.machine (GoDown fault) in
     (down, idle, subst (λ (x : Engine). Stands x (record w { machine = down })) (sym is) (downs e w fault stands))
 
+-- so it is well
+pub well_taken : {D : Type 0} (g : Ghosts D) (downs : DownsGo) (s s' : Store) (before after : D) → (s'.engine ≡ s.engine) ⊎ ((fault : Fault) × (s'.engine ≡ with_fault s.engine fault)) → IsSteady g s'.engine s'.ground after → IsWell g s before → IsWell g s' after
+well_taken g downs s s' before after is steady well =
+    let on = goes_on downs s.engine s'.engine is well.world well.stands well.idle in
+    record { world = record well.world { machine = on.0 }; stands = on.2; idle = on.1; steady = steady }
+
 -- ---- of one that is down
 
 module _ {D : Type 0} (g : Ghosts D) (start_disk disk : D) (image : g.may_leave disk (g.seen disk)) (s : Store) (w : World) (first : Completed) (made : List Installed) (held : IsHeld g start_disk s disk w first made) where
@@ -300,7 +324,7 @@ module _ {D : Type 0} (g : Ghosts D) (start_disk before after : D)
     (counts : g.moment before ≤ g.moment after → (c : List ℕ) → g.may_leave after c → g.left_since after (g.moment before) c) (only : (c : List ℕ) → g.left_since after (g.moment after) c → g.may_leave after c)
     (image : g.may_leave before (g.seen before)) (s s' : Store) (w : World) (first : Completed) (made : List Installed) (held : IsHeld g start_disk s before w first made)
     (count : g.faults before ≤ g.faults after) (room : g.capacity after ≡ g.capacity before) (law : CheckpointsOpen) (downs : DownsGo) (plain : IsPlain w.machine) (result : Result (Unit {0}) Refusal)
-    (takes : (old : Option Stored) → StandsOn (g.seen before) (g.may_leave before) s.engine.hub.tables.tables s.ground old → Follows old s.engine.hub.tables.tables s.ground.trees.items s.ground.floor w.machine → Takes g old w s.ground s'.ground s.engine s'.engine before after result)
+    (takes : (old : Option Stored) → StandsOn (g.seen before) (g.may_leave before) s.engine.hub s.ground old → Follows old s.engine.hub s.ground w → Takes g old w s.ground s'.ground s.engine s'.engine before after result)
     (down : (fault : Fault) → s.engine.hub.fault ≡ Some fault → (result ≡ Err (Panic fault)) × (s'.engine ≡ s.engine) × (s'.ground ≡ s.ground) × (after ≡ before)) where
   by_fault : (f : Option Fault) → w.machine.fault ≡ f → Checkpoints g start_disk w first made s s' before after result
   by_fault None up =

@@ -1,5 +1,5 @@
 -- Devices at the points of a run, and the checkpoints that calls install on them.
-use Rattle.std.specs.Prelude.{◌≡◌, ◌⊎◌, ℕ, ◌+◌, ◌-◌, ◌^◌, ◌≤◌, List, [], ◌∷◌, ◌++◌, length, Option, Some, None}
+use Rattle.std.specs.Prelude.{◌≡◌, ◌⊎◌, ℕ, ◌+◌, ◌-◌, ◌^◌, ◌≤◌, List, [], ◌∷◌, ◌++◌, length, reverse, Option, Some, None}
 use Rattle.limits.specs.declared.TheConstants.{TABLES_MAX}
 use Rattle.failure.specs.Counts.{Rose}
 use Rattle.disk_model.specs.declared.disk.Disk.{Ghosts}
@@ -11,6 +11,12 @@ use Rattle.kv_model.specs.Outside.{Storing, Stored, NoPlace, ReadFailed, Damaged
 use Rattle.stored.specs.Stored.{Stored as OnDevice, IsOn, IsBlank}
 use Rattle.checkpoint_core.specs.Stands.{HasStill}
 use Rattle.recover_open.specs.Bare.{IsBare}
+use Rattle.kv_model.specs.History.{tables}
+use Rattle.tree_dir.specs.declared.leaf.Leaf.{Leaf}
+use Rattle.tree_open.specs.declared.place.TreePlace.{TreePlace}
+use Rattle.engine_world.specs.Leaves.{TablesBegun}
+use Rattle.ckpt_step.specs.Grounds.{AreRoots}
+use Rattle.ckpt_step.specs.Rooms.{Written}
 use Rattle.ckpt_step.specs.Sizes.{HasRoomFor, IsFullFor}
 
 -- a device at a point of a run: what a read gives, how much it may hold, how often it has failed, and its moment
@@ -27,6 +33,12 @@ device_of g disk = record { seen = g.seen disk; capacity = g.capacity disk; faul
 pub record IsLater (old new : Device) : Type 0 where
   pub faults : old.faults ≤ new.faults
   pub moment : old.moment ≤ new.moment
+
+-- The device was looked at alone.
+pub record IsRead (old new : Device) : Type 0 where
+  pub later : IsLater old new
+  pub seen : new.seen ≡ old.seen
+  pub capacity : new.capacity ≡ old.capacity
 
 -- The device has the checkpoint that it had, and as much room: any call leaves it so but one that takes a checkpoint.
 pub record KeepsCheckpoint (old new : Device) : Type 0 where
@@ -67,10 +79,18 @@ IsWide bytes = (s : OnDevice) × IsOn bytes s × (IsBare s.kept → ⊥)
 abbrev pub IsUsedUp : List ℕ → Type 0
 IsUsedUp bytes = (s : OnDevice) × IsOn bytes s × (2 ^ 32 + length s.kept.tables ≤ s.kept.next_table + TABLES_MAX)
 
+-- Leaves by which the machine's tables are parted, and by which the trees of the device's checkpoint are: of each what that checkpoint has.
+pub record ArePartedOn (bytes : List ℕ) (m : Machine) (leaves : List Leaf) (written : Written) : Type 0 where
+  pub old : Option OnDevice
+  pub has : HasStill old bytes
+  pub places : List TreePlace
+  pub roots : AreRoots (reverse (tables m.history)) leaves written places old
+  pub begun : TablesBegun (reverse (tables m.history)) leaves
+
 -- how a device takes the blocks of a checkpoint: each has a place, or one of them finds none
 abbrev pub MayTakeAt : Device → Device → Machine → Storing → Type 0
-MayTakeAt old new m Stored = HasRoomFor old.seen old.capacity m
-MayTakeAt old new m NoPlace = IsFullFor old.seen old.capacity m
+MayTakeAt old new m Stored = (leaves : List Leaf) × (written : Written) × ArePartedOn old.seen m leaves written × HasRoomFor old.seen old.capacity leaves written m
+MayTakeAt old new m NoPlace = (leaves : List Leaf) × (written : Written) × ArePartedOn old.seen m leaves written × IsFullFor old.seen old.capacity leaves written m
 MayTakeAt old new m ReadFailed = Rose old.faults new.faults
 MayTakeAt old new m (Damaged offset want found) = ⊥
 MayTakeAt old new m (WriteFailed fault) = Rose old.faults new.faults

@@ -1,48 +1,73 @@
--- What is made of a recovery, step by step.
-use Rattle.std.specs.Prelude.{◌≡◌, ◌⊎◌, ℕ, ◌+◌, ◌^◌, ◌≤◌, List, Option, Some, None}
-use Rattle.std.specs.Prelude.{length}
+-- What is made of a survey, step by step.
+use Rattle.std.specs.Prelude.{◌≡◌, ◌⊎◌, ℕ, ◌+◌, ◌^◌, ◌≤◌, ◌++◌, ◌∷◌, IsTrue, List, [], Option, length}
 use Rattle.limits.specs.declared.TheConstants.{TABLES_MAX}
+use Rattle.failure.specs.Counts.{Rose}
+use Rattle.disk_model.specs.declared.disk.Disk.{Ghosts}
+use Rattle.kv_model.specs.Holds.{Member}
 use Rattle.wt_code.specs.declared.refusals.Refusal.{Refusal}
 use Rattle.wt_code.specs.declared.refusals.Refusal.TheVariants.{NoMemory, Limit as Refusal_Limit}
-use Rattle.wt_code.specs.declared.refusals.Limit.TheVariants.{Tables}
-use Rattle.kv_model.specs.History.{Table}
+use Rattle.wt_code.specs.declared.refusals.Limit.TheVariants.{Checkpoints, Tables}
 use Rattle.row_page.specs.Greatest.{no_name}
+use Rattle.row_page.specs.Rows.{Row}
 use Rattle.stored.specs.Records.{Record}
+use Rattle.stored.specs.TableTree.{Entry, first_key}
+use Rattle.tree_open.specs.declared.place.Upper.{Upper}
+use Rattle.tree_open.specs.Damage.{Refused}
+use Rattle.recover_open.specs.Damage.{EntrySpoils}
 use Rattle.stored.specs.Stored.{Stored}
 use Rattle.device_leaf.specs.Closings.{content_was}
-use Rattle.device_leaf.specs.Openings.{Serves}
-use Rattle.recover_open.specs.declared.opening.Kept.{Kept}
+use Rattle.device_leaf.specs.Openings.{Serves, last_number}
+use Rattle.recover_open.specs.declared.surveying.Above.{Above}
 use Rattle.recover_open.specs.Recoveries.{Counts}
+use Rattle.call_steps.specs.declared.hub.Hub.{Hub}
 use Rattle.engine_world.specs.Stands.{Stands}
-use Rattle.engine.specs.Openings.{first_world}
+use Rattle.engine_world.specs.Systems.{first_world}
 use Rattle.ckpt_step.specs.declared.ground.Ground.{Ground}
-use Rattle.ckpt_step.specs.Grounds.{AreRoots, found_in, number_of}
+use Rattle.ckpt_step.specs.Floors.{Follows}
+use Rattle.ckpt_step.specs.Grounds.{AreRoots, AreWritten, found_in, number_of}
+use Rattle.ckpt_step.specs.Rooms.{known_in}
 use Rattle.engine_store.specs.declared.store.Store.{Store}
+use Rattle.engine_store.specs.Marked.{AreAway}
 use Rattle.engine_store.specs.Opened.{HasNumbers}
 
--- The ground is that of this checkpoint, or of none, on a device that was not synced since.
-pub record IsGroundOf (bytes : List ℕ) (known : List Table) (g : Ground) (old : Option Stored) : Type 0 where
+-- The ground is that of this checkpoint, or of none, on a device that was not synced since; no leaf was written.
+pub record IsGroundOf (bytes : List ℕ) (hub : Hub) (g : Ground) (old : Option Stored) : Type 0 where
   pub serves : Serves bytes g.place old
   pub books : Counts (found_in old) g.place.blocks
   pub number : g.number ≡ number_of old
-  pub roots : AreRoots known g.trees.items old
+  pub roots : AreRoots hub.tables.tables hub.dir.leaves (known_in g.parts) g.trees.items old
+  pub written : AreWritten hub.tables.tables hub.dir (known_in g.parts) g.trees.items
+  pub parts : g.parts ≡ []
   pub floor : g.floor ≡ no_name
 
--- the engine begins with what the device holds
+-- the engine begins with what the device holds, and the leaves that are not loaded are as the checkpoint has them
 pub record IsFound (bytes : List ℕ) (s : Store) : Type 0 where
   pub old : Option Stored
   pub numbers : HasNumbers old
-  pub on : IsGroundOf bytes s.engine.hub.tables.tables s.ground old
-  pub world : Stands s.engine (first_world (content_was old) s.engine)
+  pub on : IsGroundOf bytes s.engine.hub s.ground old
+  pub shelf : ℕ → List Row
+  pub world : Stands s.engine (first_world (content_was old) shelf s.engine)
+  pub follows : Follows old s.engine.hub s.ground (first_world (content_was old) shelf s.engine)
+  pub away : AreAway s.engine.hub.dir.leaves (known_in s.ground.parts)
 
 -- the next number leaves none for as many tables as an engine may have
 abbrev pub LacksNumbers : Record → Type 0
 LacksNumbers r = 2 ^ 32 + length r.tables ≤ r.next_table + TABLES_MAX
 
-abbrev pub HasLack : Option Kept → Type 0
-HasLack None = ⊥
-HasLack (Some k) = LacksNumbers k.record
+-- a leaf to which an entry leads that was surveyed is at fault
+pub record LeafOfSpoils (bytes : List ℕ) (uppers : List Upper) (at want found : ℕ) : Type 0 where
+  pub upper : Upper
+  pub among : Member upper uppers
+  pub front : List Entry
+  pub entry : Entry
+  pub others : List Entry
+  pub is : upper.entries.items ≡ front ++ entry ∷ others
+  pub spoils : EntrySpoils bytes entry (first_key others) at want found
 
--- why no engine begins
-abbrev pub RefusesBegin : (lack : Type 0) → Refusal → Type 0
-RefusesBegin lack r = (r ≡ NoMemory) ⊎ ((r ≡ Refusal_Limit Tables) × lack)
+-- why no engine begins on what was surveyed
+abbrev pub RefusesBegin : {D : Type 0} → Ghosts D → Above → D → D → Refusal → Type 0
+RefusesBegin g a old new r =
+    (r ≡ NoMemory)
+    ⊎ (((r ≡ Refusal_Limit Checkpoints) × (last_number ≤ a.record.run))
+    ⊎ (((r ≡ Refusal_Limit Tables) × LacksNumbers a.record)
+    ⊎ Refused (Rose (g.faults old) (g.faults new)) (IsTrue (g.honest old)) (LeafOfSpoils (g.seen old) a.uppers.items) r))

@@ -11,8 +11,8 @@ use Rattle.kv_model.specs.Machine.{Machine, Completed}
 use Rattle.stored.specs.Stored.{Stored, Reads}
 use Rattle.device_leaf.specs.Closings.{content_was}
 use Rattle.engine_world.specs.Stands.{Stands}
-use Rattle.engine_world.specs.Systems.{checkpointed}
-use Rattle.engine.specs.Openings.{first_world}
+use Rattle.engine_world.specs.Systems.{checkpointed, first_world}
+use Rattle.row_page.specs.Rows.{Row}
 use Rattle.engine_world.specs.Worlds.{World}
 use Rattle.ckpt_step.specs.Floors.{Follows}
 use Rattle.ckpt_step.specs.Grounds.{StandsOn}
@@ -22,12 +22,12 @@ use Rattle.engine_store.specs.Answers.{CheckpointTakes, CloseTakes, Installs, Is
 use Rattle.engine_store.specs.Devices.{Installed, IsLater, device_of, may_open_to}
 use Rattle.engine_store.specs.Images.{OpensToAny, OpensToLast, OpensToOne, Stays}
 
--- the next checkpoint stands on the one that the device has, whose clean trees are those of the machine; it opens as the machine's last one, and is one of those to which the device may open
-pub record IsGrounded (seen : List ℕ) (images : List ℕ → Type 0) (s : Store) (m : Machine) (these : List Completed) : Type 0 where
+-- the next checkpoint stands on the one that the device has, of which the leaves that are not loaded, and those that are clean, have the rows that they had; it opens as the machine's last one, and is one of those to which the device may open
+pub record IsGrounded (seen : List ℕ) (images : List ℕ → Type 0) (s : Store) (w : World) (these : List Completed) : Type 0 where
   pub old : Option Stored
-  pub on : StandsOn seen images s.engine.hub.tables.tables s.ground old
-  pub follows : Follows old s.engine.hub.tables.tables s.ground.trees.items s.ground.floor m
-  pub opens : OpensAs (content_was old) m.completed
+  pub on : StandsOn seen images s.engine.hub s.ground old
+  pub follows : Follows old s.engine.hub s.ground w
+  pub opens : OpensAs (content_was old) w.machine.completed
   pub one : (k : Completed) × Member k these × OpensAs (content_was old) k
 
 -- start: the disk as the run began; first: the checkpoint that it had then; made: those that the run installed
@@ -35,7 +35,7 @@ module _ {D : Type 0} (g : Ghosts D) (start_disk : D) where
   pub record IsHeld (s : Store) (disk : D) (w : World) (first : Completed) (made : List Installed) : Type 0 where
     pub stands : Stands s.engine w
     pub idle : w.machine.checkpoint ≡ None
-    pub on : w.machine.fault ≡ None → IsGrounded (g.seen disk) (g.may_leave disk) s w.machine (may_open_to (first ∷ []) made)
+    pub on : w.machine.fault ≡ None → IsGrounded (g.seen disk) (g.may_leave disk) s w (may_open_to (first ∷ []) made)
     pub images : Each (g.may_leave disk) (OpensToAny (may_open_to (first ∷ []) made))
     pub last : OpensToLast (g.may_leave disk) first w.machine.completed made
     pub ever : LeavesOnly g start_disk disk (OpensToOne first made)
@@ -71,7 +71,8 @@ module _ {D : Type 0} (g : Ghosts D) (start_disk : D) where
       pub later : IsLater (device_of g before) (device_of g after)
       pub seen : g.seen after ≡ g.seen before
       pub capacity : g.capacity after ≡ g.capacity before
-      pub held : IsHeld s' after (first_world content s'.engine) first made
+      pub shelf : ℕ → List Row
+      pub held : IsHeld s' after (first_world content shelf s'.engine) first made
       pub plain : IsPlain (start content)
 
     -- it is not

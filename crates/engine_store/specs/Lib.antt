@@ -5,5 +5,10 @@ pub mod Opened
 pub mod Closes
 pub mod ByPlace
 pub mod Tables
+pub mod Places
+pub mod Marked
+pub mod Loads
+pub mod Calls
+pub mod Fetches
 pub mod Found
 pub mod Held

@@ -5,12 +5,17 @@
 //! that a close rolls back each transaction and takes a checkpoint (`ckpt_step`). Where no commit had
 //! a stamp, a checkpoint, a close and an opening anew keep what holds between two calls (`IsHeld`):
 //! at each moment a crash leaves what opens to a checkpoint that was done, or was being installed
-//! since. The calls go to the engine itself. Leaves to the caller to attach the disk.
+//! since. So do the calls of actors, whose leaves are read from the device when they need them. Leaves
+//! to the caller to attach the disk.
 #![tactic(auto)]
 
+mod above;
 mod by_place;
-mod kept;
+mod calls;
+mod loading;
+mod marked;
 mod opening;
+mod places;
 mod store;
 mod tables;
 

@@ -4,18 +4,19 @@ ghost use Rattle.failure.specs.Counts.{Rose};
 ghost use Rattle.disk_model.specs.Crash.{SameDisk};
 ghost use Rattle.wt_code.specs.declared.refusals.Refusal.TheVariants.{Corrupt};
 ghost use Rattle.recover_open.specs.Damage.{IsDamage};
-ghost use Rattle.kv_model.specs.Machine.{Completed, Machine};
+ghost use Rattle.kv_model.specs.Machine.{Completed};
 ghost use Rattle.stored.specs.Stored.{Stored};
 ghost use Rattle.engine_world.specs.Stands.{Stands};
 ghost use Rattle.engine_world.specs.Worlds.{World};
 ghost use Rattle.ckpt_step.specs.Floors.{Follows};
-ghost use Rattle.ckpt_step.specs.Grounds.{IsSteady, StandsOn};
+ghost use Rattle.ckpt_step.specs.Grounds.{StandsOn};
 ghost use Rattle.ckpt_step.specs.Plain.{IsPlain};
 ghost use Rattle.ckpt_step.specs.Takes.{IsOfCheckpoint};
+ghost use Rattle.engine_store.specs.Calls.{StaysTold};
 ghost use Rattle.engine_store.specs.Closes.{Closes};
 ghost use Rattle.engine_store.specs.Devices.{Installed};
 ghost use Rattle.engine_store.specs.Held.{Checkpoints, IsHeld, MayReopen, Shuts};
-ghost use Rattle.engine_store.specs.Opened.{IsReady};
+ghost use Rattle.engine_store.specs.Opened.{IsReady, IsWell};
 
 use crate::opening::open_on;
 use ckpt_step::{Ground, checkpoint, checkpoints_open, plain_stays};
@@ -39,15 +40,15 @@ impl Store {
     /// device opens as the checkpoint that the machine takes.
     pub fn checkpoint<D: Disk>(&mut self, alloc: Global, disk: &mut D) -> Result<(), Refusal>
         requires ready { IsReady self.old }
-        requires steady { IsTrue (D.honest disk.old) → IsSteady D.Disk self.old.engine self.old.ground disk.old }
+        requires well { IsTrue (D.honest disk.old) → IsWell D.Disk self.old disk.old }
         ensures takes { IsTrue (D.honest disk.old) → (first_disk : D) → (w : World) → (first : Completed) → (made : List Installed) → IsHeld D.Disk first_disk self.old disk.old w first made → IsPlain w.machine
             → Checkpoints D.Disk first_disk w first made self.old self.new disk.old disk.new result }
         ensures refusals { IfErr result IsOfCheckpoint }
         ensures fault { IfErr result (λ r. r ≡ Refusal.DiskFault → Rose (D.faults disk.old) (D.faults disk.new)) }
-        ensures doings { (w : World) → Stands self.old.engine w → w.machine.checkpoint ≡ None → (m : Machine) × (m.checkpoint ≡ None) × Stands self.new.engine (record w { machine = m }) }
         ensures sessions { length self.new.engine.sessions ≡ length self.old.engine.sessions }
-        ensures steady { IsTrue (D.honest disk.old) → IsSteady D.Disk self.new.engine self.new.ground disk.new }
+        ensures well { IsTrue (D.honest disk.old) → IsWell D.Disk self.new disk.new }
         ensures ready { IsReady self.new }
+        ensures told { StaysTold D.Disk self.old self.new disk.old disk.new }
         ensures disk { SameDisk D.Disk disk.old disk.new }
     {
         checkpoints_open();
@@ -61,23 +62,22 @@ impl Store {
     /// is not finished; any other refusal comes after the transactions were rolled back.
     pub fn close<D: Disk>(&mut self, alloc: Global, disk: &mut D) -> Result<(), Refusal>
         requires ready { IsReady self.old }
-        requires steady { IsTrue (D.honest disk.old) → IsSteady D.Disk self.old.engine self.old.ground disk.old }
-        ensures closes { IsTrue (D.honest disk.old) → (w : World) → Stands self.old.engine w → w.machine.checkpoint ≡ None → (old : Option Stored) → StandsOn (D.seen disk.old) (D.may_leave disk.old) self.old.engine.hub.tables.tables self.old.ground old
-            → Follows old self.old.engine.hub.tables.tables self.old.ground.trees.items self.old.ground.floor w.machine → Closes D.Disk old w self.old self.new disk.old disk.new result }
+        requires well { IsTrue (D.honest disk.old) → IsWell D.Disk self.old disk.old }
+        ensures closes { IsTrue (D.honest disk.old) → (w : World) → Stands self.old.engine w → w.machine.checkpoint ≡ None → (old : Option Stored) → StandsOn (D.seen disk.old) (D.may_leave disk.old) self.old.engine.hub self.old.ground old
+            → Follows old self.old.engine.hub self.old.ground w → Closes D.Disk old w self.old self.new disk.old disk.new result }
         ensures shuts { IsTrue (D.honest disk.old) → (first_disk : D) → (w : World) → (first : Completed) → (made : List Installed) → IsHeld D.Disk first_disk self.old disk.old w first made → IsPlain w.machine
             → Shuts D.Disk first_disk w first made self.old self.new disk.old disk.new result }
         ensures refusals { IfErr result IsOfCheckpoint }
         ensures fault { IfErr result (λ r. r ≡ Refusal.DiskFault → Rose (D.faults disk.old) (D.faults disk.new)) }
-        ensures doings { (w : World) → Stands self.old.engine w → w.machine.checkpoint ≡ None → (m : Machine) × (m.checkpoint ≡ None) × Stands self.new.engine (record w { machine = m }) }
         ensures sessions { length self.new.engine.sessions ≡ length self.old.engine.sessions }
-        ensures steady { IsTrue (D.honest disk.old) → IsSteady D.Disk self.new.engine self.new.ground disk.new }
+        ensures well { IsTrue (D.honest disk.old) → IsWell D.Disk self.new disk.new }
         ensures ready { IsReady self.new }
+        ensures told { StaysTold D.Disk self.old self.new disk.old disk.new }
         ensures disk { SameDisk D.Disk disk.old disk.new }
     {
         checkpoints_open();
         plain_stays();
         downs_go();
-        self.engine.has_world();
         match self.engine.may_close() {
             Ok(()) => {}
             Err(refusal) => return Err(refusal),
@@ -90,15 +90,16 @@ impl Store {
     /// refused, the store stays as it was.
     pub fn reopen<D: Disk>(&mut self, alloc: Global, disk: &mut D) -> Result<(), Refusal>
         requires ready { IsReady self.old }
-        requires steady { IsTrue (D.honest disk.old) → IsSteady D.Disk self.old.engine self.old.ground disk.old }
+        requires well { IsTrue (D.honest disk.old) → IsWell D.Disk self.old disk.old }
         ensures opens { IsTrue (D.honest disk.old) → (first_disk : D) → (w : World) → (first : Completed) → (made : List Installed) → IsHeld D.Disk first_disk self.old disk.old w first made
             → MayReopen D.Disk first_disk w first made self.old self.new disk.old disk.new result }
         ensures same { OnErr result (self.new ≡ self.old) }
         ensures damage { IfErr result (λ r. (at want found : ℕ) → r ≡ Corrupt at want found → IsTrue (D.honest disk.old) → IsDamage (D.seen disk.new) at want found) }
         ensures fault { IfErr result (λ r. r ≡ Refusal.DiskFault → Rose (D.faults disk.old) (D.faults disk.new)) }
         ensures sessions { OnOk result (length self.new.engine.sessions ≡ 0) }
-        ensures steady { IsTrue (D.honest disk.old) → IsSteady D.Disk self.new.engine self.new.ground disk.new }
+        ensures well { IsTrue (D.honest disk.old) → IsWell D.Disk self.new disk.new }
         ensures ready { IsReady self.new }
+        ensures told { StaysTold D.Disk self.old self.new disk.old disk.new }
         ensures disk { SameDisk D.Disk disk.old disk.new }
     {
         plain_stays();

@@ -1,41 +1,43 @@
-//! The tables of a checkpoint, each with the rows of its leaf.
+//! The tables of a checkpoint, each with the entries of its leaves.
 
 ghost use Rattle.std.specs.Prelude.{◌≡◌, ◌++◌, ◌∷◌, [], length, IfOk, OnOk};
-ghost use Rattle.engine_start.specs.declared.table_leaf.TableLeaf.{TableLeaf};
-ghost use Rattle.engine_store.specs.Tables.{with_leaves};
+ghost use Rattle.engine_start.specs.declared.table_entries.TableEntries.{TableEntries as ATable};
+ghost use Rattle.engine_store.specs.Tables.{AreWithEntries, IsWithEntries};
 
 use catalog::Table;
 use checkpoint_record::TableRoot;
-use engine_start::TableLeaf;
+use engine_start::TableEntries;
 use failure::NoMemory;
-use leaf_rows::Rows;
+use inner_page::Entry;
 use std::alloc::Global;
+use tree_open::Upper;
 
-/// The tables, each with the rows of its leaf. Names and rows are moved. The error is want of
-/// memory. `O(n)`.
-pub(crate) fn with_leaves(
+/// The tables, each with the entries of its leaves. Names and entries are moved. The error is want of
+/// memory. `O(n)` in the tables.
+pub(crate) fn with_entries(
     alloc: Global,
     mut tables: Vec<TableRoot>,
-    mut leaves: Vec<Rows>,
-) -> Result<Vec<TableLeaf>, NoMemory>
-    requires { length leaves.items ≡ length tables.items }
-    ensures { IfOk result (λ v. v.items ≡ with_leaves tables.items leaves.items) }
+    mut uppers: Vec<Upper>,
+) -> Result<Vec<TableEntries>, NoMemory>
+    requires { length uppers.items ≡ length tables.items }
+    ensures { IfOk result (λ v. AreWithEntries v.items tables.items uppers.items) }
 {
     let mut both = Vec::new(alloc);
     while let Some(root) = tables.pop() {
-        if let Some(rows) = leaves.pop() {
-            push(&mut both, with_rows(root, rows))?;
+        if let Some(upper) = uppers.pop() {
+            push(&mut both, with_upper(root, upper))?;
         }
     }
     both.reverse();
     Ok(both)
 }
 
-fn with_rows(root: TableRoot, rows: Rows) -> TableLeaf
-    ensures { result ≡ record { table = root.table; rows = rows } }
+fn with_upper(root: TableRoot, upper: Upper) -> TableEntries
+    ensures { IsWithEntries result root upper }
 {
     let table = table_in(root);
-    TableLeaf { table, rows }
+    let entries = entries_in(upper);
+    TableEntries { table, entries }
 }
 
 fn table_in(root: TableRoot) -> Table
@@ -44,10 +46,16 @@ fn table_in(root: TableRoot) -> Table
     root.table
 }
 
-fn push(both: &mut Vec<TableLeaf>, leaf: TableLeaf) -> Result<(), NoMemory>
-    ensures { OnOk result (both.new.items ≡ both.old.items ++ leaf ∷ []) }
+fn entries_in(upper: Upper) -> Vec<Entry>
+    ensures { result ≡ upper.entries }
 {
-    match both.push(leaf) {
+    upper.entries
+}
+
+fn push(both: &mut Vec<TableEntries>, table: TableEntries) -> Result<(), NoMemory>
+    ensures { OnOk result (both.new.items ≡ both.old.items ++ table ∷ []) }
+{
+    match both.push(table) {
         Ok(()) => Ok(()),
         Err(_) => Err(NoMemory),
     }

@@ -4,16 +4,16 @@ ghost use Rattle.ckpt_step.specs.Trees.{AreLow};
 
 mod checkpoints;
 mod closings;
+mod leaves;
 
 use block_sum::sum;
 use disk_model::MemDisk;
-use engine::Local;
-use engine_store::open_on;
+use engine_store::{Store, open_on};
 use item::Item;
 use std::alloc::Global;
 use std::process::Abort;
 use tree_open::TreePlace;
-use wt_calls::{Call, SessionCall};
+use wt_calls::SessionCall;
 use wt_code::{Answer, Invalid, Refusal};
 
 // Sequence 3 by run 2, whose ids below 9 had ended but 5; the record's sum stands at 32.
@@ -99,11 +99,11 @@ fn item(rt: &impl Abort, alloc: Global, bytes: &[u8]) -> Item
     Item::new(Vec::from_slice(alloc, bytes).expect(rt, "there is memory"))
 }
 
-fn ask(alloc: Global, local: &mut Local, call: SessionCall) -> Answer<Item> {
-    if local.sessions() == 0 {
+fn ask(alloc: Global, store: &mut Store, disk: &mut MemDisk, call: SessionCall) -> Answer<Item> {
+    if store.engine.sessions() == 0 {
         return Answer::Refused(Refusal::Invalid(Invalid::NoCall));
     }
-    local.call(alloc, Call::Session(0, call))
+    store.call(alloc, disk, 0, call)
 }
 
 // A value, or in words what is not one.
@@ -141,8 +141,8 @@ fn each_table_has_its_own_rows(rt: HostRuntime) {
     let mut store = open_on(alloc, &mut disk).expect(&rt, "there is memory");
     assert_eq!(rt; offset_at(&store.ground.trees, 0), 16_384);
     assert_eq!(rt; offset_at(&store.ground.trees, 1), 12_288);
-    assert!(&rt; store.engine.open_session(alloc).is_ok());
-    let _begun = ask(alloc, &mut store.engine, SessionCall::Begin(None));
+    assert!(&rt; store.open_session::<MemDisk>(alloc).is_ok());
+    let _begun = ask(alloc, &mut store, &mut disk, SessionCall::Begin(None));
     let reads = [
         (b"a", b"a\0", b"1\0".as_slice()),
         (b"a", b"b\0", b"not found".as_slice()),
@@ -152,7 +152,12 @@ fn each_table_has_its_own_rows(rt: HostRuntime) {
     for (table, key, wanted) in reads {
         let table = item(&rt, alloc, table);
         let key = item(&rt, alloc, key);
-        let answer = ask(alloc, &mut store.engine, SessionCall::Get { table, key });
+        let answer = ask(
+            alloc,
+            &mut store,
+            &mut disk,
+            SessionCall::Get { table, key },
+        );
         assert!(&rt; told(&answer) == wanted);
     }
 }

@@ -1,12 +1,24 @@
 // What a close and a checkpoint in one go do to an engine with two transactions under way; and calls
-// whose items are lent.
+// whose items are lent, of which some wait for a leaf that is in no frame.
+ghost use Rattle.std.specs.Prelude.{◌≡◌, [], IfOk};
+ghost use Rattle.std.specs.List.{Contains};
+ghost use Rattle.leaf_rows.specs.Rows.{AreFit};
+ghost use Rattle.tree_dir.specs.declared.leaf.Leaf.{Leaf as ALeaf};
+
 use catalog::Catalog;
-use engine::{EngineMarks, Local};
+use device_layout::{Addr, Link};
+use engine::{Called, EngineMarks, Local};
 use failure::{Fault, NoMemory};
+use inner_page::Entry;
 use item::{Format, Formats, Item};
+use leaf_frame::LeafFrame;
+use limits::TABLES_MAX;
+use row_page::Leaf;
+use stamp::Name;
 use std::alloc::Global;
 use std::process::Abort;
-use wt_calls::{Call, Demand, SessionCall, SystemCall};
+use tree_dir::Dir;
+use wt_calls::{Demand, SessionCall, SystemCall};
 use wt_code::{Answer, Busy, Refusal};
 
 const BYTES: Formats = Formats {
@@ -19,17 +31,17 @@ fn item(alloc: Global, bytes: &[u8]) -> Result<Item, NoMemory> {
 }
 
 // An engine on nothing, with the table `t`, which is empty, and three sessions.
-#[tactic(auto, using(crate::proofs::Bases::nothing_is_base))]
+#[tactic(auto, using(crate::proofs::Bases::none_owned, crate::proofs::Bases::unset_fit))]
 fn engine(alloc: Global) -> Result<Local, NoMemory> {
     let tables = Catalog::new(alloc);
-    let mut engine = Local::open(alloc, 1, 0, 0, tables, Vec::new(alloc))?;
+    let mut engine = Local::open(alloc, 1, 0, 0, tables, Dir::new(alloc))?;
     let create = SystemCall::Create {
         table: item(alloc, b"t")?,
         formats: BYTES,
     };
     // That there is an actor of the system.
     let _actors = engine.actors();
-    let _made = engine.call(alloc, Call::System(0, create));
+    let _made = engine.call_system(alloc, 0, create);
     for _ in 0..3u32 {
         if engine.open_session(alloc).is_err() {
             return Err(NoMemory);
@@ -38,10 +50,18 @@ fn engine(alloc: Global) -> Result<Local, NoMemory> {
     Ok(engine)
 }
 
+// The answer of a call that has ended.
+fn answer_of(called: Called) -> Option<Answer<Item>> {
+    match called {
+        Called::Ended(answer) => Some(answer),
+        Called::Waits(_) => None,
+    }
+}
+
 // The answer to a whole call of a session that is open.
 fn ask(alloc: Global, engine: &mut Local, session: u32, call: SessionCall) -> Option<Answer<Item>> {
     if session < engine.sessions() {
-        Some(engine.call(alloc, Call::Session(session, call)))
+        answer_of(engine.call(alloc, session, call))
     } else {
         None
     }
@@ -88,9 +108,107 @@ fn keeps_lent(
     if engine.sessions() == 0 {
         return Ok(false);
     }
-    let made = engine.put(alloc, 0, b"t", key, value, Demand::Anything);
-    let read = engine.get(alloc, 0, b"t", key);
-    Ok(made == Answer::Done && read == Answer::Value(item(alloc, value)?))
+    let made = answer_of(engine.put(alloc, 0, b"t", key, value, Demand::Anything));
+    let read = answer_of(engine.get(alloc, 0, b"t", key));
+    Ok(made == Some(Answer::Done) && read == Some(Answer::Value(item(alloc, value)?)))
+}
+
+// What leads to the block of the leaf below.
+const LINK: Link = Link {
+    addr: Addr {
+        offset: 8_192,
+        size: 4_096,
+        sum: 0,
+    },
+    greatest: Name { run: 1, id: 1 },
+    durable: 5,
+};
+
+// The leaf of one row: of run 1, at stamp 5, the key `k` has the value `v`.
+fn page(alloc: Global) -> Result<Leaf, NoMemory>
+    ensures { IfOk result AreFit }
+{
+    let mut block = Vec::from_slice(alloc, &[1u8, 1, 1, 0, 57, 0, 0, 0, 0, 0, 0, 0, 0, 0, 0, 0])?;
+    block.extend_from_slice(&[1, 0, 1, 1, 0, 0, 0])?;
+    for number in [1u64, 1, 5, 5] {
+        block.extend_from_slice(&number.to_le_bytes())?;
+    }
+    block.extend_from_slice(b"kv")?;
+    block.resize(4_096, 0)?;
+    match Leaf::of_block(alloc, block)? {
+        None => Err(NoMemory),
+        Some(leaf) => Ok(leaf),
+    }
+}
+
+// A directory whose only leaf is of this table, in no frame.
+fn one_leaf(alloc: Global, table: u32) -> Result<Dir, NoMemory>
+    ensures { IfOk result (λ d. (l : ALeaf) → Contains d.leaves l → l.table ≡ table) }
+{
+    let mut entries = Vec::with_capacity(alloc, 1)?;
+    entries.push_reserved(Entry {
+        key: Item::new(Vec::new(alloc)),
+        link: LINK,
+    });
+    let mut dir = Dir::new(alloc);
+    dir.add_table(table, entries)?;
+    Ok(dir)
+}
+
+// The run after that of the row, with the table `t`, whose leaf is on the device alone.
+#[tactic(auto, using(crate::proofs::Bases::unset_fit))]
+fn on_device(alloc: Global) -> Result<Local, NoMemory> {
+    let mut tables = Catalog::new(alloc);
+    if tables.create(alloc, b"t", BYTES).is_err() {
+        return Err(NoMemory);
+    }
+    let number = match tables.table(0) {
+        None => return Err(NoMemory),
+        Some(table) => table.number,
+    };
+    let dir = one_leaf(alloc, number)?;
+    if tables.next_number() as usize + TABLES_MAX >= (1 << 32) + tables.len() {
+        return Err(NoMemory);
+    }
+    let mut engine = Local::open(alloc, 2, 0, 0, tables, dir)?;
+    match engine.open_session(alloc) {
+        Err(_) => Err(NoMemory),
+        Ok(_) => Ok(engine),
+    }
+}
+
+// The answer of session 0 to a get of `k`, whose leaf is kept from it.
+fn kept_from(alloc: Global, engine: &mut Local) -> Option<Answer<Item>> {
+    if engine.sessions() == 0 {
+        return None;
+    }
+    match engine.get(alloc, 0, b"t", b"k") {
+        Called::Ended(_) => None,
+        Called::Waits(_) => {
+            engine.keep_out(0, Refusal::DiskFault);
+            answer_of(engine.resume(alloc, 0))
+        }
+    }
+}
+
+// The same, where the leaf comes into a frame.
+fn filled(
+    alloc: Global,
+    engine: &mut Local,
+    page: LeafFrame,
+) -> Result<Option<Answer<Item>>, NoMemory>
+    requires { page.chains ≡ [] }
+{
+    if engine.sessions() == 0 {
+        return Ok(None);
+    }
+    match engine.get(alloc, 0, b"t", b"k") {
+        Called::Ended(_) => Ok(None),
+        Called::Waits(leaf) => {
+            engine.fill(leaf, page)?;
+            Ok(answer_of(engine.resume(alloc, 0)))
+        }
+    }
 }
 
 // How many ids the snapshot of a checkpoint lists.
@@ -100,9 +218,9 @@ fn listed(alloc: Global, engine: &Local) -> Result<usize, NoMemory> {
     Ok(view.list.len())
 }
 
-// How many keys have a chain in the leaf of the table at a place.
-fn keys(engine: &Local, place: u32) -> Option<usize> {
-    match engine.leaf(place) {
+// How many keys have a chain in the leaf in a frame.
+fn keys(engine: &Local, frame: u32) -> Option<usize> {
+    match engine.leaf_in(frame) {
         None => None,
         Some(leaf) => Some(leaf.chains().len()),
     }
@@ -118,20 +236,20 @@ fn begin_both(alloc: Global, rt: &impl Abort, engine: &mut Local) -> Result<(), 
     Ok(())
 }
 
-#[test]
-fn a_close_rolls_back_all(rt: HostRuntime) -> Result<(), NoMemory> {
-    let alloc = rt.alloc();
-    let mut engine = engine(alloc)?;
-    begin_both(alloc, &rt, &mut engine)?;
-    assert!(rt; engine.may_close() == Ok(()));
-    engine.roll_back_all(alloc);
-    assert!(rt; ask(alloc, &mut engine, 2, SessionCall::Begin(None)) == Some(Answer::Done));
+// The puts of the two are gone, for session 2.
+fn has_neither(alloc: Global, rt: &impl Abort, engine: &mut Local) -> Result<(), NoMemory> {
+    assert!(rt; ask(alloc, engine, 2, SessionCall::Begin(None)) == Some(Answer::Done));
     let absent = Some(Answer::Refused(Refusal::NotFound));
-    assert!(rt; get(alloc, &mut engine, 2, b"a")? == absent);
-    assert!(rt; get(alloc, &mut engine, 2, b"b")? == absent);
+    assert!(rt; get(alloc, engine, 2, b"a")? == absent);
+    assert!(rt; get(alloc, engine, 2, b"b")? == absent);
+    Ok(())
+}
+
+// A checkpoint may come that lists no id, of two keys.
+fn may_take(alloc: Global, rt: &impl Abort, engine: &Local) -> Result<(), NoMemory> {
     assert!(rt; engine.may_checkpoint(0) == Ok(()));
-    assert!(rt; listed(alloc, &engine)? == 0);
-    assert!(rt; keys(&engine, 0) == Some(2));
+    assert!(rt; listed(alloc, engine)? == 0);
+    assert!(rt; keys(engine, 0) == Some(2));
     assert!(rt;
         engine.marks()
             == EngineMarks {
@@ -141,10 +259,27 @@ fn a_close_rolls_back_all(rt: HostRuntime) -> Result<(), NoMemory> {
                 stable: 0
             }
     );
+    Ok(())
+}
+
+// The engine goes down after a checkpoint, and takes no other one.
+fn goes_down(rt: &impl Abort, engine: &mut Local) {
     engine.checkpointed();
     engine.go_down(Fault::Sync);
     let down = Err(Refusal::Panic { fault: Fault::Sync });
     assert!(rt; engine.may_checkpoint(1) == down);
+}
+
+#[test]
+fn a_close_rolls_back_all(rt: HostRuntime) -> Result<(), NoMemory> {
+    let alloc = rt.alloc();
+    let mut engine = engine(alloc)?;
+    begin_both(alloc, &rt, &mut engine)?;
+    assert!(rt; engine.may_close() == Ok(()));
+    engine.roll_back_all(alloc);
+    has_neither(alloc, &rt, &mut engine)?;
+    may_take(alloc, &rt, &engine)?;
+    goes_down(&rt, &mut engine);
     Ok(())
 }
 
@@ -158,4 +293,23 @@ fn items_that_are_lent_are_kept(rt: HostRuntime) -> Result<(), NoMemory> {
     let one = Some(Answer::Value(item(alloc, b"1")?));
     assert!(rt; get(alloc, &mut engine, 0, b"longer")? == one);
     Ok(())
+}
+
+// The leaf comes into a frame, and a get reads its row.
+fn reads_filled(alloc: Global, rt: &impl Abort, away: &mut Local) -> Result<(), NoMemory> {
+    let value = Some(Answer::Value(item(alloc, b"v")?));
+    let frame = LeafFrame::of_page(alloc, page(alloc)?);
+    assert!(rt; filled(alloc, away, frame)? == value);
+    assert!(rt; get(alloc, away, 0, b"k")? == value);
+    Ok(())
+}
+
+#[test]
+fn a_lent_get_waits_for_its_leaf(rt: HostRuntime) -> Result<(), NoMemory> {
+    let alloc = rt.alloc();
+    let mut away = on_device(alloc)?;
+    assert!(rt; ask(alloc, &mut away, 0, SessionCall::Begin(None)) == Some(Answer::Done));
+    let kept = Some(Answer::Refused(Refusal::DiskFault));
+    assert!(rt; kept_from(alloc, &mut away) == kept);
+    reads_filled(alloc, &rt, &mut away)
 }

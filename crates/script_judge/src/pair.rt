@@ -1,13 +1,14 @@
 // The engine and the plain runner, side by side, on a new device.
 
 use catalog::Catalog;
-use engine::Local;
+use engine::{Called, Local};
 use failure::NoMemory;
 use item::Item;
 use kv_plain::{Around, Machine, Storing, Unfinished, new_device};
 use std::alloc::Global;
+use tree_dir::Dir;
 use wt_calls::{Call, SystemCall};
-use wt_code::Answer;
+use wt_code::{Answer, Refusal};
 
 /// Both, with the same sessions.
 #[derive(Drop)]
@@ -33,9 +34,17 @@ fn nothing_around(alloc: Global) -> Around {
 }
 
 // An engine on nothing, without sessions.
-#[tactic(auto, using(crate::proofs::Bases::nothing_is_base))]
+#[tactic(auto, using(crate::proofs::Bases::none_owned, crate::proofs::Bases::unset_fit))]
 fn new_engine(alloc: Global) -> Result<Local, NoMemory> {
-    Local::open(alloc, 1, 0, 0, Catalog::new(alloc), Vec::new(alloc))
+    Local::open(alloc, 1, 0, 0, Catalog::new(alloc), Dir::new(alloc))
+}
+
+// The answer of a call. None waits: each table's leaf is in a frame from the start.
+fn answer_of(called: Called) -> Answer<Item> {
+    match called {
+        Called::Ended(answer) => answer,
+        Called::Waits(_) => Answer::Refused(Refusal::CacheFull),
+    }
 }
 
 impl Pair {
@@ -84,7 +93,7 @@ impl Pair {
                 if session >= self.engine.sessions() {
                     return None;
                 }
-                Some(self.engine.call(alloc, Call::Session(session, call)))
+                Some(answer_of(self.engine.call(alloc, session, call)))
             }
             Call::System(number, call) => self.ask_system(alloc, number, call),
         }
@@ -97,11 +106,11 @@ impl Pair {
         match call {
             SystemCall::Create { table, formats } => {
                 let create = SystemCall::Create { table, formats };
-                Some(self.engine.call(alloc, Call::System(number, create)))
+                Some(self.engine.call_system(alloc, number, create))
             }
             SystemCall::SetStamps { oldest, stable } => {
                 let set = SystemCall::SetStamps { oldest, stable };
-                Some(self.engine.call(alloc, Call::System(number, set)))
+                Some(self.engine.call_system(alloc, number, set))
             }
             _ => None,
         }

@@ -1,5 +1,5 @@
--- What lines that reach the device reply and leave.
-use Rattle.std.specs.Prelude.{◌≡◌, ◌||◌, Bool, true, false, IsTrue, MatchBool, List, [], ◌∷◌, length, map, replicate, Option, Some, None, Result, Ok, Err, IfErr, slice_index_or}
+-- What lines that are asked of the device reply and leave.
+use Rattle.std.specs.Prelude.{◌≡◌, ◌||◌, ℕ, Bool, true, false, IsTrue, MatchBool, List, [], ◌∷◌, length, map, replicate, Option, Some, None, Result, Ok, Err, IfErr, slice_index_or}
 use Rattle.std.proofs.Common.{inl, inr, refl, sym, ap, subst, ◌∙◌, arith}
 use Rattle.std.proofs.lemmas.Bool.{false≢true}
 use Rattle.limits.specs.declared.TheConstants.{SESSIONS_MAX}
@@ -21,9 +21,10 @@ use Rattle.script_text.specs.declared.line.Line.TheVariants.{Control as OfAll}
 use Rattle.script_text.specs.declared.replies.Reply.{Reply}
 use Rattle.script_text.specs.declared.replies.Reply.TheVariants.{Answered}
 use Rattle.wt_calls.specs.declared.system_call.SystemCall.{SystemCall}
-use Rattle.engine_world.specs.Stands.{Engine, Stands}
-use Rattle.engine.specs.Openings.{first_world, no_shelf}
-use Rattle.engine_world.specs.Worlds.{World, Doing}
+use Rattle.row_page.specs.Rows.{Row}
+use Rattle.engine_world.specs.Stands.{Engine}
+use Rattle.engine_world.specs.Systems.{first_world}
+use Rattle.engine_world.specs.Worlds.{World}
 use Rattle.ckpt_step.specs.Calm.{IsCalm, StartsCalm}
 use Rattle.ckpt_step.specs.Plain.{IsPlain}
 use Rattle.engine_store.specs.declared.store.Store.{Store}
@@ -32,7 +33,6 @@ use Rattle.engine_store.specs.Devices.{Device, IsLater, device_of}
 use Rattle.engine_store.specs.Held as held
 use Rattle.engine_store.specs.Held.{IsHeld}
 use Rattle.script_run.specs.declared.told.Told.{Told}
-use Rattle.script_run.specs.Faults.{AreStill, NoFault}
 use Rattle.script_run.specs.Runs.{IsAt, IsStopped, IsTold, RepliedAs}
 use Rattle.script_run.specs.Scripts.{BySystem, Checkpoints, Closes, NotReopened, Reopens, Script, gives_stamp, on_device, opened_world, plain}
 
@@ -44,18 +44,6 @@ same_disk g disk = record { same = refl; room = refl; home = refl; later = omega
 -- a machine on which no commit has a stamp, with the calls that are under way
 calm_on : (w : World) (m : Machine) → IsCalm w → IsPlain m → IsCalm (record w { machine = m })
 calm_on w m calm plain = record { plain = plain; doings = calm.doings; systems = calm.systems }
-
--- the calls that are under way go on
-pub no_fault_on : (e e' : Engine) → NoFault e → ((w : World) → Stands e w → w.machine.checkpoint ≡ None → (m : Machine) × (m.checkpoint ≡ None) × Stands e' (record w { machine = m })) → NoFault e'
-no_fault_on e e' (w, stands, idle, still) goes = let x = goes w stands idle in (record w { machine = x.0 }, x.2, x.1, still)
-
-none_still : (doings : List Doing) → length doings ≡ 0 → AreStill doings
-none_still [] is = tt
-none_still (d ∷ doings) is = absurd (omega (arith, is))
-
--- an engine without a session
-pub no_fault_first : (e : Engine) (w : World) → length e.sessions ≡ 0 → Stands e w → w.machine.checkpoint ≡ None → NoFault e
-no_fault_first e w none stands idle = (w, stands, idle, none_still w.sessions (stands.doings ∙ none))
 
 -- nothing is known of stamps
 pub at_any : {D : Type 0} (g : Ghosts D) (first : D) (stamped : Bool) (store : Store) (disk : D) (s : Script) → IsAt g first stamped store disk s → IsAt g first true store disk s
@@ -183,16 +171,16 @@ four (a ∷ b ∷ []) is = absurd (omega (arith, is))
 four (a ∷ b ∷ c ∷ []) is = absurd (omega (arith, is))
 four (a ∷ b ∷ c ∷ d ∷ e ∷ systems) is = absurd (omega (arith, is))
 
-opened_is : (content : Content) (e : Engine) → length e.systems ≡ 4 → first_world content e ≡ opened_world (start content)
-opened_is content e is = let Systems : Type 0 = List (Option Call) in
-    ap (λ (l : Systems). let w : World = record { machine = start content; sessions = []; systems = l; shelf = no_shelf } in w) (four e.systems is)
+opened_is : (content : Content) (shelf : ℕ → List Row) (e : Engine) → length e.systems ≡ 4 → first_world content shelf e ≡ opened_world (start content) shelf
+opened_is content shelf e is = let Systems : Type 0 = List (Option Call) in
+    ap (λ (l : Systems). let w : World = record { machine = start content; sessions = []; systems = l; shelf = shelf } in w) (four e.systems is)
 
 module _ {D : Type 0} (g : Ghosts D) (first : D) (stamped : Bool) (s : Script) (store store' : Store) (disk disk' : D) (at : IsAt g first stamped store disk s) where
   pub reopened : (law : StartsCalm) (told : Told) (kept : List Formats) → length store'.engine.systems ≡ 4 → held.Reopens g first s.world s.first s.made store store' disk disk' → told.reply ≡ Answered Done → told.formats ≡ plain → kept ≡ replicate SESSIONS_MAX plain
       → IsTold g first stamped (OfAll Crash) s store' disk' kept told
   reopened law told kept actors x reply formats new =
-      let same = opened_is x.content store'.engine actors in
-      let later : Script = record s { world = opened_world (start x.content); device = device_of g disk'; formats = replicate SESSIONS_MAX plain } in
+      let same = opened_is x.content x.shelf store'.engine actors in
+      let later : Script = record s { world = opened_world (start x.content) x.shelf; device = device_of g disk'; formats = replicate SESSIONS_MAX plain } in
       let reopens : Reopens s later = record {
         content = x.content;
         reads = subst (λ (d : Device). Reads d.seen x.content) (sym at.device) x.reads;
@@ -201,6 +189,7 @@ module _ {D : Type 0} (g : Ghosts D) (first : D) (stamped : Bool) (s : Script) (
         after = subst (λ (d : Device). IsLater d (device_of g disk')) (sym at.device) x.later;
         seen = x.seen ∙ sym (ap (λ (d : Device). d.seen) at.device);
         capacity = x.capacity ∙ sym (ap (λ (d : Device). d.capacity) at.device);
+        shelf = x.shelf;
         leaves = refl;
       } in
       record {
@@ -209,7 +198,7 @@ module _ {D : Type 0} (g : Ghosts D) (first : D) (stamped : Bool) (s : Script) (
         at = record {
           held = subst (λ (w : World). IsHeld g first store' disk' w s.first s.made) same x.held;
           device = refl;
-          calm = λ none. subst (λ (w : World). IsCalm w) same (law x.content store'.engine x.plain);
+          calm = λ none. subst (λ (w : World). IsCalm w) same (law x.content x.shelf store'.engine x.plain);
         };
         start = refl;
         kept_is = sym new;

@@ -1,10 +1,12 @@
 pub mod Cutting
 pub mod Taking
 pub mod Opening
+pub mod Naming
 pub mod Replying
-pub mod Keeping
-pub mod Unfaulted
+pub mod Telling
+pub mod Calming
 pub mod Holding
 pub mod Devices
 pub mod Scripting
 pub mod Turning
+pub mod Meeting

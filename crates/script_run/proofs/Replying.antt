@@ -1,29 +1,39 @@
--- What an actor that is there is given, and one that could not be opened.
-use Rattle.std.proofs.Common.{◌≡◌, ◌<◌, ℕ, zero, suc, arith, List, length, refl, sym, subst, inr}
-use Rattle.std.specs.Prelude.{Err}
+-- What the actor of a line is given, and one that could not be opened.
+use Rattle.std.proofs.Common.{◌≡◌, ◌<◌, ℕ, List, length, refl, sym, subst, inl, inr}
+use Rattle.std.specs.Prelude.{◌⊎◌, Some, Err}
+use Rattle.failure.specs.Counts.{Rose}
+use Rattle.disk_model.specs.declared.disk.Disk.{Ghosts}
+use Rattle.disk_model.specs.Crash.{Looked}
 use Rattle.item.specs.declared.formats.Formats.{Formats}
+use Rattle.wt_code.specs.declared.answers.Answer.{Answer}
 use Rattle.wt_code.specs.declared.answers.Answer.TheVariants.{Refused}
 use Rattle.wt_code.specs.declared.refusals.Refusal.{Refusal}
+use Rattle.wt_code.specs.declared.refusals.Refusal.TheVariants.{NoMemory}
+use Rattle.wt_calls.specs.Calls.{session_call_in}
 use Rattle.wt_calls.specs.declared.call.Call.{Call}
 use Rattle.wt_calls.specs.declared.call.Call.TheVariants.{Session, System}
+use Rattle.wt_calls.specs.declared.session_call.SessionCall.{SessionCall}
 use Rattle.wt_calls.specs.declared.system_call.SystemCall.{SystemCall}
 use Rattle.wt_calls.specs.declared.system_call.SystemCall.TheVariants as system
-use Rattle.script_text.specs.declared.line.Actor.{Actor as LineActor}
-use Rattle.script_text.specs.declared.line.Actor.TheVariants as line_actor
-use Rattle.script_text.specs.declared.line.Line.{Line}
-use Rattle.script_text.specs.declared.line.Line.TheVariants as line
-use Rattle.script_text.specs.Grammar.{IsActor, Spells, SpellsCall}
+use Rattle.call_steps.specs.declared.reply.Reply.{Reply as Told}
 use Rattle.script_text.specs.declared.replies.Reply.{Reply}
 use Rattle.script_text.specs.declared.replies.Reply.TheVariants.{Answered}
 use Rattle.script_text.specs.Stored.{stored_call, stored_system}
-use Rattle.engine_world.specs.Stands.{Engine, Stands}
+use Rattle.engine_world.specs.Stands.{Engine}
 use Rattle.engine_world.specs.Worlds.{World}
 use Rattle.engine.specs.declared.step.Actor.{Actor}
 use Rattle.engine.specs.declared.step.Actor.TheVariants as by
+use Rattle.engine.specs.declared.step.Step.{Step}
 use Rattle.engine.specs.declared.step.Step.TheVariants.{Go, Start}
-use Rattle.engine.specs.Runs.{IsBuilt, StepFits}
-use Rattle.script_run.specs.Scripts.{IsLaterCall, Opens, Refuses, Script, actor_in, caller, opened_more}
-use Rattle.script_run.specs.Runs.{IsKnown, IsOfKnown, IsThere, OpensAs}
+use Rattle.engine.specs.Runs.{IsBuilt, MayStep, StepFits}
+use Rattle.engine_store.specs.declared.store.Store.{Store}
+use Rattle.engine_store.specs.Calls.{Called, EndsBy, Finished, Made, MayStepOn, Stepped}
+use Rattle.engine_store.specs.Devices.{Device, IsRead, device_of}
+use Rattle.engine_store.specs.Loads.{IsCause}
+use Rattle.script_run.specs.Scripts.{CauseOn, IsLaterCall, Opens, Refuses, Script, opened_more, caller}
+use Rattle.script_run.specs.Runs.{IsAnswerTo, IsLeftSo, IsTaken, IsThere, OpensAs, StandsAt}
+
+-- ---- the call that is stored is one that the store takes
 
 built_stored : (formats : Formats) (made : SystemCall) → ((IsBuilt made → ⊥) → ⊥) → IsBuilt (stored_system formats made)
 built_stored formats (system.Create table its) now = tt
@@ -35,7 +45,10 @@ built_stored formats system.StepCheckpoint now = now (λ x. x)
 built_stored formats system.FinishCheckpoint now = now (λ x. x)
 built_stored formats system.Close now = now (λ x. x)
 
--- the call that is stored is one that the engine takes
+pub call-taken : (e : Engine) (formats : Formats) (made : Call) → (IsLaterCall made → ⊥) → IsThere (caller made) e → IsTaken (stored_call formats made) e
+call-taken e formats (Session session made) now there = there
+call-taken e formats (System number made) now there = (there, built_stored formats made now)
+
 pub call-fits : (e : Engine) (formats : Formats) (made : Call) → (IsLaterCall made → ⊥) → IsThere (caller made) e → length e.systems ≡ 4 → StepFits e (Start (stored_call formats made))
 call-fits e formats (Session session made) now there four = there
 call-fits e formats (System number made) now there four = (subst (λ (n : ℕ). number < n) (sym four) there, built_stored formats made now)
@@ -44,31 +57,48 @@ pub actor-fits : (e : Engine) (who : Actor) → IsThere who e → length e.syste
 actor-fits e (by.Session session) there four = there
 actor-fits e (by.System number) there four = subst (λ (n : ℕ). number < n) (sym four) there
 
--- a session that could not be opened is refused
-pub record IsTurnedAway (Goes : Script → World → Type 0) (who : Actor) (s : Script) (reply : Reply) (e : Engine) : Type 0 where
-  pub later : Script
-  pub replies : Opens who s.world (Goes later) (λ r w. Refuses r s w reply later)
-  pub stands : Stands e later.world
-  pub kept : s.formats ≡ later.formats
+-- ---- what the store did for an actor that is there
 
-pub turned-away : (Goes : Script → World → Type 0) (who : Actor) (s : Script) (r : Refusal) (reply : Reply) (e : Engine) → reply ≡ Answered (Refused r) → OpensAs who s.world (Err r) e → IsTurnedAway Goes who s reply e
-turned-away Goes who s r reply e told (n, less, why, st) =
-    record { later = record s { world = opened_more n s.world }; replies = inr (n, r, less, why, (told, refl)); stands = st; kept = refl }
+module _ {D : Type 0} (g : Ghosts D) (first : D) (s : Script) (w : World) (store store' : Store) (disk disk' : D) (at : StandsAt g first store disk s w) where
+  -- the device was read at most
+  pub is-read : Looked g disk disk' → IsRead s.device (device_of g disk')
+  is-read looked =
+      subst (λ (d : Device). IsRead d (device_of g disk')) (sym at.device) (record { later = record { faults = looked.count; moment = looked.later }; seen = looked.content; capacity = looked.capacity })
 
--- ---- a line names actors that there are
+  -- what is so by the causes that the disk gives is so by those of the script's device
+  caused : (IsSo : (Refusal → Type 0) → Type 0) → IsSo (IsCause (Rose (g.faults disk) (g.faults disk')) w.machine.fault) → IsSo (CauseOn s (device_of g disk') w)
+  caused IsSo is = subst (λ (d : Device). IsSo (IsCause (Rose d.faults (g.faults disk')) w.machine.fault)) (sym at.device) is
 
-actor-known : (who : LineActor) (word : List ℕ) → IsActor who word → IsKnown (actor_in who)
-actor-known (line_actor.Session n) word is = tt
-actor-known (line_actor.System zero) word is = omega arith
-actor-known (line_actor.System (suc n)) word (less, e) = omega (arith, less)
+  pub session-answered : (session : ℕ) (made : SessionCall) (answer : Answer (List ℕ)) → Called g first w s.first s.made store store' disk disk' session (session_call_in made) answer → IsAnswerTo g first s store' disk' (Session session made) w answer
+  session-answered session made answer x = record { next = x.later; answered = (x.kept, caused (λ C. (r : Refusal) → x.kept ≡ Some r → C r) x.caused, x.called); held = x.held }
 
-call-known : (made : Call) (word : List ℕ) (behind : List (List ℕ)) → SpellsCall made word behind → IsKnown (caller made)
-call-known (Session n made) word behind spells = tt
-call-known (System n made) word behind (is, spells) = actor-known (line_actor.System n) word is
+  pub stepped : (made : Step) (told : Told) (x : Stepped g first w s.first s.made store store' disk disk' made told) → MayStepOn (CauseOn s (device_of g disk') w) w made told x.later
+  stepped made told x = caused (λ C. MayStepOn C w made told x.later) x.stepped
 
-pub line-known : (asked : Line) (words : List (List ℕ)) → Spells asked words → IsOfKnown asked
-line-known (line.Whole made) words (word, behind, spells, e) = call-known made word behind spells
-line-known (line.Start made) words (word, behind, spells, e) = call-known made word behind spells
-line-known (line.Step who) words (word, is, e) = actor-known who word is
-line-known (line.Finish who) words (word, is, e) = actor-known who word is
-line-known (line.Control asked) words spells = tt
+  pub finished : (who : Actor) (answer : Answer (List ℕ)) (x : Finished g first w s.first s.made store store' disk disk' who answer) → EndsBy (CauseOn s (device_of g disk') w) w who answer x.later
+  finished who answer x = caused (λ C. EndsBy C w who answer x.later) x.ended
+
+  pub system-answered : (number : ℕ) (made : SystemCall) (answer : Answer (List ℕ)) → Made g first w s.first s.made store store' disk disk' (System number made) answer → IsAnswerTo g first s store' disk' (System number made) w answer
+  system-answered number made answer x = record { next = x.later; answered = x.answered; held = x.held }
+
+-- no leaf is kept from a call that starts
+pub started : (Caused : Refusal → Type 0) (w : World) (made : Call) (told : Told) (next : World) → MayStepOn Caused w (Start made) told next → MayStep w (Start made) told next
+started Caused w made told next (inl is) = is
+started Caused w made told next (inr (session, r, go, more, caused, out)) = absurd cc
+
+-- ---- what a line leaves
+
+module _ {D : Type 0} (g : Ghosts D) (first : D) (s : Script) (store : Store) (disk : D) where
+  -- what is so of what it leaves may be more
+  pub left-more : (kept : List Formats) (IsSo IsMore : Script → Type 0) → ((later : Script) → IsSo later → IsMore later) → IsLeftSo g first s store disk kept IsSo → IsLeftSo g first s store disk kept IsMore
+  left-more kept IsSo IsMore more x = record { later = x.later; is = more x.later x.is; held = x.held; device = x.device; start = x.start; kept_is = x.kept_is }
+
+  -- the actor could not be opened
+  pub turned-away : (GoesSo : Script → World → Type 0) (who : Actor) (r : Refusal) (reply : Reply) → reply ≡ Answered (Refused r) → OpensAs who s.world (Err r) (λ v. StandsAt g first store disk s v)
+      → IsLeftSo g first s store disk s.formats (λ later. Opens who s.world (GoesSo later) (λ but v. Refuses but s v reply later))
+  turned-away GoesSo who r reply told (n, less, why, at) =
+      record { later = record s { world = opened_more n s.world }; is = inr (n, r, less, why, (told, refl)); held = at.held; device = at.device; start = refl; kept_is = refl }
+
+  -- memory was short for the call of an actor that is there
+  pub short : (GoesSo : Script → Type 0) (w : World) (reply : Reply) → reply ≡ Answered (Refused NoMemory) → StandsAt g first store disk s w → IsLeftSo g first s store disk s.formats (λ later. GoesSo later ⊎ Refuses NoMemory s w reply later)
+  short GoesSo w reply told at = record { later = record s { world = w }; is = inr (told, refl); held = at.held; device = at.device; start = refl; kept_is = refl }

@@ -165,9 +165,9 @@ pub rose-after : (first before now : ℕ) → before ≤ now → Rose first befo
 rose-after first before now le rose = omega (arith, le, rose)
 
 -- a fault that was met before, or is met now
-pub rose-either : (P : Type 0) (first before now : ℕ) → first ≤ before → before ≤ now → (P → Rose first before) → P ⊎ Rose before now → Rose first now
-rose-either P first before now more le was (inl p) = rose-after first before now le (was p)
-rose-either P first before now more le was (inr rose) = rose-before first before now more rose
+pub rose-either : (P : Type 0) (first before now : ℕ) → before ≤ now → (P → Rose first before) → P ⊎ Rose first now → Rose first now
+rose-either P first before now le was (inl p) = rose-after first before now le (was p)
+rose-either P first before now le was (inr rose) = rose
 
 -- ---- the first fault of the disk or want of memory
 
@@ -189,9 +189,9 @@ none-told (inl is) = cc
 none-told (inr is) = cc
 
 -- one that it met in its last turn, or before
-pub rose-told : (told : ScriptRun) (first before now : ℕ) (met : Option Refusal) → first ≤ before → before ≤ now → told.met ≡ met → (met ≡ Some DiskFault → Rose first before) → (told.end ≡ Stopped DiskFault → Rose before now) → MetFault told → Rose first now
-rose-told told first before now met more le same was rose (inl end) = rose-before first before now more (rose end)
-rose-told told first before now met more le same was rose (inr is) = rose-after first before now le (was (sym same ∙ is))
+pub rose-told : (told : ScriptRun) (first before now : ℕ) (met : Option Refusal) → before ≤ now → told.met ≡ met → (met ≡ Some DiskFault → Rose first before) → (told.end ≡ Stopped DiskFault → Rose first now) → MetFault told → Rose first now
+rose-told told first before now met le same was rose (inl end) = rose end
+rose-told told first before now met le same was rose (inr is) = rose-after first before now le (was (sym same ∙ is))
 
 -- ---- a run so far
 

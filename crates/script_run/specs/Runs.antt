@@ -2,23 +2,28 @@
 use Rattle.std.specs.Prelude.{◌≡◌, ◌⊎◌, ◌<◌, ◌∷◌, ◌++◌, ◌||◌, [], ℕ, Bool, true, false, List, Option, Some, Result, Ok, Err, length, filter, IsTrue}
 use Rattle.item.specs.declared.formats.Formats.{Formats}
 use Rattle.wt_code.specs.declared.refusals.Refusal.{Refusal}
-use Rattle.wt_code.specs.declared.refusals.Refusal.TheVariants.{Corrupt, DiskFault, NoMemory}
+use Rattle.wt_code.specs.declared.answers.Answer.{Answer}
+use Rattle.wt_code.specs.declared.refusals.Refusal.TheVariants.{Corrupt, DiskFault, NoMemory, Limit as Refusal_Limit}
+use Rattle.wt_code.specs.declared.refusals.Limit.TheVariants.{Sessions}
+use Rattle.failure.specs.Counts.{Rose}
 use Rattle.disk_model.specs.declared.disk.Disk.{Ghosts}
 use Rattle.engine_store.specs.declared.store.Store.{Store}
+use Rattle.engine_store.specs.Calls.{MayAnswerOn, TellsSo}
 use Rattle.engine_store.specs.Devices.{device_of}
 use Rattle.engine_store.specs.Held.{IsHeld}
-use Rattle.engine_store.specs.Opened.{IsReady}
+use Rattle.engine_store.specs.Opened.{IsReady, IsWell}
 use Rattle.ckpt_step.specs.Calm.{IsCalm}
-use Rattle.ckpt_step.specs.Grounds.{IsSteady}
 use Rattle.wt_io.specs.Streams.{Gave, Took}
 use Rattle.wt_calls.specs.declared.call.Call.{Call}
+use Rattle.wt_calls.specs.declared.call.Call.TheVariants as call
 use Rattle.script_text.specs.declared.line.Line.{Line}
 use Rattle.script_text.specs.declared.line.Line.TheVariants.{Whole, Start, Step, Finish, Control as OfAll}
 use Rattle.script_text.specs.declared.replies.Reply.{Reply}
 use Rattle.script_text.specs.Grammar.{IsLine}
 use Rattle.script_text.specs.Replies.{line_of_reply}
-use Rattle.engine_world.specs.Stands.{Engine, Stands}
+use Rattle.engine_world.specs.Stands.{Engine}
 use Rattle.engine_world.specs.Worlds.{World}
+use Rattle.engine.specs.Runs.{IsBuilt}
 use Rattle.engine.specs.declared.step.Actor.{Actor}
 use Rattle.engine.specs.declared.step.Actor.TheVariants as by
 use Rattle.script_run.specs.declared.one_line.Printed.{Printed}
@@ -27,10 +32,11 @@ use Rattle.script_run.specs.declared.one_line.Stop.TheVariants as stop
 use Rattle.script_run.specs.declared.told.Told.{Told}
 use Rattle.script_run.specs.declared.script.End.TheVariants.{Through, Stopped}
 use Rattle.script_run.specs.declared.script.ScriptRun.{ScriptRun}
+use Rattle.script_run.specs.Faults.{RepliesFault}
 use Rattle.script_run.specs.Lines.{AreLines}
 use Rattle.wt_io.specs.declared.streams.Source.{Ghosts as SourceGhosts}
 use Rattle.wt_io.specs.declared.streams.Sink.{Ghosts as SinkGhosts}
-use Rattle.script_run.specs.Scripts.{outside, Answers, Begins, Ends, Goes, Outside, Ran, Refuses, Replies, RunsLines, Script, IsLater, IsLaterCall, NoSession, StopsBy, actor_in, caller, counts, first_of, fresh, gives_stamp, listed, missing, opened_more, refusals_in}
+use Rattle.script_run.specs.Scripts.{outside, Answers, Begins, CauseOn, Ends, Goes, Outside, Ran, Refuses, Replies, RunsLines, Script, IsLater, IsLaterCall, NoSession, StopsBy, actor_in, caller, counts, first_of, fresh, gives_stamp, listed, missing, opened_more, refusals_in}
 
 -- one of the four actors of the system, or any session
 abbrev pub IsKnown : Actor → Type 0
@@ -49,34 +55,21 @@ abbrev pub IsThere : Actor → Engine → Type 0
 IsThere (by.Session session) e = session < length e.sessions
 IsThere (by.System number) e = number < 4
 
+-- the store takes the whole call
+abbrev pub IsTaken : Call → Engine → Type 0
+IsTaken (call.Session session made) e = session < length e.sessions
+IsTaken (call.System number made) e = (number < 4) × IsBuilt made
+
+-- why no session more is opened
+abbrev pub IsNoSession : Refusal → Type 0
+IsNoSession r = (r ≡ NoMemory) ⊎ (r ≡ Refusal_Limit Sessions)
+
 -- sessions were opened up to the actor's, or as many as could be
-abbrev pub OpensAs : Actor → World → Result (Unit {0}) Refusal → Engine → Type 0
-OpensAs who w (Ok u) e = Stands e (opened_more (missing who w) w)
-OpensAs who w (Err r) e = (n : ℕ) × (n < missing who w) × NoSession r (opened_more n w) × Stands e (opened_more n w)
+abbrev pub OpensAs : Actor → World → Result (Unit {0}) Refusal → (World → Type 0) → Type 0
+OpensAs who w (Ok u) Holds = Holds (opened_more (missing who w) w)
+OpensAs who w (Err r) Holds = (n : ℕ) × (n < missing who w) × NoSession r (opened_more n w) × Holds (opened_more n w)
 
--- a reply was told so, and the engine is left as the line leaves it
-pub record IsReplied (asked : Line) (s : Script) (told : Told) (e : Engine) (kept : List Formats) : Type 0 where
-  pub later : Script
-  pub replies : Replies asked s told.formats told.reply later
-  pub stands : Stands e later.world
-  pub kept_is : kept ≡ later.formats
-
--- where the actor is there: the call was made, started, stepped or finished, and told so
-abbrev pub IsAnswered : Call → Script → World → Told → Engine → Type 0
-IsAnswered made s w told e =
-    (later : Script) × (Answers made s told.formats told.reply later w ⊎ Refuses NoMemory s w told.reply later) × Stands e later.world × (later.formats ≡ s.formats)
-
-abbrev pub IsBegun : Call → Script → World → Told → Engine → List Formats → Type 0
-IsBegun made s w told e kept =
-    (later : Script) × (Begins made s told.formats told.reply later w ⊎ Refuses NoMemory s w told.reply later) × Stands e later.world × (kept ≡ later.formats)
-
-abbrev pub IsGone : Actor → Script → World → Told → Engine → Type 0
-IsGone who s w told e = (later : Script) × Goes who s told.formats told.reply later w × Stands e later.world × (later.formats ≡ s.formats)
-
-abbrev pub IsEnded : Actor → Script → World → Told → Engine → Type 0
-IsEnded who s w told e = (later : Script) × Ends who s told.formats told.reply later w × Stands e later.world × (later.formats ≡ s.formats)
-
--- a line of an actor, which reaches the engine and no more
+-- a line of an actor
 abbrev pub IsOfActor : Line → Type 0
 IsOfActor (Whole made) = IsLaterCall made → ⊥
 IsOfActor (Start made) = IsLaterCall made → ⊥
@@ -89,13 +82,64 @@ IsOfActor (OfAll asked) = ⊥
 -- what the calls of a store ask of it and its disk
 pub record IsFit {D : Type 0} (g : Ghosts D) (store : Store) (disk : D) : Type 0 where
   pub ready : IsReady store
-  pub steady : IsTrue (g.honest disk) → IsSteady g store.engine store.ground disk
+  pub well : IsTrue (g.honest disk) → IsWell g store disk
 
 -- The store and its disk stand for s, in a run that began on the first disk. Until a commit has a stamp, none that is under way has one.
 pub record IsAt {D : Type 0} (g : Ghosts D) (first : D) (stamped : Bool) (store : Store) (disk : D) (s : Script) : Type 0 where
   pub held : IsHeld g first store disk s.world s.first s.made
   pub device : s.device ≡ device_of g disk
   pub calm : stamped ≡ false → IsCalm s.world
+
+-- ---- of an actor, in a run that began on the first disk
+
+module _ {D : Type 0} (g : Ghosts D) (first : D) (s : Script) (store : Store) (disk : D) where
+  -- The store and its disk stand for what a line left, of which this is so.
+  pub record IsLeftSo (kept : List Formats) (IsSo : Script → Type 0) : Type 0 where
+    pub later : Script
+    pub is : IsSo later
+    pub held : IsHeld g first store disk later.world later.first later.made
+    pub device : later.device ≡ device_of g disk
+    pub start : later.first ≡ s.first
+    pub kept_is : later.formats ≡ kept
+
+  -- a reply was told so
+  abbrev pub IsReplied : Line → List Formats → Told → Type 0
+  IsReplied asked kept told = IsLeftSo kept (λ later. Replies asked s told.formats told.reply later)
+
+  -- a whole call was answered so
+  pub record IsAnswerTo (made : Call) (w : World) (answer : Answer (List ℕ)) : Type 0 where
+    pub next : World
+    pub answered : MayAnswerOn (CauseOn s (device_of g disk) w) w made answer next
+    pub held : IsHeld g first store disk next s.first s.made
+
+  -- where the actor is there: the call was made, started, stepped or finished, and told so
+  abbrev pub IsAnswered : Call → World → Told → Type 0
+  IsAnswered made w told = IsLeftSo s.formats (λ later. Answers made s told.formats told.reply later w ⊎ Refuses NoMemory s w told.reply later)
+
+  abbrev pub IsBegun : Call → World → List Formats → Told → Type 0
+  IsBegun made w kept told = IsLeftSo kept (λ later. Begins made s told.formats told.reply later w ⊎ Refuses NoMemory s w told.reply later)
+
+  abbrev pub IsGone : Actor → World → Told → Type 0
+  IsGone who w told = IsLeftSo s.formats (λ later. Goes who s told.formats told.reply later w)
+
+  abbrev pub IsEnded : Actor → World → Told → Type 0
+  IsEnded who w told = IsLeftSo s.formats (λ later. Ends who s told.formats told.reply later w)
+
+-- the store and its disk, which is that of s, stand for a world
+pub record StandsAt {D : Type 0} (g : Ghosts D) (first : D) (store : Store) (disk : D) (s : Script) (w : World) : Type 0 where
+  pub held : IsHeld g first store disk w s.first s.made
+  pub device : s.device ≡ device_of g disk
+
+-- on an honest disk, of each script and world for which they stand, and of each script
+abbrev pub StandingIn : {D : Type 0} → Ghosts D → Store → D → (D → Script → World → Type 0) → Type 0
+StandingIn {D} g store disk Goes = IsTrue (g.honest disk) → (first : D) (s : Script) (w : World) → StandsAt g first store disk s w → Goes first s w
+
+abbrev pub Standing : {D : Type 0} → Ghosts D → Store → D → (D → Script → Type 0) → Type 0
+Standing {D} g store disk Goes = IsTrue (g.honest disk) → (first : D) (s : Script) → StandsAt g first store disk s s.world → Goes first s
+
+-- whatever the disk, a fault that is replied rose since any earlier moment
+abbrev pub RepliesSo : {D : Type 0} → Ghosts D → (store store' : Store) → (disk disk' : D) → Told → Type 0
+RepliesSo {D} g store store' disk disk' told = TellsSo g store store' disk disk' (λ start. RepliesFault (Ok told) → Rose (g.faults start) (g.faults disk'))
 
 -- what is printed of a line
 pub record IsPrintedOf (asked : Line) (formats : Formats) (reply : Reply) (printed : Printed) : Type 0 where

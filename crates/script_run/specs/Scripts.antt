@@ -36,16 +36,18 @@ use Rattle.script_text.specs.declared.replies.Reply.TheVariants.{Started, More, 
 use Rattle.script_text.specs.Grammar.{IsLine}
 use Rattle.script_text.specs.Replies.{line_of_reply}
 use Rattle.script_text.specs.Stored.{table_of_items, stored_call}
+use Rattle.row_page.specs.Rows.{Row}
 use Rattle.engine_world.specs.Worlds.{World}
 use Rattle.engine_world.specs.Systems.{checkpointed}
 use Rattle.engine.specs.declared.step.Actor.{Actor as EngineActor}
 use Rattle.engine.specs.declared.step.Actor.TheVariants as by
 use Rattle.engine.specs.declared.step.Step.TheVariants as step
-use Rattle.engine.specs.Openings.{no_shelf}
-use Rattle.engine.specs.Runs.{MayStep, StepsOut, IsBuilt}
-use Rattle.engine.specs.Whole.{MayAnswer, with_session_more}
+use Rattle.engine.specs.Runs.{MayStep, IsBuilt}
+use Rattle.engine.specs.Whole.{with_session_more}
 use Rattle.engine_store.specs.Answers.{CheckpointTakes, CloseTakes, Installs, IsLeft, RefusesReopening}
-use Rattle.engine_store.specs.Devices.{Device, Installed, IsLater as IsLaterDevice, may_open_to}
+use Rattle.engine_store.specs.Calls.{EndsBy, MayAnswerOn, MayStepOn}
+use Rattle.engine_store.specs.Devices.{Device, Installed, IsLater as IsLaterDevice, IsRead, may_open_to}
+use Rattle.engine_store.specs.Loads.{IsCause}
 use Rattle.script_run.specs.declared.script.End.{End}
 use Rattle.script_run.specs.declared.script.End.TheVariants.{Through, Stopped, InputFailed, OutputFailed}
 use Rattle.script_run.specs.declared.script.TheConstants.{INPUT_MAX}
@@ -147,14 +149,20 @@ in_script (told.Answer answer) = Answered answer
 abbrev pub Refuses : Refusal → Script → World → Reply → Script → Type 0
 Refuses r s w reply later = (reply ≡ Answered (answers.Refused r)) × (later ≡ record s { world = w })
 
--- the whole call is made
+-- why a leaf is kept from a call, which leaves the device so: memory was short, a read of it failed, or the engine is down
+abbrev pub CauseOn : Script → Device → World → Refusal → Type 0
+CauseOn s device w = IsCause (Rose s.device.faults device.faults) w.machine.fault
+
+-- the whole call is made, and the device read for it
 pub record Answers (made : Call) (s : Script) (formats : Formats) (reply : Reply) (later : Script) (w : World) : Type 0 where
   pub formats_are : formats ≡ formats_in w.machine made
   pub answer : Answer (List ℕ)
   pub next : World
-  pub answered : MayAnswer w (stored_call formats made) answer next
+  pub device : Device
+  pub read : IsRead s.device device
+  pub answered : MayAnswerOn (CauseOn s device w) w (stored_call formats made) answer next
   pub told : reply ≡ Answered answer
-  pub leaves : later ≡ record s { world = next }
+  pub leaves : later ≡ record s { world = next; device = device }
 
 -- what is kept after a call was to start
 abbrev pub kept_after : Told → EngineActor → Formats → List Formats → List Formats
@@ -166,34 +174,39 @@ pub record Begins (made : Call) (s : Script) (formats : Formats) (reply : Reply)
   pub formats_are : formats ≡ formats_in w.machine made
   pub t : Told
   pub next : World
+  pub device : Device
+  pub read : IsRead s.device device
   pub stepped : MayStep w (step.Start (stored_call formats made)) t next
   pub told : reply ≡ in_script t
-  pub leaves : later ≡ record s { world = next; formats = kept_after t (caller made) formats s.formats }
+  pub leaves : later ≡ record s { world = next; device = device; formats = kept_after t (caller made) formats s.formats }
 
--- one step is made
+-- one step is made: a leaf that its call waits for is read first, or kept from it
 pub record Goes (who : EngineActor) (s : Script) (formats : Formats) (reply : Reply) (later : Script) (w : World) : Type 0 where
   pub formats_are : formats ≡ kept_formats who s.formats
   pub t : Told
   pub next : World
-  pub stepped : MayStep w (step.Go who) t next
+  pub device : Device
+  pub read : IsRead s.device device
+  pub stepped : MayStepOn (CauseOn s device w) w (step.Go who) t next
   pub told : reply ≡ in_script t
-  pub leaves : later ≡ record s { world = next }
+  pub leaves : later ≡ record s { world = next; device = device }
 
 -- the steps that are left are made
 pub record Ends (who : EngineActor) (s : Script) (formats : Formats) (reply : Reply) (later : Script) (w : World) : Type 0 where
   pub formats_are : formats ≡ kept_formats who s.formats
-  pub count : ℕ
   pub answer : Answer (List ℕ)
   pub next : World
-  pub stepped : StepsOut count w who answer next
+  pub device : Device
+  pub read : IsRead s.device device
+  pub ended : EndsBy (CauseOn s device w) w who answer next
   pub told : reply ≡ Answered answer
-  pub leaves : later ≡ record s { world = next }
+  pub leaves : later ≡ record s { world = next; device = device }
 
--- ---- lines that reach the device
+-- ---- lines that are asked of the device
 
--- the world of an engine as an opening makes it: no session, and nothing started
-abbrev pub opened_world : Machine → World
-opened_world m = record { machine = m; sessions = []; systems = None ∷ None ∷ None ∷ None ∷ []; shelf = no_shelf }
+-- the world of an engine as an opening makes it, with these rows in leaves that are in no frame: no session, and nothing started
+abbrev pub opened_world : Machine → (ℕ → List Row) → World
+opened_world m shelf = record { machine = m; sessions = []; systems = None ∷ None ∷ None ∷ None ∷ []; shelf = shelf }
 
 -- a line of `sys` that is no call: refused where `sys` has a call that is not finished
 abbrev pub BySystem : Script → Reply → Script → Type 0 → Type 0
@@ -233,7 +246,8 @@ pub record Reopens (s later : Script) : Type 0 where
   pub after : IsLaterDevice s.device device
   pub seen : device.seen ≡ s.device.seen
   pub capacity : device.capacity ≡ s.device.capacity
-  pub leaves : later ≡ record s { world = opened_world (start content); device = device; formats = replicate SESSIONS_MAX plain }
+  pub shelf : ℕ → List Row
+  pub leaves : later ≡ record s { world = opened_world (start content) shelf; device = device; formats = replicate SESSIONS_MAX plain }
 
 -- it is not opened, and the engine before it is the last
 pub record NotReopened (s : Script) (r : Refusal) (later : Script) : Type 0 where

@@ -1,12 +1,11 @@
-// Lines that reach the device: a checkpoint, a close, and an opening anew.
+// Lines that are asked of the device: a checkpoint, a close, and an opening anew.
 ghost use Rattle.std.specs.Prelude.{◌≡◌, ℕ, Bool, false, Ok, IfErr, IsTrue};
-ghost use Rattle.failure.specs.Counts.{Rose};
 ghost use Rattle.disk_model.specs.Crash.{SameDisk};
 ghost use Rattle.recover_open.specs.Damage.{IsDamage};
 ghost use Rattle.wt_code.specs.declared.refusals.Refusal.TheVariants.{Corrupt};
 ghost use Rattle.script_text.specs.declared.line.Line.TheVariants.{Control as ControlLine};
 ghost use Rattle.script_text.specs.declared.line.Control.TheVariants.{Checkpoint as CheckpointLine, Close as CloseLine, Crash as CrashLine};
-ghost use Rattle.script_run.specs.Faults.{NoFault, RepliesFault};
+ghost use Rattle.script_run.specs.Faults.{RepliesFault, TellsFaults};
 ghost use Rattle.script_run.specs.Runs.{IsAt, IsFit, IsTold, RepliedAs};
 ghost use Rattle.script_run.specs.Scripts.{Script, IsLaterControl};
 
@@ -32,8 +31,7 @@ pub(crate) fn control<D: Disk>(
     requires fit { IsFit D.Disk store.old disk.old }
     ensures replies { IsTrue (D.honest disk.old) → (first_disk : D) → (stamped : Bool) → (s : Script) → (IsLaterControl stamped asked → ⊥) → IsAt D.Disk first_disk stamped store.old disk.old s → s.formats ≡ formats.old
         → RepliedAs D.Disk first_disk stamped (ControlLine asked) s store.new disk.new formats.new result }
-    ensures fault { RepliesFault result → Rose (D.faults disk.old) (D.faults disk.new) }
-    ensures quiet { NoFault store.old.engine → NoFault store.new.engine }
+    ensures told { TellsFaults D.Disk store.old store.new disk.old disk.new (λ rose. RepliesFault result → rose) }
     ensures damage { IfErr result (λ r. (at want found : ℕ) → r ≡ Corrupt at want found → IsTrue (D.honest disk.old) → IsDamage (D.seen disk.new) at want found) }
     ensures fit { IsFit D.Disk store.new disk.new }
     ensures disk { SameDisk D.Disk disk.old disk.new }
@@ -49,8 +47,7 @@ pub(crate) fn control<D: Disk>(
 fn checkpoint<D: Disk>(alloc: Global, store: &mut Store, disk: &mut D) -> Told
     requires fit { IsFit D.Disk store.old disk.old }
     ensures replies { IsTrue (D.honest disk.old) → (first_disk : D) → (s : Script) → IsAt D.Disk first_disk false store.old disk.old s → IsTold D.Disk first_disk false (ControlLine CheckpointLine) s store.new disk.new s.formats result }
-    ensures fault { RepliesFault (Ok result) → Rose (D.faults disk.old) (D.faults disk.new) }
-    ensures quiet { NoFault store.old.engine → NoFault store.new.engine }
+    ensures told { TellsFaults D.Disk store.old store.new disk.old disk.new (λ rose. RepliesFault (Ok result) → rose) }
     ensures fit { IsFit D.Disk store.new disk.new }
     ensures disk { SameDisk D.Disk disk.old disk.new }
 {
@@ -73,8 +70,7 @@ fn close<D: Disk>(
     requires fit { IsFit D.Disk store.old disk.old }
     ensures replies { IsTrue (D.honest disk.old) → (first_disk : D) → (s : Script) → IsAt D.Disk first_disk false store.old disk.old s → s.formats ≡ formats.old
         → RepliedAs D.Disk first_disk false (ControlLine CloseLine) s store.new disk.new formats.new result }
-    ensures fault { RepliesFault result → Rose (D.faults disk.old) (D.faults disk.new) }
-    ensures quiet { NoFault store.old.engine → NoFault store.new.engine }
+    ensures told { TellsFaults D.Disk store.old store.new disk.old disk.new (λ rose. RepliesFault result → rose) }
     ensures damage { IfErr result (λ r. (at want found : ℕ) → r ≡ Corrupt at want found → IsTrue (D.honest disk.old) → IsDamage (D.seen disk.new) at want found) }
     ensures fit { IsFit D.Disk store.new disk.new }
     ensures disk { SameDisk D.Disk disk.old disk.new }
@@ -97,8 +93,7 @@ fn reopen<D: Disk>(
 ) -> Result<Told, Refusal>
     requires fit { IsFit D.Disk store.old disk.old }
     ensures replies { IsTrue (D.honest disk.old) → (first_disk : D) → (stamped : Bool) → (s : Script) → IsAt D.Disk first_disk stamped store.old disk.old s → RepliedAs D.Disk first_disk stamped (ControlLine CrashLine) s store.new disk.new formats.new result }
-    ensures fault { RepliesFault result → Rose (D.faults disk.old) (D.faults disk.new) }
-    ensures quiet { NoFault store.old.engine → NoFault store.new.engine }
+    ensures told { TellsFaults D.Disk store.old store.new disk.old disk.new (λ rose. RepliesFault result → rose) }
     ensures damage { IfErr result (λ r. (at want found : ℕ) → r ≡ Corrupt at want found → IsTrue (D.honest disk.old) → IsDamage (D.seen disk.new) at want found) }
     ensures fit { IsFit D.Disk store.new disk.new }
     ensures disk { SameDisk D.Disk disk.old disk.new }
@@ -108,7 +103,6 @@ fn reopen<D: Disk>(
         Ok(()) => {
             calm_stays();
             store.engine.actors();
-            store.engine.has_world();
             *formats = [PLAIN; SESSIONS_MAX];
             Ok(done())
         }

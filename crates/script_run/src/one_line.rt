@@ -1,6 +1,5 @@
 // One line of a script: what it asks for is made, and the line that tells its reply.
 ghost use Rattle.std.specs.Prelude.{◌≡◌, ◌⊎◌, ◌↔◌, ◌<◌, ◌||◌, ◌++◌, ◌∷◌, [], ℕ, Bool, List, false, length, IsTrue, IfOk, IfErr, OnErr};
-ghost use Rattle.failure.specs.Counts.{Rose};
 ghost use Rattle.disk_model.specs.Crash.{SameDisk};
 ghost use Rattle.recover_open.specs.Damage.{IsDamage};
 ghost use Rattle.wt_code.specs.declared.refusals.Refusal.TheVariants.{Corrupt};
@@ -9,8 +8,9 @@ ghost use Rattle.script_text.specs.Replies.{line_of_reply};
 ghost use Rattle.engine_world.specs.Stands.{Stands};
 ghost use Rattle.engine_world.specs.Worlds.{World};
 ghost use Rattle.engine.specs.Runs.{IsBuilt};
-ghost use Rattle.script_run.specs.Faults.{NoFault, RepliesFault};
-ghost use Rattle.script_run.specs.Runs.{IsAnswered, IsAt, IsBegun, IsEnded, IsFit, IsGone, IsKnown, IsOfActor, IsOfKnown, IsReplied, IsThere, LineMade, OpensAs, PrintsFault, RepliedAs, StopsDamaged};
+ghost use Rattle.engine_store.specs.Calls.{CallKeeps, MayAnswerSo, StaysTold, TellsSo};
+ghost use Rattle.script_run.specs.Faults.{RepliesFault, TellsFaults};
+ghost use Rattle.script_run.specs.Runs.{IsAnswerTo, IsAnswered, IsAt, IsBegun, IsEnded, IsFit, IsGone, IsKnown, IsNoSession, IsOfActor, IsOfKnown, IsReplied, IsTaken, IsThere, LineMade, OpensAs, PrintsFault, RepliedAs, RepliesSo, Standing, StandingIn, StandsAt, StopsDamaged};
 ghost use Rattle.script_run.specs.Scripts.{Script, IsLater, IsLaterCall, IsLaterControl, actor_in, call_stamps, caller, formats_in, gives_stamp, in_script, kept_after, kept_formats, kept_more, listed, refusals_in};
 
 use crate::control::control;
@@ -20,7 +20,7 @@ use disk_model::Disk;
 use engine::{Actor, Local, Step};
 use engine_store::Store;
 use failure::NoMemory;
-use item::Formats;
+use item::{Formats, Item};
 use limits::SESSIONS_MAX;
 use script_text::{
     Actor as LineActor, Control, Line, Reply, as_stored, line_of_answer, parse_line, table_of_items,
@@ -64,8 +64,7 @@ pub fn run_line<D: Disk>(
 ) -> Result<Printed, Stop>
     requires fit { IsFit D.Disk store.old disk.old }
     ensures made { IsTrue (D.honest disk.old) → (first_disk : D) → (s : Script) → IsAt D.Disk first_disk stamped store.old disk.old s → s.formats ≡ formats.old → LineMade D.Disk first_disk text.now stamped s store.new disk.new formats.new result }
-    ensures fault { NoFault store.old.engine → PrintsFault result → Rose (D.faults disk.old) (D.faults disk.new) }
-    ensures quiet { NoFault store.old.engine → NoFault store.new.engine }
+    ensures told { TellsFaults D.Disk store.old store.new disk.old disk.new (λ rose. PrintsFault result → rose) }
     ensures damage { IsTrue (D.honest disk.old) → (at want found : ℕ) → StopsDamaged at want found result → IsDamage (D.seen disk.new) at want found }
     ensures fit { IsFit D.Disk store.new disk.new }
     ensures disk { SameDisk D.Disk disk.old disk.new }
@@ -196,8 +195,7 @@ fn reply_to<D: Disk>(
     requires fit { IsFit D.Disk store.old disk.old }
     ensures replies { IsTrue (D.honest disk.old) → (first_disk : D) → (stamped : Bool) → (s : Script) → (IsLater stamped line → ⊥) → IsAt D.Disk first_disk stamped store.old disk.old s → s.formats ≡ formats.old
         → RepliedAs D.Disk first_disk (stamped || gives_stamp line) line s store.new disk.new formats.new result }
-    ensures fault { NoFault store.old.engine → RepliesFault result → Rose (D.faults disk.old) (D.faults disk.new) }
-    ensures quiet { NoFault store.old.engine → NoFault store.new.engine }
+    ensures told { TellsFaults D.Disk store.old store.new disk.old disk.new (λ rose. RepliesFault result → rose) }
     ensures damage { IfErr result (λ r. (at want found : ℕ) → r ≡ Corrupt at want found → IsTrue (D.honest disk.old) → IsDamage (D.seen disk.new) at want found) }
     ensures fit { IsFit D.Disk store.new disk.new }
     ensures disk { SameDisk D.Disk disk.old disk.new }
@@ -206,24 +204,30 @@ fn reply_to<D: Disk>(
         Line::Control(asked) => control(alloc, store, disk, formats, asked),
         line => {
             calm_stays();
-            store.engine.actors();
-            store.engine.has_world();
-            Ok(reply_of(alloc, &mut store.engine, formats.as_mut_slice(), line))
+            Ok(reply_of(alloc, store, disk, formats.as_mut_slice(), line))
         }
     }
 }
 
-// The reply to a line of an actor, which does not reach the disk.
-fn reply_of(alloc: Global, local: &mut Local, formats: &mut [Formats], line: Line) -> Told
+// The reply to a line of an actor, for which the device is read at most.
+fn reply_of<D: Disk>(
+    alloc: Global,
+    store: &mut Store,
+    disk: &mut D,
+    formats: &mut [Formats],
+    line: Line,
+) -> Told
     requires now { IsOfActor line }
     requires actor { IsOfKnown line }
-    ensures { (s : Script) → s.formats ≡ formats.old → Stands local.old s.world → IsReplied line s result local.new formats.new }
+    ensures replied { Standing D.Disk store.old disk.old (λ first_disk s. s.formats ≡ formats.old → IsReplied D.Disk first_disk s store.new disk.new line formats.new result) }
+    ensures told { RepliesSo D.Disk store.old store.new disk.old disk.new result }
+    ensures keeps { CallKeeps D.Disk store.old store.new disk.old disk.new }
 {
     match line {
-        Line::Whole(call) => whole(alloc, local, call),
-        Line::Start(call) => start(alloc, local, formats, call),
-        Line::Step(who) => step(alloc, local, formats, who),
-        Line::Finish(who) => finish(alloc, local, formats, who),
+        Line::Whole(call) => whole(alloc, store, disk, call),
+        Line::Start(call) => start(alloc, store, disk, formats, call),
+        Line::Step(who) => step(alloc, store, disk, formats, who),
+        Line::Finish(who) => finish(alloc, store, disk, formats, who),
         Line::Control(_) => refused(Refusal::NoMemory),
     }
 }
@@ -247,23 +251,29 @@ fn actor_in(who: LineActor) -> Actor
 }
 
 // Opens a session that is used, with all below it.
-fn open(alloc: Global, local: &mut Local, who: Actor) -> Result<(), Refusal>
+fn open<D: Disk>(alloc: Global, store: &mut Store, who: Actor) -> Result<(), Refusal>
     requires { IsKnown who }
-    ensures opens { (w : World) → Stands local.old w → OpensAs who w result local.new }
-    ensures there { IfOk result (λ _. IsThere who local.new) }
+    ensures opens { (disk : D) → StandingIn D.Disk store.old disk (λ first_disk s w. OpensAs who w result (λ v. StandsAt D.Disk first_disk store.new disk s v)) }
+    ensures refused { IfErr result IsNoSession }
+    ensures there { IfOk result (λ _. IsThere who store.new.engine) }
+    ensures told { (disk : D) → StaysTold D.Disk store.old store.new disk disk }
+    ensures keeps { (disk : D) → CallKeeps D.Disk store.old store.new disk disk }
 {
     match who {
         Actor::System(_) => Ok(()),
-        Actor::Session(session) => open_up_to(alloc, local, session),
+        Actor::Session(session) => open_up_to::<D>(alloc, store, session),
     }
 }
 
-fn open_up_to(alloc: Global, local: &mut Local, session: u32) -> Result<(), Refusal>
-    ensures opens { (w : World) → Stands local.old w → OpensAs (Actor.Session session) w result local.new }
-    ensures there { IfOk result (λ _. session < length local.new.sessions) }
+fn open_up_to<D: Disk>(alloc: Global, store: &mut Store, session: u32) -> Result<(), Refusal>
+    ensures opens { (disk : D) → StandingIn D.Disk store.old disk (λ first_disk s w. OpensAs (Actor.Session session) w result (λ v. StandsAt D.Disk first_disk store.new disk s v)) }
+    ensures refused { IfErr result IsNoSession }
+    ensures there { IfOk result (λ _. session < length store.new.engine.sessions) }
+    ensures told { (disk : D) → StaysTold D.Disk store.old store.new disk disk }
+    ensures keeps { (disk : D) → CallKeeps D.Disk store.old store.new disk disk }
 {
-    'opening: while local.sessions() <= session {
-        match local.open_session(alloc) {
+    'opening: while store.engine.sessions() <= session {
+        match store.open_session::<D>(alloc) {
             Ok(_) => {}
             Err(refusal) => return Err(refusal),
         }
@@ -308,58 +318,89 @@ fn keep_formats(formats: &mut [Formats], who: Actor, those: Formats)
     }
 }
 
-fn whole(alloc: Global, local: &mut Local, call: Call) -> Told
+fn whole<D: Disk>(alloc: Global, store: &mut Store, disk: &mut D, call: Call) -> Told
     requires built { IsLaterCall call → ⊥ }
     requires actor { IsKnown (caller call) }
-    ensures { (s : Script) → Stands local.old s.world → IsReplied (WholeLine call) s result local.new s.formats }
+    ensures replied { Standing D.Disk store.old disk.old (λ first_disk s. IsReplied D.Disk first_disk s store.new disk.new (WholeLine call) s.formats result) }
+    ensures told { RepliesSo D.Disk store.old store.new disk.old disk.new result }
+    ensures keeps { CallKeeps D.Disk store.old store.new disk.old disk.new }
 {
-    match open(alloc, local, caller(&call)) {
+    match open::<D>(alloc, store, caller(&call)) {
         Err(refusal) => refused(refusal),
-        Ok(()) => answer(alloc, local, call),
+        Ok(()) => answer(alloc, store, disk, call),
     }
 }
 
 // The whole call, of an actor that is there.
-fn answer(alloc: Global, local: &mut Local, call: Call) -> Told
+fn answer<D: Disk>(alloc: Global, store: &mut Store, disk: &mut D, call: Call) -> Told
     requires built { IsLaterCall call → ⊥ }
-    requires there { IsThere (caller call) local.old }
-    ensures { (s : Script) → (w : World) → Stands local.old w → IsAnswered call s w result local.new }
+    requires there { IsThere (caller call) store.old.engine }
+    ensures replied { StandingIn D.Disk store.old disk.old (λ first_disk s w. IsAnswered D.Disk first_disk s store.new disk.new call w result) }
+    ensures told { RepliesSo D.Disk store.old store.new disk.old disk.new result }
+    ensures keeps { CallKeeps D.Disk store.old store.new disk.old disk.new }
 {
-    local.actors();
-    let formats = formats_in(local, &call);
+    let formats = formats_in(&store.engine, &call);
     match as_stored(alloc, call, formats) {
         Err(_) => refused(Refusal::NoMemory),
         Ok(call) => Told {
-            reply: Reply::Answered(local.call(alloc, call)),
+            reply: Reply::Answered(answer_to(alloc, store, disk, call)),
             formats,
         },
     }
 }
 
-fn start(alloc: Global, local: &mut Local, kept: &mut [Formats], call: Call) -> Told
+fn answer_to<D: Disk>(alloc: Global, store: &mut Store, disk: &mut D, call: Call) -> Answer<Item>
+    requires { IsTaken call store.old.engine }
+    ensures replied { StandingIn D.Disk store.old disk.old (λ first_disk s w. IsAnswerTo D.Disk first_disk s store.new disk.new call w result) }
+    ensures told { TellsSo D.Disk store.old store.new disk.old disk.new (λ start. MayAnswerSo D.Disk start disk.new result) }
+    ensures keeps { CallKeeps D.Disk store.old store.new disk.old disk.new }
+{
+    match call {
+        Call::Session(session, call) => store.call(alloc, disk, session, call),
+        Call::System(number, call) => store.call_system::<D>(alloc, number, call),
+    }
+}
+
+fn start<D: Disk>(
+    alloc: Global,
+    store: &mut Store,
+    disk: &mut D,
+    kept: &mut [Formats],
+    call: Call,
+) -> Told
     requires built { IsLaterCall call → ⊥ }
     requires actor { IsKnown (caller call) }
-    ensures { (s : Script) → s.formats ≡ kept.old → Stands local.old s.world → IsReplied (StartLine call) s result local.new kept.new }
+    ensures replied { Standing D.Disk store.old disk.old (λ first_disk s. s.formats ≡ kept.old → IsReplied D.Disk first_disk s store.new disk.new (StartLine call) kept.new result) }
+    ensures told { RepliesSo D.Disk store.old store.new disk.old disk.new result }
+    ensures keeps { CallKeeps D.Disk store.old store.new disk.old disk.new }
 {
-    match open(alloc, local, caller(&call)) {
+    match open::<D>(alloc, store, caller(&call)) {
         Err(refusal) => refused(refusal),
-        Ok(()) => begin(alloc, local, kept, call),
+        Ok(()) => begin(alloc, store, disk, kept, call),
     }
 }
 
 // The start of a call, of an actor that is there.
-fn begin(alloc: Global, local: &mut Local, kept: &mut [Formats], call: Call) -> Told
+fn begin<D: Disk>(
+    alloc: Global,
+    store: &mut Store,
+    disk: &mut D,
+    kept: &mut [Formats],
+    call: Call,
+) -> Told
     requires built { IsLaterCall call → ⊥ }
-    requires there { IsThere (caller call) local.old }
-    ensures { (s : Script) → (w : World) → s.formats ≡ kept.old → Stands local.old w → IsBegun call s w result local.new kept.new }
+    requires there { IsThere (caller call) store.old.engine }
+    ensures replied { StandingIn D.Disk store.old disk.old (λ first_disk s w. s.formats ≡ kept.old → IsBegun D.Disk first_disk s store.new disk.new call w kept.new result) }
+    ensures told { RepliesSo D.Disk store.old store.new disk.old disk.new result }
+    ensures keeps { CallKeeps D.Disk store.old store.new disk.old disk.new }
 {
-    local.actors();
+    store.engine.actors();
     let who = caller(&call);
-    let formats = formats_in(local, &call);
+    let formats = formats_in(&store.engine, &call);
     match as_stored(alloc, call, formats) {
         Err(_) => refused(Refusal::NoMemory),
         Ok(call) => {
-            let reply = local.step(alloc, Step::Start(call));
+            let reply = store.step(alloc, disk, Step::Start(call));
             keep_after(&reply, kept, who, formats);
             Told {
                 reply: in_script(reply),
@@ -380,50 +421,76 @@ fn keep_after(reply: &call_steps::Reply, kept: &mut [Formats], who: Actor, those
     }
 }
 
-fn step(alloc: Global, local: &mut Local, kept: &[Formats], who: LineActor) -> Told
+fn step<D: Disk>(
+    alloc: Global,
+    store: &mut Store,
+    disk: &mut D,
+    kept: &[Formats],
+    who: LineActor,
+) -> Told
     requires actor { IsKnown (actor_in who) }
-    ensures { (s : Script) → s.formats ≡ kept.now → Stands local.old s.world → IsReplied (StepLine who) s result local.new kept.now }
+    ensures replied { Standing D.Disk store.old disk.old (λ first_disk s. s.formats ≡ kept.now → IsReplied D.Disk first_disk s store.new disk.new (StepLine who) kept.now result) }
+    ensures told { RepliesSo D.Disk store.old store.new disk.old disk.new result }
+    ensures keeps { CallKeeps D.Disk store.old store.new disk.old disk.new }
 {
     let actor = actor_in(who);
-    match open(alloc, local, actor) {
+    match open::<D>(alloc, store, actor) {
         Err(refusal) => refused(refusal),
-        Ok(()) => go(alloc, local, kept, actor),
+        Ok(()) => go(alloc, store, disk, kept, actor),
     }
 }
 
 // A step of an actor that is there.
-fn go(alloc: Global, local: &mut Local, kept: &[Formats], who: Actor) -> Told
-    requires { IsThere who local.old }
-    ensures { (s : Script) → (w : World) → s.formats ≡ kept.now → Stands local.old w → IsGone who s w result local.new }
+fn go<D: Disk>(alloc: Global, store: &mut Store, disk: &mut D, kept: &[Formats], who: Actor) -> Told
+    requires { IsThere who store.old.engine }
+    ensures replied { StandingIn D.Disk store.old disk.old (λ first_disk s w. s.formats ≡ kept.now → IsGone D.Disk first_disk s store.new disk.new who w result) }
+    ensures told { RepliesSo D.Disk store.old store.new disk.old disk.new result }
+    ensures keeps { CallKeeps D.Disk store.old store.new disk.old disk.new }
 {
-    local.actors();
+    store.engine.actors();
     let formats = formats_of(kept, who);
     Told {
-        reply: in_script(local.step(alloc, Step::Go(who))),
+        reply: in_script(store.step(alloc, disk, Step::Go(who))),
         formats,
     }
 }
 
-fn finish(alloc: Global, local: &mut Local, kept: &[Formats], who: LineActor) -> Told
+fn finish<D: Disk>(
+    alloc: Global,
+    store: &mut Store,
+    disk: &mut D,
+    kept: &[Formats],
+    who: LineActor,
+) -> Told
     requires actor { IsKnown (actor_in who) }
-    ensures { (s : Script) → s.formats ≡ kept.now → Stands local.old s.world → IsReplied (FinishLine who) s result local.new kept.now }
+    ensures replied { Standing D.Disk store.old disk.old (λ first_disk s. s.formats ≡ kept.now → IsReplied D.Disk first_disk s store.new disk.new (FinishLine who) kept.now result) }
+    ensures told { RepliesSo D.Disk store.old store.new disk.old disk.new result }
+    ensures keeps { CallKeeps D.Disk store.old store.new disk.old disk.new }
 {
     let actor = actor_in(who);
-    match open(alloc, local, actor) {
+    match open::<D>(alloc, store, actor) {
         Err(refusal) => refused(refusal),
-        Ok(()) => end(alloc, local, kept, actor),
+        Ok(()) => end(alloc, store, disk, kept, actor),
     }
 }
 
 // The steps that are left, of an actor that is there.
-fn end(alloc: Global, local: &mut Local, kept: &[Formats], who: Actor) -> Told
-    requires { IsThere who local.old }
-    ensures { (s : Script) → (w : World) → s.formats ≡ kept.now → Stands local.old w → IsEnded who s w result local.new }
+fn end<D: Disk>(
+    alloc: Global,
+    store: &mut Store,
+    disk: &mut D,
+    kept: &[Formats],
+    who: Actor,
+) -> Told
+    requires { IsThere who store.old.engine }
+    ensures replied { StandingIn D.Disk store.old disk.old (λ first_disk s w. s.formats ≡ kept.now → IsEnded D.Disk first_disk s store.new disk.new who w result) }
+    ensures told { RepliesSo D.Disk store.old store.new disk.old disk.new result }
+    ensures keeps { CallKeeps D.Disk store.old store.new disk.old disk.new }
 {
-    local.actors();
+    store.engine.actors();
     let formats = formats_of(kept, who);
     Told {
-        reply: Reply::Answered(local.finish(alloc, who)),
+        reply: Reply::Answered(store.finish(alloc, disk, who)),
         formats,
     }
 }

@@ -7,10 +7,9 @@ ghost use Rattle.wt_io.specs.Streams.{AtEnd};
 ghost use Rattle.wt_code.specs.declared.refusals.Refusal.TheVariants.{Corrupt};
 ghost use Rattle.engine_world.specs.Worlds.{World};
 ghost use Rattle.ckpt_step.specs.Calm.{IsCalm};
-ghost use Rattle.ckpt_step.specs.Grounds.{IsSteady};
 ghost use Rattle.engine_store.specs.Held.{IsHeld};
-ghost use Rattle.engine_store.specs.Opened.{IsReady};
-ghost use Rattle.script_run.specs.Faults.{NoFault};
+ghost use Rattle.engine_store.specs.Opened.{IsReady, IsWell};
+ghost use Rattle.script_run.specs.Faults.{TellsFaults};
 ghost use Rattle.script_run.specs.Runs.{IsAt, IsFit, IsRunOver, MetFault};
 ghost use Rattle.script_run.specs.Scripts.{Script, counts, first_of, listed, plain};
 ghost use Rattle.script_run.specs.Turns.{HasMoved, IsBehind, LineTurn, MeetsFault, PrintTurn, TurnMade, met_with};
@@ -70,7 +69,7 @@ pub fn run_script<D: Disk, S: Source, K: Sink>(
     out: &mut K,
 ) -> ScriptRun
     requires ready { IsReady store.old }
-    requires steady { IsTrue (D.honest disk.old) → IsSteady D.Disk store.old.engine store.old.ground disk.old }
+    requires well { IsTrue (D.honest disk.old) → IsWell D.Disk store.old disk.old }
     ensures run { IsTrue (D.honest disk.old) → (w : World) → IsHeld D.Disk disk.old store.old disk.old w w.machine.completed [] → IsCalm w → IsRunOver D.Disk S.Source K.Sink input.old input.new out.old out.new w disk.old disk.new store.new result }
     ensures input { result.end ≡ InputFails → Rose (S.fault_count input.old) (S.fault_count input.new) }
     ensures output { result.end ≡ OutputFails → Rose (K.fault_count out.old) (K.fault_count out.new) }
@@ -78,7 +77,6 @@ pub fn run_script<D: Disk, S: Source, K: Sink>(
     ensures damage { IsTrue (D.honest disk.old) → (at want found : ℕ) → result.end ≡ Stops (Corrupt at want found) → IsDamage (D.seen disk.new) at want found }
     ensures disk { SameDisk D.Disk disk.old disk.new }
 {
-    store.engine.has_world();
     let Ok(mut lines) = Lines::new(alloc) else {
         return ScriptRun {
             end: End::Stopped(Refusal::NoMemory),
@@ -188,8 +186,7 @@ fn turn<D: Disk, S: Source, K: Sink>(
     ensures output { K.fault_count out.old ≤ K.fault_count out.new }
     ensures input_fails { IfSome result (λ end. end ≡ InputFails → Rose (S.fault_count input.old) (S.fault_count input.new)) }
     ensures output_fails { IfSome result (λ end. end ≡ OutputFails → Rose (K.fault_count out.old) (K.fault_count out.new)) }
-    ensures fault { NoFault store.old.engine → MeetsFault place.old place.new (Rose (D.faults disk.old) (D.faults disk.new)) result }
-    ensures quiet { NoFault store.old.engine → NoFault store.new.engine }
+    ensures told { TellsFaults D.Disk store.old store.new disk.old disk.new (λ rose. MeetsFault place.old place.new rose result) }
     ensures damage { IsTrue (D.honest disk.old) → (at want found : ℕ) → IfSome result (λ end. end ≡ Stops (Corrupt at want found) → IsDamage (D.seen disk.new) at want found) }
     ensures fit { IsFit D.Disk store.new disk.new }
     ensures disk { SameDisk D.Disk disk.old disk.new }
@@ -220,8 +217,7 @@ fn run_and_print<D: Disk, K: Sink>(
     ensures early { IfSome result (λ end. (end ≡ End.Through → ⊥) × (end ≡ InputFails → ⊥)) }
     ensures output { K.fault_count out.old ≤ K.fault_count out.new }
     ensures output_fails { IfSome result (λ end. end ≡ OutputFails → Rose (K.fault_count out.old) (K.fault_count out.new)) }
-    ensures fault { NoFault store.old.engine → MeetsFault place.old place.new (Rose (D.faults disk.old) (D.faults disk.new)) result }
-    ensures quiet { NoFault store.old.engine → NoFault store.new.engine }
+    ensures told { TellsFaults D.Disk store.old store.new disk.old disk.new (λ rose. MeetsFault place.old place.new rose result) }
     ensures damage { IsTrue (D.honest disk.old) → (at want found : ℕ) → IfSome result (λ end. end ≡ Stops (Corrupt at want found) → IsDamage (D.seen disk.new) at want found) }
     ensures fit { IsFit D.Disk store.new disk.new }
     ensures disk { SameDisk D.Disk disk.old disk.new }

@@ -12,7 +12,7 @@ use Rattle.wt_tool.specs.Points.{Ran, Did, ends, stops, prints, tells}
 use Rattle.wt_tool.specs.Reads.{GetsKeys, ReadsKeys, the_get, printed_of}
 use Rattle.wt_tool.specs.Parts.{at}
 use Rattle.wt_tool.specs.Fresh.{opened_fresh, begun_fresh, key_in, MayGive}
-use Rattle.wt_tool.proofs.Called.{same_device, keeps_same}
+use Rattle.wt_tool.proofs.Beside.{keeps_same, same_device}
 use Rattle.wt_tool.proofs.Gets.{behind}
 use Rattle.wt_tool.proofs.Fresh.{opens, begins, gives}
 

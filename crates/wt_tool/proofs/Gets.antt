@@ -23,7 +23,7 @@ use Rattle.wt_tool.specs.Openings.{formats_at}
 use Rattle.wt_tool.specs.Reads.{GetsKeys, ReadsKeys, the_get}
 use Rattle.wt_tool.specs.Parts.{NoDamage, Reading, at}
 use Rattle.wt_tool.specs.Top.{Errors, Printed, Telling, Tells, IsCut, lines, last_line, status_of, status_by}
-use Rattle.wt_tool.proofs.Called.{short_get}
+use Rattle.wt_tool.proofs.Beside.{short_get}
 
 -- ---- keys
 

@@ -1,3 +1,4 @@
+mod Beside
 mod Called
 mod Closings
 mod Dumping
@@ -6,14 +7,18 @@ mod Fresh
 mod FreshRuns
 mod Gets
 mod Going
+mod Holding
 mod Leading
 mod Leaving
+mod LoadEnds
 mod Loading
 mod Listing
 mod Naming
 mod Pieces
 mod Putting
+mod Quiet
 mod ScriptRuns
 mod Running
+mod Went
 mod Verifying
 mod Ways

@@ -1,5 +1,5 @@
 -- What a run of a command is to the definitions.
-use Rattle.std.specs.Prelude.{◌≡◌, ◌⊎◌, ℕ, Bool, not, ◌+◌, ◌<◌, List, [], ◌∷◌, ◌++◌, filter, length, Option, MatchOption, Some, None, IfErr, IfOk, OnOk, Result, Ok, Err, refl}
+use Rattle.std.specs.Prelude.{◌≡◌, ◌⊎◌, ℕ, Bool, not, ◌+◌, ◌<◌, List, [], ◌∷◌, ◌++◌, filter, length, Option, MatchOption, Some, None, IfErr, OnOk, Result, Ok, Err, refl}
 use Rattle.std.proofs.Common.{inl, inr, sym, ap, subst, ◌∙◌, arith}
 use Rattle.std.specs.List.{AllByRecursion}
 use Rattle.std.proofs.lemmas.List.{append-nil}
@@ -19,14 +19,16 @@ use Rattle.turtle.proofs.Choice.{chooses_one}
 use Rattle.kv_model.specs.History.{Table}
 use Rattle.checkpoint_core.specs.Stands.{HasStill}
 use Rattle.device_leaf.specs.Closings.{content_was}
+use Rattle.tree_dir.specs.declared.leaf.Leaf.{Leaf}
 use Rattle.tree_open.specs.declared.place.TreePlace.{TreePlace}
 use Rattle.recover_open.specs.Bare.{IsBare}
 use Rattle.stored.specs.Records.{Record}
 use Rattle.recover_open.proofs.Devices.{damage_no_content, kept_is}
 use Rattle.recover_open.proofs.Steps.{refused_further}
 use Rattle.ckpt_step.specs.Grounds.{AreRoots}
+use Rattle.ckpt_step.specs.Rooms.{Written, known_in}
 use Rattle.engine_store.specs.declared.store.Store.{Store}
-use Rattle.engine_store.specs.Opened.{HasNumbers, IsOpened, OpenRefused}
+use Rattle.engine_store.specs.Opened.{HasNumbers, OpenRefused}
 use Rattle.stored.proofs.Device.{one_content, one_stored}
 use Rattle.device_read.specs.Readers.{Held, IsReaderOf}
 use Rattle.device_read.specs.Refusals.{HasNumbers as HasNumbersLeft, LeafIsAtFault, OpenRefused as ReaderRefused}
@@ -41,7 +43,7 @@ use Rattle.wt_tool.specs.Damaged.{DumpsTableOn, ReadsKeysOn, RunsDumpOn, RunsOn,
 use Rattle.wt_tool.specs.Dumps.{DumpsTable, RunsDump, form_of, way_of}
 use Rattle.wt_tool.specs.Reads.{ReadsKeys, RunsRead}
 use Rattle.wt_tool.specs.Words.{name_in}
-use Rattle.wt_tool.specs.Parts.{at, NoDamage, IsOpenedOn, Starts, Leaves, Loading, Reading, Scripting, met_of, end_of, silent_run}
+use Rattle.wt_tool.specs.Parts.{at, NoDamage, NoneOf, IsOpenedOn, Leaves, Loading, Reading, Scripting, met_of, end_of, silent_run}
 use Rattle.wt_tool.specs.Loads.{RunsLoad}
 use Rattle.wt_tool.specs.Top.{Went, WentOn, Telling, IsOpenable, IsOpenableFor, IsReadable, IsSo, IsSoFor, IsStatus, Tells, IsTold, IsCut, Streams, Errors, lines, last_line, status_of, first_status, status_at}
 use Rattle.engine_store.specs.Images.{OpensToLast, Stays}
@@ -58,8 +60,8 @@ run_below : (old : Option Stored) → HasNumbers old → (content_was old).run <
 run_below None numbers = omega (arith)
 run_below (Some s) numbers = numbers.0
 
-bare_still : (known : List Table) (places : List TreePlace) (s : Stored) → AreRoots known places (Some s) → IsBare s.kept
-bare_still known places s roots = roots.bare
+bare_still : (known : List Table) (leaves : List Leaf) (written : Written) (places : List TreePlace) (s : Stored) → AreRoots known leaves written places (Some s) → IsBare s.kept
+bare_still known leaves written places s roots = roots.bare
 
 -- of a store that was opened on a disk which was looked at
 module _ {D : Type 0} (g : Ghosts D) (old mid : D) (s : Store) (looked : Looked g old mid) (opened : IsOpenedOn g mid s) where
@@ -78,21 +80,10 @@ module _ {D : Type 0} (g : Ghosts D) (old mid : D) (s : Store) (looked : Looked 
 
     pub may_open : MayOpen (point_of g (start content) old)
     may_open = record {
-      narrow = λ wide. wide.2 (bare_still s.engine.hub.tables.tables s.ground.trees.items wide.0 (subst (λ (o : Option Stored). AreRoots s.engine.hub.tables.tables s.ground.trees.items o) (one_there wide.0 wide.1) opened.on.roots));
+      narrow = λ wide. wide.2 (bare_still _ _ _ _ wide.0 (subst (λ (o : Option Stored). AreRoots s.engine.hub.tables.tables s.engine.hub.dir.leaves (known_in s.ground.parts) s.ground.trees.items o) (one_there wide.0 wide.1) opened.on.roots));
       numbers = λ used. absurd (omega (arith, used.2, (subst (λ (o : Option Stored). HasNumbers o) (one_there used.0 used.1) opened.numbers).1));
       run = λ same. omega (arith, same, subst (λ (c : Content). c.run < last_number) (sym was) (run_below opened.old opened.numbers));
     }
-
-    -- the engine starts on the content
-    pub starts_on : Starts content s.engine
-    starts_on = subst (λ (c : Content). Starts c s.engine) (sym was) opened.starts
-
-pub ok_map : {T E : Type 0} {P Q : T → Type 0} (r : Result T E) → IfOk r P → ((x : T) → P x → Q x) → IfOk r Q
-ok_map (Ok x) is more = more x is
-ok_map (Err e) is more = tt
-
-pub opened_on : {D : Type 0} (g : Ghosts D) (disk : D) (s : Store) → IsOpened (g.seen disk) (g.may_leave disk) s → IsOpenedOn g disk s
-opened_on g disk s opened = record { old = opened.old; numbers = opened.numbers; on = opened.on; floor = opened.floor; starts = opened.world }
 
 -- a refusal of an opening that began later
 pub open_further : (fault later : Type 0) (h k : Type 0) (bytes : List ℕ) (r : Refusal) → OpenRefused later k bytes r → (later → fault) → (h → k) → OpenRefused fault h bytes r
@@ -304,28 +295,35 @@ telling P e result status told each = record { refusals = met_of result; each = 
 
 -- ---- what is told of damage
 
-pub no_damage_so : (honest : Type 0) (before now : List ℕ) (r : Refusal) → NoDamage r → IsSo honest before now r
+no_damage_so : (honest : Type 0) (before now : List ℕ) (r : Refusal) → NoDamage r → IsSo honest before now r
 no_damage_so honest before now (Corrupt at want found) none = absurd none
 no_damage_so honest before now _ none = tt
 
-pub told_so : (honest : Type 0) (before now : List ℕ) (e : Errors) (status : ℕ) → Telling NoDamage e status → Telling (IsSo honest before now) e status
-told_so honest before now e status t = record { refusals = t.refusals; each = each t.refusals t.each; replies = t.replies; end = t.end; told = t.told }
-  where
-    each : (met : List Refusal) → AllByRecursion NoDamage met → AllByRecursion (IsSo honest before now) met
-    each [] none = tt
-    each (r ∷ met) none = (no_damage_so honest before now r none.0, each met none.1)
+-- nor of an honest disk, where that is known
+pub none_so : (known honest : Type 0) (before now : List ℕ) (r : Refusal) → (honest → known) → NoneOf known r → IsSo honest before now r
+none_so known honest before now (Corrupt at want found) is none = λ h. absurd (none (is h))
+none_so known honest before now _ is none = tt
 
 -- of a command
 pub so_for : (asked : Asked) (honest : Type 0) (before now : List ℕ) (r : Refusal) → IsSo honest before now r → IsSoFor asked honest before now r
 so_for asked honest before now (Corrupt at_place want found) so = λ h. elim (so h) [ inl before_it ↦ inl before_it | inr after_it ↦ inr (inl after_it) ]
 so_for asked honest before now _ so = tt
 
-pub telling_for : (asked : Asked) (honest : Type 0) (before now : List ℕ) (e : Errors) (status : ℕ) → Telling (IsSo honest before now) e status → Telling (IsSoFor asked honest before now) e status
-telling_for asked honest before now e status t = record { refusals = t.refusals; each = each t.refusals t.each; replies = t.replies; end = t.end; told = t.told }
+telling_as : (P Q : Refusal → Type 0) (e : Errors) (status : ℕ) → ((r : Refusal) → P r → Q r) → Telling P e status → Telling Q e status
+telling_as P Q e status more t = record { refusals = t.refusals; each = each t.refusals t.each; replies = t.replies; end = t.end; told = t.told }
   where
-    each : (met : List Refusal) → AllByRecursion (IsSo honest before now) met → AllByRecursion (IsSoFor asked honest before now) met
+    each : (met : List Refusal) → AllByRecursion P met → AllByRecursion Q met
     each [] so = tt
-    each (r ∷ met) so = (so_for asked honest before now r so.0, each met so.1)
+    each (r ∷ met) so = (more r so.0, each met so.1)
+
+pub told_so : (honest : Type 0) (before now : List ℕ) (e : Errors) (status : ℕ) → Telling NoDamage e status → Telling (IsSo honest before now) e status
+told_so honest before now e status t = telling_as NoDamage (IsSo honest before now) e status (no_damage_so honest before now) t
+
+pub loaded_so : (known honest : Type 0) (before now : List ℕ) (e : Errors) (status : ℕ) → (honest → known) → Telling (NoneOf known) e status → Telling (IsSo honest before now) e status
+loaded_so known honest before now e status is t = telling_as (NoneOf known) (IsSo honest before now) e status (λ r none. none_so known honest before now r is none) t
+
+pub telling_for : (asked : Asked) (honest : Type 0) (before now : List ℕ) (e : Errors) (status : ℕ) → Telling (IsSo honest before now) e status → Telling (IsSoFor asked honest before now) e status
+telling_for asked honest before now e status t = telling_as (IsSo honest before now) (IsSoFor asked honest before now) e status (so_for asked honest before now) t
 
 -- damage that an opening tells is there
 pub opening_so : (fault known : Type 0) (bytes now : List ℕ) (r : Refusal) → OpenRefused fault known bytes r → IsSo known bytes now r

@@ -4,59 +4,20 @@ use Rattle.std.proofs.Common.{inl, inr, sym, subst, arith}
 use Rattle.std.specs.List.{AllByRecursion}
 use Rattle.std.specs.Option.{option_to_list}
 use Rattle.disk_model.specs.declared.disk.Disk.{Ghosts}
-use Rattle.disk_model.proofs.Crash.{started, widened}
 use Rattle.wt_code.specs.declared.refusals.Refusal.{Refusal}
 use Rattle.wt_code.specs.declared.refusals.Refusal.TheVariants.{Corrupt, DiskFault, NoMemory}
 use Rattle.recover_open.specs.Damage.{IsDamage}
-use Rattle.kv_model.specs.Content.{Content, start, OpensAs}
-use Rattle.device_leaf.specs.Closings.{content_was}
-use Rattle.engine_world.specs.Stands.{Engine, Stands}
-use Rattle.engine.specs.Openings.{first_world}
-use Rattle.engine_world.specs.Worlds.{World}
-use Rattle.ckpt_step.specs.Calm.{IsCalm, StartsCalm}
-use Rattle.ckpt_step.specs.Plain.{IsPlain, StartsPlain}
+use Rattle.kv_model.specs.Content.{Content, start}
+use Rattle.row_page.specs.Rows.{Row}
 use Rattle.engine_store.specs.declared.store.Store.{Store}
-use Rattle.engine_store.specs.Held.{IsHeld}
-use Rattle.engine_store.specs.Images.{EachReads}
-use Rattle.stored.specs.Stored.{Reads}
 use Rattle.script_run.specs.declared.script.End.{End}
 use Rattle.script_run.specs.declared.script.End.TheVariants.{Through, Stopped, InputFailed, OutputFailed}
 use Rattle.script_run.specs.declared.script.ScriptRun.{ScriptRun}
 use Rattle.script_run.specs.Scripts.{Outside, counts, first_of, opened_world}
 use Rattle.script_run.specs.Runs.{IsRun}
 use Rattle.wt_tool.specs.Scripts.{told_at, ran_by}
-use Rattle.wt_tool.specs.Parts.{HasStarted, IsOpenedOn, Scripting, TellsEnd}
+use Rattle.wt_tool.specs.Parts.{Scripting, TellsEnd}
 use Rattle.wt_tool.specs.Top.{Errors, IsSo, IsStatus, Streams, Telling, Tells, lines, last_line, status_at, status_of, first_status}
-use Rattle.wt_tool.proofs.Closings.{start_opens}
-use Rattle.wt_tool.proofs.Leaving.{follows_opened, opened_plain, opened_reads}
-
--- ---- before the first line
-
-module _ {D : Type 0} (g : Ghosts D) (disk : D) (s : Store) (on : IsOpenedOn g disk s) (content : Content) (each : EachReads (g.may_leave disk) content) (seen : Reads (g.seen disk) content) where
-  same : content_was on.old ≡ content
-  same = opened_reads g disk s on content seen
-
-  abbrev first : World
-  first = first_world content s.engine
-
-  -- the device has what the engine started on
-  pub first_held : ((c : List ℕ) → g.left_since disk (g.moment disk) c → g.may_leave disk c) → IsHeld g disk s disk first first.machine.completed []
-  first_held now =
-      let opens : OpensAs (content_was on.old) (start content).completed = subst (λ (c : Content). OpensAs c (start content).completed) (sym same) (start_opens content each.1) in
-      record {
-        stands = subst (λ (c : Content). Stands s.engine (first_world c s.engine)) same on.starts;
-        idle = refl;
-        on = λ up. record { old = on.old; on = on.on; follows = follows_opened g disk s on first.machine; opens = opens; one = (first.machine.completed, inl refl, opens) };
-        images = λ c image. (first.machine.completed, inl refl, (content, each.0 c image, start_opens content each.1));
-        last = inl (content, each, start_opens content each.1);
-        ever = widened g disk disk _ _ (started g disk (λ c. Reads c content) (λ c left. each.0 c (now c left))) (λ c reads. inl (content, reads, start_opens content each.1));
-        stays = tt;
-        past = tt;
-      }
-
-  -- no commit had a stamp
-  pub first_calm : StartsPlain → StartsCalm → IsCalm first
-  first_calm plain calm = calm content s.engine (subst (λ (c : Content). IsPlain (start c)) same (opened_plain g disk s plain on).plain)
 
 -- ---- what is a run of it
 
@@ -73,10 +34,6 @@ first_counts (Stopped r) rs = refl
 first_counts InputFailed rs = refl
 first_counts OutputFailed rs = refl
 
--- an engine that has just started has no session
-pub no_sessions : (e : Engine) → HasStarted e → length e.sessions ≡ 0
-no_sessions e (content, stands) = stands.count
-
 -- four actors that have started nothing
 pub four_rest : {A B : Type 0} (xs : List A) → length xs ≡ 4 → let none : Option B = None in map (λ (x : A). none) xs ≡ none ∷ none ∷ none ∷ none ∷ []
 four_rest [] is = absurd (omega (arith, is))
@@ -87,11 +44,11 @@ four_rest (a ∷ b ∷ c ∷ d ∷ []) is = refl
 four_rest (a ∷ b ∷ c ∷ d ∷ e ∷ xs) is = absurd (omega (arith, is))
 
 -- on an engine and its device, which stand for what was opened
-pub scripted : {D : Type 0} (g : Ghosts D) (o : Outside) (content : Content) (w : Streams) (before after : D) (s : Store) (told : ScriptRun) (status : ℕ)
-    → IsRun g o w.in_before w.in_now w.out_before w.out_now (opened_world (start content)) before after s told → TellsEnd w.errors told.end told.met status → Scripting g o content w before after status
-scripted g o content w before after s told status run tells = record {
+pub scripted : {D : Type 0} (g : Ghosts D) (o : Outside) (content : Content) (shelf : ℕ → List Row) (w : Streams) (before after : D) (s : Store) (told : ScriptRun) (status : ℕ)
+    → IsRun g o w.in_before w.in_now w.out_before w.out_now (opened_world (start content) shelf) before after s told → TellsEnd w.errors told.end told.met status → Scripting g o content w before after status
+scripted g o content shelf w before after s told status run tells = record {
   ran = ran_by run.given run.ran;
-  run = record { given = run.given; texts = run.texts; behind = run.behind; ended = run.ended; at_end = run.at_end; lines = run.lines; made = run.ran; runs = run.runs; whole = run.whole; is = refl };
+  run = record { given = run.given; texts = run.texts; behind = run.behind; ended = run.ended; at_end = run.at_end; lines = run.lines; shelf = shelf; made = run.ran; runs = run.runs; whole = run.whole; is = refl };
   there = run.device;
   taken = run.gave;
   printed = inl run.took;

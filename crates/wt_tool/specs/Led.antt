@@ -1,45 +1,63 @@
--- To what the calls of a command lead an engine, whatever the disk.
-use Rattle.std.specs.Prelude.{◌≡◌, ℕ, List, ◌++◌, None, Result, Ok, Err}
-use Rattle.item.specs.declared.formats.Formats.{Formats}
+-- To what the calls of a command lead the store that it holds, and its disk.
+use Rattle.std.specs.Prelude.{◌≡◌, ◌≤◌, ℕ, List, [], None, Result, Ok, Err, IfErr, IsTrue, slice_index_or}
+use Rattle.disk_model.specs.Crash.{Looked}
+use Rattle.disk_model.specs.declared.disk.Disk.{Ghosts}
 use Rattle.wt_code.specs.declared.answers.Answer.TheVariants.{Done, Refused}
 use Rattle.wt_code.specs.declared.refusals.Refusal.{Refusal}
-use Rattle.wt_code.specs.declared.refusals.Refusal.TheVariants.{Corrupt, DiskFault}
-use Rattle.kv_model.specs.History.{Table}
-use Rattle.kv_model.specs.Calls.{Session, System, Call, Begin, PutKey, Commit, Create, OpensSession}
-use Rattle.kv_model.specs.Machine.{Machine}
-use Rattle.engine_world.specs.Stands.{Engine, Stands}
-use Rattle.engine_world.specs.Worlds.{World}
-use Rattle.ckpt_step.specs.Plain.{IsPlain, GoesPlain}
+use Rattle.kv_model.specs.Calls.{Actor, Session, Call, Begin, PutKey, Commit, OpensSession}
 use Rattle.kv_model.specs.Decisions.{Demand}
-use Rattle.wt_tool.specs.Points.{Point, Ran, Did, Calls, stops}
-use Rattle.engine_store.specs.Devices.{Device}
+use Rattle.kv_model.specs.Machine.{Completed}
+use Rattle.engine_world.specs.Worlds.{World, Resting, doing_of}
+use Rattle.ckpt_step.specs.Plain.{IsPlain}
+use Rattle.engine_store.specs.declared.store.Store.{Store}
+use Rattle.engine_store.specs.Calls.{AreToldSo, MayTell}
+use Rattle.engine_store.specs.Held.{IsHeld}
+use Rattle.script_run.specs.Runs.{IsFit}
+use Rattle.wt_tool.specs.Points.{Point, Ran, Did, Calls, point_of, stops}
 use Rattle.wt_tool.specs.Writes.{PutsPairs, the_put}
-use Rattle.wt_tool.specs.Parts.{IsQuiet, at}
 
--- it tells neither of damage nor of the disk
-abbrev pub IsMild : Refusal → Type 0
-IsMild (Corrupt at want found) = ⊥
-IsMild DiskFault = ⊥
-IsMild _ = Unit {0}
+-- each session rests, and no actor has started a call
+pub record IsQuiet (w : World) : Type 0 where
+  pub sessions : (session : ℕ) → doing_of w session ≡ Resting
+  pub systems : (number : ℕ) → slice_index_or w.systems number None ≡ None
 
--- the engine has its run, and its tables, with maybe more behind them
-pub record Grows (old new : Engine) : Type 0 where
-  pub run : new.hub.txns.run ≡ old.hub.txns.run
-  pub more : List Table
-  pub tables : new.hub.tables.tables ≡ old.hub.tables.tables ++ more
+-- start: the disk as the command opened it; first: the checkpoint that it had then
+module _ {D : Type 0} (g : Ghosts D) (start_disk : D) (first : Completed) where
+  -- The command holds its store between two calls: it installed no checkpoint, no commit had a stamp, and the engine is up.
+  pub record Holds (s : Store) (disk : D) (w : World) : Type 0 where
+    pub held : IsHeld g start_disk s disk w first []
+    pub quiet : IsQuiet w
+    pub plain : IsPlain w.machine
+    pub completed : w.machine.completed ≡ first
+    pub up : w.machine.fault ≡ None
 
--- calls led the engine from a quiet world to a later one, and took no checkpoint
-pub record Leads (old new : Engine) (w later : World) : Type 0 where
-  pub stands : Stands new later
-  pub quiet : IsQuiet later
-  pub completed : later.machine.completed ≡ w.machine.completed
-  pub grows : Grows old new
-  pub plain : IsPlain w.machine → GoesPlain w.machine later.machine
+  -- of a store that the command has after calls
+  module _ (w : World) (s' : Store) (before after : D) where
+    -- what is run from a later world on is put behind them; or a refusal ends the run there
+    abbrev pub LedBy : (Run Rest : Point → Ran → Type 0) → Result (Unit {0}) Refusal → Type 0
+    LedBy Run Rest (Ok done) = (later : World) × Holds s' after later × ((ran : Ran) → Rest (point_of g later.machine after) ran → Run (point_of g w.machine before) ran)
+    LedBy Run Rest (Err r) = (later : World) × Holds s' after later × Run (point_of g w.machine before) (stops r (point_of g later.machine after))
 
--- So led, a run that goes on from the later world is one from the first; or a refusal ends it there.
-abbrev pub LedBy : (Run Rest : Point → Ran → Type 0) → Engine → Engine → World → Result (Unit {0}) Refusal → Type 0
-LedBy Run Rest old new w (Ok done) = (later : World) × Leads old new w later × ((d : Device) (ran : Ran) → Rest (at d later.machine) ran → Run (at d w.machine) ran)
-LedBy Run Rest old new w (Err r) = (later : World) × Leads old new w later × IsMild r × ((d : Device) → Run (at d w.machine) (stops r (at d later.machine)))
+    -- a call that gives nothing is done, or refused
+    abbrev pub DoneBy : Actor → Call → Result (Unit {0}) Refusal → Type 0
+    DoneBy actor call (Ok done) = (later : World) × Holds s' after later × Did (point_of g w.machine before) actor call Done (point_of g later.machine after)
+    DoneBy actor call (Err r) = (later : World) × Holds s' after later × Did (point_of g w.machine before) actor call (Refused r) (point_of g later.machine after)
+
+    -- a session is opened, or refused
+    abbrev pub OpenedBy : Result (Unit {0}) Refusal → Type 0
+    OpenedBy (Ok done) = (later : World) × Holds s' after later × OpensSession w.machine Done later.machine
+    OpenedBy (Err r) = (later : World) × Holds s' after later × OpensSession w.machine (Refused r) later.machine
+
+-- on an honest disk, of each world for which the store that is held stands
+abbrev pub Leading : {D : Type 0} → Ghosts D → Store → D → (D → Completed → World → Type 0) → Type 0
+Leading {D} g s before Goes = IsTrue (g.honest before) → (start : D) (first : Completed) (w : World) → Holds g start first s before w → Goes start first w
+
+-- Whatever the disk: what a refusal tells may be told since any earlier moment, and so may what calls keep. The store stays fit, and the disk was looked at alone.
+pub record CallWent {D : Type 0} (g : Ghosts D) (s s' : Store) (before after : D) (result : Result (Unit {0}) Refusal) : Type 0 where
+  pub told : IsFit g s before → (start : D) → g.faults start ≤ g.faults before → AreToldSo g start s.engine before → IfErr result (MayTell g start after) × AreToldSo g start s'.engine after
+  pub fit : IsFit g s before → IsFit g s' after
+  pub looked : Looked g before after
+  pub home : g.home after ≡ g.home before
 
 -- the calls of a transaction that give nothing
 abbrev pub IsWord : Call → Type 0
@@ -47,21 +65,6 @@ IsWord (Begin None) = Unit {0}
 IsWord (PutKey table key value demand) = Unit {0}
 IsWord (Commit None None) = Unit {0}
 IsWord _ = ⊥
-
--- such a call is done, or refused
-abbrev pub DoneBy : Call → Machine → Machine → Result (Unit {0}) Refusal → Type 0
-DoneBy call m next (Ok done) = (d : Device) → Did (at d m) (Session 0) call Done (at d next)
-DoneBy call m next (Err r) = IsMild r × ((d : Device) → Did (at d m) (Session 0) call (Refused r) (at d next))
-
--- a table is made, or is not
-abbrev pub MadeBy : List ℕ → Formats → Machine → Machine → Result (Unit {0}) Refusal → Type 0
-MadeBy name formats m next (Ok done) = (d : Device) → Did (at d m) (System 0) (Create name formats) Done (at d next)
-MadeBy name formats m next (Err r) = IsMild r × ((d : Device) → Did (at d m) (System 0) (Create name formats) (Refused r) (at d next))
-
--- a session is opened, or refused
-abbrev pub OpenedBy : Machine → Machine → Result (Unit {0}) Refusal → Type 0
-OpenedBy m next (Ok done) = OpensSession m Done next
-OpenedBy m next (Err r) = IsMild r × OpensSession m (Refused r) next
 
 -- what is run of a pair once its transaction has begun
 abbrev pub PutsBegun : List ℕ → Demand → List ℕ × List ℕ → List (List ℕ × List ℕ) → Point → Ran → Type 0

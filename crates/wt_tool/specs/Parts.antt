@@ -1,33 +1,26 @@
 -- What the private functions of the commands leave.
-use Rattle.std.specs.Prelude.{◌≡◌, ◌≢◌, ℕ, Bool, List, [], ◌∷◌, ◌++◌, filter, Option, None, slice_index_or, Result, Ok, Err, ◌⊎◌, IsTrue}
+use Rattle.std.specs.Prelude.{◌≡◌, ℕ, Bool, List, [], ◌∷◌, ◌++◌, filter, Option, Result, Ok, Err, ◌⊎◌, IsTrue}
 use Rattle.std.specs.Option.{option_to_list}
 use Rattle.failure.specs.Counts.{Rose}
 use Rattle.disk_model.specs.Crash.{LeavesOnly}
 use Rattle.disk_model.specs.declared.disk.Disk.{Ghosts}
 use Rattle.wt_code.specs.declared.refusals.Refusal.{Refusal}
 use Rattle.wt_code.specs.declared.refusals.Refusal.TheVariants.{Corrupt, DiskFault, NoMemory}
-use Rattle.kv_model.specs.Machine.{Machine}
+use Rattle.kv_model.specs.Machine.{Machine, Completed}
 use Rattle.kv_model.specs.Content.{Content, start}
 use Rattle.wt_io.specs.Streams.{AtEnd, Gave}
 use Rattle.wt_io.specs.declared.streams.Source.{Ghosts as SourceGhosts}
 use Rattle.wt_io.specs.declared.streams.Sink.{Ghosts as SinkGhosts}
-use Rattle.row_page.specs.Greatest.{no_name}
-use Rattle.engine_world.specs.Stands.{Engine, Stands}
-use Rattle.engine.specs.Openings.{first_world}
 use Rattle.script_run.specs.declared.script.End.{End}
 use Rattle.script_run.specs.declared.script.End.TheVariants.{Through, Stopped, InputFailed, OutputFailed}
 use Rattle.script_run.specs.Scripts.{Outside, outside, counts}
-use Rattle.engine_world.specs.Worlds.{World, Resting, doing_of}
-use Rattle.stored.specs.Stored.{Stored, Reads}
-use Rattle.device_leaf.specs.Closings.{content_was}
-use Rattle.ckpt_step.specs.Grounds.{StandsOn}
-use Rattle.ckpt_step.specs.Plain.{IsPlain}
+use Rattle.stored.specs.Stored.{Reads}
 use Rattle.engine_store.specs.declared.store.Store.{Store}
-use Rattle.engine_store.specs.Opened.{HasNumbers}
+use Rattle.engine_store.specs.Opened.{IsOpened}
 use Rattle.device_read.specs.Refusals.{LeafIsAtFault}
 use Rattle.wt_line.specs.Line.{Asked}
 use Rattle.device_read.specs.Spoilt.{IsSpoiltFrom}
-use Rattle.wt_tool.specs.Points.{Point, Ran, point_of, stops, Closes}
+use Rattle.wt_tool.specs.Points.{Point, Ran, point_of}
 use Rattle.wt_tool.specs.Commands.{IsByReader}
 use Rattle.wt_tool.specs.Damaged.{device_on, point_on}
 use Rattle.engine_store.specs.Devices.{Device, Installed, device_of}
@@ -40,6 +33,11 @@ use Rattle.engine_store.specs.Images.{OpensToLast, OpensToOne, Stays, EachReads}
 abbrev pub NoDamage : Refusal → Type 0
 NoDamage (Corrupt at want found) = ⊥
 NoDamage _ = Unit {0}
+
+-- it tells of no damage of an honest disk
+abbrev pub NoneOf : (honest : Type 0) → Refusal → Type 0
+NoneOf honest (Corrupt at want found) = honest → ⊥
+NoneOf honest _ = Unit {0}
 
 -- why a disk is not attached
 abbrev pub IsOfAttach : Refusal → Type 0
@@ -58,14 +56,18 @@ end_of (Err r) = Stopped r
 abbrev pub silent_run : Result (Unit {0}) Refusal → List Installed → Point → Ran
 silent_run result made next = record { input = []; text = []; refusals = met_of result; replies = []; made = made; next = next; end = end_of result }
 
--- such a run from this machine on that the definitions allow, and the device that it left, at each moment and in each image
-pub record LeavesAt {D : Type 0} (g : Ghosts D) (Allowed : Point → Ran → Type 0) (m : Machine) (old new : D) (result : Result (Unit {0}) Refusal) : Type 0 where
+-- Such a run from this point on that the definitions allow, and the device that it left, at each moment and in each image. start: the disk as the command began; first: the checkpoint that it had.
+pub record IsLeft {D : Type 0} (g : Ghosts D) (start_disk : D) (first : Completed) (Allowed : Point → Ran → Type 0) (p : Point) (new : D) (result : Result (Unit {0}) Refusal) : Type 0 where
   pub made : List Installed
   pub next : Machine
-  pub run : Allowed (point_of g m old) (silent_run result made (point_of g next new))
-  pub opens : OpensToLast (g.may_leave new) m.completed next.completed made
-  pub ever : LeavesOnly g old new (OpensToOne m.completed made)
+  pub run : Allowed p (silent_run result made (point_of g next new))
+  pub opens : OpensToLast (g.may_leave new) first next.completed made
+  pub ever : LeavesOnly g start_disk new (OpensToOne first made)
   pub stays : Stays (g.left_since new) made
+
+-- the same of a run that began with this machine
+abbrev pub LeavesAt : {D : Type 0} (g : Ghosts D) → (Point → Ran → Type 0) → Machine → D → D → Result (Unit {0}) Refusal → Type 0
+LeavesAt g Allowed m old new result = IsLeft g old m.completed Allowed (point_of g m old) new result
 
 -- the same of the machine that an opening makes
 abbrev pub Leaves : {D : Type 0} (g : Ghosts D) → (Point → Ran → Type 0) → Content → D → D → Result (Unit {0}) Refusal → Type 0
@@ -92,44 +94,12 @@ pub record Reading (Allowed : Point → Ran → Type 0) (p : Point) (now : Devic
   pub there : ran.next.device ≡ now
   pub same : ran.next.machine.completed ≡ p.machine.completed
 
--- the engine stands for the world with which the content begins
-abbrev pub Starts : Content → Engine → Type 0
-Starts content engine = Stands engine (first_world content engine)
-
--- an engine that has just started, on some content, whatever the disk
-abbrev pub HasStarted : Engine → Type 0
-HasStarted engine = (content : Content) × Starts content engine
-
 -- what the disk holds is what the store was opened on
-pub record IsOpenedOn {D : Type 0} (g : Ghosts D) (disk : D) (s : Store) : Type 0 where
-  pub old : Option Stored
-  pub numbers : HasNumbers old
-  pub on : StandsOn (g.seen disk) (g.may_leave disk) s.engine.hub.tables.tables s.ground old
-  pub floor : s.ground.floor ≡ no_name
-  pub starts : Starts (content_was old) s.engine
-
--- ---- quiet engines
-
--- each session rests, and no actor has started a call
-pub record IsQuiet (w : World) : Type 0 where
-  pub sessions : (session : ℕ) → doing_of w session ≡ Resting
-  pub systems : (number : ℕ) → slice_index_or w.systems number None ≡ None
-
--- an engine stands for a quiet world in which no commit had a stamp, whose checkpoint is that with which the content began
-pub record IsPlainOn (content : Content) (e : Engine) (w : World) : Type 0 where
-  pub stands : Stands e w
-  pub quiet : IsQuiet w
-  pub plain : IsPlain w.machine
-  pub completed : w.machine.completed ≡ (start content).completed
-  pub up : w.machine.fault ≡ None
+abbrev pub IsOpenedOn : {D : Type 0} → Ghosts D → D → Store → Type 0
+IsOpenedOn g disk s = IsOpened (g.seen disk) (g.may_leave disk) s
 
 abbrev pub at : Device → Machine → Point
 at d m = record { machine = m; device = d }
-
--- Calls lead from one world to a later one, with the run from the first on: what is run from the later one on is put behind them, or a refusal ends it there. No refusal tells of damage or of the disk.
-abbrev pub Makes : Content → (Point → Ran → Type 0) → World → Engine → Result (Unit {0}) Refusal → Type 0
-Makes content Run w e (Ok done) = (later : World) × IsPlainOn content e later × ((d : Device) (ran : Ran) → Closes (at d later.machine) ran → Run (at d w.machine) ran)
-Makes content Run w e (Err r) = (later : World) × IsPlainOn content e later × NoDamage r × (r ≢ DiskFault) × ((d : Device) → Run (at d w.machine) (stops r (at d later.machine)))
 
 -- ---- commands that read
 
@@ -189,12 +159,12 @@ pub record LoadEnds {D : Type 0} (g : Ghosts D) (Allowed : Point → Ran → Typ
   pub ever : LeavesOnly g old new (OpensToOne m.completed made)
   pub stays : Stays (g.left_since new) made
 
--- how a load may end: damage is never told, a fault of the disk or of the input only where its count rose, and the output is not used
-abbrev pub EndsLoad : (disk_failed input_failed : Type 0) → End → Type 0
-EndsLoad disk_failed input_failed Through = Unit {0}
-EndsLoad disk_failed input_failed (Stopped r) = NoDamage r × (r ≡ DiskFault → disk_failed)
-EndsLoad disk_failed input_failed InputFailed = input_failed
-EndsLoad disk_failed input_failed OutputFailed = ⊥
+-- how a load may end: damage of an honest disk is never told, a fault of the disk or of the input only where its count rose, and the output is not used
+abbrev pub EndsLoad : (honest disk_failed input_failed : Type 0) → End → Type 0
+EndsLoad honest disk_failed input_failed Through = Unit {0}
+EndsLoad honest disk_failed input_failed (Stopped r) = NoneOf honest r × (r ≡ DiskFault → disk_failed)
+EndsLoad honest disk_failed input_failed InputFailed = input_failed
+EndsLoad honest disk_failed input_failed OutputFailed = ⊥
 
 -- ---- scripts
 

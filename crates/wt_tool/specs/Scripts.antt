@@ -1,6 +1,7 @@
 -- The run of `script`: the lines of the input, each a call or a step of one, or one that reaches the device.
 use Rattle.std.specs.Prelude.{◌≡◌, ℕ, Bool, false, List, [], ◌∷◌, IsTrue}
 use Rattle.wt_code.specs.declared.refusals.Refusal.{Refusal}
+use Rattle.row_page.specs.Rows.{Row}
 use Rattle.script_run.specs.declared.script.End.{End}
 use Rattle.script_run.specs.declared.script.End.TheVariants.{Through, Stopped}
 use Rattle.script_run.specs.Lines.{AreLines}
@@ -34,7 +35,9 @@ pub record RunsScript (o : Outside) (p : Point) (ran : Ran) : Type 0 where
   pub ended : Bool
   pub at_end : IsTrue ended → o.input_ended
   pub lines : AreLines ended given texts behind
+  -- the rows of the leaves that are in no frame
+  pub shelf : ℕ → List Row
   pub made : script.Ran
-  pub runs : RunsLines o 1 0 false texts (fresh (opened_world p.machine) p.device) made
+  pub runs : RunsLines o 1 0 false texts (fresh (opened_world p.machine shelf) p.device) made
   pub whole : made.end ≡ Through → behind ≡ []
   pub is : ran ≡ ran_by given made

@@ -3,24 +3,20 @@ ghost use Rattle.std.specs.Prelude.{◌≡◌, length, IfErr, IsTrue};
 ghost use Rattle.std.specs.Option.{option_map};
 ghost use Rattle.failure.specs.Counts.{Rose};
 ghost use Rattle.disk_model.specs.Crash.{SameDisk};
-ghost use Rattle.kv_model.specs.Content.{Content};
-ghost use Rattle.engine_world.specs.Stands.{Stands};
-ghost use Rattle.engine_world.specs.Worlds.{World};
+ghost use Rattle.kv_model.specs.Calls.{System as BySystem, Create as CreateOf};
 ghost use Rattle.engine_store.specs.Opened.{IsReady};
-ghost use Rattle.wt_tool.specs.Points.{Closes};
-ghost use Rattle.wt_tool.specs.Creates.{MakesTable, RunsCreate};
-ghost use Rattle.wt_tool.specs.Parts.{HasStarted, IsOpenedOn, IsPlainOn, IsQuiet, LeavesFrom, Makes, NoDamage};
-ghost use Rattle.wt_tool.specs.Led.{Grows, IsMild, Leads, MadeBy};
+ghost use Rattle.wt_tool.specs.Creates.{RunsCreate};
+ghost use Rattle.wt_tool.specs.Led.{CallWent, DoneBy, Leading};
+ghost use Rattle.wt_tool.specs.Parts.{IsOpenedOn, LeavesFrom, NoneOf};
 
 use crate::closing::close;
 use crate::names::{formats_asked, item_of, name_of};
-use ckpt_step::plain_stays;
+use ckpt_step::{calm_stays, checkpoints_are_kept, plain_stays};
 use disk_model::Disk;
-use engine::Local;
 use engine_store::Store;
 use item::Formats;
 use std::alloc::Global;
-use wt_calls::{Call, SystemCall};
+use wt_calls::SystemCall;
 use wt_code::{Answer, Invalid, Refusal};
 
 pub(crate) fn create<D: Disk>(
@@ -31,10 +27,10 @@ pub(crate) fn create<D: Disk>(
     uri: &str,
 ) -> Result<(), Refusal>
     requires ready { IsReady store }
-    requires started { HasStarted store.engine }
+    requires none { length store.engine.sessions ≡ 0 }
     requires on { IsTrue (D.honest disk.old) → IsOpenedOn D.Disk disk.old store }
     ensures run { LeavesFrom D.Disk (RunsCreate (option_map (λ x. x.now) config.entry) uri.now) disk.old disk.new result }
-    ensures sound { IfErr result NoDamage }
+    ensures sound { IfErr result (NoneOf (IsTrue (D.honest disk.old))) }
     ensures fault { IfErr result (λ r. r ≡ Refusal.DiskFault → Rose (D.faults disk.old) (D.faults disk.new)) }
     ensures disk { SameDisk D.Disk disk.old disk.new }
 {
@@ -47,45 +43,30 @@ pub(crate) fn create<D: Disk>(
         Ok(formats) => formats,
         Err(refusal) => return Err(refusal),
     };
-    match make_table(alloc, &mut store.engine, name, formats) {
+    match make::<D>(alloc, &mut store, name, formats) {
         Ok(()) => close(alloc, disk, store),
         Err(refusal) => Err(refusal),
     }
 }
 
 // Makes the table; the same formats again are no fault.
-fn make_table(
+pub(crate) fn make<D: Disk>(
     alloc: Global,
-    engine: &mut Local,
+    store: &mut Store,
     name: &[u8],
     formats: Formats,
 ) -> Result<(), Refusal>
-    requires started { HasStarted engine.old }
-    ensures makes { (content : Content) (w : World) → IsPlainOn content engine.old w → Makes content (MakesTable name.now formats Closes) w engine.new result }
-    ensures mild { IfErr result IsMild }
-    ensures grows { Grows engine.old engine.new }
+    ensures led { (disk : D) → Leading D.Disk store.old disk (λ start first w. DoneBy D.Disk start first w store.new disk disk (BySystem 0) (CreateOf name.now formats) result) }
+    ensures went { (disk : D) → CallWent D.Disk store.old store.new disk disk result }
+    ensures there { length store.new.engine.sessions ≡ length store.old.engine.sessions }
 {
-    make(alloc, engine, name, formats)
-}
-
-// Makes the table, on any quiet engine.
-pub(crate) fn make(
-    alloc: Global,
-    engine: &mut Local,
-    name: &[u8],
-    formats: Formats,
-) -> Result<(), Refusal>
-    ensures led { (w : World) → Stands engine.old w → IsQuiet w → (later : World) × Leads engine.old engine.new w later × MadeBy name.now formats w.machine later.machine result }
-    ensures there { length engine.new.sessions ≡ length engine.old.sessions }
-{
-    plain_stays();
-    // How many actors there are is known of every engine.
-    engine.actors();
+    calm_stays();
+    checkpoints_are_kept();
     let Ok(table) = item_of(alloc, name) else {
         return Err(Refusal::NoMemory);
     };
-    let call = Call::System(0, SystemCall::Create { table, formats });
-    match engine.call(alloc, call) {
+    let create = SystemCall::Create { table, formats };
+    match store.call_system::<D>(alloc, 0, create) {
         Answer::Refused(refusal) => Err(refusal),
         _ => Ok(()),
     }

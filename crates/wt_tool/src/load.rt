@@ -1,5 +1,5 @@
 // `load`: a dump is read from the input, its table made, its rows put, and then a checkpoint taken.
-ghost use Rattle.std.specs.Prelude.{◌≡◌, ◌⊎◌, ◌<◌, ◌^◌, ◌∷◌, ℕ, List, length, false, not, IfErr, IsTrue, OnOk};
+ghost use Rattle.std.specs.Prelude.{◌≡◌, ◌⊎◌, ◌<◌, ◌^◌, ◌∷◌, List, length, false, not, IfErr, IsTrue, OnOk};
 ghost use Rattle.std.specs.Option.{option_map};
 ghost use Rattle.failure.specs.Counts.{Rose};
 ghost use Rattle.disk_model.specs.Crash.{SameDisk};
@@ -7,13 +7,13 @@ ghost use Rattle.kv_model.specs.Content.{Content, start};
 ghost use Rattle.kv_model.specs.Decisions.{Demand};
 ghost use Rattle.engine_store.specs.Images.{EachReads};
 ghost use Rattle.dump_text.specs.Grammar.{Row};
-ghost use Rattle.engine_world.specs.Stands.{Stands};
-ghost use Rattle.engine_world.specs.Worlds.{World};
 ghost use Rattle.engine_store.specs.Opened.{IsReady};
 ghost use Rattle.wt_tool.specs.Loads.{LoadsRows, LoadsText, PutsRows, loaded_name};
 ghost use Rattle.wt_tool.specs.Writes.{demand_of};
-ghost use Rattle.wt_tool.specs.Parts.{EndsLoad, HasStarted, IsOpenedOn, IsPlainOn, IsQuiet, LeavesFrom, LoadEnds, LoadsFrom, Makes, NoDamage, end_of, load_allowed};
-ghost use Rattle.wt_tool.specs.Led.{Grows, IsMild, LedBy};
+ghost use Rattle.script_run.specs.Runs.{IsFit};
+ghost use Rattle.wt_tool.specs.Parts.{EndsLoad, IsOpenedOn, LeavesFrom, LoadEnds, LoadsFrom, NoneOf, end_of, load_allowed};
+ghost use Rattle.wt_tool.specs.Led.{CallWent, Leading, LedBy};
+ghost use Rattle.wt_tool.specs.Points.{Closes};
 ghost use Rattle.wt_tool.specs.Top.{Telling, errors_of};
 
 use crate::closing::close;
@@ -26,7 +26,6 @@ use crate::write::{commit, demand_for};
 use ckpt_step::plain_stays;
 use disk_model::Disk;
 use dump_text::{DumpRows, read_dump};
-use engine::Local;
 use engine_store::Store;
 use item::{Formats, Item};
 use script_run::End;
@@ -45,10 +44,10 @@ pub(crate) fn load<D: Disk, S: Source, E: Sink>(
     name: Option<&str>,
 ) -> u8
     requires ready { IsReady store }
-    requires started { HasStarted store.engine }
+    requires none { length store.engine.sessions ≡ 0 }
     requires on { IsTrue (D.honest disk.old) → IsOpenedOn D.Disk disk.old store }
     ensures run { LoadsFrom D.Disk S.Source E.Sink (not no_overwrite) (option_map (λ x. x.now) name.entry) input.old input.new err.old err.new disk.old disk.new result }
-    ensures told { Telling NoDamage (errors_of E.Sink err.old err.new) result }
+    ensures told { Telling (NoneOf (IsTrue (D.honest disk.old))) (errors_of E.Sink err.old err.new) result }
     ensures statuses { (result ≡ 0) ⊎ ((result ≡ 1) ⊎ ((result ≡ 4) ⊎ ((result ≡ 5) ⊎ (result ≡ 12)))) }
     ensures disk_fault { result ≡ 4 → Rose (D.faults disk.old) (D.faults disk.new) }
     ensures input_fault { result ≡ 5 → Rose (S.fault_count input.old) (S.fault_count input.new) }
@@ -68,11 +67,11 @@ fn run_load<D: Disk, S: Source>(
     renamed: Option<&str>,
 ) -> End
     requires ready { IsReady store }
-    requires started { HasStarted store.engine }
+    requires none { length store.engine.sessions ≡ 0 }
     requires on { IsTrue (D.honest disk.old) → IsOpenedOn D.Disk disk.old store }
     ensures run { IsTrue (D.honest disk.old) → (content : Content) → EachReads (D.may_leave disk.old) content
         → LoadEnds D.Disk (load_allowed S.Source input.old input.new overwrite (option_map (λ x. x.now) renamed.entry)) (start content) (S.left input.old) (S.left input.new) disk.old disk.new result }
-    ensures ends { EndsLoad (Rose (D.faults disk.old) (D.faults disk.new)) (Rose (S.fault_count input.old) (S.fault_count input.new)) result }
+    ensures ends { EndsLoad (IsTrue (D.honest disk.old)) (Rose (D.faults disk.old) (D.faults disk.new)) (Rose (S.fault_count input.old) (S.fault_count input.new)) result }
     ensures disk { SameDisk D.Disk disk.old disk.new }
 {
     let taken = match take_input(alloc, input) {
@@ -112,12 +111,12 @@ fn load_text<D: Disk>(
     ended: bool,
 ) -> Result<(), Refusal>
     requires ready { IsReady store }
-    requires started { HasStarted store.engine }
+    requires none { length store.engine.sessions ≡ 0 }
     requires on { IsTrue (D.honest disk.old) → IsOpenedOn D.Disk disk.old store }
     requires short { length text.now < 2 ^ 63 }
     requires some { ended ≡ false → 0 < length text.now }
     ensures run { LeavesFrom D.Disk (LoadsText overwrite (option_map (λ x. x.now) renamed.entry) ended text.now) disk.old disk.new result }
-    ensures sound { IfErr result NoDamage }
+    ensures sound { IfErr result (NoneOf (IsTrue (D.honest disk.old))) }
     ensures fault { IfErr result (λ r. r ≡ Refusal.DiskFault → Rose (D.faults disk.old) (D.faults disk.new)) }
     ensures disk { SameDisk D.Disk disk.old disk.new }
 {
@@ -131,7 +130,8 @@ fn load_text<D: Disk>(
     let name = loaded_name(renamed, &table.name);
     match put_all(
         alloc,
-        &mut store.engine,
+        disk,
+        &mut store,
         overwrite,
         name,
         table.formats,
@@ -154,27 +154,30 @@ fn loaded_name<'a>(renamed: Option<&'a str>, told: &'a Item) -> &'a [u8]
 
 // Makes the table, and puts the rows in their order, by a session of its own. It stops at the first
 // refusal.
-fn put_all(
+fn put_all<D: Disk>(
     alloc: Global,
-    engine: &mut Local,
+    disk: &mut D,
+    store: &mut Store,
     overwrite: bool,
     name: &[u8],
     formats: Formats,
     rows: DumpRows<'_>,
 ) -> Result<(), Refusal>
-    requires started { HasStarted engine.old }
-    ensures makes { (content : Content) (w : World) → IsPlainOn content engine.old w → Makes content (LoadsRows name.now formats (demand_of overwrite) rows.entry) w engine.new result }
-    ensures mild { IfErr result IsMild }
-    ensures grows { Grows engine.old engine.new }
+    requires none { length store.old.engine.sessions ≡ 0 }
+    requires fit { IsFit D.Disk store.old disk.old }
+    ensures led { Leading D.Disk store.old disk.old (λ start first w. LedBy D.Disk start first w store.new disk.old disk.new (LoadsRows name.now formats (demand_of overwrite) rows.entry) Closes result) }
+    ensures went { CallWent D.Disk store.old store.new disk.old disk.new result }
 {
     let mut rows = rows;
-    match open_and_make(alloc, engine, name, formats) {
+    match open_and_make::<D>(alloc, store, name, formats) {
         Ok(()) => {}
         Err(refusal) => return Err(refusal),
     }
     'rows: loop {
         match rows.next(alloc) {
-            Ok(Some((key, value))) => match put_row(alloc, engine, overwrite, name, key, value) {
+            Ok(Some((key, value))) => match put_row(
+                alloc, disk, store, overwrite, name, key, value,
+            ) {
                 Ok(()) => {}
                 Err(refusal) => return Err(refusal),
             },
@@ -185,39 +188,43 @@ fn put_all(
 }
 
 // Opens the session, and makes the table.
-fn open_and_make(
+fn open_and_make<D: Disk>(
     alloc: Global,
-    engine: &mut Local,
+    store: &mut Store,
     name: &[u8],
     formats: Formats,
 ) -> Result<(), Refusal>
-    requires started { HasStarted engine.old }
-    ensures led { (w : World) → Stands engine.old w → IsQuiet w → (demand : Demand) (rows : List Row) → LedBy (LoadsRows name.now formats demand rows) (PutsRows name.now demand rows) engine.old engine.new w result }
-    ensures there { OnOk result (0 < length engine.new.sessions) }
+    requires none { length store.old.engine.sessions ≡ 0 }
+    ensures led { (disk : D) (demand : Demand) (rows : List Row) → Leading D.Disk store.old disk (λ start first w. LedBy D.Disk start first w store.new disk disk (LoadsRows name.now formats demand rows) (PutsRows name.now demand rows) result) }
+    ensures went { (disk : D) → CallWent D.Disk store.old store.new disk disk result }
+    ensures there { OnOk result (0 < length store.new.engine.sessions) }
 {
-    match open(alloc, engine) {
-        Ok(()) => make(alloc, engine, name, formats),
+    match open::<D>(alloc, store) {
+        Ok(()) => make::<D>(alloc, store, name, formats),
         Err(refusal) => Err(refusal),
     }
 }
 
 // Puts one row, in a transaction.
-fn put_row(
+fn put_row<D: Disk>(
     alloc: Global,
-    engine: &mut Local,
+    disk: &mut D,
+    store: &mut Store,
     overwrite: bool,
     name: &[u8],
     key: Item,
     value: Item,
 ) -> Result<(), Refusal>
-    requires there { 0 < length engine.old.sessions }
-    ensures led { (w : World) → Stands engine.old w → IsQuiet w → (rows : List Row) → LedBy (PutsRows name.now (demand_of overwrite) ((key, value) ∷ rows)) (PutsRows name.now (demand_of overwrite) rows) engine.old engine.new w result }
-    ensures there { length engine.new.sessions ≡ length engine.old.sessions }
+    requires there { 0 < length store.old.engine.sessions }
+    requires fit { IsFit D.Disk store.old disk.old }
+    ensures led { (rows : List Row) → Leading D.Disk store.old disk.old (λ start first w. LedBy D.Disk start first w store.new disk.old disk.new (PutsRows name.now (demand_of overwrite) ((key, value) ∷ rows)) (PutsRows name.now (demand_of overwrite) rows) result) }
+    ensures went { CallWent D.Disk store.old store.new disk.old disk.new result }
+    ensures there { length store.new.engine.sessions ≡ length store.old.engine.sessions }
 {
     let Ok(table) = item_of(alloc, name) else {
         return Err(Refusal::NoMemory);
     };
-    match call(alloc, engine, SessionCall::Begin(None)) {
+    match call(alloc, disk, store, SessionCall::Begin(None)) {
         Ok(()) => {}
         Err(refusal) => return Err(refusal),
     }
@@ -227,8 +234,8 @@ fn put_row(
         value,
         demand: demand_for(overwrite),
     };
-    match call(alloc, engine, put) {
-        Ok(()) => commit(alloc, engine),
+    match call(alloc, disk, store, put) {
+        Ok(()) => commit(alloc, disk, store),
         Err(refusal) => Err(refusal),
     }
 }

@@ -1,11 +1,11 @@
 // How a command comes to its engine, or to its reader.
-ghost use Rattle.std.specs.Prelude.{◌≡◌, ◌⊎◌, Some, IfOk, IfErr, OnOk, IsTrue};
+ghost use Rattle.std.specs.Prelude.{◌≡◌, ◌⊎◌, length, Some, IfOk, IfErr, OnOk, IsTrue};
 ghost use Rattle.disk_model.specs.Crash.{Looked};
 ghost use Rattle.engine_store.specs.Opened.{IsReady, RefusesOpen};
 ghost use Rattle.device_read.specs.Readers.{IsReaderOf};
 ghost use Rattle.device_read.specs.Refusals.{RefusesOpen as RefusesReader};
 ghost use Rattle.device_read.specs.Steps.{CanOpen, HasNumbersAbove, RefusesSurveyed};
-ghost use Rattle.wt_tool.specs.Parts.{HasStarted, IsOfAttach, IsOpenedOn};
+ghost use Rattle.wt_tool.specs.Parts.{IsOfAttach, IsOpenedOn};
 
 use device_read::{Reader, open};
 use disk_model::{Home, Unattached};
@@ -17,7 +17,7 @@ use wt_code::Refusal;
 pub(crate) fn reach<D: Home>(alloc: Global, disk: &mut D, home: &str) -> Result<Store, Refusal>
     ensures ok { IsTrue (D.honest disk.old) → IfOk result (IsOpenedOn D.Disk disk.new) }
     ensures ready { IfOk result IsReady }
-    ensures started { IfOk result (λ s. HasStarted s.engine) }
+    ensures none { IfOk result (λ s. length s.engine.sessions ≡ 0) }
     ensures err { IfErr result (RefusesOpen D.Disk (IsTrue (D.honest disk.old)) disk.old disk.new) }
     ensures told { IfOk result (λ s. D.home disk.new ≡ Some home.now) }
     ensures untold { (D.home disk.new ≡ Some home.now) ⊎ ((D.home disk.new ≡ D.home disk.old) × IfErr result IsOfAttach) }

@@ -1,11 +1,11 @@
 // `script`: the lines of the input are run on the engine and its device.
-ghost use Rattle.std.specs.Prelude.{◌≡◌, IsTrue, filter, option_map};
+ghost use Rattle.std.specs.Prelude.{◌≡◌, length, IsTrue, filter, option_map};
 ghost use Rattle.std.specs.Option.{option_to_list};
 ghost use Rattle.failure.specs.Counts.{Rose};
 ghost use Rattle.disk_model.specs.Crash.{SameDisk};
 ghost use Rattle.engine_store.specs.Opened.{IsReady};
 ghost use Rattle.script_run.specs.Scripts.{counts};
-ghost use Rattle.wt_tool.specs.Parts.{HasStarted, IsOpenedOn, ScriptsFrom, TellsEnd};
+ghost use Rattle.wt_tool.specs.Parts.{IsOpenedOn, ScriptsFrom, TellsEnd};
 ghost use Rattle.wt_tool.specs.Top.{IsSo, IsStatus, Telling, errors_of, first_status};
 
 use crate::status::Status;
@@ -28,7 +28,7 @@ pub(crate) fn script<D: Disk, S: Source, K: Sink, E: Sink>(
     err: &mut E,
 ) -> u8
     requires ready { IsReady store }
-    requires started { HasStarted store.engine }
+    requires none { length store.engine.sessions ≡ 0 }
     requires on { IsTrue (D.honest disk.old) → IsOpenedOn D.Disk disk.old store }
     ensures run { ScriptsFrom D.Disk S.Source K.Sink E.Sink input.old input.new out.old out.new err.old err.new disk.old disk.new result }
     ensures told { Telling (IsSo (IsTrue (D.honest disk.old)) (D.seen disk.old) (D.seen disk.new)) (errors_of E.Sink err.old err.new) result }

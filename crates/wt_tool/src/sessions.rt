@@ -1,50 +1,63 @@
 // The calls of a command's one session.
 ghost use Rattle.std.specs.Prelude.{◌≡◌, ◌<◌, length, OnOk};
+ghost use Rattle.kv_model.specs.Calls.{Session as BySession};
 ghost use Rattle.wt_calls.specs.Calls.{session_call_in};
 ghost use Rattle.engine_world.specs.Stands.{Stands};
 ghost use Rattle.engine_world.specs.Worlds.{World};
+ghost use Rattle.script_run.specs.Runs.{IsFit};
+ghost use Rattle.wt_tool.specs.Led.{DoneBy, IsWord, Leading, OpenedBy, CallWent};
 ghost use Rattle.wt_tool.specs.Openings.{formats_at};
-ghost use Rattle.wt_tool.specs.Parts.{HasStarted, IsQuiet};
-ghost use Rattle.wt_tool.specs.Led.{DoneBy, IsWord, Leads, OpenedBy};
 
 use crate::names::plain_formats;
-use ckpt_step::plain_stays;
-use engine::Local;
+use ckpt_step::{calm_stays, checkpoints_are_kept};
+use disk_model::Disk;
+use engine_store::Store;
 use item::Formats;
 use std::alloc::Global;
-use wt_calls::{Call, SessionCall};
+use wt_calls::SessionCall;
 use wt_code::{Answer, Refusal};
 
-// Opens the session, of an engine that has just started.
-pub(crate) fn open(alloc: Global, engine: &mut Local) -> Result<(), Refusal>
-    requires started { HasStarted engine.old }
-    ensures led { (w : World) → Stands engine.old w → IsQuiet w → (later : World) × Leads engine.old engine.new w later × OpenedBy w.machine later.machine result }
-    ensures there { OnOk result (0 < length engine.new.sessions) }
+// Opens the session, of a store without any.
+pub(crate) fn open<D: Disk>(alloc: Global, store: &mut Store) -> Result<(), Refusal>
+    requires none { length store.old.engine.sessions ≡ 0 }
+    ensures led { (disk : D) → Leading D.Disk store.old disk (λ start first w. OpenedBy D.Disk start first w store.new disk disk result) }
+    ensures went { (disk : D) → CallWent D.Disk store.old store.new disk disk result }
+    ensures there { OnOk result (0 < length store.new.engine.sessions) }
 {
-    plain_stays();
-    match engine.open_session(alloc) {
+    calm_stays();
+    checkpoints_are_kept();
+    match store.open_session::<D>(alloc) {
         Ok(_) => Ok(()),
         Err(refusal) => Err(refusal),
     }
 }
 
 // A call of the session, of which nothing is wanted but that it is done.
-pub(crate) fn call(alloc: Global, engine: &mut Local, call: SessionCall) -> Result<(), Refusal>
+#[inline(always)]
+pub(crate) fn call<D: Disk>(
+    alloc: Global,
+    disk: &mut D,
+    store: &mut Store,
+    call: SessionCall,
+) -> Result<(), Refusal>
     requires word { IsWord (session_call_in call) }
-    requires there { 0 < length engine.old.sessions }
-    ensures led { (w : World) → Stands engine.old w → IsQuiet w → (later : World) × Leads engine.old engine.new w later × DoneBy (session_call_in call) w.machine later.machine result }
-    ensures there { length engine.new.sessions ≡ length engine.old.sessions }
+    requires there { 0 < length store.old.engine.sessions }
+    requires fit { IsFit D.Disk store.old disk.old }
+    ensures led { Leading D.Disk store.old disk.old (λ start first w. DoneBy D.Disk start first w store.new disk.old disk.new (BySession 0) (session_call_in call) result) }
+    ensures went { CallWent D.Disk store.old store.new disk.old disk.new result }
+    ensures there { length store.new.engine.sessions ≡ length store.old.engine.sessions }
 {
-    plain_stays();
-    match engine.call(alloc, Call::Session(0, call)) {
+    calm_stays();
+    checkpoints_are_kept();
+    match store.call(alloc, disk, 0, call) {
         Answer::Refused(refusal) => Err(refusal),
         _ => Ok(()),
     }
 }
 
 // The formats of the table of this name; where there is none, words are taken as they are.
-pub(crate) fn formats_for(engine: &Local, name: &[u8]) -> Formats
-    ensures { (w : World) → Stands engine.now w → result ≡ formats_at w.machine name.now }
+pub(crate) fn formats_for(store: &Store, name: &[u8]) -> Formats
+    ensures { (w : World) → Stands store.now.engine w → result ≡ formats_at w.machine name.now }
 {
-    engine.formats_of(name).unwrap_or(plain_formats())
+    store.engine.formats_of(name).unwrap_or(plain_formats())
 }

@@ -1,45 +1,36 @@
 // What an opening finds of what two checkpoints left, where a call of the disk fails.
-use super::closings::{ask, begin, commit, create, new_device, put};
+use super::closings::{Bench, ask, begin, commit, create, new_device, put};
 use super::{are_low, item};
-use engine_store::{Store, open_on};
+use engine_store::open_on;
 use plain_disk::PlainDisk;
 use std::alloc::Global;
 use std::process::Abort;
 use wt_calls::SessionCall;
 use wt_code::{Answer, Refusal};
 
-// An engine and its disk.
-#[derive(Drop)]
-struct Bench {
-    store: Store,
-    disk: PlainDisk,
-}
-
 fn open(rt: &impl Abort, alloc: Global, mut disk: PlainDisk) -> Bench {
     let mut store = open_on(alloc, &mut disk).expect(rt, "it opens");
-    assert!(rt; store.engine.open_session(alloc) == Ok(0));
+    assert!(rt; store.open_session::<PlainDisk>(alloc) == Ok(0));
     Bench { store, disk }
 }
 
 // A transaction that gives the one key a value. Its table is made where it is absent.
 fn change(rt: &impl Abort, alloc: Global, bench: &mut Bench, value: u8) {
-    let engine = &mut bench.store.engine;
-    create(rt, alloc, engine, b"a");
-    begin(rt, alloc, engine, 0);
-    put(rt, alloc, engine, 0, (b"a", b"k", &[value]));
-    commit(rt, alloc, engine, 0);
+    create(rt, alloc, bench, b"a");
+    begin(rt, alloc, bench, 0);
+    put(rt, alloc, bench, 0, (b"a", b"k", &[value]));
+    commit(rt, alloc, bench, 0);
 }
 
 // The value of the key, none where the table is absent.
 fn value(rt: &impl Abort, alloc: Global, bench: &mut Bench) -> Option<u8> {
-    let engine = &mut bench.store.engine;
-    begin(rt, alloc, engine, 0);
+    begin(rt, alloc, bench, 0);
     let get = SessionCall::Get {
         table: item(rt, alloc, b"a"),
         key: item(rt, alloc, b"k"),
     };
-    let answer = ask(rt, alloc, engine, 0, get);
-    commit(rt, alloc, engine, 0);
+    let answer = ask(rt, alloc, bench, 0, get);
+    commit(rt, alloc, bench, 0);
     match answer {
         Answer::Value(value) => Some(*value.as_bytes().get(0)?),
         _ => None,
@@ -60,7 +51,7 @@ fn open_anew(rt: &impl Abort, alloc: Global, bench: &mut Bench) {
     assert!(rt; bench.store.ground.trees.len() <= bench.store.engine.tables().len());
     assert!(rt; are_low(&bench.store.ground.trees));
     assert!(rt; bench.store.reopen(alloc, &mut bench.disk) == Ok(()));
-    assert!(rt; bench.store.engine.open_session(alloc) == Ok(0));
+    assert!(rt; bench.store.open_session::<PlainDisk>(alloc) == Ok(0));
 }
 
 // An image of the disk that a crash may leave, opened.

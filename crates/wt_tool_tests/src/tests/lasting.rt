@@ -84,9 +84,9 @@ fn a_script_keeps_what_its_last_checkpoint_took(rt: HostRuntime) {
 // Two checkpoints: of the table, and of its row.
 const TWICE: &str = "sys create t S S\nsys ckpt\ns1 begin\ns1 put t a 1\ns1 commit\nsys ckpt\n";
 
-// An opening takes 4 calls of the disk. The first checkpoint takes 9, and so does the second, which
+// An opening takes 7 calls of the disk. The first checkpoint takes 9, and so does the second, which
 // writes a leaf too and needs no sync before it.
-const CALLS: u64 = 4 + 9 + 9;
+const CALLS: u64 = 7 + 9 + 9;
 
 // The two checkpoints on a new device, where the call of this number fails; with the number of the
 // calls, none does.
@@ -112,9 +112,9 @@ fn twice(rt: &impl Abort, alloc: Global, call: u64) -> MemDisk {
 // leaves it up, so that the second checkpoint takes all.
 fn left(call: u64) -> State {
     match call {
-        7 | 8 => State::One,
-        0..=11 => State::NoTable,
-        12..=20 => State::NoRow,
+        10 | 11 => State::One,
+        0..=14 => State::NoTable,
+        15..=23 => State::NoRow,
         _ => State::One,
     }
 }
@@ -124,10 +124,10 @@ fn left(call: u64) -> State {
 fn left_by_crash(call: u64, pick: u64) -> State {
     let is_open = matches!(pick % 8, 1 | 3 | 4 | 6);
     match call {
-        11 | 12 if is_open => State::NoRow,
-        11 | 12 => State::NoTable,
-        20 | 21 if is_open => State::One,
-        20 | 21 => State::NoRow,
+        14 | 15 if is_open => State::NoRow,
+        14 | 15 => State::NoTable,
+        23 | 24 if is_open => State::One,
+        23 | 24 => State::NoRow,
         _ => left(call),
     }
 }

@@ -1,12 +1,13 @@
 use Rattle.std.proofs.Common.{◌≡◌, ◌∙◌, ◌+◌, sym, subst, List, Option, ℕ, IsTrue}
 use Rattle.device_layout.specs.declared.addr.Addr.{Addr}
-use Rattle.tree_open.specs.declared.place.TreePlace.{TreePlace}
 use Rattle.device_layout.specs.declared.slot.Slot.{Slot}
 use Rattle.turtle.specs.Slots.{IsNext}
 use Rattle.checkpoint_core.specs.Stands.{chosen_of}
-use Rattle.ckpt_step.specs.Floors.{Follows}
-use Rattle.ckpt_step.specs.Grounds.{AreRoots}
+use Rattle.tree_open.specs.declared.place.TreePlace.{TreePlace}
+use Rattle.ckpt_step.specs.Floors.{FollowsFrom}
+use Rattle.ckpt_step.specs.Grounds.{AreRoots, AreWritten}
 use Rattle.ckpt_step.specs.Halves.{AllWritten, SomeWritten}
+use Rattle.ckpt_step.specs.Rooms.{known_in}
 use Rattle.ckpt_step.specs.Runs.{IsImageOf}
 use Rattle.ckpt_step.specs.Trees.{AreKept, placed_by}
 use Rattle.ckpt_step.proofs.Putting.{all_put, trees_failed, next_slot, no_image, not_put, ready}
@@ -14,93 +15,156 @@ use Rattle.ckpt_step.proofs.Told.{placed_length}
 use Rattle.ckpt_step.proofs.writing.write_blocks.Goals as goal
 
 pub returns-in-Err-clause-puts : goal.returns-in-Err-clause-puts
-returns-in-Err-clause-puts g c h w stands none sees old half roots is_number follows =
+returns-in-Err-clause-puts g c h w stands none sees old half roots written is_number follows =
     let D = g.D.Disk in
-    let known = c.args.engine.now.hub.tables.tables in
-    let past = c.deref.ensures.value in
+    let hub = c.args.engine.now.hub in
+    let known = hub.tables.tables in
+    let leaves = hub.dir.leaves in
+    let stand = c.args.ground.now in
+    let had = known_in stand.parts in
+    let books = stand.place.blocks in
+    let before = c.args.disk.now in
+    let mid = c.write_trees.new.disk in
     let told = c.write_trees.new.taken.trees.items in
-    let some = subst (λ (l : List TreePlace). SomeWritten D old w.machine known c.args.ground.now.place.blocks c.write_trees.new.blocks (placed_by l told) c.write_trees.new.taken.captured.items c.args.disk.now c.write_trees.new.disk c.in-Err.error) past (c.in-Err.ensures.writes h w stands none sees old half (subst (λ (l : List TreePlace). AreRoots known l old) (sym past) roots) (subst (λ (l : List TreePlace). Follows old known l c.args.ground.now.floor w.machine) (sym past) follows)) in
-    trees_failed D old w.machine known c.args.ground.now.place.blocks (placed_by c.args.ground.now.trees.items c.write_trees.new.taken.trees.items) c.write_trees.new.taken.captured.items c.args.disk.now c.write_trees.new.blocks c.write_trees.new.disk c.in-Err.error some
+    let more = c.write_trees.new.taken.parts.items in
+    let taken = c.write_trees.new.taken.captured.items in
+    let places = placed_by stand.trees.items told in
+    let past = c.deref.ensures.value in
+    let some = subst (λ (l : List TreePlace). SomeWritten D old w known leaves had books c.write_trees.new.blocks (placed_by l told) more taken before mid c.in-Err.error) past (c.in-Err.ensures.writes h w stands none sees old half (subst (λ (l : List TreePlace). AreRoots known leaves had l old) (sym past) roots) (subst (λ (l : List TreePlace). AreWritten known hub.dir had l) (sym past) written) (subst (λ (l : List TreePlace). FollowsFrom old known leaves had l stand.floor w) (sym past) follows)) in
+    trees_failed D old w known leaves had books places more taken before c.write_trees.new.blocks mid c.in-Err.error some
 
 pub returns-in_default-clause-puts : goal.returns-in_default-clause-puts
-returns-in_default-clause-puts g c h w stands none sees old half roots is_number follows =
+returns-in_default-clause-puts g c h w stands none sees old half roots written is_number follows =
     let D = g.D.Disk in
-    let known = c.args.engine.now.hub.tables.tables in
-    let past = c.deref.ensures.value in
+    let hub = c.args.engine.now.hub in
+    let known = hub.tables.tables in
+    let leaves = hub.dir.leaves in
+    let stand = c.args.ground.now in
+    let had = known_in stand.parts in
+    let books = stand.place.blocks in
+    let before = c.args.disk.now in
+    let mid = c.write_trees.new.disk in
     let told = c.write_trees.new.taken.trees.items in
-    let all = subst (λ (l : List TreePlace). AllWritten D old w.machine known c.args.ground.now.place.blocks c.write_trees.new.blocks (placed_by l told) c.write_trees.new.taken.captured.items c.args.disk.now c.write_trees.new.disk) past (c.in-Ok.ensures.writes h w stands none sees old half (subst (λ (l : List TreePlace). AreRoots known l old) (sym past) roots) (subst (λ (l : List TreePlace). Follows old known l c.args.ground.now.floor w.machine) (sym past) follows)) in
-    no_image D old w.machine known c.args.ground.now.place.blocks (placed_by c.args.ground.now.trees.items c.write_trees.new.taken.trees.items) c.write_trees.new.taken.captured.items c.args.disk.now c.write_trees.new.disk c.write_trees.new.blocks all
+    let more = c.write_trees.new.taken.parts.items in
+    let taken = c.write_trees.new.taken.captured.items in
+    let places = placed_by stand.trees.items told in
+    let past = c.deref.ensures.value in
+    let all = subst (λ (l : List TreePlace). AllWritten D old w known leaves had books c.write_trees.new.blocks (placed_by l told) more taken before mid) past (c.in-Ok.ensures.writes h w stands none sees old half (subst (λ (l : List TreePlace). AreRoots known leaves had l old) (sym past) roots) (subst (λ (l : List TreePlace). AreWritten known hub.dir had l) (sym past) written) (subst (λ (l : List TreePlace). FollowsFrom old known leaves had l stand.floor w) (sym past) follows)) in
+    no_image D old w known leaves had books places more taken before mid c.write_trees.new.blocks all
+
+pub returns-in_default-reserve_parts-clause-puts : goal.returns-in_default-reserve_parts-clause-puts
+returns-in_default-reserve_parts-clause-puts g c h w stands none sees old half roots written is_number follows =
+    let D = g.D.Disk in
+    let hub = c.args.engine.now.hub in
+    let known = hub.tables.tables in
+    let leaves = hub.dir.leaves in
+    let stand = c.args.ground.now in
+    let had = known_in stand.parts in
+    let books = stand.place.blocks in
+    let before = c.args.disk.now in
+    let mid = c.write_trees.new.disk in
+    let told = c.write_trees.new.taken.trees.items in
+    let more = c.write_trees.new.taken.parts.items in
+    let taken = c.write_trees.new.taken.captured.items in
+    let places = placed_by stand.trees.items told in
+    let past = c.deref.ensures.value in
+    let all = subst (λ (l : List TreePlace). AllWritten D old w known leaves had books c.write_trees.new.blocks (placed_by l told) more taken before mid) past (c.in-Ok.ensures.writes h w stands none sees old half (subst (λ (l : List TreePlace). AreRoots known leaves had l old) (sym past) roots) (subst (λ (l : List TreePlace). AreWritten known hub.dir had l) (sym past) written) (subst (λ (l : List TreePlace). FollowsFrom old known leaves had l stand.floor w) (sym past) follows)) in
+    no_image D old w known leaves had books places more taken before mid c.write_trees.new.blocks all
 
 pub returns-in_default-image_of-clause-puts : goal.returns-in_default-image_of-clause-puts
-returns-in_default-image_of-clause-puts g c h w stands none sees old half roots is_number follows =
+returns-in_default-image_of-clause-puts g c h w stands none sees old half roots written is_number follows =
     let D = g.D.Disk in
-    let known = c.args.engine.now.hub.tables.tables in
-    let past = c.deref.ensures.value in
+    let hub = c.args.engine.now.hub in
+    let known = hub.tables.tables in
+    let leaves = hub.dir.leaves in
+    let stand = c.args.ground.now in
+    let had = known_in stand.parts in
+    let books = stand.place.blocks in
+    let before = c.args.disk.now in
+    let mid = c.write_trees.new.disk in
     let told = c.write_trees.new.taken.trees.items in
-    let all = subst (λ (l : List TreePlace). AllWritten D old w.machine known c.args.ground.now.place.blocks c.write_trees.new.blocks (placed_by l told) c.write_trees.new.taken.captured.items c.args.disk.now c.write_trees.new.disk) past (c.in-Ok.ensures.writes h w stands none sees old half (subst (λ (l : List TreePlace). AreRoots known l old) (sym past) roots) (subst (λ (l : List TreePlace). Follows old known l c.args.ground.now.floor w.machine) (sym past) follows)) in
-    no_image D old w.machine known c.args.ground.now.place.blocks (placed_by c.args.ground.now.trees.items c.write_trees.new.taken.trees.items) c.write_trees.new.taken.captured.items c.args.disk.now c.write_trees.new.disk c.write_trees.new.blocks all
-
-pub finish-requires-clause-ready : goal.finish-requires-clause-ready
-finish-requires-clause-ready g c h =
-    let D = g.D.Disk in
-    let known = c.args.engine.now.hub.tables.tables in
+    let more = c.write_trees.new.taken.parts.items in
+    let taken = c.write_trees.new.taken.captured.items in
+    let places = placed_by stand.trees.items told in
     let past = c.deref.ensures.value in
-    let honest : IsTrue (D.honest c.args.disk.now) = sym c.write_trees.ensures.disk.same ∙ h in
-    let was = c.requires.ready honest in
-    let all = c.in-Ok.ensures.writes honest was.0 was.1 was.2 was.3 was.4.0 was.4.1 (subst (λ (l : List TreePlace). AreRoots known l was.4.0) (sym past) was.4.2) (subst (λ (l : List TreePlace). Follows was.4.0 known l c.args.ground.now.floor was.0.machine) (sym past) was.4.3) in
-    (all.half.runs.long, all.half.runs.within)
+    let all = subst (λ (l : List TreePlace). AllWritten D old w known leaves had books c.write_trees.new.blocks (placed_by l told) more taken before mid) past (c.in-Ok.ensures.writes h w stands none sees old half (subst (λ (l : List TreePlace). AreRoots known leaves had l old) (sym past) roots) (subst (λ (l : List TreePlace). AreWritten known hub.dir had l) (sym past) written) (subst (λ (l : List TreePlace). FollowsFrom old known leaves had l stand.floor w) (sym past) follows)) in
+    no_image D old w known leaves had books places more taken before mid c.write_trees.new.blocks all
 
 nowhere_at : Addr
 nowhere_at = record { offset = 0; size = 0; sum = 0 }
 
 pub returns-in-Ok-finish-clause-puts : goal.returns-in-Ok-finish-clause-puts
-returns-in-Ok-finish-clause-puts g c h w stands none sees old half roots is_number follows =
+returns-in-Ok-finish-clause-puts g c h w stands none sees old half roots written is_number follows =
     let D = g.D.Disk in
-    let known = c.args.engine.now.hub.tables.tables in
-    let places = placed_by c.args.ground.now.trees.items c.write_trees.new.taken.trees.items in
-    let taken = c.write_trees.new.taken.captured.items in
-    let books = c.args.ground.now.place.blocks in
+    let hub = c.args.engine.now.hub in
+    let known = hub.tables.tables in
+    let leaves = hub.dir.leaves in
+    let stand = c.args.ground.now in
+    let had = known_in stand.parts in
+    let books = stand.place.blocks in
     let before = c.args.disk.now in
     let mid = c.write_trees.new.disk in
+    let told = c.write_trees.new.taken.trees.items in
+    let more = c.write_trees.new.taken.parts.items in
+    let taken = c.write_trees.new.taken.captured.items in
+    let places = placed_by stand.trees.items told in
     let past = c.deref.ensures.value in
     let image = c.in-Ok-image_of.image.items in
-    let number = c.args.ground.now.number in
-    let count = placed_length c.args.ground.now.trees.items c.write_trees.new.taken.trees.items (subst (λ (l : List TreePlace). AreKept l c.write_trees.new.taken.trees.items) past c.in-Ok.ensures.told.kept) ∙ c.in-Ok.ensures.count in
+    let number = stand.number in
+    let count = placed_length stand.trees.items told (subst (λ (l : List TreePlace). AreKept l told) past c.in-Ok.ensures.told.kept) ∙ c.in-Ok.ensures.count in
     let ascend = stands.catalog.numbers in
-    let told = c.write_trees.new.taken.trees.items in
-    let all = subst (λ (l : List TreePlace). AllWritten D old w.machine known c.args.ground.now.place.blocks c.write_trees.new.blocks (placed_by l told) c.write_trees.new.taken.captured.items c.args.disk.now c.write_trees.new.disk) past (c.in-Ok.ensures.writes h w stands none sees old half (subst (λ (l : List TreePlace). AreRoots known l old) (sym past) roots) (subst (λ (l : List TreePlace). Follows old known l c.args.ground.now.floor w.machine) (sym past) follows)) in
+    let all = subst (λ (l : List TreePlace). AllWritten D old w known leaves had books c.write_trees.new.blocks (placed_by l told) more taken before mid) past (c.in-Ok.ensures.writes h w stands none sees old half (subst (λ (l : List TreePlace). AreRoots known leaves had l old) (sym past) roots) (subst (λ (l : List TreePlace). AreWritten known hub.dir had l) (sym past) written) (subst (λ (l : List TreePlace). FollowsFrom old known leaves had l stand.floor w) (sym past) follows)) in
     let img : IsImageOf w.machine number known places image =
-    subst (λ (l : List TreePlace). IsImageOf w.machine number known (placed_by l told) image) (c.deref-2.ensures.value ∙ c.reserve_for.ensures.items)
-    (subst (λ (l : List (Option TreePlace)). IsImageOf w.machine number known (placed_by c.deref-2.result.now l) image) c.deref-3.ensures.value (c.in-Ok-image_of.ensures.image w stands none)) in
+    subst (λ (l : List TreePlace). IsImageOf w.machine number known (placed_by l told) image) (c.deref-3.ensures.value ∙ c.reserve_for.ensures.items)
+    (subst (λ (l : List (Option TreePlace)). IsImageOf w.machine number known (placed_by c.deref-3.result.now l) image) c.deref-4.ensures.value (c.in-Ok-image_of.ensures.image w stands none)) in
     let counts : (x : List ℕ) → D.may_leave mid x → D.left_since mid (D.moment before) x = λ x there. g.met.D.Disk.counts_now mid (D.moment before) x all.left.later there in
     let honest : IsTrue (D.honest mid) = c.write_trees.ensures.disk.same ∙ h in
-    let base = ready D old w.machine known books places taken before mid c.write_trees.new.blocks all c.args.engine.now.hub.tables.next ascend count image number is_number img counts nowhere_at in
+    let base = ready D old w known leaves had books places more taken before mid c.write_trees.new.blocks all hub.tables.next ascend count image number is_number img counts nowhere_at in
     let next : (slot : Slot) → slot.sequence ≡ number + 1 → IsNext (chosen_of old) slot = λ slot is. next_slot (D.seen mid) old number slot all.half.runs.stands.seen_has is_number is in
-    all_put D old w.machine known books places taken before mid c.write_trees.new.blocks all c.args.engine.now.hub.tables.next ascend count image number is_number img counts c.finish.new.blocks c.finish.new.disk c.in-Ok-finish.addr c.write_trees.ensures.disk.room
+    all_put D old w known leaves had books places more taken before mid c.write_trees.new.blocks all hub.tables.next ascend count image number is_number img counts c.finish.new.blocks c.finish.new.disk c.in-Ok-finish.addr c.write_trees.ensures.disk.room
     (c.in-Ok-finish.ensures.finishes honest old _ all.half.runs.stands base img.is.sequence next) (c.in-Ok-finish.ensures.reads honest old _ all.half.runs.stands base img.is.sequence next) c.in-Ok-finish.ensures.last c.in-Ok-finish.ensures.units c.in-Ok-finish.ensures.ended
 
 pub returns-in-Err-finish-clause-puts : goal.returns-in-Err-finish-clause-puts
-returns-in-Err-finish-clause-puts g c h w stands none sees old half roots is_number follows =
+returns-in-Err-finish-clause-puts g c h w stands none sees old half roots written is_number follows =
     let D = g.D.Disk in
-    let known = c.args.engine.now.hub.tables.tables in
-    let places = placed_by c.args.ground.now.trees.items c.write_trees.new.taken.trees.items in
-    let taken = c.write_trees.new.taken.captured.items in
-    let books = c.args.ground.now.place.blocks in
+    let hub = c.args.engine.now.hub in
+    let known = hub.tables.tables in
+    let leaves = hub.dir.leaves in
+    let stand = c.args.ground.now in
+    let had = known_in stand.parts in
+    let books = stand.place.blocks in
     let before = c.args.disk.now in
     let mid = c.write_trees.new.disk in
+    let told = c.write_trees.new.taken.trees.items in
+    let more = c.write_trees.new.taken.parts.items in
+    let taken = c.write_trees.new.taken.captured.items in
+    let places = placed_by stand.trees.items told in
     let past = c.deref.ensures.value in
     let image = c.in-Ok-image_of.image.items in
-    let number = c.args.ground.now.number in
-    let count = placed_length c.args.ground.now.trees.items c.write_trees.new.taken.trees.items (subst (λ (l : List TreePlace). AreKept l c.write_trees.new.taken.trees.items) past c.in-Ok.ensures.told.kept) ∙ c.in-Ok.ensures.count in
+    let number = stand.number in
+    let count = placed_length stand.trees.items told (subst (λ (l : List TreePlace). AreKept l told) past c.in-Ok.ensures.told.kept) ∙ c.in-Ok.ensures.count in
     let ascend = stands.catalog.numbers in
-    let told = c.write_trees.new.taken.trees.items in
-    let all = subst (λ (l : List TreePlace). AllWritten D old w.machine known c.args.ground.now.place.blocks c.write_trees.new.blocks (placed_by l told) c.write_trees.new.taken.captured.items c.args.disk.now c.write_trees.new.disk) past (c.in-Ok.ensures.writes h w stands none sees old half (subst (λ (l : List TreePlace). AreRoots known l old) (sym past) roots) (subst (λ (l : List TreePlace). Follows old known l c.args.ground.now.floor w.machine) (sym past) follows)) in
+    let all = subst (λ (l : List TreePlace). AllWritten D old w known leaves had books c.write_trees.new.blocks (placed_by l told) more taken before mid) past (c.in-Ok.ensures.writes h w stands none sees old half (subst (λ (l : List TreePlace). AreRoots known leaves had l old) (sym past) roots) (subst (λ (l : List TreePlace). AreWritten known hub.dir had l) (sym past) written) (subst (λ (l : List TreePlace). FollowsFrom old known leaves had l stand.floor w) (sym past) follows)) in
     let img : IsImageOf w.machine number known places image =
-    subst (λ (l : List TreePlace). IsImageOf w.machine number known (placed_by l told) image) (c.deref-2.ensures.value ∙ c.reserve_for.ensures.items)
-    (subst (λ (l : List (Option TreePlace)). IsImageOf w.machine number known (placed_by c.deref-2.result.now l) image) c.deref-3.ensures.value (c.in-Ok-image_of.ensures.image w stands none)) in
+    subst (λ (l : List TreePlace). IsImageOf w.machine number known (placed_by l told) image) (c.deref-3.ensures.value ∙ c.reserve_for.ensures.items)
+    (subst (λ (l : List (Option TreePlace)). IsImageOf w.machine number known (placed_by c.deref-3.result.now l) image) c.deref-4.ensures.value (c.in-Ok-image_of.ensures.image w stands none)) in
     let counts : (x : List ℕ) → D.may_leave mid x → D.left_since mid (D.moment before) x = λ x there. g.met.D.Disk.counts_now mid (D.moment before) x all.left.later there in
     let honest : IsTrue (D.honest mid) = c.write_trees.ensures.disk.same ∙ h in
-    let base = ready D old w.machine known books places taken before mid c.write_trees.new.blocks all c.args.engine.now.hub.tables.next ascend count image number is_number img counts nowhere_at in
+    let base = ready D old w known leaves had books places more taken before mid c.write_trees.new.blocks all hub.tables.next ascend count image number is_number img counts nowhere_at in
     let next : (slot : Slot) → slot.sequence ≡ number + 1 → IsNext (chosen_of old) slot = λ slot is. next_slot (D.seen mid) old number slot all.half.runs.stands.seen_has is_number is in
-    not_put D old w.machine known books places taken before mid c.write_trees.new.blocks all c.args.engine.now.hub.tables.next ascend count image number is_number img counts c.finish.new.blocks c.finish.new.disk nowhere_at c.in-Err-finish.error c.write_trees.ensures.disk.room
+    not_put D old w known leaves had books places more taken before mid c.write_trees.new.blocks all hub.tables.next ascend count image number is_number img counts c.finish.new.blocks c.finish.new.disk nowhere_at c.in-Err-finish.error c.write_trees.ensures.disk.room
     (c.in-Err-finish.ensures.finishes honest old _ all.half.runs.stands base img.is.sequence next) (c.in-Err-finish.ensures.reads honest old _ all.half.runs.stands base img.is.sequence next) c.in-Err-finish.ensures.back
+
+pub finish-requires-clause-ready : goal.finish-requires-clause-ready
+finish-requires-clause-ready g c h =
+    let D = g.D.Disk in
+    let hub = c.args.engine.now.hub in
+    let known = hub.tables.tables in
+    let leaves = hub.dir.leaves in
+    let had = known_in c.args.ground.now.parts in
+    let past = c.deref.ensures.value in
+    let honest : IsTrue (D.honest c.args.disk.now) = sym c.write_trees.ensures.disk.same ∙ h in
+    let was = c.requires.ready honest in
+    let old = was.4.0 in
+    let all = c.in-Ok.ensures.writes honest was.0 was.1 was.2 was.3 old was.4.1 (subst (λ (l : List TreePlace). AreRoots known leaves had l old) (sym past) was.4.2) (subst (λ (l : List TreePlace). AreWritten known hub.dir had l) (sym past) was.4.3) (subst (λ (l : List TreePlace). FollowsFrom old known leaves had l c.args.ground.now.floor was.0) (sym past) was.4.4) in
+    (all.half.runs.long, all.half.runs.within)

@@ -5,9 +5,8 @@ use Rattle.stamp.specs.declared.version.Window.{Window}
 use Rattle.row_page.specs.Rows.{Row}
 use Rattle.leaf_rows.specs.declared.marks.Marks.{Marks}
 use Rattle.leaf_rows.specs.Contents.{is_kept_row, is_seen_row, kept_rows, seen_rows}
-use Rattle.engine_start.specs.declared.table_leaf.TableLeaf.{TableLeaf}
 use Rattle.engine_start.specs.ContentLaws.{SeenStay}
-use Rattle.engine_start.specs.Contents.{kept_leaves, seen_leaf, seen_leaves}
+use Rattle.engine_start.specs.Contents.{TableLeaf, kept_leaves, seen_leaf, seen_leaves}
 use Rattle.engine_start.proofs.laws.seen_stay.Goals as goal
 
 -- an id that is not listed is seen where none is listed

@@ -1,6 +1,7 @@
 use Rattle.std.proofs.Common.{◌∙◌, refl, sym}
 use Rattle.std.specs.Prelude.{Ok, Err}
 use Rattle.script_run.proofs.Devices.{checkpoint_told}
+use Rattle.script_run.proofs.Telling.{done_faults, refused_faults, same_told}
 use Rattle.script_run.proofs.control.checkpoint.Goals as goal
 
 pub returns-in-Ok-clause-replies : goal.returns-in-Ok-clause-replies
@@ -12,3 +13,16 @@ pub returns-in-Err-clause-replies : goal.returns-in-Err-clause-replies
 returns-in-Err-clause-replies g c = λ honest first s at.
     checkpoint_told g.D.Disk first s c.args.store.now c.args.disk.now at (sym (c.has_started.ensures s.world at.held.stands) ∙ c.if-has_started.false) c.checkpoint.new.self c.checkpoint.new.disk (Err c.in-Err.refusal) c.refused-in-Err.result
     (c.in-Err.ensures.takes honest first s.world s.first s.made at.held (at.calm refl).plain) c.refused-in-Err.ensures.reply c.refused-in-Err.ensures.formats
+
+pub returns-then-has_started-clause-told : goal.returns-then-has_started-clause-told
+returns-then-has_started-clause-told g c =
+    let store = c.args.store.now in
+    let disk = c.args.disk.now in
+    refused_faults g.D.Disk store store disk disk _ c.refused.result c.refused.ensures.reply (λ fault. absurd cc) (same_told g.D.Disk store disk)
+
+pub returns-in-Ok-clause-told : goal.returns-in-Ok-clause-told
+returns-in-Ok-clause-told g c = done_faults g.D.Disk c.args.store.now c.checkpoint.new.self c.args.disk.now c.checkpoint.new.disk c.done.result c.done.ensures.reply c.checkpoint.ensures.told
+
+pub returns-in-Err-clause-told : goal.returns-in-Err-clause-told
+returns-in-Err-clause-told g c =
+    refused_faults g.D.Disk c.args.store.now c.checkpoint.new.self c.args.disk.now c.checkpoint.new.disk c.in-Err.refusal c.refused-in-Err.result c.refused-in-Err.ensures.reply c.in-Err.ensures.fault c.checkpoint.ensures.told

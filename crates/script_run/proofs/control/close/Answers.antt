@@ -3,6 +3,8 @@ use Rattle.std.specs.Prelude.{ℕ, ◌≡◌, IsTrue}
 use Rattle.recover_open.specs.Damage.{IsDamage}
 use Rattle.wt_code.specs.declared.refusals.Refusal.TheVariants.{Corrupt}
 use Rattle.script_run.proofs.Devices.{close_done, close_refused, refused_as}
+use Rattle.script_run.specs.Faults.{RepliesFault}
+use Rattle.script_run.proofs.Telling.{refused_faults, same_told, then_faults}
 use Rattle.script_run.proofs.control.close.Goals as goal
 
 pub returns-in-Ok-clause-replies : goal.returns-in-Ok-clause-replies
@@ -21,3 +23,17 @@ pub returns-in-Err-clause-replies : goal.returns-in-Err-clause-replies
 returns-in-Err-clause-replies g c = λ honest first s at same.
     close_refused g.D.Disk first s c.args.store.now c.args.disk.now at (sym (c.has_started.ensures s.world at.held.stands) ∙ c.if-has_started.false) c.close.new.self c.close.new.disk c.in-Err.refusal c.args.formats.now c.refused-in-Err.result
     (c.in-Err.ensures.shuts honest first s.world s.first s.made at.held (at.calm refl).plain) same c.refused-in-Err.ensures.reply c.refused-in-Err.ensures.formats
+
+pub returns-then-has_started-clause-told : goal.returns-then-has_started-clause-told
+returns-then-has_started-clause-told g c =
+    let store = c.args.store.now in
+    let disk = c.args.disk.now in
+    refused_faults g.D.Disk store store disk disk _ c.refused.result c.refused.ensures.reply (λ fault. absurd cc) (same_told g.D.Disk store disk)
+
+pub returns-in-Ok-clause-told : goal.returns-in-Ok-clause-told
+returns-in-Ok-clause-told g c =
+    then_faults g.D.Disk c.args.store.now c.close.new.self c.reopen.new.store c.args.disk.now c.close.new.disk c.reopen.new.disk (RepliesFault c.reopen.result) c.close.ensures.disk.later c.close.ensures.told c.reopen.ensures.told
+
+pub returns-in-Err-clause-told : goal.returns-in-Err-clause-told
+returns-in-Err-clause-told g c =
+    refused_faults g.D.Disk c.args.store.now c.close.new.self c.args.disk.now c.close.new.disk c.in-Err.refusal c.refused-in-Err.result c.refused-in-Err.ensures.reply c.in-Err.ensures.fault c.close.ensures.told

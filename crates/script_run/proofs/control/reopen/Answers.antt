@@ -1,5 +1,6 @@
 use Rattle.std.proofs.Common.{refl}
 use Rattle.script_run.proofs.Devices.{not_reopened, reopened}
+use Rattle.script_run.proofs.Telling.{done_faults, stays_faults}
 use Rattle.script_run.proofs.control.reopen.Goals as goal
 
 pub returns-in-Err-clause-replies : goal.returns-in-Err-clause-replies
@@ -9,3 +10,9 @@ returns-in-Err-clause-replies g c = λ honest first stamped s at.
 pub returns-in-Ok-clause-replies : goal.returns-in-Ok-clause-replies
 returns-in-Ok-clause-replies g c = λ honest first stamped s at.
     reopened g.D.Disk first stamped s c.args.store.now c.reopen.new.self c.args.disk.now c.reopen.new.disk at c.calm_stays.ensures.starts c.done.result _ c.actors.ensures.systems (c.in-Ok.ensures.opens honest first s.world s.first s.made at.held) c.done.ensures.reply c.done.ensures.formats refl
+
+pub returns-in-Err-clause-told : goal.returns-in-Err-clause-told
+returns-in-Err-clause-told g c = stays_faults g.D.Disk c.args.store.now c.reopen.new.self c.args.disk.now c.reopen.new.disk _ c.reopen.ensures.told c.in-Err.ensures.fault
+
+pub returns-in-Ok-clause-told : goal.returns-in-Ok-clause-told
+returns-in-Ok-clause-told g c = done_faults g.D.Disk c.args.store.now c.reopen.new.self c.args.disk.now c.reopen.new.disk c.done.result c.done.ensures.reply c.reopen.ensures.told

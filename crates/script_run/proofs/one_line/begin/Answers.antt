@@ -1,32 +1,64 @@
-use Rattle.std.proofs.Common.{◌∙◌, List, refl, ap, subst, sym, inl, inr}
+use Rattle.std.proofs.Common.{◌∙◌, List, refl, ap, subst, sym, inl}
 use Rattle.item.specs.declared.formats.Formats.{Formats}
 use Rattle.wt_calls.specs.declared.call.Call.{Call}
 use Rattle.engine.specs.declared.step.Actor.{Actor}
 use Rattle.engine.specs.declared.step.Step.TheVariants.{Start}
 use Rattle.engine.specs.Runs.{MayStep, StepFits}
-use Rattle.script_run.specs.Scripts.{caller, kept_after}
-use Rattle.script_run.proofs.Replying.{call-fits}
+use Rattle.script_run.specs.declared.told.Told.{Told}
+use Rattle.engine_store.specs.Devices.{device_of}
+use Rattle.script_run.specs.Runs.{IsBegun}
+use Rattle.script_run.specs.Scripts.{Begins, CauseOn, caller, kept_after}
+use Rattle.script_run.proofs.Holding.{keeps_none}
+use Rattle.script_run.proofs.Replying.{call-fits, is-read, short, started, stepped}
+use Rattle.script_run.proofs.Telling.{refused_replies, same_told, step_replies}
 use Rattle.script_run.proofs.one_line.begin.Goals as goal
 
 pub step-reply-requires : goal.step-reply-requires
-step-reply-requires c =
-    subst (λ (m : Call). StepFits c.args.local.now (Start m)) (sym c.in-Ok.ensures) (call-fits c.args.local.now c.formats_in-formats.result c.args.call c.requires.built c.requires.there c.actors.ensures.systems)
+step-reply-requires g c =
+    subst (λ (m : Call). StepFits c.args.store.now.engine (Start m)) (sym c.in-Ok.ensures) (call-fits c.args.store.now.engine c.formats_in-formats.result c.args.call c.requires.built c.requires.there c.actors.ensures.systems)
 
 pub returns-in-Err : goal.returns-in-Err
-returns-in-Err c = λ s w same st. (record s { world = w }, inr (c.refused.ensures.reply, refl), st, sym same)
+returns-in-Err g c =
+    let store = c.args.store.now in
+    let disk = c.args.disk.now in
+    record {
+      replied = λ honest first s w at same.
+          subst (λ (l : List Formats). IsBegun g.D.Disk first s store disk c.args.call w l c.refused.result) same
+          (short g.D.Disk first s store disk (λ later. Begins c.args.call s c.refused.result.formats c.refused.result.reply later w) w c.refused.result.reply c.refused.ensures.reply at);
+      told = refused_replies g.D.Disk store store disk disk _ c.refused.result (inl refl) c.refused.ensures.reply (same_told g.D.Disk store disk);
+      keeps = keeps_none g.D.Disk store disk;
+    }
 
 pub returns-in-Ok : goal.returns-in-Ok
-returns-in-Ok c = λ s w same st.
-    let b = c.step-reply.ensures.step w st in (
-      record s { world = b.0; formats = kept_after c.step-reply.result (caller c.args.call) c.formats_in-formats.result s.formats },
-      inl (record {
-        formats_are = c.formats_in-formats.ensures w st;
-        t = c.step-reply.result;
-        next = b.0;
-        stepped = subst (λ (m : Call). MayStep w (Start m) c.step-reply.result b.0) c.in-Ok.ensures b.1;
-        told = c.in_script.ensures;
-        leaves = refl;
-      }),
-      b.2,
-      c.keep_after.ensures ∙ ap (λ (a : Actor). kept_after c.step-reply.result a c.formats_in-formats.result c.args.kept.now) c.caller-who.ensures ∙ ap (λ (l : List Formats). kept_after c.step-reply.result (caller c.args.call) c.formats_in-formats.result l) (sym same),
-    )
+returns-in-Ok g c =
+    let store = c.args.store.now in
+    let disk = c.args.disk.now in
+    let store' = c.step-reply.new.self in
+    let disk' = c.step-reply.new.disk in
+    let t = c.step-reply.result in
+    let formats = c.formats_in-formats.result in
+    let told : Told = record { reply = c.in_script.result; formats = formats } in
+    record {
+      replied = λ honest first s w at same.
+          let x = c.step-reply.ensures.stepped honest first w s.first s.made at.held in
+          let went = stepped g.D.Disk first s w store store' disk disk' at _ t x in
+          record {
+            later = record s { world = x.later; device = device_of g.D.Disk disk'; formats = kept_after t (caller c.args.call) formats s.formats };
+            is = inl (record {
+              formats_are = c.formats_in-formats.ensures w at.held.stands;
+              t = t;
+              next = x.later;
+              device = device_of g.D.Disk disk';
+              read = is-read g.D.Disk first s w store store' disk disk' at c.step-reply.ensures.keeps.looked;
+              stepped = subst (λ (m : Call). MayStep w (Start m) t x.later) c.in-Ok.ensures (started (CauseOn s (device_of g.D.Disk disk') w) w _ t x.later went);
+              told = c.in_script.ensures;
+              leaves = refl;
+            });
+            held = x.held;
+            device = refl;
+            start = refl;
+            kept_is = sym (c.keep_after.ensures ∙ ap (λ (a : Actor). kept_after t a formats c.args.kept.now) c.caller-who.ensures ∙ ap (λ (l : List Formats). kept_after t (caller c.args.call) formats l) (sym same));
+          };
+      told = step_replies g.D.Disk store store' disk disk' t told c.in_script.ensures c.step-reply.ensures.told;
+      keeps = c.step-reply.ensures.keeps;
+    }

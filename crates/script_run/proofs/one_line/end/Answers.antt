@@ -1,24 +1,42 @@
 use Rattle.std.proofs.Common.{◌∙◌, refl, ap, sym}
+use Rattle.script_text.specs.declared.replies.Reply.TheVariants.{Answered}
+use Rattle.script_run.specs.declared.told.Told.{Told}
+use Rattle.engine_store.specs.Devices.{device_of}
 use Rattle.script_run.specs.Scripts.{kept_formats}
-use Rattle.script_run.proofs.Replying.{actor-fits}
+use Rattle.script_run.proofs.Replying.{actor-fits, finished, is-read}
+use Rattle.script_run.proofs.Telling.{answer_replies}
 use Rattle.script_run.proofs.one_line.end.Goals as goal
 
 pub finish-requires : goal.finish-requires
-finish-requires c = actor-fits c.args.local.now c.args.who c.requires c.actors.ensures.systems
+finish-requires g c = actor-fits c.args.store.now.engine c.args.who c.requires c.actors.ensures.systems
 
 pub returns : goal.returns
-returns c = λ s w same st.
-    let b = c.finish.ensures.steps w st in (
-      record s { world = b.1 },
-      record {
-        formats_are = c.formats_of-formats.ensures ∙ ap (kept_formats c.args.who) (sym same);
-        count = b.0;
-        answer = c.finish.result;
-        next = b.1;
-        stepped = b.2;
-        told = refl;
-        leaves = refl;
-      },
-      b.3,
-      refl,
-    )
+returns g c =
+    let store = c.args.store.now in
+    let disk = c.args.disk.now in
+    let store' = c.finish.new.self in
+    let disk' = c.finish.new.disk in
+    let told : Told = record { reply = Answered c.finish.result; formats = c.formats_of-formats.result } in
+    record {
+      replied = λ honest first s w at same.
+          let x = c.finish.ensures.finished honest first w s.first s.made at.held in
+          record {
+            later = record s { world = x.later; device = device_of g.D.Disk disk' };
+            is = record {
+              formats_are = c.formats_of-formats.ensures ∙ ap (kept_formats c.args.who) (sym same);
+              answer = c.finish.result;
+              next = x.later;
+              device = device_of g.D.Disk disk';
+              read = is-read g.D.Disk first s w store store' disk disk' at c.finish.ensures.keeps.looked;
+              ended = finished g.D.Disk first s w store store' disk disk' at c.args.who c.finish.result x;
+              told = refl;
+              leaves = refl;
+            };
+            held = x.held;
+            device = refl;
+            start = refl;
+            kept_is = refl;
+          };
+      told = answer_replies g.D.Disk store store' disk disk' c.finish.result told refl c.finish.ensures.told;
+      keeps = c.finish.ensures.keeps;
+    }

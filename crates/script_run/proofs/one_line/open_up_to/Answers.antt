@@ -1,17 +1,61 @@
-use Rattle.std.proofs.Common.{arith}
+use Rattle.std.proofs.Common.{◌∙◌, ◌<◌, length, arith, sym, subst}
+use Rattle.engine_store.specs.declared.store.Store.{Store}
+use Rattle.script_run.specs.Runs.{StandsAt}
 use Rattle.script_run.specs.Scripts.{opened_more}
-use Rattle.script_run.proofs.Opening.{one-opened, all-opened, no-more}
+use Rattle.script_run.proofs.Holding.{keeps_none, keeps_then}
+use Rattle.script_run.proofs.Opening.{all-opened, is-no-session, no-more, none-opened, one-opened}
+use Rattle.script_run.proofs.Telling.{same_told}
 use Rattle.script_run.proofs.one_line.open_up_to.Goals as goal
 
+pub opening-init : goal.opening-init
+opening-init g c =
+    let store = c.args.store.now in
+    record {
+      opens = λ disk honest first s w at. none-opened c.args.session w (λ v. StandsAt g.D.Disk first store disk s v) (length store.engine.sessions) (sym at.held.stands.doings) at;
+      told = λ disk. same_told g.D.Disk store disk;
+      keeps = λ disk. keeps_none g.D.Disk store disk;
+    }
+
 pub opening-preserved : goal.opening-preserved
-opening-preserved c = λ w st.
-    let h = c.opening.invariant w st in
-    one-opened c.args.session w c.opening.local c.open_session.new.self h (omega (arith, c.opening-test.true, c.sessions.ensures)) (c.in-Ok.ensures.opened (opened_more h.count w) h.stands).1
+opening-preserved g c =
+    let i = c.opening.invariant in
+    let store = c.opening.store in
+    let store' = c.open_session.new.self in
+    let before = c.args.store.now in
+    record {
+      opens = λ disk honest first s w at.
+          let h = i.opens disk honest first s w at in
+          let x = c.in-Ok.ensures.opened disk ((i.keeps disk).looked.same ∙ honest) first (opened_more h.count w) s.first s.made h.holds.held in
+          one-opened c.args.session w (λ v. StandsAt g.D.Disk first store disk s v) (λ v. StandsAt g.D.Disk first store' disk s v) (length store.engine.sessions) (length store'.engine.sessions) h
+          (omega (arith, c.opening-test.true, c.sessions.ensures)) c.in-Ok.ensures.more (record { held = x.held; device = h.holds.device });
+      told = λ disk start le are. c.in-Ok.ensures.told disk start le (i.told disk start le are);
+      keeps = λ disk. keeps_then g.D.Disk before store store' disk disk disk (i.keeps disk) (c.in-Ok.ensures.keeps disk);
+    }
 
-pub returns-in-Err-clause-opens : goal.returns-in-Err-clause-opens
-returns-in-Err-clause-opens c = λ w st.
-    no-more c.args.session w c.opening.local c.open_session.new.self c.in-Err.refusal (c.opening.invariant w st) (omega (arith, c.opening-test.true, c.sessions.ensures)) c.in-Err.ensures.refused c.in-Err.ensures.kept
+pub returns-in-Err : goal.returns-in-Err
+returns-in-Err g c =
+    let i = c.opening.invariant in
+    let store = c.opening.store in
+    let store' = c.open_session.new.self in
+    record {
+      opens = λ disk honest first s w at.
+          no-more c.args.session w (λ v. StandsAt g.D.Disk first store disk s v) (λ v. StandsAt g.D.Disk first store' disk s v) (length store.engine.sessions) c.in-Err.refusal (i.opens disk honest first s w at)
+          (omega (arith, c.opening-test.true, c.sessions.ensures)) c.in-Err.ensures.refused (λ v at. subst (λ (x : Store). StandsAt g.D.Disk first x disk s v) (sym c.in-Err.ensures.same) at);
+      refused = is-no-session c.in-Err.refusal (length store.engine.sessions) c.in-Err.ensures.refused;
+      there = tt;
+      told = λ disk start le are. c.in-Err.ensures.told disk start le (i.told disk start le are);
+      keeps = λ disk. keeps_then g.D.Disk c.args.store.now store store' disk disk disk (i.keeps disk) (c.in-Err.ensures.keeps disk);
+    }
 
-pub returns-clause-opens : goal.returns-clause-opens
-returns-clause-opens c = λ w st.
-    all-opened c.args.session w c.opening.local (c.opening.invariant w st) (omega (arith, c.opening-test.false, c.sessions.ensures))
+pub returns : goal.returns
+returns g c =
+    let i = c.opening.invariant in
+    let store = c.opening.store in
+    let there : c.args.session < length store.engine.sessions = omega (arith, c.opening-test.false, c.sessions.ensures) in
+    record {
+      opens = λ disk honest first s w at. all-opened c.args.session w (λ v. StandsAt g.D.Disk first store disk s v) (length store.engine.sessions) (i.opens disk honest first s w at) there;
+      refused = tt;
+      there = there;
+      told = i.told;
+      keeps = i.keeps;
+    }

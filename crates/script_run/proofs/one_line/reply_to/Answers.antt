@@ -1,11 +1,17 @@
 use Rattle.std.proofs.Common.{sym, subst, ◌∙◌}
+use Rattle.std.specs.Prelude.{false, ◌||◌}
+use Rattle.disk_model.proofs.Crash.{looked_same}
 use Rattle.script_text.specs.declared.line.Line.{Line}
 use Rattle.script_run.specs.Runs.{RepliedAs}
 use Rattle.script_run.specs.Scripts.{IsLater, gives_stamp}
-use Rattle.std.specs.Prelude.{false, ◌||◌}
-use Rattle.script_run.proofs.Devices.{gives_none, same_disk}
-use Rattle.script_run.proofs.Holding.{actor_fault, actor_fit, actor_told, of_actor, reply_other}
+use Rattle.script_run.proofs.Calming.{CalmLaws}
+use Rattle.script_run.proofs.Devices.{gives_none}
+use Rattle.script_run.proofs.Holding.{actor_told, fit_kept, of_actor}
+use Rattle.script_run.proofs.Telling.{fit_tells}
 use Rattle.script_run.proofs.one_line.reply_to.Goals as goal
+
+pub reply_of-requires-clause-now : goal.reply_of-requires-clause-now
+reply_of-requires-clause-now g c = of_actor c.args.line false c.requires.now c.in_default.not-Control
 
 pub returns-in-Control-clause-replies : goal.returns-in-Control-clause-replies
 returns-in-Control-clause-replies g c = λ honest first stamped s now at same.
@@ -16,17 +22,20 @@ returns-in-Control-clause-replies g c = λ honest first stamped s now at same.
 pub returns-in_default : goal.returns-in_default
 returns-in_default g c =
     let now = of_actor c.args.line false c.requires.now c.in_default.not-Control in
-    let before = c.as_mut_slice.result.now in
-    let w = c.has_world.ensures in
+    let law = c.calm_stays.ensures in
+    let laws : CalmLaws = record { steps = law.steps; answers = law.answers; kept = law.kept; kept_out = law.kept_out; opens = law.opens } in
+    let store = c.args.store.now in
+    let disk = c.args.disk.now in
+    let store' = c.reply_of.new.store in
+    let disk' = c.reply_of.new.disk in
+    let told = c.reply_of.result in
+    let keeps = c.reply_of.ensures.keeps in
     record {
       replies = λ honest first stamped s later at same.
-          actor_told g.D.Disk c.args.disk.now c.args.store.now c.reply_of.new.local c.args.line now c.actors.ensures.built (record { steps = c.calm_stays.ensures.steps; answers = c.calm_stays.ensures.answers; opens = c.calm_stays.ensures.opens })
-          first stamped s c.reply_of.result c.reply_of.new.formats at (c.reply_of.ensures s (same ∙ sym c.as_mut_slice.ensures.value) at.held.stands);
-      fault = λ none is.
-          let quiet = actor_fault g.D.Disk c.args.disk.now c.args.store.now c.reply_of.new.local c.args.line now c.actors.ensures.built c.reply_of.result before c.reply_of.new.formats c.reply_of.ensures none in
-          absurd (reply_other c.reply_of.result.reply quiet.1 is);
-      quiet = λ none. (actor_fault g.D.Disk c.args.disk.now c.args.store.now c.reply_of.new.local c.args.line now c.actors.ensures.built c.reply_of.result before c.reply_of.new.formats c.reply_of.ensures none).0;
+          actor_told g.D.Disk first store store' disk disk' c.args.line laws stamped s told c.reply_of.new.formats now at
+          (c.reply_of.ensures.replied honest first s (record { held = at.held; device = at.device }) (same ∙ sym c.as_mut_slice.ensures.value));
+      told = fit_tells g.D.Disk store store' disk disk' told c.requires.fit c.reply_of.ensures.told;
       damage = tt;
-      fit = actor_fit g.D.Disk c.args.disk.now c.args.store.now c.reply_of.new.local c.args.line now c.actors.ensures.built c.reply_of.result before c.reply_of.new.formats c.reply_of.ensures w.0 w.1 c.requires.fit;
-      disk = same_disk g.D.Disk c.args.disk.now;
+      fit = fit_kept g.D.Disk store store' disk disk' keeps c.requires.fit;
+      disk = looked_same g.D.Disk disk disk' keeps.looked keeps.home;
     }

@@ -1,21 +1,43 @@
-use Rattle.std.proofs.Common.{◌∙◌, subst, sym, inl}
+use Rattle.std.proofs.Common.{List, subst, inl}
 use Rattle.std.specs.Prelude.{◌⊎◌, Err}
+use Rattle.item.specs.declared.formats.Formats.{Formats}
 use Rattle.wt_code.specs.declared.refusals.Refusal.TheVariants.{NoMemory}
-use Rattle.engine_world.specs.Stands.{Stands}
 use Rattle.engine.specs.declared.step.Actor.{Actor}
-use Rattle.script_run.specs.Runs.{OpensAs}
-use Rattle.script_run.specs.Scripts.{Begins, Refuses, caller, missing, opened_more}
-use Rattle.script_run.proofs.Replying.{turned-away}
+use Rattle.script_text.specs.declared.line.Line.TheVariants.{Start as StartLine}
+use Rattle.script_run.specs.Runs.{IsReplied, OpensAs, StandsAt}
+use Rattle.script_run.specs.Scripts.{Begins, Refuses, Replies, caller, missing, opened_more}
+use Rattle.script_run.proofs.Holding.{keeps_then}
+use Rattle.script_run.proofs.Replying.{left-more, turned-away}
+use Rattle.script_run.proofs.Telling.{opened_replies, refused_replies}
 use Rattle.script_run.proofs.one_line.start.Goals as goal
 
 pub returns-in-Err : goal.returns-in-Err
-returns-in-Err c = λ s same st.
-    let x = turned-away (λ later v. Begins c.args.call s c.refused.result.formats c.refused.result.reply later v ⊎ Refuses NoMemory s v c.refused.result.reply later) (caller c.args.call) s c.in-Err.refusal c.refused.result.reply c.open.new.local c.refused.ensures.reply
-    (subst (λ (a : Actor). OpensAs a s.world (Err c.in-Err.refusal) c.open.new.local) c.caller.ensures (c.in-Err.ensures.opens s.world st)) in
-    record { later = x.later; replies = x.replies; stands = x.stands; kept_is = sym same ∙ x.kept }
+returns-in-Err g c =
+    let store = c.open.new.store in
+    let disk = c.args.disk.now in
+    let told = c.refused.result in
+    let r = c.in-Err.refusal in
+    record {
+      replied = λ honest first s at same.
+          subst (λ (l : List Formats). IsReplied g.D.Disk first s store disk (StartLine c.args.call) l told) same
+          (turned-away g.D.Disk first s store disk (λ later v. Begins c.args.call s told.formats told.reply later v ⊎ Refuses NoMemory s v told.reply later) (caller c.args.call) r told.reply c.refused.ensures.reply
+          (subst (λ (a : Actor). OpensAs a s.world (Err r) (λ v. StandsAt g.D.Disk first store disk s v)) c.caller.ensures (c.in-Err.ensures.opens disk honest first s s.world at)));
+      told = refused_replies g.D.Disk c.args.store.now store disk disk r told c.in-Err.ensures.refused c.refused.ensures.reply (c.in-Err.ensures.told disk);
+      keeps = c.in-Err.ensures.keeps disk;
+    }
 
 pub returns-in-Ok : goal.returns-in-Ok
-returns-in-Ok c = λ s same st.
-    let opened = subst (λ (a : Actor). Stands c.open.new.local (opened_more (missing a s.world) s.world)) c.caller.ensures (c.in-Ok.ensures.opens s.world st) in
-    let a = c.begin.ensures s (opened_more (missing (caller c.args.call) s.world) s.world) same opened in
-    record { later = a.0; replies = inl a.1; stands = a.2; kept_is = a.3 }
+returns-in-Ok g c =
+    let store = c.open.new.store in
+    let disk = c.args.disk.now in
+    let store' = c.begin.new.store in
+    let disk' = c.begin.new.disk in
+    let told = c.begin.result in
+    record {
+      replied = λ honest first s at same.
+          let opened = subst (λ (a : Actor). StandsAt g.D.Disk first store disk s (opened_more (missing a s.world) s.world)) c.caller.ensures (c.in-Ok.ensures.opens disk honest first s s.world at) in
+          let v = opened_more (missing (caller c.args.call) s.world) s.world in
+          left-more g.D.Disk first s store' disk' c.begin.new.kept (λ later. Begins c.args.call s told.formats told.reply later v ⊎ Refuses NoMemory s v told.reply later) (λ later. Replies (StartLine c.args.call) s told.formats told.reply later) (λ later is. inl is) (c.begin.ensures.replied honest first s v opened same);
+      told = opened_replies g.D.Disk c.args.store.now store store' disk disk' told (c.in-Ok.ensures.keeps disk) (c.in-Ok.ensures.told disk) c.begin.ensures.told;
+      keeps = keeps_then g.D.Disk c.args.store.now store store' disk disk disk' (c.in-Ok.ensures.keeps disk) c.begin.ensures.keeps;
+    }

@@ -1,23 +1,44 @@
-use Rattle.std.proofs.Common.{◌∙◌, subst, sym, inl}
+use Rattle.std.proofs.Common.{List, subst, inl}
 use Rattle.std.specs.Prelude.{Err}
+use Rattle.item.specs.declared.formats.Formats.{Formats}
 use Rattle.engine.specs.declared.step.Actor.{Actor}
-use Rattle.script_run.specs.Runs.{OpensAs}
-use Rattle.script_run.specs.Scripts.{Goes, Opens, Refuses, actor_in, missing, opened_more}
-use Rattle.script_run.proofs.Replying.{turned-away}
+use Rattle.script_text.specs.declared.line.Line.TheVariants.{Step as StepLine}
+use Rattle.script_run.specs.Runs.{IsReplied, OpensAs, StandsAt}
+use Rattle.script_run.specs.Scripts.{Goes, Opens, Refuses, Replies, actor_in, missing, opened_more}
+use Rattle.script_run.proofs.Holding.{keeps_then}
+use Rattle.script_run.proofs.Replying.{left-more, turned-away}
+use Rattle.script_run.proofs.Telling.{opened_replies, refused_replies}
 use Rattle.script_run.proofs.one_line.step.Goals as goal
 
 pub returns-in-Err : goal.returns-in-Err
-returns-in-Err c = λ s same st.
-    let x = turned-away (λ later v. Goes (actor_in c.args.who) s c.refused.result.formats c.refused.result.reply later v) (actor_in c.args.who) s c.in-Err.refusal c.refused.result.reply c.open.new.local c.refused.ensures.reply
-    (subst (λ (a : Actor). OpensAs a s.world (Err c.in-Err.refusal) c.open.new.local) c.actor_in-actor.ensures (c.in-Err.ensures.opens s.world st)) in
-    record { later = x.later; replies = x.replies; stands = x.stands; kept_is = sym same ∙ x.kept }
+returns-in-Err g c =
+    let store = c.open.new.store in
+    let disk = c.args.disk.now in
+    let told = c.refused.result in
+    let r = c.in-Err.refusal in
+    record {
+      replied = λ honest first s at same.
+          subst (λ (l : List Formats). IsReplied g.D.Disk first s store disk (StepLine c.args.who) l told) same
+          (turned-away g.D.Disk first s store disk (λ later v. Goes (actor_in c.args.who) s told.formats told.reply later v) (actor_in c.args.who) r told.reply c.refused.ensures.reply
+          (subst (λ (a : Actor). OpensAs a s.world (Err r) (λ v. StandsAt g.D.Disk first store disk s v)) c.actor_in-actor.ensures (c.in-Err.ensures.opens disk honest first s s.world at)));
+      told = refused_replies g.D.Disk c.args.store.now store disk disk r told c.in-Err.ensures.refused c.refused.ensures.reply (c.in-Err.ensures.told disk);
+      keeps = c.in-Err.ensures.keeps disk;
+    }
 
 pub returns-in-Ok : goal.returns-in-Ok
-returns-in-Ok c = λ s same st.
-    let a = c.go.ensures s (opened_more (missing c.actor_in-actor.result s.world) s.world) same (c.in-Ok.ensures.opens s.world st) in
+returns-in-Ok g c =
+    let store = c.open.new.store in
+    let disk = c.args.disk.now in
+    let store' = c.go.new.store in
+    let disk' = c.go.new.disk in
+    let told = c.go.result in
     record {
-      later = a.0;
-      replies = subst (λ (who : Actor). Opens who s.world (λ v. Goes who s c.go.result.formats c.go.result.reply a.0 v) (λ r v. Refuses r s v c.go.result.reply a.0)) c.actor_in-actor.ensures (inl a.1);
-      stands = a.2;
-      kept_is = sym (a.3 ∙ same);
+      replied = λ honest first s at same.
+          let v = opened_more (missing c.actor_in-actor.result s.world) s.world in
+          let x = c.go.ensures.replied honest first s v (c.in-Ok.ensures.opens disk honest first s s.world at) same in
+          subst (λ (l : List Formats). IsReplied g.D.Disk first s store' disk' (StepLine c.args.who) l told) same
+          (left-more g.D.Disk first s store' disk' s.formats (λ later. Goes c.actor_in-actor.result s told.formats told.reply later v) (λ later. Replies (StepLine c.args.who) s told.formats told.reply later)
+          (λ later is. subst (λ (a : Actor). Opens a s.world (λ v. Goes a s told.formats told.reply later v) (λ but v. Refuses but s v told.reply later)) c.actor_in-actor.ensures (inl is)) x);
+      told = opened_replies g.D.Disk c.args.store.now store store' disk disk' told (c.in-Ok.ensures.keeps disk) (c.in-Ok.ensures.told disk) c.go.ensures.told;
+      keeps = keeps_then g.D.Disk c.args.store.now store store' disk disk disk' (c.in-Ok.ensures.keeps disk) c.go.ensures.keeps;
     }

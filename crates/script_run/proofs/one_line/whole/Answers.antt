@@ -1,21 +1,41 @@
-use Rattle.std.proofs.Common.{subst, sym, inl}
+use Rattle.std.proofs.Common.{subst, inl}
 use Rattle.std.specs.Prelude.{◌⊎◌, Err}
 use Rattle.wt_code.specs.declared.refusals.Refusal.TheVariants.{NoMemory}
-use Rattle.engine_world.specs.Stands.{Stands}
 use Rattle.engine.specs.declared.step.Actor.{Actor}
-use Rattle.script_run.specs.Runs.{OpensAs}
-use Rattle.script_run.specs.Scripts.{Answers, Refuses, caller, missing, opened_more}
-use Rattle.script_run.proofs.Replying.{turned-away}
+use Rattle.script_text.specs.declared.line.Line.TheVariants.{Whole}
+use Rattle.script_run.specs.Runs.{OpensAs, StandsAt}
+use Rattle.script_run.specs.Scripts.{Answers, Refuses, Replies, caller, missing, opened_more}
+use Rattle.script_run.proofs.Holding.{keeps_then}
+use Rattle.script_run.proofs.Replying.{left-more, turned-away}
+use Rattle.script_run.proofs.Telling.{opened_replies, refused_replies}
 use Rattle.script_run.proofs.one_line.whole.Goals as goal
 
 pub returns-in-Err : goal.returns-in-Err
-returns-in-Err c = λ s st.
-    let x = turned-away (λ later v. Answers c.args.call s c.refused.result.formats c.refused.result.reply later v ⊎ Refuses NoMemory s v c.refused.result.reply later) (caller c.args.call) s c.in-Err.refusal c.refused.result.reply c.open.new.local c.refused.ensures.reply
-    (subst (λ (a : Actor). OpensAs a s.world (Err c.in-Err.refusal) c.open.new.local) c.caller.ensures (c.in-Err.ensures.opens s.world st)) in
-    record { later = x.later; replies = x.replies; stands = x.stands; kept_is = x.kept }
+returns-in-Err g c =
+    let store = c.open.new.store in
+    let disk = c.args.disk.now in
+    let told = c.refused.result in
+    let r = c.in-Err.refusal in
+    record {
+      replied = λ honest first s at.
+          turned-away g.D.Disk first s store disk (λ later v. Answers c.args.call s told.formats told.reply later v ⊎ Refuses NoMemory s v told.reply later) (caller c.args.call) r told.reply c.refused.ensures.reply
+          (subst (λ (a : Actor). OpensAs a s.world (Err r) (λ v. StandsAt g.D.Disk first store disk s v)) c.caller.ensures (c.in-Err.ensures.opens disk honest first s s.world at));
+      told = refused_replies g.D.Disk c.args.store.now store disk disk r told c.in-Err.ensures.refused c.refused.ensures.reply (c.in-Err.ensures.told disk);
+      keeps = c.in-Err.ensures.keeps disk;
+    }
 
 pub returns-in-Ok : goal.returns-in-Ok
-returns-in-Ok c = λ s st.
-    let opened = subst (λ (a : Actor). Stands c.open.new.local (opened_more (missing a s.world) s.world)) c.caller.ensures (c.in-Ok.ensures.opens s.world st) in
-    let a = c.answer.ensures s (opened_more (missing (caller c.args.call) s.world) s.world) opened in
-    record { later = a.0; replies = inl a.1; stands = a.2; kept_is = sym a.3 }
+returns-in-Ok g c =
+    let store = c.open.new.store in
+    let disk = c.args.disk.now in
+    let store' = c.answer.new.store in
+    let disk' = c.answer.new.disk in
+    let told = c.answer.result in
+    record {
+      replied = λ honest first s at.
+          let opened = subst (λ (a : Actor). StandsAt g.D.Disk first store disk s (opened_more (missing a s.world) s.world)) c.caller.ensures (c.in-Ok.ensures.opens disk honest first s s.world at) in
+          let v = opened_more (missing (caller c.args.call) s.world) s.world in
+          left-more g.D.Disk first s store' disk' s.formats (λ later. Answers c.args.call s told.formats told.reply later v ⊎ Refuses NoMemory s v told.reply later) (λ later. Replies (Whole c.args.call) s told.formats told.reply later) (λ later is. inl is) (c.answer.ensures.replied honest first s v opened);
+      told = opened_replies g.D.Disk c.args.store.now store store' disk disk' told (c.in-Ok.ensures.keeps disk) (c.in-Ok.ensures.told disk) c.answer.ensures.told;
+      keeps = keeps_then g.D.Disk c.args.store.now store store' disk disk disk' (c.in-Ok.ensures.keeps disk) c.answer.ensures.keeps;
+    }

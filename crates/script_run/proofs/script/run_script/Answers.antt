@@ -6,7 +6,8 @@ use Rattle.wt_code.specs.declared.refusals.Refusal.TheVariants.{DiskFault, NoMem
 use Rattle.script_run.specs.declared.script.End.TheVariants.{Stopped}
 use Rattle.script_run.specs.declared.script.ScriptRun.{ScriptRun}
 use Rattle.script_run.specs.Lines.{Held}
-use Rattle.script_run.proofs.Devices.{no_fault_first, same_disk}
+use Rattle.script_run.proofs.Devices.{same_disk}
+use Rattle.script_run.proofs.Telling.{told_none}
 use Rattle.script_run.proofs.Scripting.{more-done, none-done, none-met, none-run, none-told, rose-before, rose-either, rose-told, run-done}
 use Rattle.script_run.proofs.script.run_script.Goals as goal
 
@@ -25,16 +26,15 @@ returns-in_default g c =
 pub lines-init : goal.lines-init
 lines-init g c =
     let place = c.first-place.ensures in
-    let w = c.has_world.ensures in
     record {
       ended = λ is. absurd (false≢true (sym (ap (λ (h : Held). h.ended) c.in-Ok.ensures) ∙ is));
       line = omega (arith, place.line, place.used);
       used = omega (arith, place.used);
       reads = omega arith;
       writes = omega arith;
-      fit = record { ready = c.requires.ready; steady = c.requires.steady };
+      fit = record { ready = c.requires.ready; well = c.requires.well };
       disk = same_disk g.D.Disk c.args.disk.now;
-      quiet = λ none. no_fault_first c.args.store.now.engine w.0 none w.1 w.2;
+      told = λ none. told_none g.D.Disk c.args.store.now.engine c.args.disk.now none;
       met = λ none met. absurd (none-met DiskFault (sym place.met ∙ met));
       done = λ honest w held calm.
           none-done g.D.Disk c.args.disk.now w g.S.Source g.K.Sink c.args.input.now c.args.out.now c.in-Ok.lines c.first-place.result c.args.store.now (ap (λ (h : Held). h.behind) c.in-Ok.ensures) place.line place.used place.stamped place.formats place.met held calm;
@@ -53,8 +53,8 @@ returns-in-Some g c =
       input = λ is. rose-before (g.S.Source.fault_count c.args.input.now) (g.S.Source.fault_count c.lines.input) (g.S.Source.fault_count c.turn.new.input) i.reads (e.input_fails is);
       output = λ is. rose-before (g.K.Sink.fault_count c.args.out.now) (g.K.Sink.fault_count c.lines.out) (g.K.Sink.fault_count c.turn.new.out) i.writes (e.output_fails is);
       fault = λ none met.
-          let f = e.fault (i.quiet none) in
-          rose-told told (g.D.Disk.faults c.args.disk.now) (g.D.Disk.faults c.lines.disk) (g.D.Disk.faults c.turn.new.disk) c.lines.place.met i.disk.later c.turn.ensures.disk.later f.0 (i.met none) f.1 met;
+          let f = (e.told c.args.disk.now i.disk.later (i.told none)).0 in
+          rose-told told (g.D.Disk.faults c.args.disk.now) (g.D.Disk.faults c.lines.disk) (g.D.Disk.faults c.turn.new.disk) c.lines.place.met c.turn.ensures.disk.later f.0 (i.met none) f.1 met;
       damage = λ honest at want found is. e.damage (i.disk.same ∙ honest) at want found is;
       disk = same_disk_then g.D.Disk c.args.disk.now c.lines.disk c.turn.new.disk i.disk c.turn.ensures.disk;
     }
@@ -71,9 +71,9 @@ lines-preserved g c =
       writes = omega (arith, i.writes, c.turn.ensures.output);
       fit = c.turn.ensures.fit;
       disk = same_disk_then g.D.Disk c.args.disk.now c.lines.disk c.turn.new.disk i.disk c.turn.ensures.disk;
-      quiet = λ none. c.turn.ensures.quiet (i.quiet none);
+      told = λ none. (e.told c.args.disk.now i.disk.later (i.told none)).1;
       met = λ none met.
-          rose-either (c.lines.place.met ≡ Some DiskFault) (g.D.Disk.faults c.args.disk.now) (g.D.Disk.faults c.lines.disk) (g.D.Disk.faults c.turn.new.disk) i.disk.later c.turn.ensures.disk.later (i.met none) (e.fault (i.quiet none) met);
+          rose-either (c.lines.place.met ≡ Some DiskFault) (g.D.Disk.faults c.args.disk.now) (g.D.Disk.faults c.lines.disk) (g.D.Disk.faults c.turn.new.disk) c.turn.ensures.disk.later (i.met none) ((e.told c.args.disk.now i.disk.later (i.told none)).0 met);
       done = λ honest w held calm.
           let d = i.done honest w held calm in
           more-done g.D.Disk c.args.disk.now w g.S.Source g.K.Sink c.args.input.now c.lines.input c.turn.new.input c.args.out.now c.lines.out c.turn.new.out c.lines.lines c.turn.new.lines c.lines.place c.turn.new.place c.lines.store c.turn.new.store c.lines.disk c.turn.new.disk

@@ -6,9 +6,9 @@ use Rattle.disk_model.specs.Crash.{SameDisk}
 use Rattle.wt_code.specs.declared.refusals.Refusal.TheVariants.{DiskFault}
 use Rattle.engine_world.specs.Worlds.{World}
 use Rattle.ckpt_step.specs.Calm.{IsCalm}
+use Rattle.engine_store.specs.Calls.{AreToldSo}
 use Rattle.engine_store.specs.Held.{IsHeld}
 use Rattle.script_run.specs.declared.script.TheConstants.{INPUT_MAX}
-use Rattle.script_run.specs.Faults.{NoFault}
 use Rattle.script_run.specs.Runs.{IsFit}
 use Rattle.script_run.proofs.Scripting.{IsDone}
 use Rattle.script_run.proofs.script.run_script.Given as goal
@@ -22,7 +22,7 @@ invariant-lines g l = record {
   writes : g.K.Sink.fault_count l.fn.out ≤ g.K.Sink.fault_count l.out;
   fit : IsFit g.D.Disk l.store l.disk;
   disk : SameDisk g.D.Disk l.fn.disk l.disk;
-  quiet : length l.fn.store.engine.sessions ≡ 0 → NoFault l.store.engine;
+  told : length l.fn.store.engine.sessions ≡ 0 → AreToldSo g.D.Disk l.fn.disk l.store.engine l.disk;
   met : length l.fn.store.engine.sessions ≡ 0 → l.place.met ≡ Some DiskFault → Rose (g.D.Disk.faults l.fn.disk) (g.D.Disk.faults l.disk);
   done : IsTrue (g.D.Disk.honest l.fn.disk) → (w : World) → IsHeld g.D.Disk l.fn.disk l.fn.store l.fn.disk w w.machine.completed [] → IsCalm w
       → IsDone g.D.Disk l.fn.disk w g.S.Source g.K.Sink l.fn.input l.input l.fn.out l.out l.lines l.place l.store l.disk;

@@ -1,12 +1,12 @@
 use Rattle.std.specs.Option.{option_map}
-use Rattle.std.proofs.Common.{◌∙◌, ◌<◌, ◌^◌, length, List, ℕ, Bor, Option, sym, subst}
+use Rattle.std.proofs.Common.{◌∙◌, ◌<◌, ◌^◌, length, List, ℕ, Bor, IsTrue, Option, sym, subst}
 use Rattle.failure.specs.Counts.{Rose}
 use Rattle.wt_io.specs.Streams.{AtEnd, Gave}
 use Rattle.kv_model.specs.Content.{start}
 use Rattle.script_run.specs.declared.script.End.{End}
 use Rattle.wt_tool.specs.Loads.{IsWhole}
 use Rattle.wt_tool.specs.Parts.{EndsLoad, LoadEnds, load_allowed}
-use Rattle.wt_tool.proofs.Loading.{taken_end, taken_ends, untaken_end, untaken_ends, whole_short, whole_some}
+use Rattle.wt_tool.proofs.LoadEnds.{taken_end, taken_ends, untaken_end, untaken_ends, whole_short, whole_some}
 use Rattle.wt_tool.proofs.load.run_load.Goals as goal
 
 abbrev Renamed : Option (Bor (List ℕ)) → Option (List ℕ)
@@ -18,7 +18,7 @@ returns-in-Err-clause-run g c h content each =
     c.args.disk.now c.in-Err.end c.in-Err.ensures.taken.0 (λ d left. g.met.D.Disk.only_now _ d left) each c.in-Err.ensures.taken.1 c.in-Err.ensures.failed
 
 pub returns-in-Err-clause-ends : goal.returns-in-Err-clause-ends
-returns-in-Err-clause-ends g c = untaken_end _ _ c.in-Err.end c.in-Err.ensures.failed
+returns-in-Err-clause-ends g c = untaken_end _ _ _ c.in-Err.end c.in-Err.ensures.failed
 
 pub load_text-loaded-requires-clause-short : goal.load_text-loaded-requires-clause-short
 load_text-loaded-requires-clause-short g c =
@@ -44,6 +44,7 @@ returns-clause-run g c h content each =
 
 pub returns-clause-ends : goal.returns-clause-ends
 returns-clause-ends g c =
+    let honest = IsTrue (g.D.Disk.honest c.args.disk.now) in
     let disk = Rose (g.D.Disk.faults c.args.disk.now) (g.D.Disk.faults c.load_text-loaded.new.disk) in
     let input = Rose (g.S.Source.fault_count c.args.input.now) (g.S.Source.fault_count c.take_input.new.input) in
-    subst (λ (e : End). EndsLoad disk input e) (sym c.end_for.ensures) (taken_end disk input c.load_text-loaded.result c.load_text-loaded.ensures.sound c.load_text-loaded.ensures.fault)
+    subst (λ (e : End). EndsLoad honest disk input e) (sym c.end_for.ensures) (taken_end honest disk input c.load_text-loaded.result c.load_text-loaded.ensures.sound c.load_text-loaded.ensures.fault)

@@ -2,11 +2,11 @@ use Rattle.std.proofs.Common.{◌∙◌, subst, List, ℕ, IsTrue}
 use Rattle.failure.specs.Counts.{Rose}
 use Rattle.engine_store.specs.Opened.{OpenRefused}
 use Rattle.device_leaf.proofs.Opens.{err_map, rose_sooner}
-use Rattle.wt_tool.proofs.Running.{ok_map, open_further, opened_on}
+use Rattle.wt_tool.proofs.Running.{open_further}
 use Rattle.wt_tool.proofs.opening.reach.Goals as goal
 
 pub returns-in-Ok-clause-ok : goal.returns-in-Ok-clause-ok
-returns-in-Ok-clause-ok g c h = ok_map c.open_on.result (c.open_on.ensures.ok (c.attach.ensures.same ∙ h)) (opened_on g.D.Disk c.open_on.new.disk)
+returns-in-Ok-clause-ok g c h = c.open_on.ensures.ok (c.attach.ensures.same ∙ h)
 
 pub returns-in-Ok-clause-err : goal.returns-in-Ok-clause-err
 returns-in-Ok-clause-err g c =

@@ -24,7 +24,7 @@ use Rattle.wt_tool.specs.Top.{Errors, IsTold, Tells, lines, last_line, status_of
 use Rattle.wt_tool.proofs.Dumping.{keeps_on, later_on, looked_self, reading_as, so_further, spoilt_now}
 use Rattle.wt_tool.proofs.Finding.{formats_are, table_of}
 use Rattle.wt_tool.proofs.FreshRuns.{Goes, goes_absent, goes_first, goes_value}
-use Rattle.wt_tool.proofs.Called.{keeps_same, same_device}
+use Rattle.wt_tool.proofs.Beside.{keeps_same, same_device}
 use Rattle.wt_tool.proofs.Gets.{rose_before, front_more, told_more, tells_more, ok_or_err, of_ok, of_err, each_behind, lines_behind}
 use Rattle.wt_tool.proofs.Going.{going_failed, going_lacks, going_stopped, going_through}
 use Rattle.wt_tool.proofs.read.read_named.Goals as goal

@@ -1,21 +1,16 @@
-use Rattle.std.proofs.Common.{List, [], Option, ap, refl, subst}
+use Rattle.std.proofs.Common.{List, [], Option, ap, subst}
 use Rattle.kv_model.specs.Calls.{Call}
 use Rattle.kv_model.specs.Content.{start}
-use Rattle.device_leaf.specs.Closings.{content_was}
 use Rattle.engine_world.specs.Worlds.{World}
-use Rattle.engine.specs.Openings.{first_world, no_shelf}
 use Rattle.script_run.specs.Scripts.{Outside, outside}
 use Rattle.script_run.specs.Runs.{IsRun}
 use Rattle.wt_tool.specs.Top.{Streams, errors_of, streams_of}
-use Rattle.wt_tool.proofs.Leaving.{follows_opened}
-use Rattle.wt_tool.proofs.ScriptRuns.{end_so, first_calm, first_held, four_rest, no_sessions, scripted, tells_end, tells_means}
+use Rattle.wt_tool.proofs.Leaving.{first_of, first_held, first_plain, opened_well}
+use Rattle.wt_tool.proofs.ScriptRuns.{end_so, four_rest, scripted, tells_end, tells_means}
 use Rattle.wt_tool.proofs.script.script.Goals as goal
 
-pub run_script-ran-requires-clause-steady : goal.run_script-ran-requires-clause-steady
-run_script-ran-requires-clause-steady g c h up =
-    let on = c.requires.on h in
-    let world = first_world (content_was on.old) c.args.store.engine in
-    record { world = world; stands = on.starts; idle = refl; old = on.old; on = on.on; follows = follows_opened g.D.Disk c.args.disk.now c.args.store on world.machine }
+pub run_script-ran-requires-clause-well : goal.run_script-ran-requires-clause-well
+run_script-ran-requires-clause-well g c h = opened_well g.D.Disk c.args.disk.now c.args.store (c.requires.on h)
 
 pub returns-clause-run : goal.returns-clause-run
 returns-clause-run g c h content each =
@@ -26,11 +21,11 @@ returns-clause-run g c h content each =
     let on = c.requires.on h in
     let reads = each.0 _ (g.met.D.Disk.reads_an_image _ h) in
     let held = first_held D c.args.disk.now s on content each reads (λ d left. g.met.D.Disk.only_now _ d left) in
-    let calm = first_calm D c.args.disk.now s on content each reads c.plain_stays.ensures.starts c.calm_stays.ensures.starts in
-    let world = ap (λ (l : List (Option Call)). let v : World = record { machine = start content; sessions = []; systems = l; shelf = no_shelf } in v) (four_rest s.engine.systems c.actors.ensures.systems) in
-    scripted D o content w c.args.disk.now c.run_script-ran.new.disk c.run_script-ran.new.store c.run_script-ran.result c.told-status.result
+    let calm = c.calm_stays.ensures.starts content on.shelf s.engine (first_plain D c.args.disk.now s on content each reads c.plain_stays.ensures.starts) in
+    let world = ap (λ (l : List (Option Call)). let v : World = record { machine = start content; sessions = []; systems = l; shelf = on.shelf } in v) (four_rest s.engine.systems c.actors.ensures.systems) in
+    scripted D o content on.shelf w c.args.disk.now c.run_script-ran.new.disk c.run_script-ran.new.store c.run_script-ran.result c.told-status.result
     (subst (λ (v : World). IsRun D o w.in_before w.in_now w.out_before w.out_now v c.args.disk.now c.run_script-ran.new.disk c.run_script-ran.new.store c.run_script-ran.result) world
-    (c.run_script-ran.ensures.run h (first_world content s.engine) held calm))
+    (c.run_script-ran.ensures.run h (first_of D c.args.disk.now s on content each reads) held calm))
     c.told-status.ensures
 
 pub returns-clause-told : goal.returns-clause-told
@@ -41,7 +36,7 @@ pub returns-clause-statuses : goal.returns-clause-statuses
 returns-clause-statuses g c = (tells_means (errors_of g.E.Sink c.args.err.now c.told-status.new.err) c.run_script-ran.result.end c.run_script-ran.result.met c.told-status.result c.told-status.ensures).some
 
 pub returns-clause-disk_fault : goal.returns-clause-disk_fault
-returns-clause-disk_fault g c is = c.run_script-ran.ensures.fault (no_sessions c.args.store.engine c.requires.started) ((tells_means (errors_of g.E.Sink c.args.err.now c.told-status.new.err) c.run_script-ran.result.end c.run_script-ran.result.met c.told-status.result c.told-status.ensures).disk is)
+returns-clause-disk_fault g c is = c.run_script-ran.ensures.fault c.requires.none ((tells_means (errors_of g.E.Sink c.args.err.now c.told-status.new.err) c.run_script-ran.result.end c.run_script-ran.result.met c.told-status.result c.told-status.ensures).disk is)
 
 pub returns-clause-input_fault : goal.returns-clause-input_fault
 returns-clause-input_fault g c is = c.run_script-ran.ensures.input ((tells_means (errors_of g.E.Sink c.args.err.now c.told-status.new.err) c.run_script-ran.result.end c.run_script-ran.result.met c.told-status.result c.told-status.ensures).input is)

@@ -1,20 +1,34 @@
-use Rattle.std.proofs.Common.{subst, sym}
-use Rattle.std.specs.Prelude.{Result}
+use Rattle.std.proofs.Common.{◌≡◌, [], subst, sym}
+use Rattle.std.specs.Prelude.{IfErr, Result}
+use Rattle.wt_code.specs.declared.answers.Answer.TheVariants.{Refused}
 use Rattle.wt_code.specs.declared.refusals.Refusal.{Refusal}
+use Rattle.kv_model.specs.Calls.{Session}
 use Rattle.wt_calls.specs.Calls.{session_call_in}
-use Rattle.engine_world.specs.Worlds.{World}
-use Rattle.wt_tool.specs.Led.{DoneBy, Leads}
-use Rattle.wt_tool.proofs.Leading.{word_made, word_done, word_refused}
+use Rattle.wt_tool.specs.Led.{DoneBy}
+use Rattle.wt_tool.proofs.Holding.{call_done, call_refused}
+use Rattle.wt_tool.proofs.Went.{answered_went}
 use Rattle.wt_tool.proofs.sessions.call.Goals as goal
 use Rattle.wt_tool.proofs.sessions.call.Goals.{in-Refused, in_default}
 
 pub returns-clause-led : goal.returns-clause-led
-returns-clause-led c w stands quiet =
-    let a = c.call.ensures.answer w stands in
-    let made = word_made c.plain_stays.ensures.stays c.args.engine.now c.call.new.self w a.0 stands quiet a.2 c.args.call c.call.result a.1 c.requires.word in
+returns-clause-led g c h start first w holds =
+    let D = g.D.Disk in
+    let asked = session_call_in c.args.call in
+    let x = c.call.ensures.called h start w first [] holds.held in
+    let looked = c.call.ensures.keeps.looked in
+    let calm = c.calm_stays.ensures.kept in
+    let keep = c.checkpoints_are_kept.ensures.kept in
     elim c.match-call.branch [
-      | in-Refused x ↦ subst (λ (r : Result (Unit {0}) Refusal). (later : World) × Leads c.args.engine.now c.call.new.self w later × DoneBy (session_call_in c.args.call) w.machine later.machine r) (sym x.result-is)
-          (word_refused c.args.engine.now c.call.new.self w a.0 (session_call_in c.args.call) c.call.result x.in-Refused.refusal made x.in-Refused.is)
-      | in_default x ↦ subst (λ (r : Result (Unit {0}) Refusal). (later : World) × Leads c.args.engine.now c.call.new.self w later × DoneBy (session_call_in c.args.call) w.machine later.machine r) (sym x.result-is)
-          (word_done c.args.engine.now c.call.new.self w a.0 (session_call_in c.args.call) c.call.result made (λ r is. x.in_default.not-Refused r is))
+      | in-Refused y ↦ subst (λ (r : Result (Unit {0}) Refusal). DoneBy D start first w c.call.new.self c.args.disk.now c.call.new.disk (Session 0) asked r) (sym y.result-is)
+          (call_refused D start first w c.args.store.now c.call.new.self c.args.disk.now c.call.new.disk looked holds calm keep asked c.requires.word c.call.result x y.in-Refused.refusal y.in-Refused.is)
+      | in_default y ↦ subst (λ (r : Result (Unit {0}) Refusal). DoneBy D start first w c.call.new.self c.args.disk.now c.call.new.disk (Session 0) asked r) (sym y.result-is)
+          (call_done D start first w c.args.store.now c.call.new.self c.args.disk.now c.call.new.disk looked holds calm keep asked c.requires.word c.call.result x (λ r is. y.in_default.not-Refused r is))
     ]
+
+pub returns-clause-went : goal.returns-clause-went
+returns-clause-went g c =
+    answered_went g.D.Disk c.args.store.now c.call.new.self c.args.disk.now c.call.new.disk c.call.result _ c.call.ensures.keeps c.call.ensures.told
+    (elim c.match-call.branch [
+      | in-Refused y ↦ subst (λ (r : Result (Unit {0}) Refusal). IfErr r (λ x. c.call.result ≡ Refused x)) (sym y.result-is) y.in-Refused.is
+      | in_default y ↦ subst (λ (r : Result (Unit {0}) Refusal). IfErr r (λ x. c.call.result ≡ Refused x)) (sym y.result-is) tt
+    ])

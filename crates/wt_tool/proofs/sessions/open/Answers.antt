@@ -1,8 +1,17 @@
-use Rattle.wt_tool.proofs.Leading.{open_done, open_refused}
+use Rattle.std.proofs.Common.{[], ◌∙◌, sym}
+use Rattle.wt_tool.proofs.Holding.{opened_done, opened_refused}
+use Rattle.wt_tool.proofs.Went.{opened_went, unopened_went}
 use Rattle.wt_tool.proofs.sessions.open.Goals as goal
 
 pub returns-in-Ok-clause-led : goal.returns-in-Ok-clause-led
-returns-in-Ok-clause-led c w stands quiet = open_done c.plain_stays.ensures.opens c.args.engine.now c.open_session.new.self w c.requires.started stands quiet (c.in-Ok.ensures.opened w stands).1
+returns-in-Ok-clause-led g c disk h start first w holds =
+    opened_done g.D.Disk start first w c.args.store.now disk holds c.open_session.new.self _ c.calm_stays.ensures.opens (sym holds.held.stands.count ∙ c.requires.none) (c.in-Ok.ensures.opened disk h start w first [] holds.held)
+
+pub returns-in-Ok-clause-went : goal.returns-in-Ok-clause-went
+returns-in-Ok-clause-went g c disk = opened_went g.D.Disk c.args.store.now c.open_session.new.self disk (c.in-Ok.ensures.keeps disk) (c.in-Ok.ensures.told disk)
 
 pub returns-in-Err-clause-led : goal.returns-in-Err-clause-led
-returns-in-Err-clause-led c w stands quiet = open_refused c.args.engine.now c.open_session.new.self w c.in-Err.refusal c.requires.started stands quiet c.in-Err.ensures.kept c.in-Err.ensures.refused
+returns-in-Err-clause-led g c disk h start first w holds = opened_refused g.D.Disk start first w c.args.store.now disk holds c.open_session.new.self c.in-Err.refusal c.requires.none c.in-Err.ensures.same c.in-Err.ensures.refused
+
+pub returns-in-Err-clause-went : goal.returns-in-Err-clause-went
+returns-in-Err-clause-went g c disk = unopened_went g.D.Disk c.args.store.now c.open_session.new.self disk c.in-Err.refusal (c.in-Err.ensures.keeps disk) (c.in-Err.ensures.told disk) c.in-Err.ensures.refused

@@ -15,7 +15,7 @@ use Rattle.wt_tool.specs.Creates.{RunsCreate}
 use Rattle.wt_tool.specs.Writes.{RunsWrite}
 use Rattle.wt_tool.specs.Commands.{IsOnEngine, Runs}
 use Rattle.wt_tool.specs.Top.{Errors, IsSo, Streams, Telling, Went, errors_of, streams_of}
-use Rattle.wt_tool.proofs.Running.{refused_open, not_opened, may_open, opened_reads, opens_of, gave_none, telling, no_damage_so, told_so, opening_so, status_some, untold_at, stopped, left_by_calls, load_status, load_went, script_went}
+use Rattle.wt_tool.proofs.Running.{refused_open, not_opened, may_open, opened_reads, opens_of, gave_none, telling, loaded_so, none_so, opening_so, status_some, untold_at, stopped, left_by_calls, load_status, load_went, script_went}
 use Rattle.wt_tool.proofs.top.run_opened.Goals as goal
 
 if_err : {T E : Type 0} (P : E → Type 0) (r : Result T E) (e : E) → r ≡ Err e → IfErr r P → P e
@@ -66,7 +66,7 @@ returns-in-Create-clause-run g c h content each =
     (took_none _) c.told.ensures.told
 
 pub returns-in-Create-clause-told : goal.returns-in-Create-clause-told
-returns-in-Create-clause-told g c = telling _ _ c.create-result.result c.told.result c.told.ensures.told (err_map c.create-result.result c.create-result.ensures.sound (no_damage_so _ _ _))
+returns-in-Create-clause-told g c = telling _ _ c.create-result.result c.told.result c.told.ensures.told (err_map c.create-result.result c.create-result.ensures.sound (λ r none. none_so _ _ _ _ r (λ h. c.reach.ensures.looked.same ∙ h) none))
 
 pub returns-in-Write-clause-run : goal.returns-in-Write-clause-run
 returns-in-Write-clause-run g c h content each =
@@ -85,7 +85,7 @@ returns-in-Write-clause-run g c h content each =
     (took_none _) c.told-in-Write.ensures.told
 
 pub returns-in-Write-clause-told : goal.returns-in-Write-clause-told
-returns-in-Write-clause-told g c = telling _ _ c.write-result.result c.told-in-Write.result c.told-in-Write.ensures.told (err_map c.write-result.result c.write-result.ensures.sound (no_damage_so _ _ _))
+returns-in-Write-clause-told g c = telling _ _ c.write-result.result c.told-in-Write.result c.told-in-Write.ensures.told (err_map c.write-result.result c.write-result.ensures.sound (λ r none. none_so _ _ _ _ r (λ h. c.reach.ensures.looked.same ∙ h) none))
 
 pub returns-in-Create-clause-opened : goal.returns-in-Create-clause-opened
 returns-in-Create-clause-opened g c h none = (opened_reads g.D.Disk c.args.disk.now c.reach.new.disk c.in-Ok.store c.reach.ensures.looked (c.in-Ok.ensures.ok h))
@@ -135,7 +135,7 @@ returns-in-Load-clause-run g c h content each =
     (c.load.ensures.run (looked.same ∙ h) content ((λ d left. each.0 d (looked.images d left)), each.1)))
 
 pub returns-in-Load-clause-told : goal.returns-in-Load-clause-told
-returns-in-Load-clause-told g c = told_so _ _ _ _ c.load.result c.load.ensures.told
+returns-in-Load-clause-told g c = loaded_so _ _ _ _ _ c.load.result (λ h. c.reach.ensures.looked.same ∙ h) c.load.ensures.told
 
 pub returns-in-Load-clause-opened : goal.returns-in-Load-clause-opened
 returns-in-Load-clause-opened g c h none = (opened_reads g.D.Disk c.args.disk.now c.reach.new.disk c.in-Ok.store c.reach.ensures.looked (c.in-Ok.ensures.ok h))

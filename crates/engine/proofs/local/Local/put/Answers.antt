@@ -1,8 +1,12 @@
-use Rattle.engine.proofs.RollingBack.{keeps-sound}
+use Rattle.std.proofs.Common.{subst}
+use Rattle.engine_world.specs.Stands.{Engine}
+use Rattle.engine.specs.Directories.{HubGoesOn}
+use Rattle.engine.proofs.Directories.{goes-keeps}
+use Rattle.engine.specs.Told.{KeepOwn}
 use Rattle.engine.proofs.local.Local.put.Goals as goal
 
-pub invariant_of-self : goal.invariant_of-self
-invariant_of-self c =
-    let world = c.self.invariant.running.world in
-    let after = c.put.ensures.answer world.0 world.1 in
-    keeps-sound c.self.inside.parts c.put.new.self c.self.invariant (after.0, after.2) c.put.ensures.kept
+pub returns-clause-goes : goal.returns-clause-goes
+returns-clause-goes c = subst (λ (e : Engine). HubGoesOn e.hub c.put.new.self.hub) c.self.view_is (goes-keeps c.self.inside.parts c.put.new.self c.self.invariant c.put.ensures.kept)
+
+pub returns-clause-own : goal.returns-clause-own
+returns-clause-own c = subst (λ (e : Engine). KeepOwn e c.put.new.self) c.self.view_is c.put.ensures.kept.own

@@ -1,6 +1,7 @@
 use Rattle.std.proofs.Common.{◌≡◌, ◌<◌, sym, ◌∙◌, length, subst}
 use Rattle.std.specs.Prelude.{None, slice_index_or}
 use Rattle.engine_world.specs.Stands.{Engine}
+use Rattle.engine.proofs.Directories.{goes-same}
 use Rattle.engine.proofs.Systems.{free-at, made-whole}
 use Rattle.engine.proofs.parts.Parts.call_system.Goals as goal
 
@@ -14,3 +15,6 @@ returns-clause-steps c = λ w st. made-whole c.args.self.now c.made.new.self w c
 
   free : slice_index_or c.args.self.now.systems c.args.number None ≡ None
   free = subst (λ (x : Engine). slice_index_or x.systems c.args.number None ≡ None) c.self.view_is (free-at e.systems c.args.number c.index.result.now there c.index.ensures (sym c.if-is_some.false ∙ c.is_some.ensures))
+
+pub returns-then-is_some-clause-goes : goal.returns-then-is_some-clause-goes
+returns-then-is_some-clause-goes c = goes-same c.args.self.now c.requires.sound

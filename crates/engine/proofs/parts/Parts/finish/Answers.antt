@@ -1,25 +1,24 @@
-use Rattle.std.proofs.Common.{Bool, subst}
-use Rattle.call_steps.specs.declared.reply.Reply.{Reply}
-use Rattle.engine_world.specs.Laws.{Leads}
-use Rattle.engine.specs.Goings.{IsTaken}
-use Rattle.engine.proofs.Ending.{ends-way, goes-way, told-answer, told-more}
+use Rattle.engine.proofs.Ending.{ends-own, ends-way, goes-way, starts-way, waits-fewer, waits-way}
+use Rattle.engine.proofs.Soundness.{keeps-then}
 use Rattle.engine.proofs.parts.Parts.finish.Goals as goal
 
-pub returns-then-go_on-clause-answer : goal.returns-then-go_on-clause-answer
-returns-then-go_on-clause-answer c =
-    let step = c.go_on.ensures.step in
-    let taken = subst (λ (b : Bool). IsTaken step.told b c.go_on.new.answer) c.if-go_on.true step.taken in
-    ends-way c.args.self.now c.loop-alloc.self c.go_on.new.self c.args.session c.go_on.new.answer c.loop-alloc.invariant
-    (λ w st. subst (λ (t : Reply). Leads c.go_on.new.self w c.args.session t) (told-answer step.told c.go_on.new.answer taken) (step.leads w st))
+pub loop-answer-init : goal.loop-answer-init
+loop-answer-init c = starts-way c.args.self.now c.args.session c.requires.open c.requires.sound
 
-pub loop-alloc-smaller : goal.loop-alloc-smaller
-loop-alloc-smaller c =
-    let step = c.go_on.ensures.step in
-    let taken = subst (λ (b : Bool). IsTaken step.told b c.go_on.new.answer) c.if-go_on.false step.taken in
-    (goes-way c.args.self.now c.loop-alloc.self c.go_on.new.self c.args.session step.told c.loop-alloc.invariant step.leads c.go_on.ensures.kept (told-more step.told c.go_on.new.answer taken)).1
+pub loop-answer-preserved : goal.loop-answer-preserved
+loop-answer-preserved c = goes-way c.args.self.now c.loop-answer.self c.go_on.new.self c.args.session c.loop-answer.invariant c.in-On.ensures.goes c.in-On.ensures.kept
 
-pub loop-alloc-preserved : goal.loop-alloc-preserved
-loop-alloc-preserved c =
-    let step = c.go_on.ensures.step in
-    let taken = subst (λ (b : Bool). IsTaken step.told b c.go_on.new.answer) c.if-go_on.false step.taken in
-    (goes-way c.args.self.now c.loop-alloc.self c.go_on.new.self c.args.session step.told c.loop-alloc.invariant step.leads c.go_on.ensures.kept (told-more step.told c.go_on.new.answer taken)).0
+pub returns-in-Ended-clause-ends : goal.returns-in-Ended-clause-ends
+returns-in-Ended-clause-ends c = ends-way c.args.self.now c.loop-answer.self c.go_on.new.self c.args.session c.go_on.new.answer c.loop-answer.invariant c.in-Ended.ensures.goes
+
+pub returns-in-Waits-clause-ends : goal.returns-in-Waits-clause-ends
+returns-in-Waits-clause-ends c = waits-way c.args.self.now c.loop-answer.self c.go_on.new.self c.args.session c.in-Waits.leaf c.loop-answer.invariant c.in-Waits.ensures.goes.0
+
+pub returns-in-Waits-clause-fewer : goal.returns-in-Waits-clause-fewer
+returns-in-Waits-clause-fewer c = waits-fewer c.args.self.now c.loop-answer.self c.go_on.new.self c.args.session c.in-Waits.leaf c.loop-answer.invariant c.in-Waits.ensures.goes.0 c.in-Waits.ensures.goes.1
+
+pub returns-in-Ended-clause-tells : goal.returns-in-Ended-clause-tells
+returns-in-Ended-clause-tells c = ends-own c.args.self.now c.loop-answer.self c.go_on.new.self c.args.session c.go_on.new.answer c.loop-answer.invariant c.in-Ended.ensures.goes
+
+pub returns-in-Ended-clause-kept : goal.returns-in-Ended-clause-kept
+returns-in-Ended-clause-kept c = keeps-then c.args.self.now c.loop-answer.self c.go_on.new.self c.loop-answer.invariant.kept c.in-Ended.ensures.kept

@@ -1,19 +1,20 @@
-use Rattle.std.proofs.Common.{◌≡◌, ◌<◌, refl, ap, sym, ◌∙◌, length, subst}
+use Rattle.std.proofs.Common.{◌≡◌, ◌<◌, sym, length, subst}
 use Rattle.std.specs.Prelude.{Some, slice_get}
-use Rattle.call_steps.specs.Words.{next_of}
+use Rattle.call_turns.specs.Turns.{IsHubNext}
+use Rattle.engine_world.specs.Laws.{with_hub, with_session}
 use Rattle.engine_world.specs.Stands.{Engine, Stands}
-use Rattle.engine.proofs.Ending.{keeps-from}
-use Rattle.call_steps.specs.HubEvents.{Made}
-use Rattle.engine.proofs.TablesKept.{hub-keeps}
-use Rattle.engine.specs.Events.{HasWorld, IsOnHub}
-use Rattle.engine.specs.Sound.{AllFramed}
-use Rattle.engine.proofs.Driving.{hub-step, lent-at, seated-at}
+use Rattle.engine.specs.Goings.{LeavesFewer}
+use Rattle.engine.specs.Sound.{IsSound}
+use Rattle.engine.specs.Told.{TellsFrom, answer_in}
+use Rattle.engine.proofs.Driving.{hub-step, lent-at}
+use Rattle.engine.proofs.Owning.{hub-tells-from}
+use Rattle.engine.proofs.Soundness.{hub-keeps, keeps-from}
 use Rattle.engine.proofs.Stepping.{HubLaws}
-use Rattle.engine.proofs.EngineSizes.{hub-sizes}
+use Rattle.engine.proofs.Turns.{hub-fewer}
 use Rattle.engine.proofs.parts.Parts.go_on_hub.Goals as goal
 
 pub hub_event-requires : goal.hub_event-requires
-hub_event-requires c = seated-at e c.args.session c.index_mut.result.now (subst HasWorld (sym c.self.view_is) c.requires.running.world) at where
+hub_event-requires c = (subst IsSound (sym c.self.view_is) c.requires.sound).seated c.args.session c.index_mut.result.now at where
   e : Engine
   e = record { hub = c.self.inside.hub; pieces = c.self.inside.pieces.items; states = c.self.inside.states.items; hazards = c.self.inside.hazards.items; sessions = c.self.inside.sessions.items; systems = c.self.inside.systems.items }
 
@@ -25,8 +26,12 @@ hub_event-requires c = seated-at e c.args.session c.index_mut.result.now (subst 
 
 pub returns : goal.returns
 returns c = record {
-  step = λ w st. hub-step laws e c.args.session c.index_mut.result.now c.hub_event.new.state c.hub_event.new.hub c.hub_event.result at framed on c.hub_event.ensures w (subst (λ (x : Engine). Stands x w) (sym c.self.view_is) st);
-  kept = keeps-from e c.args.self.now c.self.view_is (record { systems = refl; pieces = refl; states = refl; tables = ap (λ (m : Made). m.1.0.tables) c.hub_event.ensures ∙ (hub-keeps e.hub c.args.session c.index_mut.result.now).0; dir = ap (λ (m : Made). m.1.0.dir) c.hub_event.ensures ∙ (hub-keeps e.hub c.args.session c.index_mut.result.now).1; free = λ frame none. none; sizes = hub-sizes e c.args.session c.index_mut.result.now c.hub_event.new.state c.hub_event.new.hub c.hub_event.result at c.hub_event.ensures });
+  step = λ w st. hub-step laws e c.args.session c.index_mut.result.now c.hub_event.new.state c.hub_event.new.hub c.hub_event.result at on c.hub_event.ensures w (subst (λ (x : Engine). Stands x w) (sym c.self.view_is) st);
+  fewer = subst (λ (x : Engine). LeavesFewer x (with_session (with_hub e c.hub_event.new.hub) c.args.session c.hub_event.new.state) c.args.session c.hub_event.result) c.self.view_is
+      (hub-fewer c.calls_end.ensures.hub c.calls_end.ensures.keeps e c.args.session c.index_mut.result.now c.hub_event.new.state c.hub_event.new.hub c.hub_event.result at c.stands.ensures on c.hub_event.ensures);
+  kept = keeps-from e c.args.self.now c.self.view_is (hub-keeps c.calls_end.ensures.keeps c.seats_stay.ensures.hub c.calls_run.ensures.hub c.answers_are_own.ensures.hub e c.args.session c.index_mut.result.now c.hub_event.new.state c.hub_event.new.hub c.hub_event.result at c.hub_event.ensures);
+  tells = subst (λ (x : Engine). TellsFrom (answer_in x c.args.session) c.hub_event.result) c.self.view_is
+      (hub-tells-from c.answers_are_own.ensures.hub e c.args.session c.index_mut.result.now c.hub_event.new.state c.hub_event.new.hub c.hub_event.result at c.hub_event.ensures);
 } where
   e : Engine
   e = record { hub = c.self.inside.hub; pieces = c.self.inside.pieces.items; states = c.self.inside.states.items; hazards = c.self.inside.hazards.items; sessions = c.self.inside.sessions.items; systems = c.self.inside.systems.items }
@@ -37,11 +42,8 @@ returns c = record {
   at : slice_get e.sessions c.args.session ≡ Some c.index_mut.result.now
   at = lent-at e.sessions c.args.session c.index_mut.result.now open_one c.index_mut.ensures.value
 
-  framed : AllFramed e.hub.dir.leaves
-  framed = subst (λ (x : Engine). AllFramed x.hub.dir.leaves) (sym c.self.view_is) c.requires.running.framed
-
-  on : IsOnHub (next_of c.index_mut.result.now)
-  on = c.requires.next c.index_mut.result.now (subst (λ (x : Engine). slice_get x.sessions c.args.session ≡ Some c.index_mut.result.now) c.self.view_is at)
+  on : IsHubNext e.hub c.index_mut.result.now
+  on = subst (λ (x : Engine). IsHubNext x.hub c.index_mut.result.now) (sym c.self.view_is) (c.requires.next c.index_mut.result.now (subst (λ (x : Engine). slice_get x.sessions c.args.session ≡ Some c.index_mut.result.now) c.self.view_is at))
 
   laws : HubLaws
   laws = record {

@@ -1,9 +1,11 @@
 use Rattle.std.proofs.Common.{◌≡◌, ◌<◌, sym, ◌∙◌, length, subst}
 use Rattle.std.specs.Prelude.{Option, Some, None, slice_set, slice_index_or}
 use Rattle.engine_world.specs.Stands.{Engine, Stands}
+use Rattle.engine.specs.Directories.{HubGoesOn}
 use Rattle.engine.specs.Sound.{IsSound}
 use Rattle.wt_calls.specs.declared.system_call.SystemCall.{SystemCall}
 use Rattle.std.proofs.lemmas.Option.{get_or_from_slice_get}
+use Rattle.engine.proofs.Directories.{goes-same}
 use Rattle.engine.proofs.Driving.{lent-at}
 use Rattle.engine.proofs.Systems.{made-started, set-sound}
 use Rattle.engine.proofs.parts.Parts.make_whole.Goals as goal
@@ -27,3 +29,9 @@ returns-in-Some-clause-steps c = λ w st. made-started e c.made.new.self w c.arg
 
       started : slice_index_or e.systems c.args.number None ≡ Some c.in-Some.call
       started = get_or_from_slice_get e.systems c.args.number c.index_mut.result.now None (lent-at e.systems c.args.number c.index_mut.result.now there c.index_mut.ensures.value) ∙ (sym c.take.ensures.value ∙ c.in-Some.is)
+
+pub returns-in-None-clause-goes : goal.returns-in-None-clause-goes
+returns-in-None-clause-goes c = subst (λ (x : Engine). HubGoesOn c.args.self.now.hub x.hub) (sym c.self.view_is) (goes-same c.args.self.now c.requires.sound)
+
+pub returns-in-Some-clause-goes : goal.returns-in-Some-clause-goes
+returns-in-Some-clause-goes c = subst (λ (x : Engine). HubGoesOn x.hub c.made.new.self.hub) c.self.view_is c.made.ensures.goes

@@ -1,4 +1,4 @@
-use Rattle.std.proofs.Common.{◌≡◌, ◌<◌, refl, sym, length, subst}
+use Rattle.std.proofs.Common.{◌≡◌, ◌<◌, sym, length, subst}
 use Rattle.std.specs.Prelude.{Some, slice_get, IfOk, OnErr}
 use Rattle.wt_calls.specs.declared.session_call.SessionCall.{SessionCall}
 use Rattle.wt_calls.specs.declared.session_call.SessionCall.TheVariants.{Put}
@@ -8,9 +8,9 @@ use Rattle.engine_world.specs.Laws.{with_session}
 use Rattle.engine_world.specs.Stands.{Engine, Stands}
 use Rattle.engine_world.specs.Steps.{MayBegin}
 use Rattle.engine_world.specs.Worlds.{World, Resting, doing_of}
-use Rattle.engine.proofs.Ending.{keeps-from}
+use Rattle.engine.proofs.Soundness.{keeps-from}
 use Rattle.engine.proofs.Driving.{lent-at}
-use Rattle.engine.proofs.LentCalls.{LentStarts, lent-begins, lent-rests, lent-sizes}
+use Rattle.engine.proofs.LentCalls.{LentStarts, lent-begins, lent-keeps, lent-rests, lent-tells}
 use Rattle.engine.proofs.parts.Parts.start_put.Goals as goal
 
 pub returns : goal.returns
@@ -19,7 +19,8 @@ returns c = record {
       (lent-begins c.starts_go.ensures e c.args.session a a' call c.start_put.result at starts);
   rests = subst (λ (x : Engine). OnErr c.start_put.result ((w : World) → Stands x w → (doing_of w c.args.session ≡ Resting) × Stands new w)) c.self.view_is
       (lent-rests e c.args.session a a' call c.start_put.result at starts);
-  kept = keeps-from e c.args.self.now c.self.view_is (record { systems = refl; pieces = refl; states = refl; tables = refl; dir = refl; free = λ frame none. none; sizes = lent-sizes e c.args.session a a' call c.start_put.result at starts });
+  kept = keeps-from e c.args.self.now c.self.view_is (lent-keeps c.seats_stay.ensures.starts c.calls_run.ensures.starts c.answers_are_own.ensures.starts e c.args.session a a' call c.start_put.result at starts);
+  tells = lent-tells call a a' c.start_put.result starts;
 } where
   e : Engine
   e = record { hub = c.self.inside.hub; pieces = c.self.inside.pieces.items; states = c.self.inside.states.items; hazards = c.self.inside.hazards.items; sessions = c.self.inside.sessions.items; systems = c.self.inside.systems.items }

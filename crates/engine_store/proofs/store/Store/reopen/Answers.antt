@@ -2,34 +2,31 @@ use Rattle.std.proofs.Common.{IsTrue, refl, subst, sym, List, ℕ}
 use Rattle.failure.specs.Counts.{Rose}
 use Rattle.disk_model.proofs.Crash.{looked_same}
 use Rattle.recover_open.specs.Damage.{IsDamage}
-use Rattle.engine_store.proofs.Reopening.{damage_of, fault_of, not_reopened, reopened, stands_looked, steady_opened}
+use Rattle.engine_store.proofs.KeptAnswers.{told_own}
+use Rattle.engine_store.proofs.Reopening.{damage_of, fault_of, not_reopened, reopened, well_looked, well_opened}
+use Rattle.engine_store.proofs.Telling.{none_told}
 use Rattle.engine_store.proofs.store.Store.reopen.Goals as goal
 
 pub returns-in-Ok-clause-opens : goal.returns-in-Ok-clause-opens
 returns-in-Ok-clause-opens g c = λ h first_disk w first made held.
     reopened g.D.Disk first_disk c.args.disk.now c.open_on.new.disk c.open_on.ensures.looked (g.met.D.Disk.reads_an_image c.args.disk.now h) c.args.self.now w first made held c.in-Ok.opened (c.in-Ok.ensures.ok h) c.plain_stays.ensures.starts
 
-pub returns-in-Ok-clause-steady : goal.returns-in-Ok-clause-steady
-returns-in-Ok-clause-steady g c = λ h up. steady_opened c.in-Ok.opened (c.in-Ok.ensures.ok h)
+pub returns-in-Ok-clause-well : goal.returns-in-Ok-clause-well
+returns-in-Ok-clause-well g c = λ h. well_opened g.D.Disk c.open_on.new.disk c.in-Ok.opened (c.in-Ok.ensures.ok h)
+
+pub returns-in-Ok-clause-told : goal.returns-in-Ok-clause-told
+returns-in-Ok-clause-told g c = λ start le told. none_told g.D.Disk start c.open_on.new.disk c.in-Ok.opened.engine c.in-Ok.ensures.sessions
 
 pub returns-in-Err-clause-opens : goal.returns-in-Err-clause-opens
 returns-in-Err-clause-opens g c = λ h first_disk w first made held.
     not_reopened g.D.Disk first_disk c.args.disk.now c.open_on.new.disk c.open_on.ensures.looked (g.met.D.Disk.reads_an_image c.args.disk.now h) c.args.self.now w first made held (IsTrue (g.D.Disk.honest c.args.disk.now)) h c.args.self.now refl c.in-Err.refusal c.in-Err.ensures.err
 
-pub returns-in-Err-clause-steady : goal.returns-in-Err-clause-steady
-returns-in-Err-clause-steady g c = λ h up.
-    let D = g.D.Disk in
-    let before = c.args.disk.now in
-    let later = c.open_on.new.disk in
-    let on = c.requires.steady h up in
-    record {
-      world = on.world;
-      stands = on.stands;
-      idle = on.idle;
-      old = on.old;
-      on = stands_looked (D.seen before) (D.seen later) (D.may_leave before) (D.may_leave later) c.args.self.now.engine.hub.tables.tables c.args.self.now.ground on.old c.open_on.ensures.looked.content c.open_on.ensures.looked.images on.on;
-      follows = on.follows;
-    }
+pub returns-in-Err-clause-well : goal.returns-in-Err-clause-well
+returns-in-Err-clause-well g c = λ h. well_looked g.D.Disk c.args.disk.now c.open_on.new.disk c.open_on.ensures.looked c.args.self.now (c.requires.well h)
+
+pub returns-in-Err-clause-told : goal.returns-in-Err-clause-told
+returns-in-Err-clause-told g c = λ start le told.
+    told_own g.D.Disk start c.args.disk.now c.open_on.new.disk (looked_same g.D.Disk c.args.disk.now c.open_on.new.disk c.open_on.ensures.looked c.open_on.ensures.home) c.args.self.now.engine c.args.self.now.engine (λ session but own. own) told
 
 pub returns-in-Err-clause-damage : goal.returns-in-Err-clause-damage
 returns-in-Err-clause-damage g c = λ at want found is h.

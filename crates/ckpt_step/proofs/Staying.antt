@@ -1,0 +1,161 @@
+-- The ground of a checkpoint stays over what an engine does between checkpoints.
+use Rattle.std.proofs.Common.{◌≡◌, ◌≢◌, ◌∙◌, ◌<◌, ◌≤◌, ℕ, zero, suc, List, [], ◌∷◌, length, Option, Some, None, refl, ap, sym, subst, inl, inr, arith}
+use Rattle.std.specs.Prelude.{slice_get}
+use Rattle.std.specs.List.{Contains}
+use Rattle.std.specs.Option.{option_or}
+use Rattle.std.proofs.lemmas.Bool.{cases_lt}
+use Rattle.std.proofs.lemmas.Option.{slice_get_within}
+use Rattle.call_steps.specs.declared.hub.Hub.{Hub}
+use Rattle.catalog.specs.Known.{AreTables}
+use Rattle.device_layout.specs.declared.link.Link.{Link}
+use Rattle.engine.specs.Directories.{HubGoesOn, LeafGoesOn}
+use Rattle.engine_world.specs.Worlds.{World}
+use Rattle.kv_model.specs.History.{Table, line}
+use Rattle.row_page.specs.Rows.{Row}
+use Rattle.stamp.specs.declared.Name.{Name}
+use Rattle.stored.specs.Stored.{Stored}
+use Rattle.stored.specs.TableTree.{Entry, TableTree}
+use Rattle.stored.specs.Tree.{join}
+use Rattle.tree_dir.specs.declared.leaf.Leaf.{Leaf}
+use Rattle.tree_dir.specs.Leaves.{IsDirectory, leaves_of}
+use Rattle.tree_open.specs.declared.place.TreePlace.{TreePlace}
+use Rattle.tree_write.specs.Steps.{links_in}
+use Rattle.ckpt_step.specs.Floors.{Follows, GoesOn, IsLeafBefore, newest_before}
+use Rattle.ckpt_step.specs.Grounds.{AreRoots, AreWritten, StandsOn}
+use Rattle.ckpt_step.specs.Parts.{IsPart, IsParted, own_part, part_in, part_leaves, part_of}
+use Rattle.ckpt_step.specs.Rooms.{Written, known_in}
+use Rattle.ckpt_step.specs.Stays.{GroundsStay}
+use Rattle.ckpt_step.specs.declared.ground.Ground.{Ground}
+use Rattle.ckpt_step.proofs.ByPlace.{place_one}
+use Rattle.ckpt_step.proofs.GoingLeaves.{leaf_before, of_there, part_of_same, part_on, part_same, parts_same, there_of, under_from}
+use Rattle.ckpt_step.proofs.Members.{get_within, none_some, some_same}
+
+-- tables that keep their places are no fewer
+pub no_fewer : (known next : List Table) → ((i : ℕ) (t : Table) → slice_get known i ≡ Some t → slice_get next i ≡ Some t) → length known ≤ length next
+no_fewer [] next there = omega arith
+no_fewer (t ∷ known) [] there = absurd (none_some (there zero t refl))
+no_fewer (t ∷ known) (u ∷ next) there = let less = no_fewer known next (λ i x at. there (suc i) x at) in omega (arith, less)
+
+module _ (hub next : Hub) (goes : HubGoesOn hub next) (was : IsDirectory hub.dir) (now : IsDirectory next.dir) (are : AreTables next.tables) where
+  abbrev known : List Table
+  known = hub.tables.tables
+
+  few : length known ≤ length next.tables.tables
+  few = no_fewer known next.tables.tables goes.tables
+
+  -- a table of a place that there was
+  known_at : (i : ℕ) (t : Table) → i < length known → slice_get next.tables.tables i ≡ Some t → slice_get known i ≡ Some t
+  known_at i t lt at = let u = get_within known i lt in u.1 ∙ ap (λ (x : Table). Some x) (some_same (sym (goes.tables i u.0 u.1) ∙ at))
+
+  -- a leaf of a table that there was
+  record Before (n : Leaf) : Type 0 where
+    leaf : Leaf
+    there : Contains hub.dir.leaves leaf
+    goes_on : LeafGoesOn leaf n
+
+  before : (i : ℕ) (t : Table) (n : Leaf) → slice_get known i ≡ Some t → Contains next.dir.leaves n → n.table ≡ t.number → Before n
+  before i t n at there its =
+      let one = leaf_before (leaves_of t.number hub.dir.leaves) (leaves_of t.number next.dir.leaves) n (goes.dir.kept i t at) (there_of t.number next.dir.leaves n there its) in
+      record { leaf = one.0; there = of_there t.number hub.dir.leaves one.0 one.1; goes_on = one.2 }
+
+  -- ---- trees by parts
+
+  parted_on : (written : Written) (i : ℕ) (t : Table) (place : TreePlace) (tree : TableTree) → slice_get known i ≡ Some t → IsParted hub.dir.leaves t.number written place tree → IsParted next.dir.leaves t.number written place tree
+  parted_on written i t place tree at parted = record {
+    joined = parted.joined ∙ ap links_in (sym (parts_same written (leaves_of t.number hub.dir.leaves) (leaves_of t.number next.dir.leaves) (goes.dir.kept i t at)));
+    parts = λ n there its.
+        let b = before i t n at there its in
+        let same = part_of_same written b.leaf n b.goes_on in
+        subst (λ (part : List Entry). IsPart next.dir.leaves t.number n part (part_leaves place tree part)) (sym same)
+        (part_on hub.dir next.dir t.number (goes.dir.kept i t at) b.leaf n b.goes_on now there (part_of written b.leaf) (part_leaves place tree (part_of written b.leaf)) (parted.parts b.leaf b.there (sym b.goes_on.table ∙ its)));
+  }
+
+  roots_on : (written : Written) (places : List TreePlace) (old : Option Stored) → AreRoots known hub.dir.leaves written places old → AreRoots next.tables.tables next.dir.leaves written places old
+  roots_on written places None none = none
+  roots_on written places (Some s) roots = record {
+    bare = roots.bare;
+    few = omega (arith, roots.few, few);
+    count = roots.count;
+    trees = λ i t place at stands.
+        let known_t = known_at i t (omega (arith, slice_get_within places i place stands, roots.few)) at in
+        let tree = roots.trees i t place known_t stands in
+        (tree.0, tree.1, parted_on written i t place tree.0 known_t tree.2);
+  }
+
+  -- ---- nothing of what came since
+
+  -- no leaf of a table that came since is of one that there was
+  other_table : (i : ℕ) (t : Table) (n : Leaf) → slice_get next.tables.tables i ≡ Some t → length known ≤ i → n.table ≡ t.number → (j : ℕ) (u : Table) → slice_get known j ≡ Some u → n.table ≡ u.number → ⊥
+  other_table i t n at past its j u known_u same =
+      let one = place_one 1 next.tables.tables next.tables.next i j t u are.numbers at (goes.tables j u known_u) (sym its ∙ same) in
+      omega (arith, one, past, slice_get_within known j u known_u)
+
+  none_since : (written : Written) (places : List TreePlace) → AreWritten known hub.dir written places → (i : ℕ) (t : Table) (n : Leaf) → slice_get next.tables.tables i ≡ Some t → slice_get places i ≡ None → Contains next.dir.leaves n → n.table ≡ t.number
+      → (part_in written n ≡ None) × (n.frame ≢ None)
+  none_since written places are_written i t n at none there its = elim (cases_lt i (length known)) [
+    | inl lt ↦
+        let known_t = known_at i t lt at in
+        let b = before i t n known_t there its in
+        let own = are_written.made_since i t b.leaf known_t none b.there (sym b.goes_on.table ∙ its) in
+        (part_same written b.leaf n b.goes_on ∙ own.0, λ unframed. own.1 (b.goes_on.stays unframed))
+    | inr past ↦
+        let made = goes.dir.made n there (λ j u known_u same. other_table i t n at (omega (arith, past)) its j u known_u same) in (
+          ap (λ (o : Option (List Entry)). option_or o (own_part n.entry)) (are_written.later n.id made.0) ∙ ap (λ (link : Link). own_part (record { key = n.entry.key; link = link })) made.1,
+          made.2,
+        )
+  ]
+
+  written_on : (written : Written) (places : List TreePlace) → AreWritten known hub.dir written places → AreWritten next.tables.tables next.dir written places
+  written_on written places are_written = record {
+    later = λ id late. are_written.later id (omega (arith, late, goes.dir.ids));
+    made_since = none_since written places are_written;
+  }
+
+  -- ---- leaves
+
+  leaf_on : (w v : World) (floor : Name) (written : Written) (i : ℕ) (t : Table) (place : TreePlace) (tree : TableTree) (n : Leaf) → v.shelf ≡ w.shelf → slice_get known i ≡ Some t → Contains next.dir.leaves n → n.table ≡ t.number
+      → ((l : Leaf) → Contains hub.dir.leaves l → l.table ≡ t.number → IsLeafBefore w.machine w.shelf floor hub.dir.leaves written t.number place tree l) → ((table : ℕ) (key : List ℕ) → newest_before floor (line v.machine.history table key) ≡ newest_before floor (line w.machine.history table key)) → IsLeafBefore v.machine v.shelf floor next.dir.leaves written t.number place tree n
+  leaf_on w v floor written i t place tree n shelf at there its each newest =
+      let b = before i t n at there its in
+      let own = each b.leaf b.there (sym b.goes_on.table ∙ its) in
+      record {
+        before = λ part is below key under. newest t.number key ∙ own.before part (sym (part_same written b.leaf n b.goes_on) ∙ is) below key (under_from hub.dir next.dir t.number (goes.dir.kept i t at) b.leaf n b.goes_on was b.there key under);
+        same = λ none.
+            ap (λ (part : List Entry). join (part_leaves place tree part)) (part_of_same written b.leaf n b.goes_on)
+            ∙ (own.same (b.goes_on.stays none) ∙ (ap (λ (id : ℕ). w.shelf id) (sym b.goes_on.id) ∙ ap (λ (shelf : ℕ → List Row). shelf n.id) (sym shelf)));
+      }
+
+  -- few_places: the checkpoint has no more trees than there were tables
+  follows_on : (old : Option Stored) (g : Ground) (w v : World) → length g.trees.items ≤ length known → GoesOn w.machine v.machine → v.shelf ≡ w.shelf → Follows old hub g w → Follows old next g v
+  follows_on old g w v few_places on shelf follows =
+      let moved = on g.floor follows.respects in
+      record {
+        respects = moved.0;
+        leaf = λ i t place tree n at stands has there its.
+            let known_t = known_at i t (omega (arith, slice_get_within g.trees.items i place stands, few_places)) at in
+            leaf_on w v g.floor (known_in g.parts) i t place tree n shelf known_t there its (λ l own of. follows.leaf i t place tree l known_t stands has own of) moved.1;
+      }
+
+  few_of : (written : Written) (places : List TreePlace) (old : Option Stored) → AreRoots known hub.dir.leaves written places old → length places ≤ length known
+  few_of written places None none = let no_places = ap (λ (l : List TreePlace). length l) none in omega (arith, no_places)
+  few_of written places (Some s) roots = roots.few
+
+  stands_on : (seen : List ℕ) (images : List ℕ → Type 0) (g : Ground) (old : Option Stored) → StandsOn seen images hub g old → StandsOn seen images next g old
+  stands_on seen images g old on = record {
+    stands = on.stands;
+    number = on.number;
+    slot = on.slot;
+    cells = on.cells;
+    units = on.units;
+    idle = on.idle;
+    long = on.long;
+    within = on.within;
+    roots = roots_on (known_in g.parts) g.trees.items old on.roots;
+    written = written_on (known_in g.parts) g.trees.items on.written;
+  }
+
+pub grounds_stay : (seen : List ℕ) (images : List ℕ → Type 0) → GroundsStay seen images
+grounds_stay seen images hub next g old goes was now are on = (
+  stands_on hub next goes was now are seen images g old on,
+  (λ w v machine shelf follows. follows_on hub next goes was now are old g w v (few_of hub next goes was now are (known_in g.parts) g.trees.items old on.roots) machine shelf follows),
+)

@@ -1,0 +1,115 @@
+-- The parts of a table's leaves, where leaves of other tables are written too.
+use Rattle.std.specs.Prelude.{◌≡◌, ℕ, zero, suc, ◌<◌, List, [], ◌∷◌, ◌++◌, take, Option, None, Some, refl, slice_get}
+use Rattle.std.specs.List.{Contains}
+use Rattle.std.proofs.Common.{inl, inr, sym, ◌∙◌, ap, subst, arith}
+use Rattle.device_layout.specs.declared.link.Link.{Link}
+use Rattle.kv_model.specs.Holds.{Member}
+use Rattle.kv_model.specs.History.{Table}
+use Rattle.catalog.specs.Known.{NumbersAscend}
+use Rattle.row_page.specs.Rows.{Row}
+use Rattle.stored.specs.Stored.{Stored}
+use Rattle.stored.specs.TableTree.{Entry, TableTree}
+use Rattle.tree_dir.specs.declared.leaf.Leaf.{Leaf}
+use Rattle.tree_dir.specs.Leaves.{Directory, IsDirectory, leaf_named, leaves_of}
+use Rattle.tree_dir.proofs.Parting.{ids-name}
+use Rattle.tree_open.specs.declared.place.TreePlace.{TreePlace}
+use Rattle.tree_write.specs.Drafts.{aligned}
+use Rattle.tree_write.specs.Steps.{links_in}
+use Rattle.ckpt_step.specs.Goings.{AreOfTables, HasPartsAt}
+use Rattle.ckpt_step.specs.Grounds.{AreRoots, AreWritten}
+use Rattle.ckpt_step.specs.Parts.{AreOfLeaves, IsPart, IsParted, links_over, part_leaves, part_of, with_parts}
+use Rattle.ckpt_step.specs.Rooms.{Written}
+use Rattle.ckpt_step.specs.declared.parts.LeafPart.{LeafPart}
+use Rattle.ckpt_step.proofs.ByPlace.{place_one}
+use Rattle.ckpt_step.proofs.DraftingMore.{all_into, all_more}
+use Rattle.ckpt_step.proofs.Members.{in_either, none_some, some_same, all_made}
+use Rattle.ckpt_step.proofs.TableLeaves.{contains_of, in_table, member_of}
+use Rattle.ckpt_step.proofs.WithParts.{part_alike, parts_alike, with_alike, with_both, with_none}
+
+-- ---- the first of a list
+
+pub take_at : {A : Type 0} (l : List A) (n j : ℕ) (x : A) → slice_get (take n l) j ≡ Some x → (slice_get l j ≡ Some x) × (j < n)
+take_at l zero j x at = absurd (none_some at)
+take_at [] (suc n) j x at = absurd (none_some at)
+take_at (y ∷ l) (suc n) zero x at = (at, omega arith)
+take_at (y ∷ l) (suc n) (suc j) x at = let one = take_at l n j x at in (one.0, omega (arith, one.1))
+
+pub at_take : {A : Type 0} (l : List A) (n j : ℕ) (x : A) → slice_get l j ≡ Some x → j < n → slice_get (take n l) j ≡ Some x
+at_take l zero j x at lt = absurd (omega (arith, lt))
+at_take [] (suc n) j x at lt = absurd (none_some at)
+at_take (y ∷ l) (suc n) zero x at lt = at
+at_take (y ∷ l) (suc n) (suc j) x at lt = at_take l n j x at (omega (arith, lt))
+
+-- ---- parts that are alike
+
+pub parted_alike : (leaves : List Leaf) (table : ℕ) (written next : Written) (place : TreePlace) (tree : TableTree) → ((l : Leaf) → Contains leaves l → l.table ≡ table → written l.id ≡ next l.id) → IsParted leaves table written place tree → IsParted leaves table next place tree
+parted_alike leaves table written next place tree same parted = record {
+  joined = parted.joined ∙ ap links_in (parts_alike written next (leaves_of table leaves) (all_made (λ (l : Leaf). written l.id ≡ next l.id) (leaves_of table leaves) (λ l there. let in_it = in_table table leaves l there in same l (contains_of leaves l in_it.0) in_it.1)));
+  parts = λ l there own. subst (λ (part : List Entry). IsPart leaves table l part (part_leaves place tree part)) (part_alike written next l (same l there own)) (parted.parts l there own);
+}
+
+-- ---- leaves of two tables
+
+module _ (d : Directory) (is : IsDirectory d) (known : List Table) (next : ℕ) (ascend : NumbersAscend 1 known next) where
+  one_table : (x l : Leaf) (i j : ℕ) (t u : Table) → Contains d.leaves x → Contains d.leaves l → x.id ≡ l.id → x.table ≡ t.number → l.table ≡ u.number → slice_get known i ≡ Some t → slice_get known j ≡ Some u → i ≡ j
+  one_table x l i j t u one two same own its at also =
+      let equal : x ≡ l = some_same (sym (ids-name d is x one) ∙ (ap (λ (n : ℕ). leaf_named n d.leaves) same ∙ ids-name d is l two)) in
+      place_one 1 known next i j t u ascend at also (sym own ∙ (ap (λ (y : Leaf). y.table) equal ∙ its))
+
+  in_dir : (table : ℕ) (x : Leaf) → Contains (leaves_of table d.leaves) x → Contains d.leaves x × (x.table ≡ table)
+  in_dir table x there = let one = in_table table d.leaves x (member_of (leaves_of table d.leaves) x there) in (contains_of d.leaves x one.0, one.1)
+
+  module _ (had : Written) (i : ℕ) (t : Table) (at : slice_get known i ≡ Some t) (more own_more : List LeafPart) (of_first : AreOfTables (take i known) d.leaves more) (of_table : AreOfLeaves (leaves_of t.number d.leaves) own_more) where
+    -- what is written of this table leaves the parts of the others
+    pub others_alike : (j : ℕ) (u : Table) → slice_get known j ≡ Some u → (j ≡ i → ⊥) → (l : Leaf) → Contains d.leaves l → l.table ≡ u.number → with_parts had more l.id ≡ with_parts had (more ++ own_more) l.id
+    others_alike j u also other l there own = sym (with_both had more own_more l.id ∙ with_none (with_parts had more) own_more l.id
+        (all_into (λ (p : LeafPart). (x : Leaf) × Contains (leaves_of t.number d.leaves) x × (x.id ≡ p.leaf)) (λ (p : LeafPart). p.leaf ≡ l.id → ⊥) own_more
+        (λ p one same. let x = in_dir t.number one.0 one.1 in other (sym (one_table one.0 l i j t u x.0 there (one.2 ∙ same) x.1 own at also))) of_table))
+
+    -- what was written of others leaves those of this one
+    pub own_alike : (l : Leaf) → Contains d.leaves l → l.table ≡ t.number → with_parts had own_more l.id ≡ with_parts had (more ++ own_more) l.id
+    own_alike l there own = sym (with_both had more own_more l.id ∙ with_alike (with_parts had more) had own_more l.id (with_none had more l.id
+        (all_into (λ (p : LeafPart). (j : ℕ) × (u : Table) × (slice_get (take i known) j ≡ Some u) × ((x : Leaf) × Contains (leaves_of u.number d.leaves) x × (x.id ≡ p.leaf))) (λ (p : LeafPart). p.leaf ≡ l.id → ⊥) more
+        (λ p one same.
+        let first = take_at known i one.0 one.1 one.2 in
+        let x = in_dir one.1.number one.3.0 one.3.1 in
+        let place = one_table one.3.0 l one.0 i one.1 t x.0 there (one.3.2 ∙ same) x.1 own first.0 at in
+        omega (arith, first.1, place)) of_first)))
+
+    -- and all are of the first tables
+    pub of_more : AreOfTables (take (suc i) known) d.leaves (more ++ own_more)
+    of_more = all_more (λ (p : LeafPart). (j : ℕ) × (u : Table) × (slice_get (take (suc i) known) j ≡ Some u) × ((x : Leaf) × Contains (leaves_of u.number d.leaves) x × (x.id ≡ p.leaf))) more own_more
+        (all_into (λ (p : LeafPart). (j : ℕ) × (u : Table) × (slice_get (take i known) j ≡ Some u) × ((x : Leaf) × Contains (leaves_of u.number d.leaves) x × (x.id ≡ p.leaf))) (λ (p : LeafPart). (j : ℕ) × (u : Table) × (slice_get (take (suc i) known) j ≡ Some u) × ((x : Leaf) × Contains (leaves_of u.number d.leaves) x × (x.id ≡ p.leaf))) more
+        (λ p one. let first = take_at known i one.0 one.1 one.2 in (one.0, one.1, at_take known (suc i) one.0 one.1 first.0 (omega (arith, first.1)), one.3)) of_first)
+        (all_into (λ (p : LeafPart). (x : Leaf) × Contains (leaves_of t.number d.leaves) x × (x.id ≡ p.leaf)) (λ (p : LeafPart). (j : ℕ) × (u : Table) × (slice_get (take (suc i) known) j ≡ Some u) × ((x : Leaf) × Contains (leaves_of u.number d.leaves) x × (x.id ≡ p.leaf))) own_more
+        (λ p one. (i, t, at_take known (suc i) i t at (omega arith), one)) of_table)
+
+-- ---- what the checkpoint before has of a table
+
+pub has_parts : (old : Option Stored) (known : List Table) (d : Directory) (had : Written) (was : List TreePlace) (t : Table) (i : ℕ) → AreRoots known d.leaves had was old → AreWritten known d had was → slice_get known i ≡ Some t → HasPartsAt old d.leaves had was t i
+has_parts None known d had was t i roots made at = record {
+  tree = λ place place_at. absurd (none_some (ap (λ (l : List TreePlace). slice_get l i) (sym roots) ∙ place_at));
+  none = λ none l there own. made.made_since i t l at none there own;
+}
+has_parts (Some s) known d had was t i roots made at = record {
+  tree = λ place place_at. roots.trees i t place at place_at;
+  none = λ none l there own. made.made_since i t l at none there own;
+}
+
+-- ---- the links over which it is written
+
+aligned_in : (was : List Link) (images : List (List Row)) (link : Link) → Member link (aligned was images) → (link.addr.offset ≡ 0 → ⊥) → Member link was
+aligned_in was [] link there some = absurd there
+aligned_in [] (rows ∷ images) link (inl same) some = absurd (some (ap (λ (x : Link). x.addr.offset) same))
+aligned_in [] (rows ∷ images) link (inr there) some = aligned_in [] images link there some
+aligned_in (x ∷ was) (rows ∷ images) link (inl same) some = inl same
+aligned_in (x ∷ was) (rows ∷ images) link (inr there) some = inr (aligned_in was images link there some)
+
+-- each that leads somewhere is one of a leaf's part
+pub over_in : (had : Written) (front : List Leaf) (parts : List (List (List Row))) (link : Link) → Member link (links_over had front parts) → (link.addr.offset ≡ 0 → ⊥) → (l : Leaf) × Member l front × Member link (links_in (part_of had l))
+over_in had [] parts link there some = absurd there
+over_in had (f ∷ front) [] link there some = absurd there
+over_in had (f ∷ front) (images ∷ parts) link there some = elim (in_either (aligned (links_in (part_of had f)) images) (links_over had front parts) link there) [
+  | inl own ↦ (f, inl refl, aligned_in (links_in (part_of had f)) images link own some)
+  | inr later ↦ let rest = over_in had front parts link later some in (rest.0, inr rest.1, rest.2)
+]

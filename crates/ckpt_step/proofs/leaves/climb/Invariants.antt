@@ -1,0 +1,14 @@
+use Rattle.std.proofs.Common.{◌≡◌, take}
+use Rattle.std.specs.Prelude.{option_map}
+use Rattle.std.specs.Borrow.{Bor}
+use Rattle.std.specs.List.{AllByRecursion}
+use Rattle.stored.specs.TableTree.{Climbs, Entry, EntryFits}
+use Rattle.ckpt_step.proofs.EntryKeys.{last_of}
+use Rattle.ckpt_step.proofs.leaves.climb.Given as goal
+
+abbrev pub invariant-loop-entry : goal.invariant-loop-entry
+invariant-loop-entry l = record {
+  fit : AllByRecursion EntryFits (take l.entry-index l.part);
+  climbs : Climbs (take l.entry-index l.part);
+  last : option_map (λ (x : Bor Entry). x.now) l.last ≡ last_of (take l.entry-index l.part);
+}

@@ -1,0 +1,152 @@
+-- What holds between two calls goes on over a call of an actor, by which the disk is at most looked at.
+use Rattle.std.proofs.Common.{◌≡◌, ◌∙◌, ◌≤◌, ℕ, List, [], ◌∷◌, length, Option, Some, None, refl, sym, subst, inl, inr, arith}
+use Rattle.failure.specs.declared.Fault.{Fault}
+use Rattle.disk_model.specs.Crash.{Each, Looked}
+use Rattle.disk_model.specs.Disk.{NoMore}
+use Rattle.disk_model.specs.declared.disk.Disk.{Ghosts}
+use Rattle.extent_list.specs.Space.{end_of}
+use Rattle.catalog.specs.Known.{AreTables}
+use Rattle.kv_model.specs.Content.{OpensAs}
+use Rattle.kv_model.specs.Machine.{Completed}
+use Rattle.stored.specs.Stored.{Stored}
+use Rattle.checkpoint_core.specs.Stands.{HasStill}
+use Rattle.device_leaf.specs.Closings.{content_was}
+use Rattle.tree_dir.specs.Leaves.{IsDirectory}
+use Rattle.call_steps.specs.declared.hub.Hub.{Hub}
+use Rattle.engine_world.specs.Stands.{Stands}
+use Rattle.engine_world.specs.Worlds.{World}
+use Rattle.engine.specs.Directories.{HubGoesOn}
+use Rattle.ckpt_step.specs.declared.ground.Ground.{Ground}
+use Rattle.ckpt_step.specs.Floors.{Follows, GoesOn}
+use Rattle.ckpt_step.specs.Grounds.{StandsOn}
+use Rattle.ckpt_step.proofs.Floors.{goes_same}
+use Rattle.ckpt_step.proofs.Staying.{grounds_stay, no_fewer}
+use Rattle.engine_store.specs.declared.store.Store.{Store}
+use Rattle.engine_store.specs.Devices.{Installed, may_open_to}
+use Rattle.engine_store.specs.Fetches.{IsBacked, IsReached}
+use Rattle.engine_store.specs.Held.{IsHeld}
+use Rattle.engine_store.specs.Images.{OpensToAny, OpensToLast}
+use Rattle.engine_store.specs.Opened.{IsReady, IsWell}
+use Rattle.engine_store.proofs.Going.{Goes}
+use Rattle.engine_store.proofs.Installing.{past_later, stays_on}
+
+pub stands_looked : (bytes seen : List ℕ) (was images : List ℕ → Type 0) (hub : Hub) (g : Ground) (old : Option Stored) → seen ≡ bytes → NoMore was images → StandsOn bytes was hub g old → StandsOn seen images hub g old
+stands_looked bytes seen was images hub g old same fewer on = record {
+  stands = record {
+    seen_has = subst (λ (l : List ℕ). HasStill old l) (sym same) on.stands.seen_has;
+    images_have = λ synced c left. on.stands.images_have synced c (fewer c left);
+    in_use = on.stands.in_use;
+  };
+  number = on.number;
+  slot = on.slot;
+  cells = on.cells;
+  units = on.units;
+  idle = on.idle;
+  long = subst (λ (l : List ℕ). 8192 ≤ length l) (sym same) on.long;
+  within = subst (λ (l : List ℕ). end_of g.place.blocks.space ≤ length l) (sym same) on.within;
+  roots = on.roots;
+  written = on.written;
+}
+
+pub ready_goes : (s s' : Store) → HubGoesOn s.engine.hub s'.engine.hub → s'.ground ≡ s.ground → IsReady s → IsReady s'
+ready_goes s s' goes ground ready = subst (λ (x : Ground). IsReady (record { engine = s'.engine; ground = x })) (sym ground) (record {
+  run = omega (arith, goes.run, ready.run);
+  trees = omega (arith, ready.trees, no_fewer s.engine.hub.tables.tables s'.engine.hub.tables.tables goes.tables);
+  low = ready.low;
+})
+
+module _ {D : Type 0} (g : Ghosts D) (s s' : Store) (before after : D) (looked : Looked g before after) (goes : HubGoesOn s.engine.hub s'.engine.hub) (ground : s'.ground ≡ s.ground) where
+  -- what the ground is to one hub and world, it is to those that come of them
+  record Moved (old : Option Stored) (v : World) : Type 0 where
+    on : StandsOn (g.seen after) (g.may_leave after) s'.engine.hub s'.ground old
+    follows : Follows old s'.engine.hub s'.ground v
+
+  moved : (old : Option Stored) (w v : World) → IsDirectory s.engine.hub.dir → IsDirectory s'.engine.hub.dir → AreTables s'.engine.hub.tables → GoesOn w.machine v.machine → v.shelf ≡ w.shelf → StandsOn (g.seen before) (g.may_leave before) s.engine.hub s.ground old → Follows old s.engine.hub s.ground w → Moved old v
+  moved old w v was now are on shelf stands follows =
+      let stay = grounds_stay (g.seen before) (g.may_leave before) s.engine.hub s'.engine.hub s.ground old goes was now are stands in
+      record {
+        on = subst (λ (x : Ground). StandsOn (g.seen after) (g.may_leave after) s'.engine.hub x old) (sym ground)
+            (stands_looked (g.seen before) (g.seen after) (g.may_leave before) (g.may_leave after) s'.engine.hub s.ground old looked.content looked.images stay.0);
+        follows = subst (λ (x : Ground). Follows old s'.engine.hub x v) (sym ground) (stay.1 w v on shelf follows);
+      }
+
+  pub backed_goes : (w : World) → IsDirectory s.engine.hub.dir → IsDirectory s'.engine.hub.dir → AreTables s'.engine.hub.tables → IsBacked g s before w → IsBacked g s' after w
+  backed_goes w was now are backed up =
+      let b = backed (sym goes.fault ∙ up) in
+      let m = moved b.0 w w was now are (goes_same w.machine) refl b.1 b.2 in
+      (b.0, m.on, m.follows)
+
+  -- ---- what is known of an honest disk
+
+  pub well_goes : ((w : World) → Stands s.engine w → IsBacked g s before w → (later : World) × Stands s'.engine later × Goes w later) → IsWell g s before → IsWell g s' after
+  well_goes led well = by s.engine.hub.fault refl
+    where
+      by : (o : Option Fault) → s.engine.hub.fault ≡ o → IsWell g s' after
+      by (Some fault) down =
+          let later = led well.world well.stands (λ up. absurd (let clash : Some fault ≡ None = sym down ∙ up in cc)) in
+          record {
+            world = later.0;
+            stands = later.1;
+            idle = later.2.keeps.checkpoint ∙ well.idle;
+            steady = λ up. absurd (let clash : Some fault ≡ None = sym down ∙ (sym goes.fault ∙ up) in cc);
+          }
+      by None up =
+          let x = well.steady up in
+          let later = led x.world x.stands (λ same. (x.old, x.on, x.follows)) in
+          let m = moved x.old x.world later.0 x.stands.dir later.1.dir later.1.catalog later.2.machine later.2.shelf x.on x.follows in
+          record {
+            world = later.0;
+            stands = later.1;
+            idle = later.2.keeps.checkpoint ∙ x.idle;
+            steady = λ still. record { world = later.0; stands = later.1; idle = later.2.keeps.checkpoint ∙ x.idle; old = x.old; on = m.on; follows = m.follows };
+          }
+
+  -- ---- what is held
+
+  pub held_goes : (start : D) (w later : World) (first : Completed) (made : List Installed) → Stands s'.engine later → Goes w later → IsHeld g start s before w first made → IsHeld g start s' after later first made
+  held_goes start w later first made stands on held = record {
+    stands = stands;
+    idle = on.keeps.checkpoint ∙ held.idle;
+    on = λ up.
+        let x = held.on (sym on.keeps.fault ∙ up) in
+        let m = moved x.old w later held.stands.dir stands.dir stands.catalog on.machine on.shelf x.on x.follows in
+        record {
+          old = x.old;
+          on = m.on;
+          follows = m.follows;
+          opens = subst (λ (c : Completed). OpensAs (content_was x.old) c) (sym on.keeps.completed) x.opens;
+          one = x.one;
+        };
+    images = images;
+    last = subst (λ (c : Completed). OpensToLast (g.may_leave after) first c made) (sym on.keeps.completed) (last held.last);
+    ever = record {
+      later = omega (arith, held.ever.later, looked.later);
+      each = λ c left. held.ever.each c (looked.since (g.moment start) c held.ever.later left);
+      before = λ t c le left. held.ever.before t c le (looked.since t c (omega (arith, le, held.ever.later)) left);
+    };
+    stays = stays_on (g.left_since before) (g.left_since after) (g.moment before) (λ c. ⊥) (λ t c le left. inl (looked.since t c le left)) (first ∷ []) made (λ c none. absurd none) held.past held.stays;
+    past = past_later made (g.moment before) (g.moment after) looked.later held.past;
+  }
+    where
+      images : Each (g.may_leave after) (OpensToAny (may_open_to (first ∷ []) made))
+      images c left = held.images c (looked.images c left)
+
+      last : OpensToLast (g.may_leave before) first w.machine.completed made → OpensToLast (g.may_leave after) first w.machine.completed made
+      last (inl (content, each, opens)) = inl (content, ((λ c left. each.0 c (looked.images c left)), each.1), opens)
+      last (inr (pending, there, each)) = inr (pending, there, images)
+
+-- ---- where a call begins
+
+pub backed_held : {D : Type 0} (g : Ghosts D) (start disk : D) (s : Store) (w : World) (first : Completed) (made : List Installed) → IsHeld g start s disk w first made → IsBacked g s disk w
+backed_held g start disk s w first made held up = let x = held.on (sym held.stands.fault ∙ up) in (x.old, x.on, x.follows)
+
+pub reached_first : {D : Type 0} (g : Ghosts D) (s : Store) (disk : D) (w : World) → Stands s.engine w → IsBacked g s disk w → IsReached g s disk w w
+reached_first g s disk w stands backed = record { backed = backed; stands = stands; fault = refl; shelf = refl }
+
+-- what is known of an honest disk
+pub well_backed : {D : Type 0} (g : Ghosts D) (s : Store) (disk : D) → IsWell g s disk → (w : World) × Stands s.engine w × IsBacked g s disk w
+well_backed g s disk well = by s.engine.hub.fault refl
+  where
+    by : (o : Option Fault) → s.engine.hub.fault ≡ o → (w : World) × Stands s.engine w × IsBacked g s disk w
+    by (Some fault) down = (well.world, well.stands, λ up. absurd (let clash : Some fault ≡ None = sym down ∙ up in cc))
+    by None up = let x = well.steady up in (x.world, x.stands, λ same. (x.old, x.on, x.follows))

@@ -1,0 +1,114 @@
+-- A whole call of a session keeps what holds between two calls.
+use Rattle.std.proofs.Common.{◌≡◌, ◌∙◌, ◌≤◌, ◌<◌, ℕ, List, length, refl, sym, arith}
+use Rattle.std.specs.Prelude.{IsTrue}
+use Rattle.disk_model.specs.Crash.{Looked}
+use Rattle.disk_model.specs.declared.disk.Disk.{Ghosts}
+use Rattle.tree_open.proofs.Steps.{looked_none}
+use Rattle.wt_code.specs.declared.answers.Answer.{Answer}
+use Rattle.kv_model.specs.Calls.{Call}
+use Rattle.kv_model.specs.Machine.{Completed}
+use Rattle.call_steps.specs.declared.hub.Hub.{Hub}
+use Rattle.engine_world.specs.Stands.{Engine, Stands}
+use Rattle.engine_world.specs.Worlds.{World}
+use Rattle.engine.specs.declared.called.Called.{Called}
+use Rattle.engine.specs.declared.called.Called.TheVariants as called
+use Rattle.engine.specs.Directories.{HubGoesOn}
+use Rattle.engine.specs.Sound.{AreBuilt}
+use Rattle.engine.specs.Told.{EndsFrom, KeepOwn, answer_in}
+use Rattle.engine.specs.Whole.{CallsTo, KeptBy, MayCallKept}
+use Rattle.ckpt_step.specs.Keeps.{IsOrdinary}
+use Rattle.ckpt_step.proofs.Ordinary.{engines_are}
+use Rattle.engine_store.specs.declared.store.Store.{Store}
+use Rattle.engine_store.specs.Calls.{AreToldSo, CallKeeps, Called as CalledAs, MayAnswerSo, TellsSo}
+use Rattle.engine_store.specs.Devices.{Installed}
+use Rattle.engine_store.specs.Fetches.{CalledSo, CallsBy, CausedSince, IsBacked, IsSomehowReached}
+use Rattle.engine_store.specs.Held.{IsHeld}
+use Rattle.engine_store.specs.Opened.{IsWell}
+use Rattle.engine_store.proofs.Backed.{backed_goes, backed_held, held_goes, ready_goes, well_backed, well_goes}
+use Rattle.engine_store.proofs.Going.{Goes, goes_kept}
+use Rattle.engine_store.proofs.MoreSessions.{with_engine}
+use Rattle.engine_store.proofs.Telling.{called_told, keep_told}
+use Rattle.engine_store.proofs.UnderWay.{calls_now, calls_stand, calls_to}
+
+-- what the ends of a call leave. s: the store before the call; e: its engine once the call had come as far as it does by itself; s': at the end
+pub record Ended {D : Type 0} (g : Ghosts D) (s : Store) (e : Engine) (s' : Store) (made : Called) (before after : D) (session : ℕ) (asked : Call) (answer : Answer (List ℕ)) : Type 0 where
+  pub calls : IsTrue (g.honest before) → (w : World) → session < length w.sessions → e.hub.fault ≡ w.machine.fault → IsBacked g (with_engine s e) before w → CallsBy g before before made e w session asked → CallsBy g before after (called.Ended answer) s'.engine w session asked
+  pub begun : (w : World) → Stands s.engine w → CallsTo made e w session asked
+  pub goes : HubGoesOn s.engine.hub e.hub
+  pub on : (h : Hub) → HubGoesOn h e.hub → HubGoesOn h s'.engine.hub
+  pub ground : s'.ground ≡ s.ground
+  pub looked : Looked g before after
+  pub home : g.home after ≡ g.home before
+  pub told : (start : D) → g.faults start ≤ g.faults before → (IsTrue (g.honest before) → IsSomehowReached g (with_engine s e) before) → CalledSo g start before made → AreToldSo g start e before → MayAnswerSo g start after answer × AreToldSo g start s'.engine after
+  pub own : KeepOwn s.engine e
+  pub tells : EndsFrom (answer_in s.engine session) made
+  pub there : session < length s.engine.sessions
+  pub built : AreBuilt s.engine.systems
+  pub ordinary : IsOrdinary asked
+
+module _ {D : Type 0} (g : Ghosts D) (s : Store) (e : Engine) (s' : Store) (made : Called) (before after : D) (session : ℕ) (asked : Call) (answer : Answer (List ℕ)) (x : Ended g s e s' made before after session asked answer) where
+  hub : HubGoesOn s.engine.hub s'.engine.hub
+  hub = x.on s.engine.hub x.goes
+
+  -- in any world for which the engine stood
+  record Led (w : World) : Type 0 where
+    kept : KeptBy
+    caused : CausedSince g before after w kept
+    later : World
+    may : MayCallKept kept w session asked answer later
+    stands : Stands s'.engine later
+    goes : Goes w later
+
+  led : IsTrue (g.honest before) → (w : World) → Stands s.engine w → IsBacked g s before w → Led w
+  led honest w stands backed =
+      let by = calls_to g before made e w session asked (x.goes.fault ∙ stands.fault) (x.begun w stands) in
+      let stood = calls_stand g before before made e w session asked by in
+      let end = x.calls honest w (omega (arith, x.there, stands.doings)) (x.goes.fault ∙ stands.fault)
+      (backed_goes g s (with_engine s e) before before (looked_none g before) x.goes refl w stands.dir stood.1.dir stood.1.catalog backed) by in
+      record {
+        kept = end.0;
+        caused = end.1;
+        later = end.2;
+        may = end.3;
+        stands = end.4;
+        goes = goes_kept end.0 w end.2 session asked answer (engines_are s.engine w stands x.built) x.ordinary end.3;
+      }
+
+  pub calls_held : IsTrue (g.honest before) → (start : D) (w : World) (first : Completed) (installed : List Installed) → IsHeld g start s before w first installed → CalledAs g start w first installed s s' before after session asked answer
+  calls_held honest start w first installed held =
+      let l = led honest w held.stands (backed_held g start before s w first installed held) in
+      record {
+        kept = l.kept;
+        caused = l.caused;
+        later = l.later;
+        called = l.may;
+        held = held_goes g s s' before after x.looked hub x.ground start w l.later first installed l.stands l.goes held;
+      }
+
+  pub calls_keep : CallKeeps g s s' before after
+  calls_keep = record {
+    well = λ honest well. well_goes g s s' before after x.looked hub x.ground (λ w stands backed. let l = led honest w stands backed in (l.later, l.stands, l.goes)) well;
+    ready = ready_goes s s' hub x.ground;
+    ground = x.ground;
+    looked = x.looked;
+    home = x.home;
+  }
+
+  reached : IsWell g s before → IsSomehowReached g (with_engine s e) before
+  reached well =
+      let w = well_backed g s before well in
+      let by = calls_to g before made e w.0 session asked (x.goes.fault ∙ w.1.fault) (x.begun w.0 w.1) in
+      let now = calls_now g before before made e w.0 session asked by in (
+        w.0,
+        now.0,
+        record {
+          backed = backed_goes g s (with_engine s e) before before (looked_none g before) x.goes refl w.0 w.1.dir now.1.dir now.1.catalog w.2;
+          stands = now.1;
+          fault = sym now.1.fault ∙ (x.goes.fault ∙ w.1.fault);
+          shelf = now.2;
+        },
+      )
+
+  pub calls_told : TellsSo g s s' before after (λ start. MayAnswerSo g start after answer)
+  calls_told start le well told =
+      x.told start le (λ honest. reached (well honest)) (called_told g start before (answer_in s.engine session) made x.tells (told session)) (keep_told g start before s.engine e x.own told)

@@ -1,0 +1,136 @@
+-- A call goes on, leaf after leaf.
+use Rattle.std.proofs.Common.{◌≡◌, ◌∙◌, ◌≤◌, ◌<◌, ℕ, length, None, refl, sym, ap, inl, inr, arith}
+use Rattle.std.specs.Prelude.{IsTrue}
+use Rattle.disk_model.specs.Crash.{Looked}
+use Rattle.disk_model.specs.declared.disk.Disk.{Ghosts}
+use Rattle.disk_model.proofs.Crash.{looked_then}
+use Rattle.tree_open.proofs.Steps.{looked_none}
+use Rattle.wt_code.specs.declared.refusals.Refusal.{Refusal}
+use Rattle.kv_model.specs.Calls.{Call}
+use Rattle.call_steps.specs.declared.hub.Hub.{Hub}
+use Rattle.engine_world.specs.Stands.{Stands}
+use Rattle.engine_world.specs.Worlds.{World}
+use Rattle.engine.specs.declared.called.Called.{Called}
+use Rattle.engine.specs.declared.called.Called.TheVariants as called
+use Rattle.engine.specs.Directories.{HubGoesOn}
+use Rattle.engine.specs.Waits.{WaitsAs}
+use Rattle.engine.specs.Whole.{Ends, IsUnderWay}
+use Rattle.engine.proofs.Directories.{goes-then}
+use Rattle.engine_store.specs.declared.store.Store.{Store}
+use Rattle.engine_store.specs.Calls.{AreToldSo}
+use Rattle.engine_store.specs.Fetches.{CalledSo, CallsBy, CauseSince, IsBacked, IsReached, IsSomehowReached, StepsBy}
+use Rattle.engine_store.proofs.Backed.{backed_goes}
+use Rattle.engine_store.proofs.Fetching.{rose_later}
+use Rattle.engine_store.proofs.StepsGoing.{IsMiddle, shelf_in, steps_by, steps_go, steps_stand}
+use Rattle.engine_store.proofs.UnderWay.{calls_since, calls_stand}
+
+-- first, s, made: the disk, the store and how far the call had come; disk, s', now: as they are
+pub record GoneOn {D : Type 0} (g : Ghosts D) (first disk : D) (s s' : Store) (made now : Called) (session : ℕ) : Type 0 where
+  pub calls : IsTrue (g.honest first) → (w : World) (asked : Call) → session < length w.sessions → s.engine.hub.fault ≡ w.machine.fault → IsBacked g s first w → CallsBy g first first made s.engine w session asked
+      → CallsBy g first disk now s'.engine w session asked × IsBacked g s' disk w
+  pub steps : IsTrue (g.honest first) → (w : World) → s.engine.hub.fault ≡ w.machine.fault → IsBacked g s first w → StepsBy g first first made s.engine w session → StepsBy g first disk now s'.engine w session × IsBacked g s' disk w
+  pub reached : IsTrue (g.honest first) → IsSomehowReached g s first → IsSomehowReached g s' disk
+  pub told : (start : D) → g.faults start ≤ g.faults first → (IsTrue (g.honest first) → IsSomehowReached g s first) → CalledSo g start first made → AreToldSo g start s.engine first → CalledSo g start disk now × AreToldSo g start s'.engine disk
+  pub waits : WaitsAs now s'.engine session
+  pub goes : (h : Hub) → HubGoesOn h s.engine.hub → HubGoesOn h s'.engine.hub
+  pub fault : s'.engine.hub.fault ≡ s.engine.hub.fault
+  pub ground : s'.ground ≡ s.ground
+  pub sessions : length s'.engine.sessions ≡ length s.engine.sessions
+  pub looked : Looked g first disk
+  pub home : g.home disk ≡ g.home first
+
+pub gone_none : {D : Type 0} (g : Ghosts D) (disk : D) (s : Store) (made : Called) (session : ℕ) → WaitsAs made s.engine session → GoneOn g disk disk s s made made session
+gone_none g disk s made session waits = record {
+  calls = λ h w asked there fault backed by. (by, backed);
+  steps = λ h w fault backed by. (by, backed);
+  reached = λ h x. x;
+  told = λ start le x so told. (so, told);
+  waits = waits;
+  goes = λ h on. on;
+  fault = refl;
+  ground = refl;
+  sessions = refl;
+  looked = looked_none g disk;
+  home = refl;
+}
+
+-- what one round leaves
+pub record OneRound {D : Type 0} (g : Ghosts D) (disk disk' : D) (s s' : Store) (now : Called) (session : ℕ) : Type 0 where
+  pub calls : IsTrue (g.honest disk) → (w x : World) (asked : Call) → session < length w.sessions → IsReached g s disk w x → IsUnderWay None w session asked x → CallsBy g disk disk' now s'.engine w session asked
+  pub steps : IsTrue (g.honest disk) → (w x : World) → IsReached g s disk w x → (middle : World) × IsMiddle (CauseSince g disk disk' w) x session middle × Ends now s'.engine middle session
+  pub told : (start : D) → g.faults start ≤ g.faults disk → (IsTrue (g.honest disk) → IsSomehowReached g s disk) → AreToldSo g start s.engine disk → CalledSo g start disk' now × AreToldSo g start s'.engine disk'
+  pub waits : WaitsAs now s'.engine session
+  pub goes : HubGoesOn s.engine.hub s'.engine.hub
+  pub ground : s'.ground ≡ s.ground
+  pub sessions : length s'.engine.sessions ≡ length s.engine.sessions
+  pub looked : Looked g disk disk'
+  pub home : g.home disk' ≡ g.home disk
+
+module _ {D : Type 0} (g : Ghosts D) (first disk disk' : D) (s s' s'' : Store) (made now : Called) (session leaf : ℕ) (gone : GoneOn g first disk s s' made (called.Waits leaf) session) (one : OneRound g disk disk' s' s'' now session) where
+  here : IsTrue (g.honest first) → IsTrue (g.honest disk)
+  here honest = gone.looked.same ∙ honest
+
+  -- the store is backed as it is now
+  reach : (w x : World) → s.engine.hub.fault ≡ w.machine.fault → IsBacked g s' disk w → Stands s'.engine x → x.shelf ≡ w.shelf → IsReached g s' disk w x
+  reach w x fault backed stands shelf = record { backed = backed; stands = stands; fault = sym stands.fault ∙ (gone.fault ∙ fault); shelf = shelf }
+
+  backed_then : (w x v : World) → IsBacked g s' disk w → Stands s'.engine x → Stands s''.engine v → IsBacked g s'' disk' w
+  backed_then w x v backed stands after = backed_goes g s' s'' disk disk' one.looked one.goes one.ground w stands.dir after.dir after.catalog backed
+
+  calls_then : IsTrue (g.honest first) → (w : World) (asked : Call) → session < length w.sessions → s.engine.hub.fault ≡ w.machine.fault → IsBacked g s first w → CallsBy g first first made s.engine w session asked → CallsBy g first disk' now s''.engine w session asked × IsBacked g s'' disk' w
+  calls_then honest w asked there fault backed by =
+      let x = gone.calls honest w asked there fault backed by in
+      let at = x.0 in
+      let reached = reach w at.0 fault x.1 at.2 (ap (λ (v : World). v.shelf) at.1.moved_to) in
+      let next = one.calls (here honest) w at.0 asked there reached at.1 in
+      let stood = calls_stand g disk disk' now s''.engine w session asked next in
+      (calls_since g first disk disk' now s''.engine w session asked gone.looked.count next, backed_then w at.0 stood.0 x.1 at.2 stood.1)
+
+  later_cause : (w : World) (r : Refusal) → CauseSince g first disk w r → CauseSince g first disk' w r
+  later_cause w r (inl none) = inl none
+  later_cause w r (inr (inl (is, rose))) = inr (inl (is, rose_later (g.faults first) (g.faults disk) (g.faults disk') one.looked.count rose))
+  later_cause w r (inr (inr down)) = inr (inr down)
+
+  steps_then : IsTrue (g.honest first) → (w : World) → s.engine.hub.fault ≡ w.machine.fault → IsBacked g s first w → StepsBy g first first made s.engine w session → StepsBy g first disk' now s''.engine w session × IsBacked g s'' disk' w
+  steps_then honest w fault backed by =
+      let x = gone.steps honest w fault backed by in
+      let at = x.0 in
+      let reached = reach w at.1 fault x.1 at.3 (shelf_in (CauseSince g first disk w) session at.0 w at.1 at.2) in
+      let next = one.steps (here honest) w at.1 reached in
+      let steps = steps_go g first disk disk' now s''.engine w at.1 next.0 session at.0 gone.looked.count (later_cause w) at.2 next.1 next.2 in
+      let stood = steps_stand g first disk' now s''.engine w session steps in
+      (steps, backed_then w at.1 stood.0 x.1 at.3 stood.1)
+
+  reached_then : IsTrue (g.honest first) → IsSomehowReached g s first → IsSomehowReached g s'' disk'
+  reached_then honest some =
+      let x = gone.reached honest some in
+      let next = one.steps (here honest) x.0 x.1 x.2 in
+      let stood = steps_stand g disk' disk' now s''.engine next.0 session (steps_by g disk' now s''.engine next.0 session next.2) in (
+        x.0,
+        stood.0,
+        record {
+          backed = backed_then x.0 x.1 stood.0 x.2.backed x.2.stands stood.1;
+          stands = stood.1;
+          fault = sym stood.1.fault ∙ (one.goes.fault ∙ (x.2.stands.fault ∙ x.2.fault));
+          shelf = stood.2 ∙ (shelf_middle next.0 next.1 ∙ x.2.shelf);
+        },
+      )
+    where
+      shelf_middle : (middle : World) → IsMiddle (CauseSince g disk disk' (gone.reached honest some).0) (gone.reached honest some).1 session middle → middle.shelf ≡ (gone.reached honest some).1.shelf
+      shelf_middle middle (inl same) = ap (λ (v : World). v.shelf) same
+      shelf_middle middle (inr (r, cause, out)) = ap (λ (v : World). v.shelf) out.leaves
+
+  pub gone_more : GoneOn g first disk' s s'' made now session
+  gone_more = record {
+    calls = calls_then;
+    steps = steps_then;
+    reached = reached_then;
+    told = λ start le some so told. one.told start (omega (arith, le, gone.looked.count)) (λ honest. gone.reached (sym gone.looked.same ∙ honest) (some (sym gone.looked.same ∙ honest))) (gone.told start le some so told).1;
+    waits = one.waits;
+    goes = λ h on. goes-then h s'.engine.hub s''.engine.hub (gone.goes h on) one.goes;
+    fault = one.goes.fault ∙ gone.fault;
+    ground = one.ground ∙ gone.ground;
+    sessions = one.sessions ∙ gone.sessions;
+    looked = looked_then g first disk disk' gone.looked one.looked;
+    home = one.home ∙ gone.home;
+  }

@@ -1,0 +1,129 @@
+-- A leaf that is in no frame, and was not written since the opening, is on the device as it is on the shelf.
+use Rattle.std.specs.Prelude.{◌≡◌, ℕ, ◌==◌, true, false, List, [], ◌∷◌, Option, Some, None, slice_get, refl}
+use Rattle.std.specs.List.{Contains}
+use Rattle.std.proofs.Common.{inl, inr, sym, ◌∙◌, ap, subst, append-nil}
+use Rattle.std.proofs.lemmas.Bool.{cases_Bool, eqb-true}
+use Rattle.kv_model.specs.History.{Table}
+use Rattle.kv_model.specs.Holds.{Member}
+use Rattle.row_page.specs.Rows.{Row}
+use Rattle.stored.specs.Stored.{Stored}
+use Rattle.stored.specs.TableTree.{Entry, TableTree}
+use Rattle.stored.specs.Tree.{join}
+use Rattle.device_leaf.specs.Leaves.{LeafIs}
+use Rattle.recover_open.specs.Leaves.{AreUnder}
+use Rattle.tree_open.specs.declared.place.TreePlace.{TreePlace}
+use Rattle.tree_dir.specs.declared.leaf.Leaf.{Leaf}
+use Rattle.tree_dir.specs.Leaves.{leaf_named}
+use Rattle.tree_write.specs.Drafts.{HasLeaves}
+use Rattle.tree_write.specs.Writes.{LeadApart}
+use Rattle.engine_world.specs.Stands.{Engine, Stands}
+use Rattle.engine_world.specs.Worlds.{World}
+use Rattle.engine.specs.Waits.{IsAway}
+use Rattle.ckpt_step.specs.declared.ground.Ground.{Ground}
+use Rattle.ckpt_step.specs.Floors.{Follows}
+use Rattle.ckpt_step.specs.Grounds.{AreRoots, StandsOn}
+use Rattle.ckpt_step.specs.Parts.{LieIn, has_rows, part_leaves, part_of}
+use Rattle.ckpt_step.specs.Rooms.{Written, known_in}
+use Rattle.ckpt_step.specs.Trees.{HasTreeAt}
+use Rattle.ckpt_step.proofs.Behind.{part_has}
+use Rattle.ckpt_step.proofs.Members.{none_some, some_same}
+use Rattle.ckpt_step.proofs.OldTrees.{leaves_apart, leaves_there, on_device}
+use Rattle.ckpt_step.proofs.TableLeaves.{contains_of, once_of}
+use Rattle.engine_store.specs.Loads.{ShelfIsOn, low_behind}
+use Rattle.engine_store.proofs.LowKeys.{lie_under}
+
+-- ---- the leaf of an id
+
+named : (id : ℕ) (leaves : List Leaf) (l : Leaf) → leaf_named id leaves ≡ Some l → Member l leaves × (l.id ≡ id)
+named id [] l is = absurd (none_some is)
+named id (x ∷ leaves) l is = elim (cases_Bool (x.id == id)) [
+  | inl here ↦ let same : x ≡ l = some_same (rw here at is) in (inl (sym same), ap (λ (m : Leaf). m.id) (sym same) ∙ eqb-true x.id id here)
+  | inr other ↦ let later = named id leaves l (rw other at is) in (inr later.0, later.1)
+]
+
+-- ---- the part of such a leaf
+
+part_one : (written : Written) (l : Leaf) → written l.id ≡ None → has_rows l.entry.link ≡ true → part_of written l ≡ l.entry ∷ []
+part_one written l none has = elim (cases_Bool (l.entry.link.greatest.id == 0)) [
+  | inl is ↦ absurd (let clash : false ≡ true = rw is at has in cc)
+  | inr isnt ↦ rw (none, isnt) refl
+]
+
+part_none : (written : Written) (l : Leaf) → written l.id ≡ None → has_rows l.entry.link ≡ false → part_of written l ≡ []
+part_none written l none has = elim (cases_Bool (l.entry.link.greatest.id == 0)) [
+  | inl is ↦ rw (none, is) refl
+  | inr isnt ↦ absurd (let clash : true ≡ false = rw isnt at has in cc)
+]
+
+-- the rows of the only leaf of a part
+one_leaf : (bytes : List ℕ) (place : TreePlace) (tree : TableTree) (e : Entry) → HasLeaves bytes (e ∷ []) (part_leaves place tree (e ∷ [])) → LeafIs bytes e.link (join (part_leaves place tree (e ∷ [])))
+one_leaf bytes place tree e has = subst (λ (rows : List Row). LeafIs bytes e.link rows) (sym (append-nil _)) has.0.1
+
+module _ (seen : List ℕ) (images : List ℕ → Type 0) (e : Engine) (g : Ground) (now : World) (stands : Stands e now) where
+  abbrev written : Written
+  written = known_in g.parts
+
+  -- it is of a table whose tree the checkpoint has
+  record IsInTree (old : Option Stored) (l : Leaf) (rows : List Row) : Type 0 where
+    table : Table
+    its : l.table ≡ table.number
+    place : TreePlace
+    tree : TableTree
+    has : HasLeaves seen (part_of written l) (part_leaves place tree (part_of written l))
+    lie : LieIn e.hub.dir.leaves table.number l (join (part_leaves place tree (part_of written l)))
+    same : join (part_leaves place tree (part_of written l)) ≡ rows
+
+  in_tree : (old : Option Stored) (w : World) (l : Leaf) → StandsOn seen images e.hub g old → Follows old e.hub g w → Contains e.hub.dir.leaves l → l.frame ≡ None → IsInTree old l (w.shelf l.id)
+  in_tree old w l on follows there away = by_place (slice_get g.trees.items at) refl
+    where
+      owned : (place : ℕ) × (t : Table) × (slice_get e.hub.tables.tables place ≡ Some t) × (l.table ≡ t.number)
+      owned = stands.owned l there
+
+      at : ℕ
+      at = owned.0
+
+      t : Table
+      t = owned.1
+
+      by_old : (p : TreePlace) → slice_get g.trees.items at ≡ Some p → (o : Option Stored) → old ≡ o → IsInTree old l (w.shelf l.id)
+      by_old p is None none = absurd (none_some (subst (λ (l : List TreePlace). slice_get l at ≡ Some p) (subst (λ (o : Option Stored). AreRoots e.hub.tables.tables e.hub.dir.leaves written g.trees.items o) none on.roots) is))
+      by_old p is (Some s) some =
+          let on_s = subst (λ (o : Option Stored). StandsOn seen images e.hub g o) some on in
+          let tree = on_s.roots.trees at t p owned.2 is in
+          let apart : LeadApart p.leaves.items = subst LeadApart (leaves_there g.trees.items at p is)
+          (leaves_apart seen images g.place.blocks e.hub.tables.tables e.hub.tables.next stands.catalog.numbers e.hub.dir.leaves written g.trees.items (Some s) on_s.stands on_s.roots on_s.cells on_s.units at) in
+          let there_tree = on_device seen images g.place.blocks e.hub.tables.tables e.hub.tables.next stands.catalog.numbers e.hub.dir.leaves written g.trees.items s on_s.stands on_s.roots on_s.cells on_s.units t p tree.0 tree.1 in
+          record {
+            table = t;
+            its = owned.3;
+            place = p;
+            tree = tree.0;
+            has = part_has e.hub.dir.leaves t.number written p tree.0 tree.1.1 apart tree.2 seen there_tree l there owned.3;
+            lie = (tree.2.parts l there owned.3).lie;
+            same = (follows.leaf at t p tree.0 l owned.2 is (subst (λ (o : Option Stored). HasTreeAt o t p tree.0) (sym some) tree.1) there owned.3).same away;
+          }
+
+      by_place : (o : Option TreePlace) → slice_get g.trees.items at ≡ o → IsInTree old l (w.shelf l.id)
+      by_place None none = absurd ((on.written.made_since at t l owned.2 none there owned.3).1 away)
+      by_place (Some p) is = by_old p is old refl
+
+  pub shelf_on : (old : Option Stored) (w : World) (id : ℕ) → StandsOn seen images e.hub g old → Follows old e.hub g w → now.shelf ≡ w.shelf → IsAway e.hub.dir.leaves id → written id ≡ None → ShelfIsOn seen e.hub.dir now.shelf id
+  shelf_on old w id on follows shelf (l, there, away) none =
+      let found = named id e.hub.dir.leaves l there in
+      let own : l.id ≡ id = found.1 in
+      let x = in_tree old w l on follows (contains_of e.hub.dir.leaves l found.0) away in
+      let unwritten : written l.id ≡ None = ap written own ∙ none in
+      let rows : w.shelf l.id ≡ now.shelf id = ap w.shelf own ∙ ap (λ (f : ℕ → List Row). f id) (sym shelf) in
+      record {
+        leaf = l;
+        there = there;
+        under = λ has.
+            let part = part_one written l unwritten has in
+            let joined : join (part_leaves x.place x.tree (l.entry ∷ [])) ≡ now.shelf id = ap (λ (p : List Entry). join (part_leaves x.place x.tree p)) (sym part) ∙ (x.same ∙ rows) in
+            record {
+              leaf = subst (λ (r : List Row). LeafIs seen l.entry.link r) joined (one_leaf seen x.place x.tree l.entry (subst (λ (p : List Entry). HasLeaves seen p (part_leaves x.place x.tree p)) part x.has));
+              keys = subst (λ (i : ℕ). AreUnder l.entry (low_behind i e.hub.dir.leaves) (now.shelf id)) own
+                  (lie_under x.table.number e.hub.dir.leaves l (now.shelf id) (once_of e.hub.dir.leaves stands.dir.once) (subst (λ (r : List Row). LieIn e.hub.dir.leaves x.table.number l r) (x.same ∙ rows) x.lie));
+            };
+        none = λ has. sym rows ∙ (sym x.same ∙ ap (λ (p : List Entry). join (part_leaves x.place x.tree p)) (part_none written l unwritten has));
+      }

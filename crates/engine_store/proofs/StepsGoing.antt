@@ -1,0 +1,119 @@
+-- Steps of a session's call, one after the other, among which leaves are kept from it.
+use Rattle.std.proofs.Common.{◌≡◌, ◌∙◌, ◌≤◌, ℕ, zero, suc, List, refl, ap, subst, inl, inr}
+use Rattle.std.specs.Prelude.{◌⊎◌, Result, Ok, Err}
+use Rattle.disk_model.specs.declared.disk.Disk.{Ghosts}
+use Rattle.wt_code.specs.declared.answers.Answer.{Answer}
+use Rattle.wt_code.specs.declared.refusals.Refusal.{Refusal}
+use Rattle.call_steps.specs.declared.reply.Reply.TheVariants as reply
+use Rattle.engine_world.specs.Stands.{Engine, Stands}
+use Rattle.engine_world.specs.Steps.{MayKeepOut}
+use Rattle.engine_world.specs.Worlds.{World}
+use Rattle.engine.specs.declared.called.Called.{Called}
+use Rattle.engine.specs.declared.called.Called.TheVariants as called
+use Rattle.engine.specs.declared.step.Actor.TheVariants as by
+use Rattle.engine.specs.declared.step.Step.TheVariants.{Go}
+use Rattle.engine.specs.Runs.{StepsMore, StepsOut}
+use Rattle.engine.specs.Whole.{Ends}
+use Rattle.ckpt_step.specs.Keeps.{AreOrdinary}
+use Rattle.engine_store.specs.Calls.{EndsIn, GoesOrKept}
+use Rattle.engine_store.specs.Fetches.{CauseSince, ComesOrNot, GoesIn, StepsBy}
+use Rattle.engine_store.proofs.Going.{Goes, goes_out, goes_step, goes_then, shelf_step}
+use Rattle.engine_store.proofs.UnderWay.{cause_since}
+
+-- what was done where a leaf came in, or was kept out
+abbrev pub IsMiddle : (Caused : Refusal → Type 0) → World → ℕ → World → Type 0
+IsMiddle Caused now session middle = (middle ≡ now) ⊎ ((r : Refusal) × Caused r × MayKeepOut now session r middle)
+
+-- ---- for other causes
+
+or_more : (P Q : Refusal → Type 0) → ((r : Refusal) → P r → Q r) → (w : World) (session : ℕ) (next : World) → GoesOrKept P w session next → GoesOrKept Q w session next
+or_more P Q more w session next (inl goes) = inl goes
+or_more P Q more w session next (inr (r, cause, out)) = inr (r, more r cause, out)
+
+in_more : (P Q : Refusal → Type 0) → ((r : Refusal) → P r → Q r) → (n : ℕ) (w : World) (session : ℕ) (last : World) → GoesIn P n w session last → GoesIn Q n w session last
+in_more P Q more zero w session last is = is
+in_more P Q more (suc n) w session last (next, one, rest) = (next, or_more P Q more w session next one, in_more P Q more n next session last rest)
+
+-- ---- one after the other
+
+module _ (Caused : Refusal → Type 0) (session : ℕ) where
+  more_in : (n : ℕ) (w last : World) → StepsMore n w (by.Session session) last → GoesIn Caused n w session last
+  more_in zero w last is = is
+  more_in (suc n) w last (middle, one, rest) = (middle, inl one, more_in n middle last rest)
+
+  out_in : (n : ℕ) (w last : World) (answer : Answer (List ℕ)) → StepsOut n w (by.Session session) answer last → EndsIn Caused n w session answer last
+  out_in zero w last answer is = is
+  out_in (suc n) w last answer (middle, one, rest) = (middle, inl one, out_in n middle last answer rest)
+
+  in_then : (n : ℕ) (w middle : World) (m : ℕ) (last : World) → GoesIn Caused n w session middle → GoesIn Caused m middle session last → (k : ℕ) × GoesIn Caused k w session last
+  in_then zero w middle m last is rest = (m, subst (λ (x : World). GoesIn Caused m x session last) is rest)
+  in_then (suc n) w middle m last (next, one, first) rest = let k = in_then n next middle m last first rest in (suc k.0, (next, one, k.1))
+
+  ends_then : (n : ℕ) (w middle : World) (m : ℕ) (answer : Answer (List ℕ)) (last : World) → GoesIn Caused n w session middle → EndsIn Caused m middle session answer last → (k : ℕ) × EndsIn Caused k w session answer last
+  ends_then zero w middle m answer last is rest = (m, subst (λ (x : World). EndsIn Caused m x session answer last) is rest)
+  ends_then (suc n) w middle m answer last (next, one, first) rest = let k = ends_then n next middle m answer last first rest in (suc k.0, (next, one, k.1))
+
+  middle_in : (now middle : World) → IsMiddle Caused now session middle → (n : ℕ) × GoesIn Caused n now session middle
+  middle_in now middle (inl same) = (zero, same)
+  middle_in now middle (inr kept) = (suc zero, (middle, inr kept, refl))
+
+  -- ---- the shelf
+
+  shelf_one : (w next : World) → GoesOrKept Caused w session next → next.shelf ≡ w.shelf
+  shelf_one w next (inl goes) = shelf_step w next (Go (by.Session session)) reply.More goes
+  shelf_one w next (inr (r, cause, out)) = ap (λ (x : World). x.shelf) out.leaves
+
+  pub shelf_in : (n : ℕ) (w last : World) → GoesIn Caused n w session last → last.shelf ≡ w.shelf
+  shelf_in zero w last is = ap (λ (x : World). x.shelf) is
+  shelf_in (suc n) w last (next, one, rest) = shelf_in n next last rest ∙ shelf_one w next one
+
+  shelf_ends : (n : ℕ) (w last : World) (answer : Answer (List ℕ)) → EndsIn Caused n w session answer last → last.shelf ≡ w.shelf
+  shelf_ends zero w last answer is = shelf_step w last (Go (by.Session session)) (reply.Answer answer) is
+  shelf_ends (suc n) w last answer (next, one, rest) = shelf_ends n next last answer rest ∙ shelf_one w next one
+
+  -- ---- what they keep
+
+  goes_one : (w next : World) → AreOrdinary w → GoesOrKept Caused w session next → Goes w next
+  goes_one w next are (inl goes) = goes_step w next (Go (by.Session session)) reply.More are tt goes
+  goes_one w next are (inr (r, cause, out)) = goes_out w next session r are out
+
+  pub goes_ends : (n : ℕ) (w last : World) (answer : Answer (List ℕ)) → AreOrdinary w → EndsIn Caused n w session answer last → Goes w last
+  goes_ends zero w last answer are is = goes_step w last (Go (by.Session session)) (reply.Answer answer) are tt is
+  goes_ends (suc n) w last answer are (next, one, rest) =
+      let first = goes_one w next are one in
+      goes_then w next last first (goes_ends n next last answer first.keeps.ordinary rest)
+
+-- ---- what comes of an engine
+
+module _ {D : Type 0} (g : Ghosts D) where
+  pub steps_stand : (first last : D) (called : Called) (e : Engine) (w : World) (session : ℕ) → StepsBy g first last called e w session → (v : World) × Stands e v × (v.shelf ≡ w.shelf)
+  steps_stand first last (called.Ended answer) e w session (n, v, ends, stands) = (v, stands, shelf_ends (CauseSince g first last w) session n w v answer ends)
+  steps_stand first last (called.Waits leaf) e w session (n, v, goes, stands) = (v, stands, shelf_in (CauseSince g first last w) session n w v goes)
+
+  -- the steps of a call that was finished, or goes on
+  pub steps_by : (disk : D) (called : Called) (e : Engine) (w : World) (session : ℕ) → Ends called e w session → StepsBy g disk disk called e w session
+  steps_by disk (called.Ended answer) e w session (n, last, out, stands) = (n, last, out_in (CauseSince g disk disk w) session n w last answer out, stands)
+  steps_by disk (called.Waits leaf) e w session (n, last, more, stands) = (n, last, more_in (CauseSince g disk disk w) session n w last more, stands)
+
+  -- behind others, and a leaf that came in or was kept out
+  pub steps_go : (first mid last : D) (called : Called) (e : Engine) (w now middle : World) (session n : ℕ) → g.faults first ≤ g.faults mid → ((r : Refusal) → CauseSince g first mid w r → CauseSince g first last w r) → GoesIn (CauseSince g first mid w) n w session now
+      → IsMiddle (CauseSince g mid last w) now session middle → Ends called e middle session → StepsBy g first last called e w session
+  steps_go first mid last made e w now middle session n le later goes how ends = by_called made ends
+    where
+      middle_more : IsMiddle (CauseSince g mid last w) now session middle → IsMiddle (CauseSince g first last w) now session middle
+      middle_more (inl same) = inl same
+      middle_more (inr (r, cause, out)) = inr (r, cause_since g first mid last w r le cause, out)
+
+      before : (k : ℕ) × GoesIn (CauseSince g first last w) k w session middle
+      before = let m = middle_in (CauseSince g first last w) session now middle (middle_more how) in
+          in_then (CauseSince g first last w) session n w now m.0 middle (in_more (CauseSince g first mid w) (CauseSince g first last w) later n w session now goes) m.1
+
+      by_called : (c : Called) → Ends c e middle session → StepsBy g first last c e w session
+      by_called (called.Ended answer) (m, end, out, stands) = let k = ends_then (CauseSince g first last w) session before.0 w middle m answer end before.1 (out_in (CauseSince g first last w) session m middle end answer out) in (k.0, end, k.1, stands)
+      by_called (called.Waits leaf) (m, end, more, stands) = let k = in_then (CauseSince g first last w) session before.0 w middle m end before.1 (more_in (CauseSince g first last w) session m middle end more) in (k.0, end, k.1, stands)
+
+  -- what a leaf that came in, or was kept out, leaves of steps
+  pub steps_come : (first disk : D) (e e' : Engine) (w now : World) (session : ℕ) (made : Result (Unit {0}) Refusal) (called : Called) → ComesOrNot (CauseSince g first disk w) e now session made → ((x : World) → Stands e x → Ends called e' x session)
+      → (middle : World) × IsMiddle (CauseSince g first disk w) now session middle × Ends called e' middle session
+  steps_come first disk e e' w now session (Ok done) called stands ends = (now, inl refl, ends now stands)
+  steps_come first disk e e' w now session (Err r) called (cause, later, out, stands) ends = (later, inr (r, cause, out), ends later stands)

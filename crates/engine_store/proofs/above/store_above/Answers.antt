@@ -1,0 +1,118 @@
+use Rattle.std.proofs.Common.{◌≡◌, ◌∙◌, ◌<◌, List, ℕ, None, true, length, ap, refl, subst, sym, arith}
+use Rattle.std.specs.List.{Contains}
+use Rattle.kv_model.specs.History.{Table}
+use Rattle.kv_model.specs.Regular.{AllApart, SameNumber}
+use Rattle.catalog.specs.Opens.{AreRecorded}
+use Rattle.row_page.specs.Greatest.{no_name}
+use Rattle.leaf_rows.specs.declared.marks.Marks.{Marks}
+use Rattle.stored.specs.Records.{TableRoot}
+use Rattle.stored.specs.Stored.{tables_of as record_tables}
+use Rattle.device_leaf.specs.Openings.{last_number}
+use Rattle.tree_dir.specs.declared.leaf.Leaf.{Leaf}
+use Rattle.tree_open.specs.declared.place.Upper.{Upper}
+use Rattle.recover_open.specs.Bare.{marks_of}
+use Rattle.engine_world.specs.Stands.{Stands}
+use Rattle.engine_world.specs.Systems.{first_world}
+use Rattle.engine_start.specs.declared.table_entries.TableEntries.{TableEntries}
+use Rattle.engine_start.specs.Contents.{leaves_content_with}
+use Rattle.engine_start.specs.Entries.{IsShelf, IsUnread, tables_of, whole_tables}
+use Rattle.engine_start.proofs.Placing.{leaves_owned}
+use Rattle.engine_store.specs.declared.store.Store.{Store}
+use Rattle.engine_store.specs.ByPlace.{places_in}
+use Rattle.engine_store.specs.Marked.{IsLeafKept, IsUnmarked}
+use Rattle.engine_store.specs.Places.{AreOver}
+use Rattle.engine_store.specs.Tables.{AreWithEntries}
+use Rattle.engine_store.proofs.BorneTables.{climb_with, many_with, tables_with}
+use Rattle.engine_store.proofs.Founds.{found_above}
+use Rattle.engine_store.proofs.ReadyAbove.{over_many, ready_above}
+use Rattle.engine_store.proofs.OpenedEngine.{begun, begun_kept, begun_stands, led, led_parted, shelf, shelved}
+use Rattle.engine_store.proofs.Refusing.{refused_begin}
+use Rattle.engine_store.proofs.SurveyedTrees.{surveyed_of}
+use Rattle.engine_store.proofs.above.store_above.Goals as goal
+
+pub trees_by_place-requires : goal.trees_by_place-requires
+trees_by_place-requires g c =
+    let over : AreOver c.in_ok-trees.trees.items c.args.above.record.tables c.args.above.uppers.items = subst (λ (l : List TableRoot). AreOver c.in_ok-trees.trees.items l c.args.above.uppers.items) c.tables_of.ensures (subst (λ (l : List Upper). AreOver c.in_ok-trees.trees.items c.tables_of.result.now l) c.deref.ensures.value c.in_ok-trees.ensures) in
+    over_many c.in_ok-trees.trees.items c.args.above.record.tables c.args.above.uppers.items over ∙ ap (λ (l : List TableRoot). length l) (sym c.tables_of-2.ensures)
+
+-- the tables, each with its entries
+withs : (both : List TableEntries) (parts tables : List TableRoot) (uppers : List Upper) → AreWithEntries both parts uppers → parts ≡ tables → AreWithEntries both tables uppers
+withs both parts tables uppers with same = subst (λ (l : List TableRoot). AreWithEntries both l uppers) same with
+
+pub start-requires-clause-recorded : goal.start-requires-clause-recorded
+start-requires-clause-recorded g c =
+    let a = c.args.above in
+    let with = withs c.in_ok-tables.tables.items c.into_parts-tables.result.0.items a.record.tables a.uppers.items c.in_ok-tables.ensures c.into_parts-tables.ensures.tables in
+    subst (λ (l : List Table). AreRecorded l c.next_table_of-next_table.result) (sym (tables_with c.in_ok-tables.tables.items a.record.tables a.uppers.items with))
+    (subst (λ (n : ℕ). AreRecorded (record_tables a.record.tables) n) (sym c.next_table_of-next_table.ensures) (c.records_are_recorded.ensures a.record c.requires.is_record))
+
+pub start-requires-clause-numbers : goal.start-requires-clause-numbers
+start-requires-clause-numbers g c =
+    let a = c.args.above in
+    let with = withs c.in_ok-tables.tables.items c.into_parts-tables.result.0.items a.record.tables a.uppers.items c.in_ok-tables.ensures c.into_parts-tables.ensures.tables in
+    let yes : c.has_numbers.result ≡ true = cc in
+    omega (arith, c.has_numbers.ensures.yes yes, c.next_table_of-next_table.ensures, many_with c.in_ok-tables.tables.items a.record.tables a.uppers.items with)
+
+pub start-requires-clause-climb : goal.start-requires-clause-climb
+start-requires-clause-climb g c =
+    let a = c.args.above in
+    let with = withs c.in_ok-tables.tables.items c.into_parts-tables.result.0.items a.record.tables a.uppers.items c.in_ok-tables.ensures c.into_parts-tables.ensures.tables in
+    climb_with c.in_ok-tables.tables.items a.record.tables a.uppers.items with c.requires.climb
+
+pub bring_marked-requires : goal.bring_marked-requires
+bring_marked-requires g c =
+    let e = c.in_ok-engine.engine in
+    record { owned = leaves_owned c.in_ok-tables.tables.items e.hub.tables.tables e.hub.dir c.in_ok-engine.ensures.unread.tables_are c.in_ok-engine.ensures.unread.added }
+
+pub returns-in-Ok-clause-found : goal.returns-in-Ok-clause-found
+returns-in-Ok-clause-found g c = λ honest surveyed content reads.
+    let a = c.args.above in
+    let bytes = g.D.Disk.seen c.args.disk.now in
+    let m = marks_of a.record in
+    let ids = a.record.snapshot.ids in
+    let ps = c.in_ok-trees.trees.items in
+    let both = c.in_ok-tables.tables.items in
+    let with = withs both c.into_parts-tables.result.0.items a.record.tables a.uppers.items c.in_ok-tables.ensures c.into_parts-tables.ensures.tables in
+    let over : AreOver ps a.record.tables a.uppers.items = subst (λ (l : List TableRoot). AreOver ps l a.uppers.items) c.tables_of.ensures (subst (λ (l : List Upper). AreOver ps c.tables_of.result.now l) c.deref.ensures.value c.in_ok-trees.ensures) in
+    let recorded = c.records_are_recorded.ensures a.record c.requires.is_record in
+    let e = c.in_ok-engine.engine in
+    let unread : IsUnread m both e = subst (λ (n : Marks). IsUnread n both e) c.marks_of-marks.ensures c.in_ok-engine.ensures.unread in
+    let of = surveyed_of bytes c.args.place a content surveyed reads in
+    let on_shelf = shelf bytes c.args.place a of both with recorded e unread in
+    let rows = led bytes c.args.place a of both with recorded in
+    let started : IsShelf m ids rows on_shelf e.hub.dir.leaves → Stands e (first_world (leaves_content_with m ids (whole_tables rows both)) on_shelf e) =
+    subst (λ (n : Marks). IsShelf n ids rows on_shelf e.hub.dir.leaves → Stands e (first_world (leaves_content_with n ids (whole_tables rows both)) on_shelf e)) c.marks_of-marks.ensures
+    (c.in_ok-engine.ensures.stands ids rows on_shelf (led_parted bytes c.args.place a of both with recorded)) in
+    let first = begun_stands bytes c.args.place a of both with recorded e unread (started (shelved bytes c.args.place a of both with recorded e unread)) in
+    let names : c.deref-2.result.now ≡ ids = c.deref-2.ensures.value ∙ c.into_parts-tables.ensures.ids in
+    let kept = λ (l : Leaf) (there : Contains e.hub.dir.leaves l). subst (λ (n : Marks). IsLeafKept bytes e.hub.dir n c.deref-2.result.now on_shelf l) (sym c.marks_of-marks.ensures)
+    (subst (λ (xs : List ℕ). IsLeafKept bytes e.hub.dir m xs on_shelf l) (sym names) (begun_kept bytes c.args.place a of both with recorded e unread l there)) in
+    let now = c.in-Ok.ensures.stands honest (begun bytes c.args.place a of both with recorded e unread) first kept in
+    let unmarked = λ (l : Leaf) (there : Contains c.bring_marked.new.engine.hub.dir.leaves l) (none : l.frame ≡ None). subst (λ (n : Marks). IsUnmarked n l) c.marks_of-marks.ensures (c.in-Ok.ensures.unmarked l there none) in
+    let s : Store = record { engine = c.bring_marked.new.engine; ground = record { place = c.args.place; number = c.number_of-number.result; trees = c.in_ok-trees-2.trees; parts = c.new.result; floor = no_name } } in
+    let trees_are : s.ground.trees.items ≡ places_in a.record.tables ps = c.in_ok-trees-2.ensures ∙ ap (λ (l : List TableRoot). places_in l ps) c.tables_of-2.ensures in
+    let yes : c.has_numbers.result ≡ true = cc in
+    let run : a.record.run < last_number = omega (arith, c.run_of.ensures, c.if-run_of-ge-NUMBER_MAX.false) in
+    found_above a c.requires.is_record both with e unread s c.bring_marked.ensures.goes ps over trees_are c.number_of-number.ensures bytes c.args.place c.requires.bare of recorded first now unmarked refl c.new.ensures refl run (c.has_numbers.ensures.yes yes)
+
+pub returns-in-Ok-clause-ready : goal.returns-in-Ok-clause-ready
+returns-in-Ok-clause-ready g c =
+    let a = c.args.above in
+    let ps = c.in_ok-trees.trees.items in
+    let both = c.in_ok-tables.tables.items in
+    let with = withs both c.into_parts-tables.result.0.items a.record.tables a.uppers.items c.in_ok-tables.ensures c.into_parts-tables.ensures.tables in
+    let over : AreOver ps a.record.tables a.uppers.items = subst (λ (l : List TableRoot). AreOver ps l a.uppers.items) c.tables_of.ensures (subst (λ (l : List Upper). AreOver ps c.tables_of.result.now l) c.deref.ensures.value c.in_ok-trees.ensures) in
+    let e = c.in_ok-engine.engine in
+    let unread : IsUnread (marks_of a.record) both e = subst (λ (n : Marks). IsUnread n both e) c.marks_of-marks.ensures c.in_ok-engine.ensures.unread in
+    let s : Store = record { engine = c.bring_marked.new.engine; ground = record { place = c.args.place; number = c.number_of-number.result; trees = c.in_ok-trees-2.trees; parts = c.new.result; floor = no_name } } in
+    let trees_are : s.ground.trees.items ≡ places_in a.record.tables ps = c.in_ok-trees-2.ensures ∙ ap (λ (l : List TableRoot). places_in l ps) c.tables_of-2.ensures in
+    ready_above a c.requires.is_record both with e unread s c.bring_marked.ensures.goes ps over trees_are c.number_of-number.ensures
+
+pub returns-in-Err-clause-err : goal.returns-in-Err-clause-err
+returns-in-Err-clause-err g c =
+    let a = c.args.above in
+    let both = c.in_ok-tables.tables.items in
+    let with = withs both c.into_parts-tables.result.0.items a.record.tables a.uppers.items c.in_ok-tables.ensures c.into_parts-tables.ensures.tables in
+    let unread = c.in_ok-engine.ensures.unread in
+    let apart : AllApart SameNumber (tables_of both) = subst (λ (l : List Table). AllApart SameNumber l) (sym (tables_with both a.record.tables a.uppers.items with)) (c.records_are_recorded.ensures a.record c.requires.is_record).once in
+    refused_begin g.D.Disk c.args.disk.now c.bring_marked.new.disk a both c.in_ok-engine.engine.hub.dir c.in-Err.refusal unread.dir apart unread.added with c.in-Err.ensures.err

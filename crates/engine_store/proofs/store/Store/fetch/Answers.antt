@@ -1,0 +1,20 @@
+use Rattle.std.proofs.Common.{◌∙◌, sym}
+use Rattle.failure.specs.Counts.{Rose}
+use Rattle.engine_store.proofs.Fetching.{caused, none_known, shelf_here, tells_leaf}
+use Rattle.engine_store.proofs.store.Store.fetch.Goals as goal
+
+pub returns-clause-stands : goal.returns-clause-stands
+returns-clause-stands g c = λ h w now reached.
+    c.bring.ensures.stands h now reached.stands
+    (shelf_here g.D.Disk c.args.self.now c.args.disk.now w now c.args.leaf reached (sym c.fault.ensures ∙ c.in_default.is) c.requires.away (none_known _ c.of.result _ c.of.ensures c.in_default-of.is))
+
+pub returns-clause-cause : goal.returns-clause-cause
+returns-clause-cause g c = λ h w now reached.
+    caused (Rose (g.D.Disk.faults c.args.disk.now) (g.D.Disk.faults c.bring.new.disk)) w.machine.fault c.bring.result
+    (c.bring.ensures.lacks h now.shelf
+    (shelf_here g.D.Disk c.args.self.now c.args.disk.now w now c.args.leaf reached (sym c.fault.ensures ∙ c.in_default.is) c.requires.away (none_known _ c.of.result _ c.of.ensures c.in_default-of.is)))
+
+pub returns-clause-told : goal.returns-clause-told
+returns-clause-told g c = λ start le reached.
+    tells_leaf g.D.Disk start c.args.disk.now c.bring.new.disk le c.bring.ensures.looked c.args.self.now c.args.leaf c.bring.result reached c.bring.ensures.err c.bring.ensures.lacks
+    (sym c.fault.ensures ∙ c.in_default.is) c.requires.away (none_known _ c.of.result _ c.of.ensures c.in_default-of.is)

@@ -1,0 +1,97 @@
+-- How far a session's call has come whose leaves are read from the device.
+use Rattle.std.specs.Prelude.{◌≡◌, ℕ, zero, suc, Option, None, Some, Result, Ok, Err}
+use Rattle.failure.specs.Counts.{Rose}
+use Rattle.disk_model.specs.declared.disk.Disk.{Ghosts}
+use Rattle.wt_code.specs.declared.refusals.Refusal.{Refusal}
+use Rattle.kv_model.specs.Calls.{Call}
+use Rattle.stored.specs.Stored.{Stored}
+use Rattle.engine_world.specs.Stands.{Engine, Stands}
+use Rattle.engine_world.specs.Steps.{MayKeepOut}
+use Rattle.engine_world.specs.Worlds.{World}
+use Rattle.engine.specs.declared.called.Called.{Called}
+use Rattle.engine.specs.declared.called.Called.TheVariants as called
+use Rattle.engine.specs.declared.step.Actor.TheVariants as actor
+use Rattle.engine.specs.declared.step.Step.{Step}
+use Rattle.engine.specs.declared.step.Step.TheVariants.{Go}
+use Rattle.engine.specs.Waits.{turns_in}
+use Rattle.engine.specs.Whole.{IsUnderWay, KeptBy, MayCallKept}
+use Rattle.ckpt_step.specs.Floors.{Follows}
+use Rattle.ckpt_step.specs.Grounds.{StandsOn}
+use Rattle.engine_store.specs.declared.store.Store.{Store}
+use Rattle.engine_store.specs.Calls.{EndsIn, GoesOrKept, MayAnswerSo}
+use Rattle.engine_store.specs.Loads.{IsCause, IsCaused}
+
+-- While the engine is up, the ground is that of the disk's checkpoint, and follows this world: its shelf has the leaves that are in no frame.
+abbrev pub IsBacked : {D : Type 0} → Ghosts D → Store → D → World → Type 0
+IsBacked g s disk w = s.engine.hub.fault ≡ None → (old : Option Stored) × StandsOn (g.seen disk) (g.may_leave disk) s.engine.hub s.ground old × Follows old s.engine.hub s.ground w
+
+-- the store stands for a world that came of that one
+pub record IsReached {D : Type 0} (g : Ghosts D) (s : Store) (disk : D) (w now : World) : Type 0 where
+  pub backed : IsBacked g s disk w
+  pub stands : Stands s.engine now
+  pub fault : now.machine.fault ≡ w.machine.fault
+  pub shelf : now.shelf ≡ w.shelf
+
+-- a leaf comes in, or is kept from the session's call
+abbrev pub ComesOrNot : (Caused : Refusal → Type 0) → Engine → World → ℕ → Result (Unit {0}) Refusal → Type 0
+ComesOrNot Caused e now session (Ok done) = Stands e now
+ComesOrNot Caused e now session (Err r) = Caused r × (later : World) × MayKeepOut now session r later × Stands e later
+
+-- of a call that began with nobody between
+abbrev pub ReachesOrNot : (Caused : Refusal → Type 0) → Engine → World → ℕ → Call → World → Result (Unit {0}) Refusal → Type 0
+ReachesOrNot Caused e w session asked now (Ok done) = Stands e now
+ReachesOrNot Caused e w session asked now (Err r) = Caused r × (later : World) × IsUnderWay (Some r) w session asked later × Stands e later
+
+-- the session with whose call a step goes on
+abbrev pub session_in : Step → Option ℕ
+session_in (Go (actor.Session session)) = Some session
+session_in _ = None
+
+-- of a step: the leaf that its call waits for, where there is one
+abbrev pub ReadiesOrNot : (Caused : Refusal → Type 0) → Engine → World → Step → Result (Unit {0}) Refusal → Type 0
+ReadiesOrNot Caused e now made (Ok done) = Stands e now
+ReadiesOrNot Caused e now made (Err r) = (session : ℕ) × (made ≡ Go (actor.Session session)) × Caused r × (later : World) × MayKeepOut now session r later × Stands e later
+
+-- ---- a whole call
+
+-- why a leaf was kept from it, where one was: of the reads since an earlier disk
+abbrev pub CausedSince : {D : Type 0} → Ghosts D → D → D → World → KeptBy → Type 0
+CausedSince g first disk w kept = IsCaused (Rose (g.faults first) (g.faults disk)) w.machine.fault kept
+
+abbrev pub CauseSince : {D : Type 0} → Ghosts D → D → D → World → Refusal → Type 0
+CauseSince g first disk w r = IsCause (Rose (g.faults first) (g.faults disk)) w.machine.fault r
+
+-- it has its answer, or waits for a leaf
+abbrev pub CallsBy : {D : Type 0} → Ghosts D → D → D → Called → Engine → World → ℕ → Call → Type 0
+CallsBy g first disk (called.Ended answer) e w session asked =
+    (kept : KeptBy) × CausedSince g first disk w kept × (later : World) × MayCallKept kept w session asked answer later × Stands e later
+CallsBy g first disk (called.Waits leaf) e w session asked = (now : World) × IsUnderWay None w session asked now × Stands e now
+
+-- ---- the steps of one
+
+-- so many steps after which it goes on
+abbrev pub GoesIn : (Caused : Refusal → Type 0) → ℕ → World → ℕ → World → Type 0
+GoesIn Caused zero w session last = last ≡ w
+GoesIn Caused (suc n) w session last = (next : World) × GoesOrKept Caused w session next × GoesIn Caused n next session last
+
+-- they have ended it, or it waits for a leaf
+abbrev pub StepsBy : {D : Type 0} → Ghosts D → D → D → Called → Engine → World → ℕ → Type 0
+StepsBy g first disk (called.Ended answer) e w session = (n : ℕ) × (last : World) × EndsIn (CauseSince g first disk w) n w session answer last × Stands e last
+StepsBy g first disk (called.Waits leaf) e w session = (n : ℕ) × (last : World) × GoesIn (CauseSince g first disk w) n w session last × Stands e last
+
+-- ---- what is told
+
+-- where it has an answer, that may be told
+abbrev pub CalledSo : {D : Type 0} → Ghosts D → D → D → Called → Type 0
+CalledSo g start_disk disk (called.Ended answer) = MayAnswerSo g start_disk disk answer
+CalledSo g start_disk disk (called.Waits leaf) = Unit {0}
+
+-- on an honest disk the store is backed, by some world
+abbrev pub IsSomehowReached : {D : Type 0} → Ghosts D → Store → D → Type 0
+IsSomehowReached g s disk = (w : World) × (now : World) × IsReached g s disk w now
+
+-- ---- how many steps are left at most
+
+abbrev pub rounds_left : Called → Engine → ℕ → ℕ
+rounds_left (called.Ended answer) e session = zero
+rounds_left (called.Waits leaf) e session = suc (turns_in e session)

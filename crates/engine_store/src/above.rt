@@ -1,0 +1,133 @@
+//! The engine on a checkpoint that was surveyed.
+
+ghost use Rattle.std.specs.Prelude.{◌≡◌, ℕ, ◌+◌, ◌^◌, ◌<◌, List, length, false, IfErr, IfOk, IsTrue};
+ghost use Rattle.limits.specs.declared.TheConstants.{TABLES_MAX};
+ghost use Rattle.disk_model.specs.Crash.{Looked};
+ghost use Rattle.kv_model.specs.Content.{Content};
+ghost use Rattle.stored.specs.Stored.{Reads};
+ghost use Rattle.device_leaf.specs.Openings.{last_number};
+ghost use Rattle.recover_open.specs.Bare.{marks_of};
+ghost use Rattle.recover_open.specs.Surveys.{AboveInForm, Surveys};
+ghost use Rattle.engine_store.specs.Found.{IsFound, LacksNumbers, RefusesBegin};
+ghost use Rattle.engine_store.specs.Opened.{IsReady};
+
+use crate::by_place::trees_by_place;
+use crate::marked::bring_marked;
+use crate::places::trees_over;
+use crate::store::Store;
+use crate::tables::with_entries;
+use checkpoint_record::{Record, TableRoot, records_are_recorded};
+use ckpt_step::{Ground, Parts};
+use device_leaf::Place;
+use disk_model::Disk;
+use engine_start::start;
+use leaf_rows::Marks;
+use limits::{NUMBER_MAX, TABLES_MAX};
+use recover_open::Above;
+use stamp::Name;
+use std::alloc::Global;
+use wt_code::{Limit, Refusal};
+
+/// An engine on what was surveyed, and what the next checkpoint stands on. Its leaves are in no frame,
+/// but for those of which an opening may take something out. Refused where no run may follow that of
+/// the record, where its next number leaves none for as many tables as an engine may have, for want of
+/// memory, and as those leaves are.
+pub(crate) fn store_above<D: Disk>(
+    alloc: Global,
+    disk: &mut D,
+    place: Place,
+    above: Above,
+) -> Result<Store, Refusal>
+    requires { AboveInForm above }
+    ensures found { IsTrue (D.honest disk.old) → Surveys (D.seen disk.old) place above → (content : Content) → Reads (D.seen disk.old) content → IfOk result (IsFound (D.seen disk.old)) }
+    ensures ready { IfOk result IsReady }
+    ensures sessions { IfOk result (λ s. length s.engine.sessions ≡ 0) }
+    ensures err { IfErr result (RefusesBegin D.Disk above disk.old disk.new) }
+    ensures looked { Looked D.Disk disk.old disk.new }
+    ensures home { D.home disk.new ≡ D.home disk.old }
+{
+    if run_of(&above.record) >= NUMBER_MAX {
+        return Err(Refusal::Limit(Limit::Checkpoints));
+    }
+    if !has_numbers(&above.record) {
+        return Err(Refusal::Limit(Limit::Tables));
+    }
+    records_are_recorded();
+    let Above { record, uppers } = above;
+    let marks = marks_of(&record);
+    let number = number_of(&record);
+    let next_table = next_table_of(&record);
+    let trees = trees_over(alloc, tables_of(&record), &uppers)?;
+    let trees = trees_by_place(alloc, tables_of(&record), trees)?;
+    let (tables, ids) = into_parts(record);
+    let tables = with_entries(alloc, tables, uppers)?;
+    let mut engine = start(alloc, marks, next_table, tables)?;
+    match bring_marked(alloc, disk, &mut engine, marks, &ids) {
+        Ok(()) => Ok(Store {
+            engine,
+            ground: Ground {
+                place,
+                number,
+                trees,
+                parts: Parts::new(alloc),
+                floor: Name { run: 0, id: 0 },
+            },
+        }),
+        Err(refusal) => Err(refusal),
+    }
+}
+
+// Whether the next number leaves some for as many tables as an engine may have.
+fn has_numbers(found: &Record) -> bool
+    ensures yes { IsTrue result → found.now.next_table + TABLES_MAX < 2 ^ 32 + length found.now.tables }
+    ensures no { result ≡ false → LacksNumbers found.now }
+{
+    let next = next_table_of(found) as u64;
+    let count = tables_of(found).len() as u64;
+    next + (TABLES_MAX as u64) < (1 << 32) + count
+}
+
+fn marks_of(found: &Record) -> Marks
+    ensures { result ≡ marks_of found.now }
+{
+    let snapshot = &found.snapshot;
+    Marks {
+        run: found.run,
+        oldest: found.oldest,
+        stable: found.stable,
+        min: snapshot.min,
+        max: snapshot.max,
+    }
+}
+
+fn run_of(found: &Record) -> u64
+    ensures { result ≡ found.now.run }
+{
+    found.run
+}
+
+fn number_of(found: &Record) -> u64
+    ensures { result ≡ found.now.sequence }
+{
+    found.sequence
+}
+
+fn next_table_of(found: &Record) -> u32
+    ensures { result ≡ found.now.next_table }
+{
+    found.next_table
+}
+
+fn tables_of(found: &Record) -> &[TableRoot]
+    ensures { result.now ≡ found.now.tables }
+{
+    &found.tables
+}
+
+// Its tables, and the ids that had not ended when the checkpoint started.
+fn into_parts(found: Record) -> (Vec<TableRoot>, Vec<u64>)
+    ensures tables { result.0.items ≡ found.tables }
+    ensures ids { result.1.items ≡ found.snapshot.ids }
+{
+    (found.tables, found.snapshot.ids)
+}

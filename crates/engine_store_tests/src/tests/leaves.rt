@@ -1,0 +1,104 @@
+// A table of many leaves, which are read one by one as a cursor comes to them.
+use super::closings::{Bench, ask, begin, close, commit, create, new_device, open, put};
+use super::item;
+use disk_model::{Disk, MemDisk};
+use engine_store::open_on;
+use plain_disk::PlainDisk;
+use std::alloc::Global;
+use std::process::Abort;
+use wt_calls::{SessionCall, Way};
+use wt_code::{Answer, Refusal};
+
+// How many rows there are: each has 12,000 bytes, so a leaf has two of them.
+const ROWS: u8 = 5;
+
+// A device with the rows, each of whose keys is one letter.
+fn device_of_leaves(rt: &impl Abort, alloc: Global) -> Vec<u8> {
+    let mut bench = open(rt, alloc, new_device(rt, alloc, &[]));
+    create(rt, alloc, &mut bench, b"a");
+    begin(rt, alloc, &mut bench, 0);
+    for row in 0..ROWS {
+        let key = [b'a'.wrapping_add(row)];
+        let mut value = Vec::new(alloc);
+        value.resize(12_000, row).expect(rt, "there is memory");
+        put(rt, alloc, &mut bench, 0, (b"a", &key, &value));
+    }
+    commit(rt, alloc, &mut bench, 0);
+    close(rt, alloc, &mut bench);
+    Vec::from_slice(alloc, bench.disk.medium.bytes()).expect(rt, "there is memory")
+}
+
+// The letter of the row to which a step of the cursor comes, none where there is none, or a refusal.
+fn step(
+    rt: &impl Abort,
+    alloc: Global,
+    bench: &mut Bench,
+    way: Way,
+) -> Result<Option<u8>, Refusal> {
+    let next = SessionCall::Step {
+        cursor: 0,
+        table: item(rt, alloc, b"a"),
+        way,
+    };
+    match ask(rt, alloc, bench, 0, next) {
+        Answer::Row(key, value) => {
+            assert!(rt; value.as_bytes().len() == 12_000);
+            Ok(key.as_bytes().first().copied())
+        }
+        Answer::Refused(Refusal::NotFound) => Ok(None),
+        Answer::Refused(refusal) => Err(refusal),
+        _ => Err(Refusal::NoTable),
+    }
+}
+
+// All rows one way. A step that a fault of the disk refuses is made again. How many were refused.
+fn walk(rt: &impl Abort, alloc: Global, bench: &mut Bench, way: Way) -> u64 {
+    let mut refused = 0u64;
+    for row in 0..ROWS {
+        let wanted = match way {
+            Way::Up => b'a'.wrapping_add(row),
+            Way::Down => b'a'.wrapping_add(ROWS - 1 - row),
+        };
+        let mut found = step(rt, alloc, bench, way);
+        if found == Err(Refusal::DiskFault) {
+            refused = refused.wrapping_add(1);
+            found = step(rt, alloc, bench, way);
+        }
+        assert_eq!(rt; found, Ok(Some(wanted)));
+    }
+    assert_eq!(rt; step(rt, alloc, bench, way), Ok(None));
+    refused
+}
+
+// Each call of the disk fails in turn: in the opening, which is refused then, or as a leaf is read. In
+// the end none does.
+#[test]
+fn a_leaf_that_is_not_read_is_read_again(rt: HostRuntime) {
+    let alloc = rt.alloc();
+    let content = device_of_leaves(&rt, alloc);
+    for way in [Way::Up, Way::Down] {
+        let mut reads = 0u64;
+        for call in 0..100u64 {
+            let failing = Vec::from_slice(alloc, &[call]).expect(&rt, "there is memory");
+            let copy = Vec::from_slice(alloc, &content).expect(&rt, "there is memory");
+            let medium = MemDisk::new(alloc, copy, 1 << 20, failing);
+            let mut disk = PlainDisk {
+                medium: medium.expect(&rt, "there is memory"),
+            };
+            let Ok(mut store) = open_on(alloc, &mut disk) else {
+                continue;
+            };
+            assert!(rt; store.open_session::<PlainDisk>(alloc) == Ok(0));
+            let mut bench = Bench { store, disk };
+            begin(&rt, alloc, &mut bench, 0);
+            let refused = walk(&rt, alloc, &mut bench, way);
+            assert_eq!(rt; refused, bench.disk.faults());
+            if refused == 0 {
+                break;
+            }
+            reads = reads.wrapping_add(1);
+        }
+        // Three leaves, each by two calls.
+        assert_eq!(rt; reads, 6);
+    }
+}
