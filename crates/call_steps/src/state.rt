@@ -73,6 +73,13 @@ impl SessionState {
         self.phase
     }
 
+    /// The lowest cursor that stands on a leaf: its hazard word names the frame. `O(1)`.
+    pub fn pinned_cursor(&self) -> Option<u32>
+        ensures { result ≡ first_pinned self.now.cursors }
+    {
+        first_pinned(&self.cursors)
+    }
+
     pub(crate) fn go_to(&mut self, stage: Stage)
         ensures { self.new ≡ at_stage stage self.old }
     {

@@ -12,6 +12,7 @@ use Rattle.tree_dir.specs.declared.leaf.Leaf.{Leaf}
 use Rattle.tree_dir.specs.Leaves.{Directory, IsDirectory, changed, in_frame, leaves_of}
 use Rattle.tree_dir.proofs.Members.{head-in, later, split}
 use Rattle.catalog.specs.Known.{AreTables, Known, with_new}
+use Rattle.leaf_frame.specs.Leaf.{HeldLeaf}
 use Rattle.call_steps.specs.declared.hub.Hub.{Hub}
 use Rattle.engine_world.specs.Leaves.{LeavesOwned}
 use Rattle.engine_world.specs.Stands.{Engine}
@@ -19,9 +20,9 @@ use Rattle.engine_world.specs.Systems.{HasFirstLeaf}
 use Rattle.engine_world.proofs.Appended.{append-keeps}
 use Rattle.engine_world.proofs.NewLeaf.{IsCome, come-cases, comes, new_leaf}
 use Rattle.engine.specs.Directories.{DirGoesOn, HubGoesOn, LeafGoesOn, LeavesGoOn}
-use Rattle.engine.specs.Frames.{framed_last}
+use Rattle.engine.specs.Frames.{IsFilled, framed_at}
 use Rattle.engine.specs.Sound.{IsSound, Keeps}
-use Rattle.engine.proofs.FramesMore.{framed-owned, last_frame}
+use Rattle.engine.proofs.LeavesCome.{framed-owned}
 use Rattle.engine.proofs.Numbers.{number-below}
 use Rattle.engine.proofs.SystemEvents.{none-yet}
 
@@ -154,23 +155,26 @@ pub goes-keeps : (old new : Engine) → IsSound old → Keeps old new → HubGoe
 goes-keeps old new sound kept = goes-with old new.hub sound kept.run kept.fault kept.tables kept.dir
 
 -- a leaf comes into a frame
-goes-framed : (e : Engine) (next : Hub) (leaf : ℕ) → IsSound e → next.txns.run ≡ e.hub.txns.run → next.fault ≡ e.hub.fault → next.tables ≡ e.hub.tables → next.dir ≡ framed_last e leaf → HubGoesOn e.hub next
-goes-framed e next leaf sound run fault tables dir = record {
+goes-framed : (e : Engine) (next : Hub) (leaf frame : ℕ) → IsSound e → next.txns.run ≡ e.hub.txns.run → next.fault ≡ e.hub.fault → next.tables ≡ e.hub.tables → next.dir ≡ framed_at e.hub.dir leaf frame → HubGoesOn e.hub next
+goes-framed e next leaf frame sound run fault tables dir = record {
   run = run;
   fault = fault;
   tables = λ i t at. ap (λ (k : Known). slice_get k.tables i) tables ∙ at;
   dir = subst (DirGoesOn e.hub.tables.tables e.hub.dir) (sym dir) framed;
 } where
-  framed : DirGoesOn e.hub.tables.tables e.hub.dir (framed_last e leaf)
+  its : Framed
+  its = record { frame = frame; generation = 0 }
+
+  framed : DirGoesOn e.hub.tables.tables e.hub.dir (framed_at e.hub.dir leaf frame)
   framed = record {
     ids = omega arith;
-    kept = λ i t at. changed-goes t.number leaf (last_frame e) e.hub.dir.leaves;
-    made = λ l there none. absurd (owned-not e.hub.tables.tables (framed_last e leaf).leaves l (framed-owned e.hub.tables.tables e.hub.dir.leaves leaf (Some (last_frame e)) sound.owned) there none);
+    kept = λ i t at. changed-goes t.number leaf its e.hub.dir.leaves;
+    made = λ l there none. absurd (owned-not e.hub.tables.tables (framed_at e.hub.dir leaf frame).leaves l (framed-owned e.hub.tables.tables e.hub.dir.leaves leaf (Some its) sound.owned) there none);
   }
 
-pub goes-filled : {E : Type 0} (old new : Engine) (leaf : ℕ) (made : Result (Unit {0}) E) → IsSound old → new.hub.txns.run ≡ old.hub.txns.run → new.hub.fault ≡ old.hub.fault → new.hub.tables ≡ old.hub.tables → OnOk made (new.hub.dir ≡ framed_last old leaf) → OnErr made (new ≡ old) → HubGoesOn old.hub new.hub
-goes-filled old new leaf (Ok done) sound run fault tables dir kept = goes-framed old new.hub leaf sound run fault tables dir
-goes-filled old new leaf (Err why) sound run fault tables dir kept = goes-with old new.hub sound run fault tables (ap (λ (e : Engine). e.hub.dir) kept)
+pub goes-filled : {E : Type 0} (old new : Engine) (leaf : ℕ) (page : HeldLeaf) (made : Result (Unit {0}) E) → IsSound old → new.hub.txns.run ≡ old.hub.txns.run → new.hub.fault ≡ old.hub.fault → new.hub.tables ≡ old.hub.tables → OnOk made (IsFilled old new leaf page) → OnErr made (new ≡ old) → HubGoesOn old.hub new.hub
+goes-filled old new leaf page (Ok done) sound run fault tables came kept = goes-framed old new.hub leaf came.frame sound run fault tables came.dir
+goes-filled old new leaf page (Err why) sound run fault tables came kept = goes-with old new.hub sound run fault tables (ap (λ (e : Engine). e.hub.dir) kept)
 
 -- a table more, with its first leaf
 module _ (e : Engine) (known : Known) (dir : Directory) (t : Table) (id frame : ℕ) (sound : IsSound e) (are : AreTables e.hub.tables) (was : IsDirectory e.hub.dir)

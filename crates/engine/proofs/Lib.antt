@@ -23,6 +23,9 @@ pub mod Turns
 pub mod Soundness
 pub mod Waited
 pub mod FramesMore
+pub mod LeavesCome
+pub mod GivingWay
+pub mod Resting
 pub mod Directories
 pub mod Owning
 pub mod SystemTold

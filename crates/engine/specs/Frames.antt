@@ -1,21 +1,50 @@
--- A frame more, and the leaf that comes into it.
-use Rattle.std.specs.Prelude.{◌≡◌, ◌++◌, ℕ, List, [], ◌∷◌, length, Some}
+-- Frames, the leaf that comes into one, and leaves that leave one.
+use Rattle.std.specs.Prelude.{◌≡◌, ◌≢◌, ◌≤◌, ◌++◌, ℕ, nat_lt, List, [], ◌∷◌, length, if◌then◌else◌, None, Some, slice_set}
 use Rattle.leaf_frame.specs.Leaf.{HeldLeaf}
+use Rattle.stored.specs.TableTree.{Entry}
+use Rattle.tree_dir.specs.declared.leaf.Framed.{Framed}
 use Rattle.tree_dir.specs.declared.leaf.Leaf.{Leaf}
-use Rattle.tree_dir.specs.Leaves.{Directory, changed, in_frame, leaf_named}
+use Rattle.tree_dir.specs.Leaves.{Directory, GaveWay, changed, in_frame, leaf_named}
 use Rattle.call_steps.specs.declared.frame.FramePiece.{FramePiece}
+use Rattle.engine_world.specs.GivingWay.{without_leaf}
+use Rattle.engine_world.specs.Leaves.{frame_in}
 use Rattle.engine_world.specs.Stands.{Engine}
 
--- a frame with the first leaf that it ever had
+-- a frame with a leaf
 abbrev pub piece_of : ℕ → ℕ → HeldLeaf → FramePiece
 piece_of table id leaf = record { generation = 0; frame = Some (record { table = table; id = id; leaf = leaf }) }
 
--- the directory, with the leaf of this id in a frame behind the others
-abbrev pub framed_last : Engine → ℕ → Directory
-framed_last e id = record e.hub.dir { leaves = changed id (in_frame (Some (record { frame = length e.pieces; generation = 0 }))) e.hub.dir.leaves }
+-- the frame has no leaf, or is the next one behind the others
+abbrev pub IsBare : List FramePiece → ℕ → Type 0
+IsBare pieces frame = (frame ≤ length pieces) × (frame_in pieces frame ≡ None)
 
--- the frames, with one more behind the others that has the leaf of this id
-pub record IsFilled (leaves : List Leaf) (id : ℕ) (held : HeldLeaf) (old new : List FramePiece) : Type 0 where
+-- at this place, or behind the others
+abbrev pub put_at : {A : Type 0} → List A → ℕ → A → List A
+put_at xs i x = if nat_lt i (length xs) then slice_set xs i x else xs ++ x ∷ []
+
+-- the directory, with the leaf of this id in a frame
+abbrev pub framed_at : Directory → ℕ → ℕ → Directory
+framed_at dir id frame = record dir { leaves = changed id (in_frame (Some (record { frame = frame; generation = 0 }))) dir.leaves }
+
+-- a frame that had no leaf has the one of this id
+pub record IsFilled (old new : Engine) (id : ℕ) (held : HeldLeaf) : Type 0 where
   pub leaf : Leaf
-  pub there : leaf_named id leaves ≡ Some leaf
-  pub pieces : new ≡ old ++ piece_of leaf.table id held ∷ []
+  pub there : leaf_named id old.hub.dir.leaves ≡ Some leaf
+  pub frame : ℕ
+  pub bare : IsBare old.pieces frame
+  pub dir : new.hub.dir ≡ framed_at old.hub.dir id frame
+  pub pieces : new.pieces ≡ put_at old.pieces frame (piece_of leaf.table id held)
+
+-- the leaf of this id is there, in a frame
+abbrev pub IsFramed : List Leaf → ℕ → Type 0
+IsFramed leaves id = (l : Leaf) × (leaf_named id leaves ≡ Some l) × (l.frame ≢ None)
+
+-- The leaf of this id, which was in a frame, has given way to others with these entries, and the frame has no leaf.
+pub record HasGivenWay (old new : Engine) (id : ℕ) (entries : List Entry) : Type 0 where
+  pub leaf : Leaf
+  pub there : leaf_named id old.hub.dir.leaves ≡ Some leaf
+  pub framed : Framed
+  pub placed : leaf.frame ≡ Some framed
+  pub ids : List ℕ
+  pub gave : GaveWay old.hub.dir new.hub.dir id entries ids
+  pub is : new ≡ without_leaf old new.hub.dir framed.frame

@@ -1,11 +1,11 @@
 // Frames, and the leaves that come into them. A function calls the laws that its proof rests on,
 // which do nothing.
 
-ghost use Rattle.std.specs.Prelude.{◌≡◌, ◌<◌, [], length, option_map, vec_capacity, IfOk, OnErr, OnOk};
+ghost use Rattle.std.specs.Prelude.{◌≡◌, ◌<◌, [], length, option_map, vec_capacity, vec_len, IfOk, IfSome, IsTrue, OnErr, OnOk};
 ghost use Rattle.engine_world.specs.Leaves.{frame_in};
 ghost use Rattle.engine_world.specs.Stands.{Stands};
 ghost use Rattle.engine_world.specs.Worlds.{World};
-ghost use Rattle.engine.specs.Frames.{IsFilled, framed_last, piece_of};
+ghost use Rattle.engine.specs.Frames.{IsBare, IsFilled, piece_of, put_at};
 ghost use Rattle.engine.specs.Sound.{IsSound};
 ghost use Rattle.engine.specs.Waits.{IsAway};
 
@@ -23,14 +23,13 @@ const FRAMES_MAX: usize = u32::MAX as usize;
 pub(crate) const FIRST_WORD: u64 = 1;
 
 impl Parts {
-    /// The leaf of this id comes into a frame more, with the rows of its block.
+    /// The leaf of this id comes into a frame that has none, with the rows of its block.
     pub(crate) fn fill(&mut self, leaf: u64, page: LeafFrame) -> Result<(), NoMemory>
         requires away { IsAway self.old.hub.dir.leaves leaf }
         requires bare { page.chains ≡ [] }
         requires sound { IsSound self.old }
         ensures stands { (w : World) → Stands self.old w → page.page ≡ w.shelf leaf → OnOk result (Stands self.new w) }
-        ensures dir { OnOk result (self.new.hub.dir ≡ framed_last self.old leaf) }
-        ensures pieces { OnOk result (IsFilled self.old.hub.dir.leaves leaf page self.old.pieces self.new.pieces) }
+        ensures filled { OnOk result (IsFilled self.old self.new leaf page) }
         ensures run { self.new.hub.txns.run ≡ self.old.hub.txns.run }
         ensures fault { self.new.hub.fault ≡ self.old.hub.fault }
         ensures tables { self.new.hub.tables ≡ self.old.hub.tables }
@@ -45,7 +44,7 @@ impl Parts {
             None => return Err(NoMemory),
             Some(there) => there.table,
         };
-        let frame = room_for_one(&mut self.pieces, &mut self.states)?;
+        let frame = frame_for_one(&mut self.pieces, &mut self.states, &mut self.bare)?;
         self.hub.dir.set_frame(
             leaf,
             Some(Framed {
@@ -55,8 +54,8 @@ impl Parts {
         );
         // What holds of every directory holds of this one.
         self.hub.dir.stands();
-        self.pieces.push_reserved(piece_of(table, leaf, page));
-        self.states.push_reserved(FIRST_WORD);
+        put(&mut self.pieces, frame, piece_of(table, leaf, page));
+        put(&mut self.states, frame, FIRST_WORD);
         Ok(())
     }
 
@@ -69,6 +68,47 @@ impl Parts {
             None => None,
             Some(frame) => Some(&frame.leaf),
         }
+    }
+}
+
+// The number of a frame that has no leaf: one of those that are noted, where such a one is still bare,
+// or else of a frame more, for which there is room.
+fn frame_for_one(
+    pieces: &mut Vec<FramePiece>,
+    states: &mut Vec<u64>,
+    noted: &mut Vec<u32>,
+) -> Result<u32, NoMemory>
+    ensures bare { IfOk result (λ frame. IsBare pieces.old.items frame) }
+    ensures piece { OnOk result (vec_len pieces.new < vec_capacity pieces.new) }
+    ensures word { OnOk result (vec_len states.new < vec_capacity states.new) }
+    ensures pieces { pieces.new.items ≡ pieces.old.items }
+    ensures states { states.new.items ≡ states.old.items }
+{
+    let frame = room_for_one(pieces, states)?;
+    match noted.pop() {
+        Some(bare) if is_bare(pieces, bare) => Ok(bare),
+        _ => Ok(frame),
+    }
+}
+
+// Whether the frame is there and has no leaf.
+fn is_bare(pieces: &[FramePiece], frame: u32) -> bool
+    ensures yes { IsTrue result → IsBare pieces.now frame }
+{
+    match pieces.get(frame as usize) {
+        None => false,
+        Some(piece) => piece.frame.is_none(),
+    }
+}
+
+// Puts an item at its place, or behind the others, for which there is room.
+fn put<T: Drop>(items: &mut Vec<T>, place: u32, item: T)
+    requires room { vec_len items.old < vec_capacity items.old }
+    ensures { items.new.items ≡ put_at items.old.items place item }
+{
+    match items.get_mut(place as usize) {
+        Some(there) => *there = item,
+        None => items.push_reserved(item),
     }
 }
 

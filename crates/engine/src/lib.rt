@@ -19,6 +19,7 @@ mod called;
 mod checkpoint;
 mod close;
 mod frames;
+mod giving;
 mod leaves;
 mod lent;
 mod local;

@@ -68,6 +68,7 @@ impl Parts {
             hazards,
             sessions: Vec::new(alloc),
             systems,
+            bare: Vec::new(alloc),
         })
     }
 }

@@ -51,6 +51,8 @@ pub struct Parts {
     pub(crate) sessions: Vec<SessionState>,
     // By actor of the system: the call that it has started.
     pub(crate) systems: Vec<Option<SystemCall>>,
+    // Frames that a leaf has left: each is bare as long as no leaf comes into it.
+    pub(crate) bare: Vec<u32>,
 }
 
 impl Model for Parts {

@@ -7,7 +7,7 @@ ghost use Rattle.engine_world.specs.Stands.{Stands};
 ghost use Rattle.engine_world.specs.Steps.{MayKeepOut};
 ghost use Rattle.engine_world.specs.Worlds.{World};
 ghost use Rattle.engine.specs.Directories.{HubGoesOn};
-ghost use Rattle.engine.specs.Frames.{IsFilled, framed_last};
+ghost use Rattle.engine.specs.Frames.{IsFilled};
 ghost use Rattle.engine.specs.Told.{EndsFrom, KeepOwn, KeepsOut, answer_in};
 ghost use Rattle.engine.specs.Waits.{IsAway, IsWaiting, WaitsAs, WaitsFewer, turns_in, waits_in};
 ghost use Rattle.engine.specs.Whole.{Ends, IsUnderWay, KeptBy, ResumesTo};
@@ -36,8 +36,7 @@ impl Local {
         requires away { IsAway self.old.hub.dir.leaves leaf }
         requires bare { page.chains ≡ [] }
         ensures stands { (w : World) → Stands self.old w → page.page ≡ w.shelf leaf → OnOk result (Stands self.new w) }
-        ensures dir { OnOk result (self.new.hub.dir ≡ framed_last self.old leaf) }
-        ensures pieces { OnOk result (IsFilled self.old.hub.dir.leaves leaf page self.old.pieces self.new.pieces) }
+        ensures filled { OnOk result (IsFilled self.old self.new leaf page) }
         ensures sessions { self.new.sessions ≡ self.old.sessions }
         ensures kept { OnErr result (self.new ≡ self.old) }
         ensures goes { HubGoesOn self.old.hub self.new.hub }

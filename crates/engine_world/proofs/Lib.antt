@@ -1,6 +1,7 @@
 pub mod Appended
 pub mod Arranged
 pub mod AtLeaves
+pub mod AtRest
 pub mod Begins
 pub mod Beside
 pub mod CheckpointsInOne
@@ -24,10 +25,12 @@ pub mod Filling
 pub mod Growing
 pub mod KeepingOut
 pub mod Fronts
+pub mod GivingWay
 pub mod Histories
 pub mod Homes
 pub mod HubMoves
 pub mod Leaving
+pub mod LeavesBeside
 pub mod Looking
 pub mod LookingBelow
 pub mod MarkingLeaves

@@ -8,3 +8,4 @@ pub mod Stands
 pub mod Laws
 pub mod Whole
 pub mod Systems
+pub mod GivingWay

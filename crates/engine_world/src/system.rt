@@ -1,9 +1,11 @@
 //! Laws of the start of an engine, of sessions that are opened, and of the events of the system. A law calls those of lower crates
 //! that its proof rests on.
 
+ghost use Rattle.engine_world.specs.GivingWay.{LeavesGiveWay};
 ghost use Rattle.engine_world.specs.Systems.{CheckpointsGo, CreatesGo, DownsGo, EnginesStart, FramesGrow, LeavesCome, OpensGo, SetsGo};
 
 use kv_model::frames_are_alike;
+use tree_dir::leaves_give_way as directories_give_way;
 use update_chain::chains_go_on;
 
 /// An engine that begins on a regular content stands for the machine that an opening makes of it.
@@ -43,6 +45,14 @@ pub fn frames_grow()
 pub fn leaves_come()
     ensures { LeavesCome }
 {}
+
+/// While nobody is at work, a leaf that is in a frame gives way to others, which are in none and whose
+/// blocks have each key's newest version: nobody sees it.
+pub fn leaves_give_way()
+    ensures { LeavesGiveWay }
+{
+    directories_give_way();
+}
 
 /// A checkpoint starts and finishes, with nobody between. None runs, and no prepared transaction is being resolved.
 pub fn checkpoints_go()

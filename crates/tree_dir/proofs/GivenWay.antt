@@ -33,7 +33,7 @@ around leaves r d lt =
     let next : r + 1 ≡ suc r = omega arith in
     sym (take-append-drop r leaves) ∙ (ap (λ (ls : List Leaf). take r leaves ++ ls) (drop_more leaves r d lt) ∙ ap (λ (k : ℕ). take r leaves ++ (get_or leaves r d ∷ drop k leaves)) next)
 
-given-at : (id : ℕ) (ids : List ℕ) (es : List Entry) (xs ys : List Leaf) (leaf : Leaf) → ((k : ℕ) → k < length xs → (get_or xs k no_leaf).id ≡ id → ⊥) → leaf.id ≡ id → given_way id ids es (xs ++ (leaf ∷ ys)) ≡ xs ++ (leaves_with leaf.table ids es ++ ys)
+pub given-at : (id : ℕ) (ids : List ℕ) (es : List Entry) (xs ys : List Leaf) (leaf : Leaf) → ((k : ℕ) → k < length xs → (get_or xs k no_leaf).id ≡ id → ⊥) → leaf.id ≡ id → given_way id ids es (xs ++ (leaf ∷ ys)) ≡ xs ++ (leaves_with leaf.table ids es ++ ys)
 given-at id ids es [] ys leaf none e = rw (eq-eqb leaf.id id e) refl
 given-at id ids es (x ∷ xs) ys leaf none e = rw (ne_eqb x.id id (none 0 (omega arith))) (ap (λ (ls : List Leaf). x ∷ ls) (given-at id ids es xs ys leaf (λ k lt. none (suc k) (omega (arith, lt))) e))
 

@@ -17,6 +17,9 @@ pub mod NewIds
 pub mod NewTable
 pub mod GivenWay
 pub mod Parting
+pub mod Around
+pub mod LeavesWith
+pub mod GivingWay
 pub mod Cutting
 pub mod TestTables
 pub mod Walking

@@ -38,7 +38,7 @@ up d i j s lt within =
 low-up : (a b : Leaf) → a.table ≡ b.table → is_before a b ≡ true → is_below a.entry.key b.entry.key ≡ true
 low-up a b same h = sym (ap is_lt (place-same a.table b.table a.entry.key b.entry.key same)) ∙ h
 
-below-on : (a b c : List ℕ) → is_below a b ≡ true → is_below b c ≡ true → is_below a c ≡ true
+pub below-on : (a b c : List ℕ) → is_below a b ≡ true → is_below b c ≡ true → is_below a c ≡ true
 below-on a b c h g = ap is_lt (nat_list_cmp_total.trans a b c (less-from (slice_cmp nat_cmp a b) h) (less-from (slice_cmp nat_cmp b c) g))
 
 not-itself : (k : List ℕ) → is_below k k ≡ false
@@ -49,10 +49,10 @@ never-empty : (k : List ℕ) → is_below k [] ≡ false
 never-empty [] = refl
 never-empty (x ∷ k) = refl
 
-begins-here : (table : ℕ) (key : List ℕ) (l : Leaf) → l.table ≡ table → is_below key l.entry.key ≡ false → begins_by table key l ≡ true
+pub begins-here : (table : ℕ) (key : List ℕ) (l : Leaf) → l.table ≡ table → is_below key l.entry.key ≡ false → begins_by table key l ≡ true
 begins-here table key l same low = and_from (nat_eq l.table table) (not (is_below key l.entry.key)) (eq-eqb l.table table same) (not_from_false (is_below key l.entry.key) low)
 
-begins-low : (table : ℕ) (key : List ℕ) (l : Leaf) → begins_by table key l ≡ true → is_below key l.entry.key ≡ false
+pub begins-low : (table : ℕ) (key : List ℕ) (l : Leaf) → begins_by table key l ≡ true → is_below key l.entry.key ≡ false
 begins-low table key l b = not-true (is_below key l.entry.key) (and_parts (nat_eq l.table table) (not (is_below key l.entry.key)) b).1
 
 -- a leaf of the table that does not begin by the key is above it
@@ -89,7 +89,7 @@ next-is d r n s lt e = elim (cases_lt (suc r) (length d.leaves)) [
 
 -- ---- the leaf under a key
 
-none-begins : (table : ℕ) (key : List ℕ) (leaves : List Leaf) → leaf_under table key leaves ≡ None → (k : ℕ) → k < length leaves → begins_by table key (get_or leaves k no_leaf) ≡ false
+pub none-begins : (table : ℕ) (key : List ℕ) (leaves : List Leaf) → leaf_under table key leaves ≡ None → (k : ℕ) → k < length leaves → begins_by table key (get_or leaves k no_leaf) ≡ false
 none-begins table key [] e k lt = absurd (omega (arith, lt))
 none-begins table key (x ∷ leaves) e k lt = go (leaf_under table key leaves) refl (none-begins table key leaves) k lt where
   go : (o : Option Leaf) → leaf_under table key leaves ≡ o → (leaf_under table key leaves ≡ None → (k : ℕ) → k < length leaves → begins_by table key (get_or leaves k no_leaf) ≡ false) → (k : ℕ) → k < suc (length leaves) → begins_by table key (get_or (x ∷ leaves) k no_leaf) ≡ false
@@ -109,7 +109,7 @@ pub record IsLast (table : ℕ) (key : List ℕ) (leaves : List Leaf) (l : Leaf)
   pub begins : begins_by table key l ≡ true
   pub later : (k : ℕ) → r < k → k < length leaves → begins_by table key (get_or leaves k no_leaf) ≡ false
 
-last-is : (table : ℕ) (key : List ℕ) (leaves : List Leaf) (l : Leaf) → leaf_under table key leaves ≡ Some l → IsLast table key leaves l
+pub last-is : (table : ℕ) (key : List ℕ) (leaves : List Leaf) (l : Leaf) → leaf_under table key leaves ≡ Some l → IsLast table key leaves l
 last-is table key [] l e = absurd cc
 last-is table key (x ∷ leaves) l e = go (leaf_under table key leaves) refl (last-is table key leaves l) where
   go : (o : Option Leaf) → leaf_under table key leaves ≡ o → (leaf_under table key leaves ≡ Some l → IsLast table key leaves l) → IsLast table key (x ∷ leaves) l

@@ -1,5 +1,6 @@
 pub mod Leaves
 pub mod Ranges
+pub mod GivingWay
 pub mod Slots
 pub mod Order
 pub mod Sound

@@ -1,5 +1,6 @@
 //! How the leaves of a table part its keys.
 
+ghost use Rattle.tree_dir.specs.GivingWay.{LeavesGiveWay};
 ghost use Rattle.tree_dir.specs.Ranges.{FirstBegins, HasUnder, IdsName, KeysHaveLeaves, LastEnds, NextGoesOn, NextTurns, PrevTurns, TablesEnd, UnderHas};
 
 /// The leaf under a key has it.
@@ -50,4 +51,10 @@ pub fn tables_end()
 /// A leaf is found by its id.
 pub fn ids_name()
     ensures { IdsName }
+{}
+
+/// Where a leaf gave way, each key that lay in it lies in one of the leaves in its place, and any
+/// other key where it lay.
+pub fn leaves_give_way()
+    ensures { LeavesGiveWay }
 {}

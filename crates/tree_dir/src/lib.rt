@@ -33,8 +33,8 @@ pub use draft::PageDraft;
 pub use failure::NoMemory;
 pub use inner_page::Entry;
 pub use laws::{
-    first_begins, has_is_under, ids_name, keys_have_leaves, last_ends, next_goes_on, next_turns,
-    prev_turns, tables_end, under_has,
+    first_begins, has_is_under, ids_name, keys_have_leaves, last_ends, leaves_give_way,
+    next_goes_on, next_turns, prev_turns, tables_end, under_has,
 };
 pub use leaf::{Framed, Leaf};
 pub use levels::{cut_level, levels_shrink};

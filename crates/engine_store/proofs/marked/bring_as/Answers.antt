@@ -34,10 +34,10 @@ returns-in-Ok-fill-clause-stands g c = λ honest w st kept.
     c.in-Ok-fill.ensures.stands w st (page_shelf c.one_is_loaded.ensures seen dir c.args.leaf c.args.marks c.args.ids.now c.in-Ok.page w.shelf read kept)
 
 pub returns-in-Ok-fill-clause-framed : goal.returns-in-Ok-fill-clause-framed
-returns-in-Ok-fill-clause-framed g c = subst (λ (d : Directory). IsFramed d.leaves c.args.leaf) (sym c.in-Ok-fill.ensures.dir) (changed_framed c.args.leaf _ c.args.engine.now.hub.dir.leaves)
+returns-in-Ok-fill-clause-framed g c = subst (λ (d : Directory). IsFramed d.leaves c.args.leaf) (sym c.in-Ok-fill.ensures.filled.dir) (changed_framed c.args.leaf _ c.args.engine.now.hub.dir.leaves)
 
 pub returns-in-Ok-fill-clause-leaves : goal.returns-in-Ok-fill-clause-leaves
-returns-in-Ok-fill-clause-leaves g c = subst (λ (d : Directory). LeavesGoOn c.args.engine.now.hub.dir.leaves d.leaves) (sym c.in-Ok-fill.ensures.dir) (changed_go c.args.leaf _ c.args.engine.now.hub.dir.leaves)
+returns-in-Ok-fill-clause-leaves g c = subst (λ (d : Directory). LeavesGoOn c.args.engine.now.hub.dir.leaves d.leaves) (sym c.in-Ok-fill.ensures.filled.dir) (changed_go c.args.leaf _ c.args.engine.now.hub.dir.leaves)
 
 pub returns-in-Err-fill-clause-leaves : goal.returns-in-Err-fill-clause-leaves
 returns-in-Err-fill-clause-leaves g c = subst (λ (e : Engine). LeavesGoOn c.args.engine.now.hub.dir.leaves e.hub.dir.leaves) (sym c.in-Err-fill.ensures.kept) (leaves_same c.args.engine.now.hub.dir.leaves)

@@ -1,20 +1,20 @@
-use Rattle.std.proofs.Common.{◌≡◌, ◌++◌, ℕ, ap, sym, ◌∙◌, List, [], ◌∷◌, subst}
+use Rattle.std.proofs.Common.{◌≡◌, ℕ, ap, sym, ◌∙◌, List, subst}
 use Rattle.std.specs.Prelude.{Some, None, option_copied}
 use Rattle.std.proofs.lemmas.Option.{same_Some}
 use Rattle.tree_dir.specs.declared.leaf.Leaf.{Leaf}
-use Rattle.tree_dir.specs.Leaves.{Directory, IsDirectory, changed, in_frame, leaf_named}
+use Rattle.tree_dir.specs.Leaves.{IsDirectory, leaf_named}
 use Rattle.call_steps.specs.declared.frame.FramePiece.{FramePiece}
 use Rattle.call_steps.specs.Tables.{first_word}
 use Rattle.engine_world.specs.Stands.{Engine, Stands}
-use Rattle.engine.specs.Frames.{IsFilled, framed_last, piece_of}
+use Rattle.engine.specs.Frames.{IsFilled, piece_of, put_at}
 use Rattle.engine.specs.Sound.{IsSound}
 use Rattle.engine.specs.Waits.{IsAway}
-use Rattle.engine.proofs.FramesMore.{fill-sound, fill-stands, filled}
+use Rattle.engine.proofs.LeavesCome.{fill-sound, fill-stands, filled, filled-is}
 use Rattle.engine.proofs.parts.Parts.fill.Goals as goal
 
 pub returns-in_err-frame-clause-sound : goal.returns-in_err-frame-clause-sound
-returns-in_err-frame-clause-sound c = subst (λ (ps : List FramePiece). IsSound (record e { pieces = ps; states = c.room_for_one.new.states.items })) (sym c.room_for_one.ensures.pieces)
-    (subst (λ (ws : List ℕ). IsSound (record e { states = ws })) (sym c.room_for_one.ensures.states) sound) where
+returns-in_err-frame-clause-sound c = subst (λ (ps : List FramePiece). IsSound (record e { pieces = ps; states = c.frame_for_one.new.states.items })) (sym c.frame_for_one.ensures.pieces)
+    (subst (λ (ws : List ℕ). IsSound (record e { states = ws })) (sym c.frame_for_one.ensures.states) sound) where
       e : Engine
       e = record { hub = c.self.inside.hub; pieces = c.self.inside.pieces.items; states = c.self.inside.states.items; hazards = c.self.inside.hazards.items; sessions = c.self.inside.sessions.items; systems = c.self.inside.systems.items }
 
@@ -22,8 +22,8 @@ returns-in_err-frame-clause-sound c = subst (λ (ps : List FramePiece). IsSound 
       sound = subst (λ (x : Engine). IsSound x) (sym c.self.view_is) c.requires.sound
 
 pub returns-clause-stands : goal.returns-clause-stands
-returns-clause-stands c = λ w st page. comes (λ (x : Engine). Stands x w)
-    (fill-stands e l id c.args.page named none sound c.frames_grow.ensures c.leaves_come.ensures (subst IsDirectory dir-is c.stands.ensures) c.requires.bare w (subst (λ (x : Engine). Stands x w) (sym c.self.view_is) st) page) where
+returns-clause-stands c = λ w st page. subst (λ (x : Engine). Stands x w) made (fill-stands e l id frame c.args.page named none c.in_ok-frame.ensures.bare c.requires.bare sound c.frames_grow.ensures c.leaves_come.ensures
+    (subst IsDirectory c.set_frame.ensures c.stands.ensures) w (subst (λ (x : Engine). Stands x w) (sym c.self.view_is) st) page) where
       e : Engine
       e = record { hub = c.self.inside.hub; pieces = c.self.inside.pieces.items; states = c.self.inside.states.items; hazards = c.self.inside.hazards.items; sessions = c.self.inside.sessions.items; systems = c.self.inside.systems.items }
 
@@ -32,6 +32,9 @@ returns-clause-stands c = λ w st page. comes (λ (x : Engine). Stands x w)
 
       id : ℕ
       id = c.args.leaf
+
+      frame : ℕ
+      frame = c.in_ok-frame.frame
 
       l : Leaf
       l = c.in-Some.there.now
@@ -45,23 +48,16 @@ returns-clause-stands c = λ w st page. comes (λ (x : Engine). Stands x w)
       none : l.frame ≡ None
       none = ap (λ (x : Leaf). x.frame) (same_Some l away.0 (sym named ∙ away.1)) ∙ away.2
 
-      dir-is : c.set_frame.new.self ≡ framed_last e id
-      dir-is = c.set_frame.ensures ∙ ap (λ (n : ℕ). record e.hub.dir { leaves = changed id (in_frame (Some (record { frame = n; generation = 0 }))) e.hub.dir.leaves }) c.in_ok-frame.ensures.number
-
-      pieces-are : c.push_reserved.new.self.items ≡ e.pieces ++ piece_of l.table id c.args.page ∷ []
-      pieces-are = c.push_reserved.ensures.items ∙ (ap (λ (ps : List FramePiece). ps ++ c.piece_of.result ∷ []) c.room_for_one.ensures.pieces ∙ ap (λ (p : FramePiece). e.pieces ++ p ∷ []) c.piece_of.ensures)
-
-      states-are : c.push_reserved-2.new.self.items ≡ e.states ++ first_word ∷ []
-      states-are = c.push_reserved-2.ensures.items ∙ ap (λ (ws : List ℕ). ws ++ first_word ∷ []) c.room_for_one.ensures.states
+      pieces-are : c.put.new.items.items ≡ put_at e.pieces frame (piece_of l.table id c.args.page)
+      pieces-are = c.put.ensures ∙ (ap (λ (ps : List FramePiece). put_at ps frame c.piece_of.result) c.frame_for_one.ensures.pieces ∙ ap (put_at e.pieces frame) c.piece_of.ensures)
 
       -- the engine that is left
-      comes : (Holds : Engine → Type 0) → Holds (filled e l id c.args.page) → Holds (record e { hub = record e.hub { dir = c.set_frame.new.self }; pieces = c.push_reserved.new.self.items; states = c.push_reserved-2.new.self.items })
-      comes Holds holds = subst (λ (d : Directory). Holds (record e { hub = record e.hub { dir = d }; pieces = c.push_reserved.new.self.items; states = c.push_reserved-2.new.self.items })) (sym dir-is)
-          (subst (λ (ps : List FramePiece). Holds (record (filled e l id c.args.page) { pieces = ps; states = c.push_reserved-2.new.self.items })) (sym pieces-are)
-          (subst (λ (ws : List ℕ). Holds (record (filled e l id c.args.page) { states = ws })) (sym states-are) holds))
+      made : filled e l id frame c.args.page ≡ record e { hub = record e.hub { dir = c.set_frame.new.self }; pieces = c.put.new.items.items; states = c.put-2.new.items.items }
+      made = filled-is e l id frame c.args.page c.set_frame.new.self c.put.new.items.items c.put-2.new.items.items c.set_frame.ensures
+          pieces-are (c.put-2.ensures ∙ ap (λ (ws : List ℕ). put_at ws frame first_word) c.frame_for_one.ensures.states)
 
 pub returns-clause-sound : goal.returns-clause-sound
-returns-clause-sound c = comes (λ (x : Engine). IsSound x) (fill-sound e l id c.args.page named none sound c.requires.bare) where
+returns-clause-sound c = subst (λ (x : Engine). IsSound x) made (fill-sound e l id frame c.args.page named none c.in_ok-frame.ensures.bare c.requires.bare sound) where
   e : Engine
   e = record { hub = c.self.inside.hub; pieces = c.self.inside.pieces.items; states = c.self.inside.states.items; hazards = c.self.inside.hazards.items; sessions = c.self.inside.sessions.items; systems = c.self.inside.systems.items }
 
@@ -70,6 +66,9 @@ returns-clause-sound c = comes (λ (x : Engine). IsSound x) (fill-sound e l id c
 
   id : ℕ
   id = c.args.leaf
+
+  frame : ℕ
+  frame = c.in_ok-frame.frame
 
   l : Leaf
   l = c.in-Some.there.now
@@ -83,34 +82,31 @@ returns-clause-sound c = comes (λ (x : Engine). IsSound x) (fill-sound e l id c
   none : l.frame ≡ None
   none = ap (λ (x : Leaf). x.frame) (same_Some l away.0 (sym named ∙ away.1)) ∙ away.2
 
-  dir-is : c.set_frame.new.self ≡ framed_last e id
-  dir-is = c.set_frame.ensures ∙ ap (λ (n : ℕ). record e.hub.dir { leaves = changed id (in_frame (Some (record { frame = n; generation = 0 }))) e.hub.dir.leaves }) c.in_ok-frame.ensures.number
-
-  pieces-are : c.push_reserved.new.self.items ≡ e.pieces ++ piece_of l.table id c.args.page ∷ []
-  pieces-are = c.push_reserved.ensures.items ∙ (ap (λ (ps : List FramePiece). ps ++ c.piece_of.result ∷ []) c.room_for_one.ensures.pieces ∙ ap (λ (p : FramePiece). e.pieces ++ p ∷ []) c.piece_of.ensures)
-
-  states-are : c.push_reserved-2.new.self.items ≡ e.states ++ first_word ∷ []
-  states-are = c.push_reserved-2.ensures.items ∙ ap (λ (ws : List ℕ). ws ++ first_word ∷ []) c.room_for_one.ensures.states
+  pieces-are : c.put.new.items.items ≡ put_at e.pieces frame (piece_of l.table id c.args.page)
+  pieces-are = c.put.ensures ∙ (ap (λ (ps : List FramePiece). put_at ps frame c.piece_of.result) c.frame_for_one.ensures.pieces ∙ ap (put_at e.pieces frame) c.piece_of.ensures)
 
   -- the engine that is left
-  comes : (Holds : Engine → Type 0) → Holds (filled e l id c.args.page) → Holds (record e { hub = record e.hub { dir = c.set_frame.new.self }; pieces = c.push_reserved.new.self.items; states = c.push_reserved-2.new.self.items })
-  comes Holds holds = subst (λ (d : Directory). Holds (record e { hub = record e.hub { dir = d }; pieces = c.push_reserved.new.self.items; states = c.push_reserved-2.new.self.items })) (sym dir-is)
-      (subst (λ (ps : List FramePiece). Holds (record (filled e l id c.args.page) { pieces = ps; states = c.push_reserved-2.new.self.items })) (sym pieces-are)
-      (subst (λ (ws : List ℕ). Holds (record (filled e l id c.args.page) { states = ws })) (sym states-are) holds))
+  made : filled e l id frame c.args.page ≡ record e { hub = record e.hub { dir = c.set_frame.new.self }; pieces = c.put.new.items.items; states = c.put-2.new.items.items }
+  made = filled-is e l id frame c.args.page c.set_frame.new.self c.put.new.items.items c.put-2.new.items.items c.set_frame.ensures
+      pieces-are (c.put-2.ensures ∙ ap (λ (ws : List ℕ). put_at ws frame first_word) c.frame_for_one.ensures.states)
 
-pub returns-clause-pieces : goal.returns-clause-pieces
-returns-clause-pieces c = subst (λ (x : Engine). IsFilled x.hub.dir.leaves id c.args.page x.pieces c.push_reserved.new.self.items) c.self.view_is (record { leaf = l; there = named; pieces = pieces-are }) where
-  e : Engine
-  e = record { hub = c.self.inside.hub; pieces = c.self.inside.pieces.items; states = c.self.inside.states.items; hazards = c.self.inside.hazards.items; sessions = c.self.inside.sessions.items; systems = c.self.inside.systems.items }
+pub returns-clause-filled : goal.returns-clause-filled
+returns-clause-filled c = subst (λ (x : Engine). IsFilled x (record e { hub = record e.hub { dir = c.set_frame.new.self }; pieces = c.put.new.items.items; states = c.put-2.new.items.items }) id c.args.page) c.self.view_is
+    (record { leaf = l; there = named; frame = frame; bare = c.in_ok-frame.ensures.bare; dir = c.set_frame.ensures; pieces = pieces-are }) where
+      e : Engine
+      e = record { hub = c.self.inside.hub; pieces = c.self.inside.pieces.items; states = c.self.inside.states.items; hazards = c.self.inside.hazards.items; sessions = c.self.inside.sessions.items; systems = c.self.inside.systems.items }
 
-  id : ℕ
-  id = c.args.leaf
+      id : ℕ
+      id = c.args.leaf
 
-  l : Leaf
-  l = c.in-Some.there.now
+      frame : ℕ
+      frame = c.in_ok-frame.frame
 
-  named : leaf_named id e.hub.dir.leaves ≡ Some l
-  named = sym c.leaf.ensures ∙ ap option_copied c.in-Some.is
+      l : Leaf
+      l = c.in-Some.there.now
 
-  pieces-are : c.push_reserved.new.self.items ≡ e.pieces ++ piece_of l.table id c.args.page ∷ []
-  pieces-are = c.push_reserved.ensures.items ∙ (ap (λ (ps : List FramePiece). ps ++ c.piece_of.result ∷ []) c.room_for_one.ensures.pieces ∙ ap (λ (p : FramePiece). e.pieces ++ p ∷ []) c.piece_of.ensures)
+      named : leaf_named id e.hub.dir.leaves ≡ Some l
+      named = sym c.leaf.ensures ∙ ap option_copied c.in-Some.is
+
+      pieces-are : c.put.new.items.items ≡ put_at e.pieces frame (piece_of l.table id c.args.page)
+      pieces-are = c.put.ensures ∙ (ap (λ (ps : List FramePiece). put_at ps frame c.piece_of.result) c.frame_for_one.ensures.pieces ∙ ap (put_at e.pieces frame) c.piece_of.ensures)
