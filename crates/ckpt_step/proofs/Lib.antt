@@ -27,6 +27,7 @@ pub mod Made
 pub mod Putting
 pub mod Standing
 pub mod Past
+pub mod LookedAt
 pub mod Starting
 pub mod Concluding
 pub mod OrderedByName

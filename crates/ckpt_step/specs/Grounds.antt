@@ -8,9 +8,6 @@ use Rattle.block_mgr.specs.Open.{found_cell}
 use Rattle.kv_model.specs.History.{Table}
 use Rattle.stored.specs.Stored.{Stored}
 use Rattle.stored.specs.TableTree.{TableTree}
-use Rattle.disk_model.specs.declared.disk.Disk.{Ghosts}
-use Rattle.engine_world.specs.Stands.{Engine, Stands as Stands_engine}
-use Rattle.engine_world.specs.Worlds.{World}
 use Rattle.call_steps.specs.declared.hub.Hub.{Hub}
 use Rattle.tree_dir.specs.declared.leaf.Leaf.{Leaf}
 use Rattle.tree_dir.specs.Leaves.{Directory}
@@ -19,7 +16,6 @@ use Rattle.tree_open.specs.declared.place.TreePlace.{TreePlace}
 use Rattle.recover_open.specs.Bare.{IsBare}
 use Rattle.recover_open.specs.Damage.{blocks_found}
 use Rattle.ckpt_step.specs.declared.ground.Ground.{Ground}
-use Rattle.ckpt_step.specs.Floors.{Follows}
 use Rattle.ckpt_step.specs.Parts.{IsParted, part_in}
 use Rattle.ckpt_step.specs.Rooms.{Written, known_in}
 use Rattle.ckpt_step.specs.Trees.{HasTreeAt}
@@ -62,16 +58,3 @@ pub record StandsOn (seen : List ℕ) (images : List ℕ → Type 0) (hub : Hub)
   pub within : end_of g.place.blocks.space ≤ length seen
   pub roots : AreRoots hub.tables.tables hub.dir.leaves (known_in g.parts) g.trees.items old
   pub written : AreWritten hub.tables.tables hub.dir (known_in g.parts) g.trees.items
-
--- The engine stands for a world in which no checkpoint runs. The ground is that of the last completed checkpoint of the disk, of which the leaves that are not loaded, and those that are clean, have the rows that they had.
-pub record IsOnGround (seen : List ℕ) (images : List ℕ → Type 0) (e : Engine) (g : Ground) : Type 0 where
-  pub world : World
-  pub stands : Stands_engine e world
-  pub idle : world.machine.checkpoint ≡ None
-  pub old : Option Stored
-  pub on : StandsOn seen images e.hub g old
-  pub follows : Follows old e.hub g world
-
--- so where the engine is up
-abbrev pub IsSteady : {D : Type 0} → Ghosts D → Engine → Ground → D → Type 0
-IsSteady g e stand disk = e.hub.fault ≡ None → IsOnGround (g.seen disk) (g.may_leave disk) e stand

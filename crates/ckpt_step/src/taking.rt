@@ -7,7 +7,7 @@ ghost use Rattle.stored.specs.Stored.{Stored};
 ghost use Rattle.engine_world.specs.Stands.{Stands};
 ghost use Rattle.engine_world.specs.Worlds.{World};
 ghost use Rattle.ckpt_step.specs.Floors.{Follows};
-ghost use Rattle.ckpt_step.specs.Grounds.{IsSteady, StandsOn};
+ghost use Rattle.ckpt_step.specs.Grounds.{StandsOn};
 ghost use Rattle.engine_world.specs.Systems.{checkpointed, with_fault};
 ghost use Rattle.snapshot.specs.Matters.{NoneResolves};
 ghost use Rattle.ckpt_step.specs.Runs.{Concludes};
@@ -29,9 +29,10 @@ use wt_code::{Refusal, StoreError};
 ///
 /// After `Ok` it is the last completed one. Refused where the engine is down, a prepared
 /// transaction is being resolved or there were too many checkpoints; `28 no space` where a block has
-/// no place: what was written is given back. A failed read leaves the engine up; a failed write or
-/// sync takes it down, and the device has the checkpoint before or, where the gate of the slot was
-/// being opened, the new one.
+/// no place: what was written is given back. The device is asked for its length first: one that has
+/// become shorter than its blocks is refused as `12 no memory`, and left as it is. A failed read
+/// leaves the engine up; a failed write or sync takes it down, and the device has the checkpoint
+/// before or, where the gate of the slot was being opened, the new one.
 ///
 /// `O(leaves)`, and `O(blocks)` for a table of clean leaves alone, which keeps its tree. Of any other
 /// table `O(rows)` of each leaf that is not clean, whose rows are copied once into images: a block of
@@ -46,11 +47,9 @@ pub fn checkpoint<D: Disk>(
     requires run { engine.old.hub.txns.run ≤ ground.old.number + 1 }
     requires trees { length ground.old.trees.items ≤ length engine.old.hub.tables.tables }
     requires low { AreLow ground.old.trees.items }
-    requires steady { IsTrue (D.honest disk.old) → IsSteady D.Disk engine.old ground.old disk.old }
     ensures takes { IsTrue (D.honest disk.old) → (w : World) → Stands engine.old w → w.machine.checkpoint ≡ None → (old : Option Stored) → StandsOn (D.seen disk.old) (D.may_leave disk.old) engine.old.hub ground.old old
         → Follows old engine.old.hub ground.old w → Takes D.Disk old w ground.old ground.new engine.old engine.new disk.old disk.new result }
     ensures down { (fault : AFault) → engine.old.hub.fault ≡ Some fault → (result ≡ Err (Refusal.Panic fault)) × (engine.new ≡ engine.old) × (ground.new ≡ ground.old) × (disk.new ≡ disk.old) }
-    ensures steady { IsTrue (D.honest disk.old) → IsSteady D.Disk engine.new ground.new disk.new }
     ensures refusals { IfErr result IsOfCheckpoint }
     ensures fault { IfErr result (λ r. r ≡ Refusal.DiskFault → Rose (D.faults disk.old) (D.faults disk.new)) }
     ensures run { ground.old.number ≤ ground.new.number }

@@ -58,11 +58,12 @@ pub(crate) fn write_trees<D: Disk>(
     requires unwritten { taken.old.parts.items ≡ [] }
     requires unlisted { taken.old.captured.items ≡ [] }
     requires low { AreLow was.trees.now }
-    requires ready { IsTrue (D.honest disk.old) → (8192 ≤ length (D.seen disk.old)) × (end_of blocks.old.space ≤ length (D.seen disk.old)) }
+    requires ready { IsTrue (D.honest disk.old) → end_of blocks.old.space ≤ length (D.seen disk.old) }
     ensures writes { IsTrue (D.honest disk.old) → (w : World) → Stands engine.now w → NoneResolves w.machine → SeesCommitted w.machine (length w.machine.history) snapshot.now.sight → (old : Option Stored)
         → Half (D.seen disk.old) (D.may_leave disk.old) blocks.old old [] [] [] → AreRoots engine.now.hub.tables.tables engine.now.hub.dir.leaves (known_in was.entry.parts.now) was.entry.trees.now old → AreWritten engine.now.hub.tables.tables engine.now.hub.dir (known_in was.entry.parts.now) was.entry.trees.now
         → FollowsFrom old engine.now.hub.tables.tables engine.now.hub.dir.leaves (known_in was.entry.parts.now) was.entry.trees.now was.entry.floor w
         → Writes D.Disk old w engine.now.hub.tables.tables engine.now.hub.dir.leaves (known_in was.entry.parts.now) blocks.old blocks.new (placed_by was.entry.trees.now taken.new.trees.items) taken.new.parts.items taken.new.captured.items disk.old disk.new result }
+    ensures ready { IsTrue (D.honest disk.old) → OnOk result (end_of blocks.new.space ≤ length (D.seen disk.new)) }
     ensures count { OnOk result (length taken.new.trees.items ≡ length engine.now.hub.tables.tables) }
     ensures told { OnOk result (AreTold was.entry.trees.now taken.new.trees.items) }
     ensures held { blocks.new.is_held ≡ true }

@@ -1,8 +1,8 @@
 // How a checkpoint is written and installed.
-ghost use Rattle.std.specs.Prelude.{◌≡◌, ◌≤◌, ◌<◌, ◌+◌, ◌-◌, ◌^◌, ◌++◌, ◌∷◌, List, Option, Some, length, slice_set, [], true, ℕ, vec_capacity, IfErr, IfOk, OnOk, IsTrue};
+ghost use Rattle.std.specs.Prelude.{◌≡◌, ◌≤◌, ◌<◌, ◌+◌, ◌-◌, ◌^◌, ◌++◌, ◌∷◌, List, Option, Some, length, slice_set, [], true, false, ℕ, vec_capacity, IfErr, IfOk, OnErr, OnOk, IsTrue};
 ghost use Rattle.failure.specs.Counts.{Rose};
 ghost use Rattle.wt_code.specs.StoreErrors.{IsOfDisk};
-ghost use Rattle.disk_model.specs.Crash.{SameDisk};
+ghost use Rattle.disk_model.specs.Crash.{Looked, SameDisk};
 ghost use Rattle.extent_list.specs.Space.{end_of};
 ghost use Rattle.block_mgr.specs.Cells.{AreUnits, cell_at};
 ghost use Rattle.device_layout.specs.declared.addr.Addr.{Addr as AnAddr};
@@ -57,7 +57,6 @@ pub(crate) fn write<D: Disk>(
     requires sight { snapshot.now.sight ≡ sight_at engine.now.hub.txns.run engine.now.hub.txns.next (unended engine.now.hub.txns) }
     requires trees { length ground.old.trees.items ≤ length engine.now.hub.tables.tables }
     requires low { AreLow ground.old.trees.items }
-    requires ready { IsTrue (D.honest disk.old) → (w : World) × Stands engine.now w × NoneResolves w.machine × SeesCommitted w.machine (length w.machine.history) snapshot.now.sight × ((old : Option Stored) × StandsOn (D.seen disk.old) (D.may_leave disk.old) engine.now.hub ground.old old × Follows old engine.now.hub ground.old w) }
     ensures wrote { IsTrue (D.honest disk.old) → (w : World) → Stands engine.now w → NoneResolves w.machine → SeesCommitted w.machine (length w.machine.history) snapshot.now.sight → (old : Option Stored)
         → StandsOn (D.seen disk.old) (D.may_leave disk.old) engine.now.hub ground.old old → Follows old engine.now.hub ground.old w
         → Wrote D.Disk old w engine.now.hub ground.old ground.new disk.old disk.new result }
@@ -67,6 +66,12 @@ pub(crate) fn write<D: Disk>(
     ensures fault { IfErr result (λ e. IsOfDisk e → Rose (D.faults disk.old) (D.faults disk.new)) }
     ensures disk { SameDisk D.Disk disk.old disk.new }
 {
+    match is_within(disk, &ground.place.blocks) {
+        Ok(true) => {}
+        // A device that has become shorter than its blocks.
+        Ok(false) => return Err(StoreError::NoMemory),
+        Err(error) => return Err(error),
+    }
     begin(&mut ground.place.blocks);
     let mut taken = Taken::new(alloc);
     match write_blocks(alloc, disk, ground, engine, snapshot, &mut taken) {
@@ -78,6 +83,21 @@ pub(crate) fn write<D: Disk>(
             give_up(&mut ground.place.blocks, &taken.captured);
             Err(error)
         }
+    }
+}
+
+// Whether the space of the blocks lies within the device.
+fn is_within<D: Disk>(disk: &mut D, blocks: &Blocks) -> Result<bool, StoreError>
+    ensures yes { IsTrue (D.honest disk.old) → IfOk result (λ is. IsTrue is → end_of blocks.now.space ≤ length (D.seen disk.old)) }
+    ensures no { IsTrue (D.honest disk.old) → IfOk result (λ is. is ≡ false → length (D.seen disk.old) < end_of blocks.now.space) }
+    ensures err { IfErr result (λ e. e ≡ StoreError.Read) }
+    ensures cause { OnErr result (Rose (D.faults disk.old) (D.faults disk.new)) }
+    ensures looked { Looked D.Disk disk.old disk.new }
+    ensures disk { SameDisk D.Disk disk.old disk.new }
+{
+    match disk.len() {
+        Ok(len) => Ok(blocks.end() <= len),
+        Err(_) => Err(StoreError::Read),
     }
 }
 
@@ -111,7 +131,7 @@ fn write_blocks<D: Disk>(
     requires none { taken.old.trees.items ≡ [] }
     requires unwritten { taken.old.parts.items ≡ [] }
     requires unlisted { taken.old.captured.items ≡ [] }
-    requires ready { IsTrue (D.honest disk.old) → (w : World) × Stands engine.now w × NoneResolves w.machine × SeesCommitted w.machine (length w.machine.history) snapshot.now.sight × ((old : Option Stored) × Half (D.seen disk.old) (D.may_leave disk.old) ground.old.place.blocks old [] [] [] × AreRoots engine.now.hub.tables.tables engine.now.hub.dir.leaves (known_in ground.old.parts) ground.old.trees.items old × AreWritten engine.now.hub.tables.tables engine.now.hub.dir (known_in ground.old.parts) ground.old.trees.items × Follows old engine.now.hub ground.old w) }
+    requires ready { IsTrue (D.honest disk.old) → end_of ground.old.place.blocks.space ≤ length (D.seen disk.old) }
     ensures puts { IsTrue (D.honest disk.old) → (w : World) → Stands engine.now w → NoneResolves w.machine → SeesCommitted w.machine (length w.machine.history) snapshot.now.sight → (old : Option Stored)
         → Half (D.seen disk.old) (D.may_leave disk.old) ground.old.place.blocks old [] [] [] → AreRoots engine.now.hub.tables.tables engine.now.hub.dir.leaves (known_in ground.old.parts) ground.old.trees.items old → AreWritten engine.now.hub.tables.tables engine.now.hub.dir (known_in ground.old.parts) ground.old.trees.items → ground.old.number ≡ number_of old
         → Follows old engine.now.hub ground.old w

@@ -46,8 +46,16 @@ fn engine_on_nothing(rt: &impl Abort, alloc: Global) -> Local {
     opened.expect(rt, "there is memory")
 }
 
-// A new device, and an engine on it that has these tables and a session. The calls of the disk of
-// these numbers fail, the first being 0.
+// A new device. The calls of the disk of these numbers fail, the first being 0.
+fn new_disk(rt: &impl Abort, alloc: Global, capacity: u64, failing: &[u64]) -> PlainDisk {
+    let mut content = Vec::new(alloc);
+    content.resize(8_192, 0).expect(rt, "there is memory");
+    let failing = Vec::from_slice(alloc, failing).expect(rt, "there is memory");
+    let medium = MemDisk::new(alloc, content, capacity, failing).expect(rt, "there is memory");
+    PlainDisk { medium }
+}
+
+// A new device, and an engine on it that has these tables and a session.
 fn new_bench(
     rt: &impl Abort,
     alloc: Global,
@@ -55,11 +63,7 @@ fn new_bench(
     failing: &[u64],
     tables: &[&[u8]],
 ) -> Bench {
-    let mut content = Vec::new(alloc);
-    content.resize(8_192, 0).expect(rt, "there is memory");
-    let failing = Vec::from_slice(alloc, failing).expect(rt, "there is memory");
-    let medium = MemDisk::new(alloc, content, capacity, failing).expect(rt, "there is memory");
-    let mut disk = PlainDisk { medium };
+    let mut disk = new_disk(rt, alloc, capacity, failing);
     let found = recover(alloc, &mut disk).expect(rt, "a new device");
     let mut engine = engine_on_nothing(rt, alloc);
     assert!(rt; engine.open_session(alloc).is_ok());
@@ -398,7 +402,7 @@ fn fails(rt: &impl Abort, alloc: Global, count: u8, call: u64, end: u64, pick: u
 #[test]
 fn a_failing_call_leaves_the_checkpoint_before_or_the_new_one(rt: HostRuntime) {
     let alloc = rt.alloc();
-    for (count, calls) in [(0, 11), (1, 9), (2, 11)] {
+    for (count, calls) in [(0, 12), (1, 10), (2, 12)] {
         let mut two = changed_after(&rt, alloc, count, &[]);
         let first = two.disk.medium.calls().len() as u64;
         assert!(rt; take(&rt, alloc, &mut two) == Ok(()));
@@ -412,6 +416,19 @@ fn a_failing_call_leaves_the_checkpoint_before_or_the_new_one(rt: HostRuntime) {
             }
         }
     }
+}
+
+// The blocks of the checkpoint before are gone: the length is asked for, and nothing is written.
+#[test]
+fn a_device_shorter_than_its_blocks_is_left_alone(rt: HostRuntime) {
+    let alloc = rt.alloc();
+    let mut two = changed_after(&rt, alloc, 1, &[]);
+    two.disk = new_disk(&rt, alloc, ROOM, &[]);
+    assert!(rt; take(&rt, alloc, &mut two) == Err(Refusal::NoMemory));
+    let calls = two.disk.medium.calls();
+    assert_eq!(rt; calls.len(), 1);
+    let only = calls.get(0).expect(&rt, "a call");
+    assert!(rt; matches!(only, DiskCall::Looked(Look::Len)));
 }
 
 // Two units have room for a leaf and a record, and not for a leaf of two and a record.

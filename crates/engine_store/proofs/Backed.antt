@@ -1,6 +1,5 @@
 -- What holds between two calls goes on over a call of an actor, by which the disk is at most looked at.
-use Rattle.std.proofs.Common.{◌≡◌, ◌∙◌, ◌≤◌, ℕ, List, [], ◌∷◌, length, Option, Some, None, refl, sym, subst, inl, inr, arith}
-use Rattle.failure.specs.declared.Fault.{Fault}
+use Rattle.std.proofs.Common.{◌≡◌, ◌∙◌, ◌≤◌, ℕ, List, [], ◌∷◌, length, Option, refl, sym, subst, inl, inr, arith}
 use Rattle.disk_model.specs.Crash.{Each, Looked}
 use Rattle.disk_model.specs.Disk.{NoMore}
 use Rattle.disk_model.specs.declared.disk.Disk.{Ghosts}
@@ -26,7 +25,7 @@ use Rattle.engine_store.specs.Devices.{Installed, may_open_to}
 use Rattle.engine_store.specs.Fetches.{IsBacked, IsReached}
 use Rattle.engine_store.specs.Held.{IsHeld}
 use Rattle.engine_store.specs.Images.{OpensToAny, OpensToLast}
-use Rattle.engine_store.specs.Opened.{IsReady, IsWell}
+use Rattle.engine_store.specs.Opened.{IsReady}
 use Rattle.engine_store.proofs.Going.{Goes}
 use Rattle.engine_store.proofs.Installing.{past_later, stays_on}
 
@@ -76,31 +75,6 @@ module _ {D : Type 0} (g : Ghosts D) (s s' : Store) (before after : D) (looked :
       let m = moved b.0 w w was now are (goes_same w.machine) refl b.1 b.2 in
       (b.0, m.on, m.follows)
 
-  -- ---- what is known of an honest disk
-
-  pub well_goes : ((w : World) → Stands s.engine w → IsBacked g s before w → (later : World) × Stands s'.engine later × Goes w later) → IsWell g s before → IsWell g s' after
-  well_goes led well = by s.engine.hub.fault refl
-    where
-      by : (o : Option Fault) → s.engine.hub.fault ≡ o → IsWell g s' after
-      by (Some fault) down =
-          let later = led well.world well.stands (λ up. absurd (let clash : Some fault ≡ None = sym down ∙ up in cc)) in
-          record {
-            world = later.0;
-            stands = later.1;
-            idle = later.2.keeps.checkpoint ∙ well.idle;
-            steady = λ up. absurd (let clash : Some fault ≡ None = sym down ∙ (sym goes.fault ∙ up) in cc);
-          }
-      by None up =
-          let x = well.steady up in
-          let later = led x.world x.stands (λ same. (x.old, x.on, x.follows)) in
-          let m = moved x.old x.world later.0 x.stands.dir later.1.dir later.1.catalog later.2.machine later.2.shelf x.on x.follows in
-          record {
-            world = later.0;
-            stands = later.1;
-            idle = later.2.keeps.checkpoint ∙ x.idle;
-            steady = λ still. record { world = later.0; stands = later.1; idle = later.2.keeps.checkpoint ∙ x.idle; old = x.old; on = m.on; follows = m.follows };
-          }
-
   -- ---- what is held
 
   pub held_goes : (start : D) (w later : World) (first : Completed) (made : List Installed) → Stands s'.engine later → Goes w later → IsHeld g start s before w first made → IsHeld g start s' after later first made
@@ -142,11 +116,3 @@ backed_held g start disk s w first made held up = let x = held.on (sym held.stan
 
 pub reached_first : {D : Type 0} (g : Ghosts D) (s : Store) (disk : D) (w : World) → Stands s.engine w → IsBacked g s disk w → IsReached g s disk w w
 reached_first g s disk w stands backed = record { backed = backed; stands = stands; fault = refl; shelf = refl }
-
--- what is known of an honest disk
-pub well_backed : {D : Type 0} (g : Ghosts D) (s : Store) (disk : D) → IsWell g s disk → (w : World) × Stands s.engine w × IsBacked g s disk w
-well_backed g s disk well = by s.engine.hub.fault refl
-  where
-    by : (o : Option Fault) → s.engine.hub.fault ≡ o → (w : World) × Stands s.engine w × IsBacked g s disk w
-    by (Some fault) down = (well.world, well.stands, λ up. absurd (let clash : Some fault ≡ None = sym down ∙ up in cc))
-    by None up = let x = well.steady up in (x.world, x.stands, λ same. (x.old, x.on, x.follows))

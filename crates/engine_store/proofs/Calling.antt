@@ -1,5 +1,5 @@
 -- A whole call of a session keeps what holds between two calls.
-use Rattle.std.proofs.Common.{◌≡◌, ◌∙◌, ◌≤◌, ◌<◌, ℕ, List, length, refl, sym, arith}
+use Rattle.std.proofs.Common.{◌≡◌, ◌∙◌, ◌≤◌, ◌<◌, ℕ, List, Option, length, refl, arith}
 use Rattle.std.specs.Prelude.{IsTrue}
 use Rattle.disk_model.specs.Crash.{Looked}
 use Rattle.disk_model.specs.declared.disk.Disk.{Ghosts}
@@ -19,16 +19,16 @@ use Rattle.engine.specs.Whole.{CallsTo, KeptBy, MayCallKept}
 use Rattle.ckpt_step.specs.Keeps.{IsOrdinary}
 use Rattle.ckpt_step.proofs.Ordinary.{engines_are}
 use Rattle.engine_store.specs.declared.store.Store.{Store}
-use Rattle.engine_store.specs.Calls.{AreToldSo, CallKeeps, Called as CalledAs, MayAnswerSo, TellsSo}
+use Rattle.engine_store.specs.Calls.{AreToldSo, Basis, CallKeeps, Called as CalledAs, IsBasis, MayAnswerSo, TellsSo}
 use Rattle.engine_store.specs.Devices.{Installed}
-use Rattle.engine_store.specs.Fetches.{CalledSo, CallsBy, CausedSince, IsBacked, IsSomehowReached}
+use Rattle.engine_store.specs.Fetches.{CalledSo, CallsBy, CausedSince, IsBacked}
 use Rattle.engine_store.specs.Held.{IsHeld}
-use Rattle.engine_store.specs.Opened.{IsWell}
-use Rattle.engine_store.proofs.Backed.{backed_goes, backed_held, held_goes, ready_goes, well_backed, well_goes}
+use Rattle.engine_store.proofs.Backed.{backed_goes, backed_held, held_goes, ready_goes}
+use Rattle.engine_store.proofs.Bases.{basis_goes, basis_here}
 use Rattle.engine_store.proofs.Going.{Goes, goes_kept}
 use Rattle.engine_store.proofs.MoreSessions.{with_engine}
 use Rattle.engine_store.proofs.Telling.{called_told, keep_told}
-use Rattle.engine_store.proofs.UnderWay.{calls_now, calls_stand, calls_to}
+use Rattle.engine_store.proofs.UnderWay.{calls_stand, calls_to}
 
 -- what the ends of a call leave. s: the store before the call; e: its engine once the call had come as far as it does by itself; s': at the end
 pub record Ended {D : Type 0} (g : Ghosts D) (s : Store) (e : Engine) (s' : Store) (made : Called) (before after : D) (session : ℕ) (asked : Call) (answer : Answer (List ℕ)) : Type 0 where
@@ -39,7 +39,7 @@ pub record Ended {D : Type 0} (g : Ghosts D) (s : Store) (e : Engine) (s' : Stor
   pub ground : s'.ground ≡ s.ground
   pub looked : Looked g before after
   pub home : g.home after ≡ g.home before
-  pub told : (start : D) → g.faults start ≤ g.faults before → (IsTrue (g.honest before) → IsSomehowReached g (with_engine s e) before) → CalledSo g start before made → AreToldSo g start e before → MayAnswerSo g start after answer × AreToldSo g start s'.engine after
+  pub told : (basis : Option Basis) (start : D) → g.faults start ≤ g.faults before → IsBasis g basis e before → CalledSo g basis start before made → AreToldSo g basis start e before → MayAnswerSo g basis start after answer × AreToldSo g basis start s'.engine after
   pub own : KeepOwn s.engine e
   pub tells : EndsFrom (answer_in s.engine session) made
   pub there : session < length s.engine.sessions
@@ -87,28 +87,13 @@ module _ {D : Type 0} (g : Ghosts D) (s : Store) (e : Engine) (s' : Store) (made
 
   pub calls_keep : CallKeeps g s s' before after
   calls_keep = record {
-    well = λ honest well. well_goes g s s' before after x.looked hub x.ground (λ w stands backed. let l = led honest w stands backed in (l.later, l.stands, l.goes)) well;
     ready = ready_goes s s' hub x.ground;
     ground = x.ground;
     looked = x.looked;
     home = x.home;
   }
 
-  reached : IsWell g s before → IsSomehowReached g (with_engine s e) before
-  reached well =
-      let w = well_backed g s before well in
-      let by = calls_to g before made e w.0 session asked (x.goes.fault ∙ w.1.fault) (x.begun w.0 w.1) in
-      let now = calls_now g before before made e w.0 session asked by in (
-        w.0,
-        now.0,
-        record {
-          backed = backed_goes g s (with_engine s e) before before (looked_none g before) x.goes refl w.0 w.1.dir now.1.dir now.1.catalog w.2;
-          stands = now.1;
-          fault = sym now.1.fault ∙ (x.goes.fault ∙ w.1.fault);
-          shelf = now.2;
-        },
-      )
-
-  pub calls_told : TellsSo g s s' before after (λ start. MayAnswerSo g start after answer)
-  calls_told start le well told =
-      x.told start le (λ honest. reached (well honest)) (called_told g start before (answer_in s.engine session) made x.tells (told session)) (keep_told g start before s.engine e x.own told)
+  pub calls_told : TellsSo g s s' before after (λ basis start. MayAnswerSo g basis start after answer)
+  calls_told basis start le on told =
+      let ends = x.told basis start le (basis_here g basis s.engine e before x.goes on) (called_told g basis start before (answer_in s.engine session) made x.tells (told session)) (keep_told g basis start before s.engine e x.own told) in
+      (ends.0, ends.1, basis_goes g basis s.engine s'.engine before after x.looked hub on)

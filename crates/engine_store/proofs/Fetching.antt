@@ -1,20 +1,20 @@
 -- What a leaf that a call waits for brings, and what is told where it cannot be had.
-use Rattle.std.proofs.Common.{◌≡◌, ◌∙◌, ◌≤◌, ℕ, List, Option, None, sym, ap, subst, inl, inr, arith}
+use Rattle.std.proofs.Common.{◌≡◌, ◌∙◌, ◌≤◌, ℕ, Option, None, sym, ap, subst, inl, inr, arith}
 use Rattle.std.specs.Prelude.{Result, Ok, Err, IfErr, IsTrue, option_map}
 use Rattle.failure.specs.Counts.{Rose}
 use Rattle.failure.specs.declared.Fault.{Fault}
 use Rattle.disk_model.specs.Crash.{Looked}
 use Rattle.disk_model.specs.declared.disk.Disk.{Ghosts}
 use Rattle.wt_code.specs.declared.refusals.Refusal.{Refusal}
-use Rattle.wt_code.specs.declared.refusals.Refusal.TheVariants.{Corrupt, DiskFault, NoMemory}
-use Rattle.row_page.specs.Rows.{Row}
+use Rattle.tree_dir.specs.Leaves.{IsDirectory}
 use Rattle.engine_world.specs.Worlds.{World}
 use Rattle.engine.specs.Waits.{IsAway}
 use Rattle.ckpt_step.specs.Rooms.{known_in}
 use Rattle.engine_store.specs.declared.store.Store.{Store}
-use Rattle.engine_store.specs.Calls.{MayTell}
-use Rattle.engine_store.specs.Fetches.{IsReached, IsSomehowReached}
+use Rattle.engine_store.specs.Calls.{Basis, IsBasis, MayTell}
+use Rattle.engine_store.specs.Fetches.{IsReached}
 use Rattle.engine_store.specs.Loads.{IsCause, LacksLeaf, RefusesLeaf, ShelfIsOn}
+use Rattle.engine_store.proofs.Bases.{spoilt_on}
 use Rattle.engine_store.proofs.Shelves.{shelf_on}
 
 pub none_known : {A B : Type 0} (f : A → B) (o : Option A) (known : Option B) → option_map f o ≡ known → o ≡ None → known ≡ None
@@ -43,18 +43,14 @@ caused fault down (Err r) (inr rose) = inr (inl rose)
 
 -- ---- what is told
 
-lacks_sound : (fault : Type 0) (r : Refusal) (at want found : ℕ) → r ≡ Corrupt at want found → LacksLeaf fault r → ⊥
-lacks_sound fault r at want found is (inl none) = let clash : NoMemory ≡ Corrupt at want found = sym none ∙ is in cc
-lacks_sound fault r at want found is (inr (disk, rose)) = let clash : DiskFault ≡ Corrupt at want found = sym disk ∙ is in cc
+module _ {D : Type 0} (g : Ghosts D) (basis : Option Basis) (start before after : D) (le : g.faults start ≤ g.faults before) (looked : Looked g before after) where
+  abbrev Told : Refusal → Type 0
+  Told r = MayTell g basis start after r
 
-module _ {D : Type 0} (g : Ghosts D) (start before after : D) (le : g.faults start ≤ g.faults before) (looked : Looked g before after) where
-  pub tells_leaf : (s : Store) (leaf : ℕ) (result : Result (Unit {0}) Refusal) → (IsTrue (g.honest before) → IsSomehowReached g s before) → IfErr result (RefusesLeaf g s.engine.hub.dir leaf before after)
-      → (IsTrue (g.honest before) → (shelf : ℕ → List Row) → ShelfIsOn (g.seen before) s.engine.hub.dir shelf leaf → IfErr result (LacksLeaf (Rose (g.faults before) (g.faults after)))) → s.engine.hub.fault ≡ None → IsAway s.engine.hub.dir.leaves leaf → known_in s.ground.parts leaf ≡ None
-      → IfErr result (MayTell g start after)
-  tells_leaf s leaf (Ok done) reached why lacks up away none = tt
-  tells_leaf s leaf (Err r) reached (inl (is, rose)) lacks up away none = subst (λ (x : Refusal). MayTell g start after x) (sym is) (rose_since (g.faults start) (g.faults before) (g.faults after) le rose)
-  tells_leaf s leaf (Err r) reached (inr (inl is)) lacks up away none = subst (λ (x : Refusal). MayTell g start after x) (sym is) tt
-  tells_leaf s leaf (Err r) reached (inr (inr (at, want, found, is, damage))) lacks up away none = subst (λ (x : Refusal). MayTell g start after x) (sym is) (λ honest.
+  pub tells_leaf : (s : Store) (leaf : ℕ) (result : Result (Unit {0}) Refusal) → IsBasis g basis s.engine before → IsDirectory s.engine.hub.dir → IsAway s.engine.hub.dir.leaves leaf → IfErr result (RefusesLeaf g s.engine.hub.dir leaf before after) → IfErr result (MayTell g basis start after)
+  tells_leaf s leaf (Ok done) on dir away why = tt
+  tells_leaf s leaf (Err r) on dir away (inl (is, rose)) = subst Told (sym is) (rose_since (g.faults start) (g.faults before) (g.faults after) le rose)
+  tells_leaf s leaf (Err r) on dir away (inr (inl is)) = subst Told (sym is) tt
+  tells_leaf s leaf (Err r) on dir away (inr (inr (at, want, found, is, spoils))) = subst Told (sym is) (λ honest.
       let h : IsTrue (g.honest before) = sym looked.same ∙ honest in
-      let x = reached h in
-      lacks_sound (Rose (g.faults before) (g.faults after)) r at want found is (lacks h x.1.shelf (shelf_here g s before x.0 x.1 leaf x.2 up away none)))
+      spoilt_on g basis s.engine before leaf at want found on dir away h (spoils h))

@@ -1,5 +1,5 @@
 -- What is left of a session's call keeps what holds between two calls.
-use Rattle.std.proofs.Common.{◌≡◌, ◌∙◌, ◌≤◌, ℕ, List, refl, sym}
+use Rattle.std.proofs.Common.{◌≡◌, ◌∙◌, ◌≤◌, ℕ, List, Option, refl}
 use Rattle.std.specs.Prelude.{IsTrue}
 use Rattle.disk_model.specs.Crash.{Looked}
 use Rattle.disk_model.specs.declared.disk.Disk.{Ghosts}
@@ -18,12 +18,12 @@ use Rattle.engine.specs.Told.{EndsFrom, KeepOwn, answer_in}
 use Rattle.engine.specs.Whole.{Ends}
 use Rattle.ckpt_step.proofs.Ordinary.{engines_are}
 use Rattle.engine_store.specs.declared.store.Store.{Store}
-use Rattle.engine_store.specs.Calls.{AreToldSo, CallKeeps, EndsIn, Finished, MayAnswerSo, TellsSo}
+use Rattle.engine_store.specs.Calls.{AreToldSo, Basis, CallKeeps, EndsIn, Finished, IsBasis, MayAnswerSo, TellsSo}
 use Rattle.engine_store.specs.Devices.{Installed}
-use Rattle.engine_store.specs.Fetches.{CalledSo, CauseSince, IsBacked, IsSomehowReached, StepsBy}
+use Rattle.engine_store.specs.Fetches.{CalledSo, CauseSince, IsBacked, StepsBy}
 use Rattle.engine_store.specs.Held.{IsHeld}
-use Rattle.engine_store.specs.Opened.{IsWell}
-use Rattle.engine_store.proofs.Backed.{backed_goes, backed_held, held_goes, ready_goes, well_backed, well_goes}
+use Rattle.engine_store.proofs.Backed.{backed_goes, backed_held, held_goes, ready_goes}
+use Rattle.engine_store.proofs.Bases.{basis_goes, basis_here}
 use Rattle.engine_store.proofs.Going.{Goes}
 use Rattle.engine_store.proofs.MoreSessions.{with_engine}
 use Rattle.engine_store.proofs.StepsGoing.{goes_ends, steps_by, steps_stand}
@@ -38,7 +38,7 @@ pub record EndedLater {D : Type 0} (g : Ghosts D) (s : Store) (e : Engine) (s' :
   pub ground : s'.ground ≡ s.ground
   pub looked : Looked g before after
   pub home : g.home after ≡ g.home before
-  pub told : (start : D) → g.faults start ≤ g.faults before → (IsTrue (g.honest before) → IsSomehowReached g (with_engine s e) before) → CalledSo g start before made → AreToldSo g start e before → MayAnswerSo g start after answer × AreToldSo g start s'.engine after
+  pub told : (basis : Option Basis) (start : D) → g.faults start ≤ g.faults before → IsBasis g basis e before → CalledSo g basis start before made → AreToldSo g basis start e before → MayAnswerSo g basis start after answer × AreToldSo g basis start s'.engine after
   pub own : KeepOwn s.engine e
   pub tells : EndsFrom (answer_in s.engine session) made
   pub built : AreBuilt s.engine.systems
@@ -85,19 +85,13 @@ module _ {D : Type 0} (g : Ghosts D) (s : Store) (e : Engine) (s' : Store) (made
 
   pub finish_keeps : CallKeeps g s s' before after
   finish_keeps = record {
-    well = λ honest well. well_goes g s s' before after x.looked hub x.ground (λ w stands backed. let l = led honest w stands backed in (l.later, l.stands, l.goes)) well;
     ready = ready_goes s s' hub x.ground;
     ground = x.ground;
     looked = x.looked;
     home = x.home;
   }
 
-  reached : IsWell g s before → IsSomehowReached g (with_engine s e) before
-  reached well =
-      let w = well_backed g s before well in
-      let now = steps_stand g before before made e w.0 session (begun w.0 w.1) in
-      (w.0, now.0, record { backed = backed_then w.0 w.1 w.2; stands = now.1; fault = sym now.1.fault ∙ (x.goes.fault ∙ w.1.fault); shelf = now.2 })
-
-  pub finish_told : TellsSo g s s' before after (λ start. MayAnswerSo g start after answer)
-  finish_told start le well told =
-      x.told start le (λ honest. reached (well honest)) (called_told g start before (answer_in s.engine session) made x.tells (told session)) (keep_told g start before s.engine e x.own told)
+  pub finish_told : TellsSo g s s' before after (λ basis start. MayAnswerSo g basis start after answer)
+  finish_told basis start le on told =
+      let ends = x.told basis start le (basis_here g basis s.engine e before x.goes on) (called_told g basis start before (answer_in s.engine session) made x.tells (told session)) (keep_told g basis start before s.engine e x.own told) in
+      (ends.0, ends.1, basis_goes g basis s.engine s'.engine before after x.looked hub on)

@@ -34,9 +34,6 @@ pub record Goes (w next : World) : Type 0 where
 abbrev going : Kept ⊥
 going = record { To = GoesOn; same = goes_same; on = goes_on; by = λ m event quiet. goes_after m event (ordinary_event event quiet) }
 
-pub goes_none : (w : World) → AreOrdinary w → Goes w w
-goes_none w are = record { keeps = record { completed = refl; checkpoint = refl; fault = refl; ordinary = are }; machine = goes_same w.machine; shelf = refl }
-
 pub goes_then : (a b c : World) → Goes a b → Goes b c → Goes a c
 goes_then a b c one two = record {
   keeps = record {

@@ -34,7 +34,7 @@ kept_then bytes d n marks ids shelf goes kept l there =
       kept = ap shelf was.2.id ∙ k.kept;
     }
 
-spoils_back : (bytes : List ℕ) (d n : Directory) (id at want found : ℕ) → LeavesGoOn d.leaves n.leaves → LeafSpoils bytes n id at want found → LeafSpoils bytes d id at want found
+pub spoils_back : (bytes : List ℕ) (d n : Directory) (id at want found : ℕ) → LeavesGoOn d.leaves n.leaves → LeafSpoils bytes n id at want found → LeafSpoils bytes d id at want found
 spoils_back bytes d n id at want found goes spoils =
     let was = named_went d.leaves n.leaves id spoils.leaf goes spoils.there in
     record {

@@ -19,8 +19,7 @@ use Rattle.engine_start.specs.Entries.{AreAdded, IsShelf, Led, entries_of, leave
 use Rattle.engine_start.proofs.TablesAdded.{leaf_added, own_added}
 use Rattle.ckpt_step.proofs.Members.{all_of, none_some, some_same}
 use Rattle.ckpt_step.proofs.TableLeaves.{contains_of}
-use Rattle.engine_store.specs.Found.{LeafOfSpoils}
-use Rattle.engine_store.specs.Loads.{LeafSpoils, low_behind}
+use Rattle.engine_store.specs.Loads.{LeafOfSpoils, LeafSpoils, low_behind}
 use Rattle.engine_store.specs.Marked.{IsLeafKept}
 use Rattle.engine_store.specs.Tables.{AreWithEntries}
 use Rattle.engine_store.proofs.BorneTables.{entries_with}

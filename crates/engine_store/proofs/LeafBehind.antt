@@ -131,11 +131,15 @@ module _ (d : Directory) (is : IsDirectory d) where
   pub once_in : AreOnce d.leaves
   once_in = once_of d.leaves is.once
 
+  -- what is behind a leaf is behind it among those of its table
+  pub low_own : (n : ℕ) (l : Leaf) → Contains d.leaves l → l.table ≡ n → low_behind l.id d.leaves ≡ low_behind l.id (leaves_of n d.leaves)
+  low_own n l there its = ap (option_map (λ (x : Leaf). x.entry.key)) (behind_own d.leaves l once_in (sorted_of d.leaves is.ascends) (member_of d.leaves l there) ∙ ap (λ (k : ℕ). leaf_behind l.id (leaves_of k d.leaves)) its)
+
   pub split_in : (n : ℕ) (l : Leaf) → Contains d.leaves l → l.table ≡ n → (s : IsSplit (leaves_of n d.leaves) l) × (low_behind l.id d.leaves ≡ first_key s.others)
   split_in n l there its =
       let own : Member l (leaves_of n d.leaves) = table_in n d.leaves l (member_of d.leaves l there) its in
       let s = split_at n (leaves_of n d.leaves) l (once_table n d.leaves once_in) (all_made (λ (m : Leaf). m.table ≡ n) (leaves_of n d.leaves) (λ m among. (in_table n d.leaves m among).1)) own in
-      (s, ap (option_map (λ (x : Leaf). x.entry.key)) (behind_own d.leaves l once_in (sorted_of d.leaves is.ascends) (member_of d.leaves l there) ∙ ap (λ (k : ℕ). leaf_behind l.id (leaves_of k d.leaves)) its) ∙ s.low)
+      (s, low_own n l there its ∙ s.low)
 
   -- a leaf of a table whose entries lead to these rows
   pub under_in : (bytes : List ℕ) (rows_of : Entry → List Row) (n : ℕ) (es : List Entry) → entries_in (leaves_of n d.leaves) ≡ es → AreLeaves bytes es None (map rows_of es) → (l : Leaf) → Contains d.leaves l → l.table ≡ n → IsUnder bytes l.entry (low_behind l.id d.leaves) (rows_of l.entry)

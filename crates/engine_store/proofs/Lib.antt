@@ -6,6 +6,8 @@ pub mod BorneTables
 pub mod KeptLeaves
 pub mod LeavesGo
 pub mod HubsGo
+pub mod SpoiltLeaves
+pub mod Bases
 pub mod LoadedPages
 pub mod MarkedIds
 pub mod PlacedTrees
@@ -19,6 +21,7 @@ pub mod Nothing
 pub mod ReadyAbove
 pub mod Founds
 pub mod Refusing
+pub mod RefusalsTold
 pub mod Closings
 pub mod Contents
 pub mod Installing

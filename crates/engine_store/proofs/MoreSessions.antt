@@ -1,5 +1,5 @@
 -- A session more keeps what holds between two calls.
-use Rattle.std.proofs.Common.{◌≡◌, ℕ, List, refl, sym, ap, subst}
+use Rattle.std.proofs.Common.{◌≡◌, ℕ, List, refl, ap}
 use Rattle.std.specs.Prelude.{length, IfOk, OnErr, Result, Ok, Err}
 use Rattle.disk_model.specs.declared.disk.Disk.{Ghosts}
 use Rattle.tree_open.proofs.Steps.{looked_none}
@@ -12,11 +12,11 @@ use Rattle.engine.specs.Sound.{AreBuilt}
 use Rattle.engine.specs.Whole.{with_session_more}
 use Rattle.ckpt_step.proofs.Ordinary.{engines_are}
 use Rattle.engine_store.specs.declared.store.Store.{Store}
-use Rattle.engine_store.specs.Calls.{CallKeeps, MayOpen}
+use Rattle.engine_store.specs.Calls.{MayOpen}
 use Rattle.engine_store.specs.Devices.{Installed}
 use Rattle.engine_store.specs.Held.{IsHeld}
-use Rattle.engine_store.proofs.Backed.{held_goes, ready_goes, well_goes}
-use Rattle.engine_store.proofs.Going.{Goes, goes_more, goes_none}
+use Rattle.engine_store.proofs.Backed.{held_goes}
+use Rattle.engine_store.proofs.Going.{goes_more}
 
 -- the store with its engine as it is now
 abbrev pub with_engine : Store → Engine → Store
@@ -33,18 +33,3 @@ module _ {D : Type 0} (g : Ghosts D) where
     held = held_goes g s (with_engine s e) disk disk (looked_none g disk) goes refl start w (with_session_more w) first made opened.1 (goes_more w (engines_are s.engine w held.stands built)) held;
   }
   opens start disk s e w first made (Err r) held built opened kept goes = same_store s e kept
-
-  led_opened : (s : Store) (e : Engine) (result : Result ℕ Refusal) → AreBuilt s.engine.systems → ((w : World) → Stands s.engine w → IfOk result (λ n. (n ≡ length s.engine.sessions) × Stands e (with_session_more w))) → OnErr result (e ≡ s.engine)
-      → (w : World) → Stands s.engine w → (later : World) × Stands e later × Goes w later
-  led_opened s e (Ok number) built opened kept w stands = (with_session_more w, (opened w stands).1, goes_more w (engines_are s.engine w stands built))
-  led_opened s e (Err r) built opened kept w stands = (w, subst (λ (x : Engine). Stands x w) (sym kept) stands, goes_none w (engines_are s.engine w stands built))
-
-  pub keeps_opened : (disk : D) (s : Store) (e : Engine) (result : Result ℕ Refusal) → AreBuilt s.engine.systems → ((w : World) → Stands s.engine w → IfOk result (λ n. (n ≡ length s.engine.sessions) × Stands e (with_session_more w))) → OnErr result (e ≡ s.engine) → HubGoesOn s.engine.hub e.hub
-      → CallKeeps g s (with_engine s e) disk disk
-  keeps_opened disk s e result built opened kept goes = record {
-    well = λ honest well. well_goes g s (with_engine s e) disk disk (looked_none g disk) goes refl (λ w stands backed. led_opened s e result built opened kept w stands) well;
-    ready = ready_goes s (with_engine s e) goes refl;
-    ground = refl;
-    looked = looked_none g disk;
-    home = refl;
-  }

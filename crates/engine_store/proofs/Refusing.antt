@@ -1,46 +1,40 @@
 -- Why no device is opened.
-use Rattle.std.proofs.Common.{ℕ, List, [], ◌∷◌, ◌++◌, Option, None, refl, sym, subst, ◌∙◌, inl, inr, arith}
+use Rattle.std.proofs.Common.{ℕ, List, [], ◌∷◌, ◌++◌, Option, None, sym, subst, ◌∙◌, inl, inr, arith}
 use Rattle.std.specs.Prelude.{IsTrue}
 use Rattle.failure.specs.Counts.{Rose}
 use Rattle.disk_model.specs.Crash.{Looked}
 use Rattle.disk_model.specs.declared.disk.Disk.{Ghosts}
-use Rattle.kv_model.specs.Content.{Content, nothing}
+use Rattle.kv_model.specs.Content.{Content}
 use Rattle.kv_model.specs.Holds.{Member}
 use Rattle.kv_model.specs.Regular.{AllApart, SameNumber}
 use Rattle.row_page.specs.Rows.{Row}
 use Rattle.wt_code.specs.declared.refusals.Refusal.{Refusal}
 use Rattle.stored.specs.Records.{Root, TableRoot}
-use Rattle.stored.specs.Stored.{Reads, content_of}
+use Rattle.stored.specs.Stored.{Reads}
 use Rattle.stored.specs.TableTree.{Entry, TableTree, first_key}
 use Rattle.device_leaf.specs.declared.place.Place.{Place}
-use Rattle.device_leaf.proofs.Opens.{rose_sooner}
+use Rattle.device_leaf.proofs.Opens.{no_blank, rose_sooner}
 use Rattle.tree_open.specs.declared.place.Upper.{Upper}
 use Rattle.tree_open.specs.Trees.{HasTree}
 use Rattle.tree_open.proofs.OneLayer.{key_none}
 use Rattle.tree_dir.specs.Leaves.{Directory, IsDirectory, no_leaves}
 use Rattle.recover_open.specs.declared.surveying.Above.{Above}
-use Rattle.recover_open.specs.Bare.{HaveTrees, bare_stored}
+use Rattle.recover_open.specs.Bare.{HaveTrees}
 use Rattle.recover_open.specs.Leaves.{AreLeaves, IsUnder}
-use Rattle.recover_open.specs.Surveys.{RefusesSurvey, SurveyRefused, Surveys}
-use Rattle.recover_open.proofs.Devices.{run_read}
-use Rattle.recover_open.proofs.Steps.{survey_further, survey_refused}
+use Rattle.recover_open.specs.Surveys.{RefusesSurvey, Surveys}
+use Rattle.recover_open.proofs.Devices.{kept_is, run_read}
+use Rattle.recover_open.proofs.Steps.{survey_refused}
 use Rattle.recover_open.proofs.TreeLeaves.{tree_leaves}
-use Rattle.verify_dev.specs.declared.report.Report.{Report}
-use Rattle.verify_dev.specs.Reports.{IsVerified}
 use Rattle.engine_start.specs.declared.table_entries.TableEntries.{TableEntries}
 use Rattle.engine_start.specs.Entries.{AreAdded, tables_of}
-use Rattle.engine_store.specs.Found.{LeafOfSpoils, RefusesBegin}
-use Rattle.engine_store.specs.Loads.{RefusesSome}
-use Rattle.engine_store.specs.Opened.{RefusesOpen}
+use Rattle.engine_store.specs.Found.{RefusesBegin}
+use Rattle.engine_store.specs.Loads.{LeafOfSpoils, RefusesSome}
+use Rattle.engine_store.specs.Opened.{HasSpoiltLeaf, LacksNumbers, RefusesOpen}
 use Rattle.engine_store.specs.Tables.{AreWithEntries}
 use Rattle.engine_store.proofs.KeptLeaves.{spoils_of}
-use Rattle.engine_store.proofs.SurveyedTrees.{AreUppersOf, IsSurveyedOf, IsUpperOf, old_of}
+use Rattle.engine_store.proofs.SurveyedTrees.{AreUppersOf, IsSurveyedOf, IsUpperOf, surveyed_of}
 
--- ---- a device that was looked through
-
-pub verified_reads : (bytes : List ℕ) (o : Report) → IsVerified bytes o → (content : Content) × Reads bytes content
-verified_reads bytes o (inl blank) = (nothing, inl (blank.0, refl))
-verified_reads bytes o (inr (r, is)) = (content_of (bare_stored is.slot r is.trees), inr (bare_stored is.slot r is.trees, is.on, refl))
+-- ---- a leaf at fault
 
 -- no leaf is at fault that was surveyed of a device which reads
 leaf_at : (bytes : List ℕ) (front : List Entry) (e : Entry) (others : List Entry) (leaves : List (List Row)) → AreLeaves bytes (front ++ e ∷ others) None leaves → (rows : List Row) × IsUnder bytes e (first_key others) rows
@@ -63,6 +57,9 @@ no_spoils bytes place a at want found of spoils =
     let leaf = leaf_at bytes spoils.front spoils.entry spoils.others there.1.leaves are in
     spoils.spoils.none leaf.0 leaf.1
 
+pub spoilt_no_content : (bytes : List ℕ) (at want found : ℕ) (content : Content) → HasSpoiltLeaf bytes at want found → Reads bytes content → ⊥
+spoilt_no_content bytes at want found content spoilt reads = no_spoils bytes spoilt.place spoilt.above at want found (surveyed_of bytes spoilt.place spoilt.above content spoilt.surveyed reads) spoilt.leaf
+
 -- ---- while an engine begins on it
 
 -- one of the leaves is not read
@@ -75,30 +72,38 @@ refused_begin g old new a both d r is_dir apart added with (inr (id, inr (inr (a
 
 -- ---- an opening
 
-module _ {D : Type 0} (g : Ghosts D) (first mid new : D) (looked : Looked g first mid) where
-  -- a look through, or a survey
-  pub refused_survey : (r : Refusal) → RefusesSurvey g (IsTrue (g.honest mid)) mid new r → RefusesOpen g (IsTrue (g.honest first)) first new r
-  refused_survey r refused =
-      let still : SurveyRefused (Rose (g.faults mid) (g.faults new)) (IsTrue (g.honest mid)) (g.seen first) r = subst (λ (bytes : List ℕ). SurveyRefused (Rose (g.faults mid) (g.faults new)) (IsTrue (g.honest mid)) bytes r) looked.content refused in
-      inl (survey_refused (Rose (g.faults first) (g.faults new)) (IsTrue (g.honest first)) (g.seen first) r
-      (survey_further (Rose (g.faults first) (g.faults new)) (Rose (g.faults mid) (g.faults new)) (IsTrue (g.honest first)) (IsTrue (g.honest mid)) (g.seen first) r still (rose_sooner (g.faults first) (g.faults mid) (g.faults new) looked.count) (λ known. looked.same ∙ known)))
+module _ {D : Type 0} (g : Ghosts D) (first : D) where
+  -- a survey
+  pub refused_survey : (new : D) (r : Refusal) → RefusesSurvey g (IsTrue (g.honest first)) first new r → RefusesOpen g (IsTrue (g.honest first)) first new r
+  refused_survey new r refused = inl (survey_refused (Rose (g.faults first) (g.faults new)) (IsTrue (g.honest first)) (g.seen first) r refused)
 
   -- an engine on what was surveyed
-  pub refused_above : (place : Place) (a : Above) (r : Refusal) → (IsTrue (g.honest first) → Surveys (g.seen first) place a) → (IsTrue (g.honest first) → IsSurveyedOf (g.seen first) place a) → RefusesBegin g a mid new r → RefusesOpen g (IsTrue (g.honest first)) first new r
-  refused_above place a r surveyed of (inl none) = inl (inr (inl none))
-  refused_above place a r surveyed of (inr (inl (is, last))) = inl (inr (inr (inl (
-    is,
-    λ known content reads.
-        let s = surveyed known in
-        let run = run_read (g.seen first) s.slot a.record s.names.chosen s.names.is_record s.names.is content reads in
-        omega (arith, run, last, s.names.is_record.run.1, s.names.is_record.sequence),
-  ))))
-  refused_above place a r surveyed of (inr (inr (inl (is, lack)))) = inr (is, λ known. (old_of (g.seen first) place a (of known), (of known).serves.still, lack))
-  refused_above place a r surveyed of (inr (inr (inr (inl failed)))) = inl (inl (failed.0, rose_sooner (g.faults first) (g.faults mid) (g.faults new) looked.count failed.1))
-  refused_above place a r surveyed of (inr (inr (inr (inr (inl none))))) = inl (inr (inl none))
-  refused_above place a r surveyed of (inr (inr (inr (inr (inr (at, want, found, is, spoils)))))) =
-      inl (inr (inr (inr (inr (at, want, found, is, λ known. absurd (no_spoils (g.seen first) place a at want found (of known) (subst (λ (bytes : List ℕ). LeafOfSpoils bytes a.uppers.items at want found) looked.content (spoils (looked.same ∙ known)))))))))
-
--- nothing was called
-pub looked_none : {D : Type 0} (g : Ghosts D) (disk : D) → Looked g disk disk
-looked_none g disk = record { same = refl; content = refl; images = λ image may. may; capacity = refl; count = omega arith; later = omega arith; since = λ t image le left. left }
+  module _ (mid new : D) (looked : Looked g first mid) (place : Place) (a : Above) (surveyed : IsTrue (g.honest first) → Surveys (g.seen first) place a) where
+    pub refused_above : (r : Refusal) → RefusesBegin g a mid new r → RefusesOpen g (IsTrue (g.honest first)) first new r
+    refused_above r (inl none) = inl (inr (inl none))
+    refused_above r (inr (inl (is, last))) = inl (inr (inr (inl (
+      is,
+      λ known content reads.
+          let s = surveyed known in
+          let run = run_read (g.seen first) s.slot a.record s.names.chosen s.names.is_record s.names.is content reads in
+          omega (arith, run, last, s.names.is_record.run.1, s.names.is_record.sequence),
+    ))))
+    refused_above r (inr (inr (inl (is, lack)))) = inr (inl (
+      is,
+      (λ known s on. let n = (surveyed known).names in subst LacksNumbers (sym (kept_is (g.seen first) (surveyed known).slot s a.record n.chosen n.is_record n.is on)) lack),
+      λ known blank. no_blank (g.seen first) (surveyed known).slot (surveyed known).names.chosen blank,
+    ))
+    refused_above r (inr (inr (inr (inl failed)))) = inl (inl (failed.0, rose_sooner (g.faults first) (g.faults mid) (g.faults new) looked.count failed.1))
+    refused_above r (inr (inr (inr (inr (inl none))))) = inl (inr (inl none))
+    refused_above r (inr (inr (inr (inr (inr (at, want, found, is, spoils)))))) = inr (inr (
+      at,
+      want,
+      found,
+      is,
+      λ known. record {
+        place = place;
+        above = a;
+        surveyed = surveyed known;
+        leaf = subst (λ (bytes : List ℕ). LeafOfSpoils bytes a.uppers.items at want found) looked.content (spoils (looked.same ∙ known));
+      },
+    ))

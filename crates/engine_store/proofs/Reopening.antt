@@ -1,11 +1,9 @@
 -- What an opening anew finds, and what it leaves of what holds between two calls.
-use Rattle.std.proofs.Common.{◌≡◌, ℕ, List, [], ◌∷◌, Option, Some, None, refl, sym, subst, ◌∙◌, inl, inr, arith}
+use Rattle.std.proofs.Common.{◌≡◌, ℕ, List, [], ◌∷◌, Option, Some, None, refl, sym, subst, inl, inr, arith}
 use Rattle.failure.specs.Counts.{Rose}
 use Rattle.disk_model.specs.Crash.{Each, LeavesOnly, Looked}
 use Rattle.disk_model.specs.declared.disk.Disk.{Ghosts}
 use Rattle.wt_code.specs.declared.refusals.Refusal.{Refusal}
-use Rattle.wt_code.specs.declared.refusals.Refusal.TheVariants.{Corrupt, DiskFault, NoMemory, Limit as Refusal_Limit}
-use Rattle.wt_code.specs.declared.refusals.Limit.TheVariants.{Checkpoints, Image, Tables}
 use Rattle.kv_model.specs.Content.{Content, OpensAs, start}
 use Rattle.kv_model.specs.History.{Table}
 use Rattle.kv_model.specs.Holds.{Member}
@@ -13,7 +11,6 @@ use Rattle.kv_model.specs.Machine.{Completed}
 use Rattle.stored.specs.Stored.{Stored, Reads, IsBlank, IsOn}
 use Rattle.stored.proofs.Device.{one_content}
 use Rattle.device_leaf.specs.Closings.{content_was}
-use Rattle.recover_open.specs.Damage.{IsDamage}
 use Rattle.tree_open.specs.declared.place.TreePlace.{TreePlace}
 use Rattle.recover_open.specs.Bare.{IsBare}
 use Rattle.recover_open.proofs.Devices.{damage_no_content}
@@ -25,41 +22,20 @@ use Rattle.ckpt_step.specs.Plain.{IsBareStill, StartsPlain}
 use Rattle.ckpt_step.specs.Rooms.{Written, known_in}
 use Rattle.engine_store.specs.declared.store.Store.{Store}
 use Rattle.engine_store.specs.Answers.{RefusesReopening}
-use Rattle.engine_store.specs.Devices.{Installed, IsWide, device_of, may_open_to}
+use Rattle.engine_store.specs.Devices.{Installed, IsUsedUp, IsWide, device_of, may_open_to}
 use Rattle.engine_store.specs.Held.{IsHeld, NotReopened, Reopens}
 use Rattle.engine_store.specs.Images.{OpensToAny, OpensToLast, OpensToOne}
-use Rattle.engine_store.specs.Opened.{IsOpened, IsWell, OpenRefused}
+use Rattle.engine_store.specs.Opened.{IsOpened, LacksNumbers, OpenRefused}
 use Rattle.engine_store.proofs.Backed.{stands_looked}
 use Rattle.engine_store.proofs.Contents.{start_opens, still_reads}
 use Rattle.engine_store.proofs.Installing.{past_later, stays_on}
+use Rattle.engine_store.proofs.Refusing.{spoilt_no_content}
 
 bare_still : (known : List Table) (leaves : List Leaf) (written : Written) (places : List TreePlace) (old : Option Stored) → AreRoots known leaves written places old → IsBareStill old
 bare_still known leaves written places None roots = tt
 bare_still known leaves written places (Some s) roots = roots.bare
 
 -- ---- a device that was only looked at
-
--- the store stays well
-pub well_looked : {D : Type 0} (g : Ghosts D) (before after : D) → Looked g before after → (s : Store) → IsWell g s before → IsWell g s after
-well_looked g before after looked s well = record {
-  world = well.world;
-  stands = well.stands;
-  idle = well.idle;
-  steady = λ up. let x = well.steady up in record {
-    world = x.world;
-    stands = x.stands;
-    idle = x.idle;
-    old = x.old;
-    on = stands_looked (g.seen before) (g.seen after) (g.may_leave before) (g.may_leave after) s.engine.hub s.ground x.old looked.content looked.images x.on;
-    follows = x.follows;
-  };
-}
-
--- what was opened is well
-pub well_opened : {D : Type 0} (g : Ghosts D) (disk : D) (s : Store) → IsOpened (g.seen disk) (g.may_leave disk) s → IsWell g s disk
-well_opened g disk s is =
-    let w : World = first_world (content_was is.old) is.shelf s.engine in
-    record { world = w; stands = is.world; idle = refl; steady = λ up. record { world = w; stands = is.world; idle = refl; old = is.old; on = is.on; follows = is.follows } }
 
 module _ {D : Type 0} (g : Ghosts D) (start_disk before after : D) (looked : Looked g before after) (image : g.may_leave before (g.seen before)) (s : Store) (w : World) (first : Completed) (made : List Installed) (held : IsHeld g start_disk s before w first made) where
   images_looked : Each (g.may_leave after) (OpensToAny (may_open_to (first ∷ []) made))
@@ -150,13 +126,18 @@ module _ {D : Type 0} (g : Ghosts D) (start_disk before after : D) (looked : Loo
   wide had (inl blank) not_bare not_blank = absurd (not_blank blank.0)
   wide had (inr (s, on, same)) not_bare not_blank = (s, on, not_bare s on)
 
+  used_up : (content : Content) → Reads (g.seen before) content → ((s : Stored) → IsOn (g.seen before) s → LacksNumbers s.kept) → (IsBlank (g.seen before) → ⊥) → IsUsedUp (g.seen before)
+  used_up had (inl blank) used not_blank = absurd (not_blank blank.0)
+  used_up had (inr (s, on, same)) used not_blank = (s, on, used s on)
+
   why_not : (known : Type 0) → known → (content : Content) → Reads (g.seen before) content → (r : Refusal) → OpenRefused (Rose (g.faults before) (g.faults after)) known (g.seen before) r → RefusesReopening (device_of g before) (device_of g after) r
   why_not known k had read r (inl (inl disk)) = inl disk
   why_not known k had read r (inl (inr (inl none))) = inr (inl none)
   why_not known k had read r (inl (inr (inr (inl (is, last))))) = inr (inr (inr (inr (is, last k))))
   why_not known k had read r (inl (inr (inr (inr (inl (is, not_bare, not_blank)))))) = inr (inr (inl (is, wide had read (not_bare k) (not_blank k))))
   why_not known k had read r (inl (inr (inr (inr (inr (at, want, found, is, damage)))))) = absurd (damage_no_content (g.seen before) at want found had (damage k) read)
-  why_not known k had read r (inr (is, used)) = inr (inr (inr (inl (is, used k))))
+  why_not known k had read r (inr (inl (is, used, not_blank))) = inr (inr (inr (inl (is, used_up had read (used k) (not_blank k)))))
+  why_not known k had read r (inr (inr (at, want, found, is, spoilt))) = absurd (spoilt_no_content (g.seen before) at want found had (spoilt k) read)
 
   pub not_reopened : (known : Type 0) → known → (s' : Store) → s' ≡ s → (r : Refusal) → OpenRefused (Rose (g.faults before) (g.faults after)) known (g.seen before) r → NotReopened g start_disk w first made s s' before after r
   not_reopened known k s' same r why = record {
@@ -166,28 +147,3 @@ module _ {D : Type 0} (g : Ghosts D) (start_disk before after : D) (looked : Loo
     capacity = looked.capacity;
     held = subst (λ (x : Store). IsHeld g start_disk x after w first made) (sym same) held_looked;
   }
-
--- ---- what a refusal tells
-
--- of damage it tells that of the device
-pub damage_of : (fault known : Type 0) (bytes : List ℕ) (r : Refusal) → OpenRefused fault known bytes r → (at want found : ℕ) → r ≡ Corrupt at want found → known → IsDamage bytes at want found
-damage_of fault known bytes r (inl (inl (is, rose))) at want found same k = let e : DiskFault ≡ Corrupt at want found = sym is ∙ same in absurd (cc)
-damage_of fault known bytes r (inl (inr (inl is))) at want found same k = let e : NoMemory ≡ Corrupt at want found = sym is ∙ same in absurd (cc)
-damage_of fault known bytes r (inl (inr (inr (inl (is, last))))) at want found same k = let e : Refusal_Limit Checkpoints ≡ Corrupt at want found = sym is ∙ same in absurd (cc)
-damage_of fault known bytes r (inl (inr (inr (inr (inl (is, not_bare, not_blank)))))) at want found same k = let e : Refusal_Limit Image ≡ Corrupt at want found = sym is ∙ same in absurd (cc)
-damage_of fault known bytes r (inl (inr (inr (inr (inr (at', want', found', is, damage)))))) at want found same k =
-    let e : Corrupt at' want' found' ≡ Corrupt at want found = sym is ∙ same in
-    let place : at' ≡ at = cc in
-    let wanted : want' ≡ want = cc in
-    let met : found' ≡ found = cc in
-    subst (λ (x : ℕ). IsDamage bytes x want found) place (subst (λ (x : ℕ). IsDamage bytes at' x found) wanted (subst (λ (x : ℕ). IsDamage bytes at' want' x) met (damage k)))
-damage_of fault known bytes r (inr (is, used)) at want found same k = let e : Refusal_Limit Tables ≡ Corrupt at want found = sym is ∙ same in absurd (cc)
-
--- and of a fault that the disk counted it
-pub fault_of : (fault known : Type 0) (bytes : List ℕ) (r : Refusal) → OpenRefused fault known bytes r → r ≡ DiskFault → fault
-fault_of fault known bytes r (inl (inl (is, rose))) same = rose
-fault_of fault known bytes r (inl (inr (inl is))) same = let e : NoMemory ≡ DiskFault = sym is ∙ same in absurd (cc)
-fault_of fault known bytes r (inl (inr (inr (inl (is, last))))) same = let e : Refusal_Limit Checkpoints ≡ DiskFault = sym is ∙ same in absurd (cc)
-fault_of fault known bytes r (inl (inr (inr (inr (inl (is, not_bare, not_blank)))))) same = let e : Refusal_Limit Image ≡ DiskFault = sym is ∙ same in absurd (cc)
-fault_of fault known bytes r (inl (inr (inr (inr (inr (at, want, found, is, damage)))))) same = let e : Corrupt at want found ≡ DiskFault = sym is ∙ same in absurd (cc)
-fault_of fault known bytes r (inr (is, used)) same = let e : Refusal_Limit Tables ≡ DiskFault = sym is ∙ same in absurd (cc)

@@ -1,5 +1,5 @@
 -- A call goes on, leaf after leaf.
-use Rattle.std.proofs.Common.{◌≡◌, ◌∙◌, ◌≤◌, ◌<◌, ℕ, length, None, refl, sym, ap, inl, inr, arith}
+use Rattle.std.proofs.Common.{◌≡◌, ◌∙◌, ◌≤◌, ◌<◌, ℕ, length, Option, None, refl, sym, ap, inl, inr, arith}
 use Rattle.std.specs.Prelude.{IsTrue}
 use Rattle.disk_model.specs.Crash.{Looked}
 use Rattle.disk_model.specs.declared.disk.Disk.{Ghosts}
@@ -17,11 +17,12 @@ use Rattle.engine.specs.Waits.{WaitsAs}
 use Rattle.engine.specs.Whole.{Ends, IsUnderWay}
 use Rattle.engine.proofs.Directories.{goes-then}
 use Rattle.engine_store.specs.declared.store.Store.{Store}
-use Rattle.engine_store.specs.Calls.{AreToldSo}
-use Rattle.engine_store.specs.Fetches.{CalledSo, CallsBy, CauseSince, IsBacked, IsReached, IsSomehowReached, StepsBy}
+use Rattle.engine_store.specs.Calls.{AreToldSo, Basis, IsBasis}
+use Rattle.engine_store.specs.Fetches.{CalledSo, CallsBy, CauseSince, IsBacked, IsReached, StepsBy}
 use Rattle.engine_store.proofs.Backed.{backed_goes}
+use Rattle.engine_store.proofs.Bases.{basis_on}
 use Rattle.engine_store.proofs.Fetching.{rose_later}
-use Rattle.engine_store.proofs.StepsGoing.{IsMiddle, shelf_in, steps_by, steps_go, steps_stand}
+use Rattle.engine_store.proofs.StepsGoing.{IsMiddle, shelf_in, steps_go, steps_stand}
 use Rattle.engine_store.proofs.UnderWay.{calls_since, calls_stand}
 
 -- first, s, made: the disk, the store and how far the call had come; disk, s', now: as they are
@@ -29,8 +30,7 @@ pub record GoneOn {D : Type 0} (g : Ghosts D) (first disk : D) (s s' : Store) (m
   pub calls : IsTrue (g.honest first) → (w : World) (asked : Call) → session < length w.sessions → s.engine.hub.fault ≡ w.machine.fault → IsBacked g s first w → CallsBy g first first made s.engine w session asked
       → CallsBy g first disk now s'.engine w session asked × IsBacked g s' disk w
   pub steps : IsTrue (g.honest first) → (w : World) → s.engine.hub.fault ≡ w.machine.fault → IsBacked g s first w → StepsBy g first first made s.engine w session → StepsBy g first disk now s'.engine w session × IsBacked g s' disk w
-  pub reached : IsTrue (g.honest first) → IsSomehowReached g s first → IsSomehowReached g s' disk
-  pub told : (start : D) → g.faults start ≤ g.faults first → (IsTrue (g.honest first) → IsSomehowReached g s first) → CalledSo g start first made → AreToldSo g start s.engine first → CalledSo g start disk now × AreToldSo g start s'.engine disk
+  pub told : (basis : Option Basis) (start : D) → g.faults start ≤ g.faults first → IsBasis g basis s.engine first → CalledSo g basis start first made → AreToldSo g basis start s.engine first → CalledSo g basis start disk now × AreToldSo g basis start s'.engine disk
   pub waits : WaitsAs now s'.engine session
   pub goes : (h : Hub) → HubGoesOn h s.engine.hub → HubGoesOn h s'.engine.hub
   pub fault : s'.engine.hub.fault ≡ s.engine.hub.fault
@@ -43,8 +43,7 @@ pub gone_none : {D : Type 0} (g : Ghosts D) (disk : D) (s : Store) (made : Calle
 gone_none g disk s made session waits = record {
   calls = λ h w asked there fault backed by. (by, backed);
   steps = λ h w fault backed by. (by, backed);
-  reached = λ h x. x;
-  told = λ start le x so told. (so, told);
+  told = λ basis start le on so told. (so, told);
   waits = waits;
   goes = λ h on. on;
   fault = refl;
@@ -58,7 +57,7 @@ gone_none g disk s made session waits = record {
 pub record OneRound {D : Type 0} (g : Ghosts D) (disk disk' : D) (s s' : Store) (now : Called) (session : ℕ) : Type 0 where
   pub calls : IsTrue (g.honest disk) → (w x : World) (asked : Call) → session < length w.sessions → IsReached g s disk w x → IsUnderWay None w session asked x → CallsBy g disk disk' now s'.engine w session asked
   pub steps : IsTrue (g.honest disk) → (w x : World) → IsReached g s disk w x → (middle : World) × IsMiddle (CauseSince g disk disk' w) x session middle × Ends now s'.engine middle session
-  pub told : (start : D) → g.faults start ≤ g.faults disk → (IsTrue (g.honest disk) → IsSomehowReached g s disk) → AreToldSo g start s.engine disk → CalledSo g start disk' now × AreToldSo g start s'.engine disk'
+  pub told : (basis : Option Basis) (start : D) → g.faults start ≤ g.faults disk → IsBasis g basis s.engine disk → AreToldSo g basis start s.engine disk → CalledSo g basis start disk' now × AreToldSo g basis start s'.engine disk'
   pub waits : WaitsAs now s'.engine session
   pub goes : HubGoesOn s.engine.hub s'.engine.hub
   pub ground : s'.ground ≡ s.ground
@@ -101,31 +100,11 @@ module _ {D : Type 0} (g : Ghosts D) (first disk disk' : D) (s s' s'' : Store) (
       let stood = steps_stand g first disk' now s''.engine w session steps in
       (steps, backed_then w at.1 stood.0 x.1 at.3 stood.1)
 
-  reached_then : IsTrue (g.honest first) → IsSomehowReached g s first → IsSomehowReached g s'' disk'
-  reached_then honest some =
-      let x = gone.reached honest some in
-      let next = one.steps (here honest) x.0 x.1 x.2 in
-      let stood = steps_stand g disk' disk' now s''.engine next.0 session (steps_by g disk' now s''.engine next.0 session next.2) in (
-        x.0,
-        stood.0,
-        record {
-          backed = backed_then x.0 x.1 stood.0 x.2.backed x.2.stands stood.1;
-          stands = stood.1;
-          fault = sym stood.1.fault ∙ (one.goes.fault ∙ (x.2.stands.fault ∙ x.2.fault));
-          shelf = stood.2 ∙ (shelf_middle next.0 next.1 ∙ x.2.shelf);
-        },
-      )
-    where
-      shelf_middle : (middle : World) → IsMiddle (CauseSince g disk disk' (gone.reached honest some).0) (gone.reached honest some).1 session middle → middle.shelf ≡ (gone.reached honest some).1.shelf
-      shelf_middle middle (inl same) = ap (λ (v : World). v.shelf) same
-      shelf_middle middle (inr (r, cause, out)) = ap (λ (v : World). v.shelf) out.leaves
-
   pub gone_more : GoneOn g first disk' s s'' made now session
   gone_more = record {
     calls = calls_then;
     steps = steps_then;
-    reached = reached_then;
-    told = λ start le some so told. one.told start (omega (arith, le, gone.looked.count)) (λ honest. gone.reached (sym gone.looked.same ∙ honest) (some (sym gone.looked.same ∙ honest))) (gone.told start le some so told).1;
+    told = λ basis start le on so told. one.told basis start (omega (arith, le, gone.looked.count)) (basis_on g basis s.engine s'.engine first disk gone.looked gone.goes on) (gone.told basis start le on so told).1;
     waits = one.waits;
     goes = λ h on. goes-then h s'.engine.hub s''.engine.hub (gone.goes h on) one.goes;
     fault = one.goes.fault ∙ gone.fault;

@@ -30,7 +30,7 @@ use Rattle.engine.specs.Checkpoints.{MayStart, started_as}
 use Rattle.engine.specs.Closes.{MayClose, busy_in, close_told, unfinished_in}
 use Rattle.engine.specs.Directories.{HubGoesOn}
 use Rattle.ckpt_step.specs.Floors.{Follows}
-use Rattle.ckpt_step.specs.Grounds.{IsSteady, StandsOn}
+use Rattle.ckpt_step.specs.Grounds.{StandsOn}
 use Rattle.ckpt_step.specs.declared.ground.Ground.{Ground}
 use Rattle.ckpt_step.specs.Laws.{CheckpointsOpen}
 use Rattle.ckpt_step.specs.Plain.{GoesPlain, IsPlain}
@@ -43,8 +43,7 @@ use Rattle.engine_store.specs.Closes.{rolled}
 use Rattle.engine_store.specs.Devices.{Device, Installed, IsNumberOf, device_of, last_number, may_open_to}
 use Rattle.engine_store.specs.Held.{Checkpoints, IsGrounded, IsHeld, Shuts}
 use Rattle.engine_store.specs.Images.{OpensToLast}
-use Rattle.engine_store.specs.Opened.{IsWell}
-use Rattle.engine_store.proofs.Closings.{checkpoint_rolled, free_of, up_of}
+use Rattle.engine_store.proofs.Closings.{free_of, up_of}
 use Rattle.engine_store.proofs.Contents.{most_number}
 use Rattle.engine_store.proofs.Taking.{by_takes, number_held}
 
@@ -209,17 +208,6 @@ is_rolled seen images old w ground e middle goes st later on follows =
 -- with the transactions rolled back
 abbrev pub with_rolled : Store → Engine → Store
 with_rolled s middle = record { engine = middle; ground = s.ground }
-
-module _ {D : Type 0} (g : Ghosts D) (disk : D) (s : Store) (middle : Engine) (goes : HubGoesOn s.engine.hub middle.hub) (rolls : (w : World) → Stands s.engine w → w.machine.checkpoint ≡ None → Stands middle (rolled w)) (well : IsWell g s disk) where
-  pub steady_rolled : IsSteady g middle s.ground disk
-  steady_rolled up =
-      let x = well.steady (sym goes.fault ∙ up) in
-      let later = rolls x.world x.stands x.idle in
-      let r = is_rolled (g.seen disk) (g.may_leave disk) x.old x.world s.ground s.engine middle goes x.stands later x.on x.follows in
-      record { world = rolled x.world; stands = later; idle = checkpoint_rolled x.world.machine ∙ x.idle; old = x.old; on = r.on; follows = r.follows }
-
-  pub well_rolled : IsWell g (with_rolled s middle) disk
-  well_rolled = record { world = rolled well.world; stands = rolls well.world well.stands well.idle; idle = checkpoint_rolled well.world.machine ∙ well.idle; steady = steady_rolled }
 
 -- ---- what it leaves
 

@@ -21,15 +21,10 @@ use Rattle.ckpt_step.proofs.Ordinary.{engines_are, fits_are}
 use Rattle.engine_store.specs.declared.store.Store.{Store}
 use Rattle.engine_store.specs.Calls.{CallKeeps, MayStepOn, Stepped}
 use Rattle.engine_store.specs.Devices.{Installed}
-use Rattle.engine_store.specs.Fetches.{CauseSince, ComesOrNot, IsReached, IsSomehowReached, ReadiesOrNot, session_in}
+use Rattle.engine_store.specs.Fetches.{CauseSince, ComesOrNot, IsReached, ReadiesOrNot, session_in}
 use Rattle.engine_store.specs.Held.{IsHeld}
-use Rattle.engine_store.specs.Opened.{IsWell}
-use Rattle.engine_store.proofs.Backed.{backed_held, held_goes, reached_first, ready_goes, well_backed, well_goes}
+use Rattle.engine_store.proofs.Backed.{backed_held, held_goes, reached_first, ready_goes}
 use Rattle.engine_store.proofs.Going.{Goes, goes_out, goes_step}
-
--- on an honest disk the store is backed where a call begins
-pub reached_well : {D : Type 0} (g : Ghosts D) (s : Store) (disk : D) → IsWell g s disk → IsSomehowReached g s disk
-reached_well g s disk well = let w = well_backed g s disk well in (w.0, w.0, reached_first g s disk w.0 w.1 w.2)
 
 -- s, s': the store before the step and after it
 pub record StepsOn {D : Type 0} (g : Ghosts D) (s s' : Store) (before after : D) (made : Step) (told : Reply) : Type 0 where
@@ -84,7 +79,6 @@ module _ {D : Type 0} (g : Ghosts D) (s s' : Store) (before after : D) (made : S
 
   pub step_keeps : CallKeeps g s s' before after
   step_keeps = record {
-    well = λ honest well. well_goes g s s' before after x.looked x.hub x.ground (λ w stands backed. let l = x.led honest w (reached_first g s before w stands backed) in (l.0, l.2, l.3)) well;
     ready = ready_goes s s' x.hub x.ground;
     ground = x.ground;
     looked = x.looked;

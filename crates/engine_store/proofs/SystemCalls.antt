@@ -10,7 +10,7 @@ use Rattle.engine_store.specs.declared.store.Store.{Store}
 use Rattle.engine_store.specs.Calls.{CallKeeps}
 use Rattle.engine_store.specs.Devices.{Installed}
 use Rattle.engine_store.specs.Held.{IsHeld}
-use Rattle.engine_store.proofs.Backed.{held_goes, ready_goes, well_goes}
+use Rattle.engine_store.proofs.Backed.{held_goes, ready_goes}
 use Rattle.engine_store.proofs.Going.{Goes}
 use Rattle.engine_store.proofs.MoreSessions.{with_engine}
 
@@ -18,11 +18,5 @@ module _ {D : Type 0} (g : Ghosts D) (disk : D) (s : Store) (e : Engine) (goes :
   pub event_held : (start : D) (w later : World) (first : Completed) (made : List Installed) → Stands e later → Goes w later → IsHeld g start s disk w first made → IsHeld g start (with_engine s e) disk later first made
   event_held start w later first made stands on held = held_goes g s (with_engine s e) disk disk (looked_none g disk) goes refl start w later first made stands on held
 
-  pub event_keeps : ((w : World) → Stands s.engine w → (later : World) × Stands e later × Goes w later) → CallKeeps g s (with_engine s e) disk disk
-  event_keeps led = record {
-    well = λ honest well. well_goes g s (with_engine s e) disk disk (looked_none g disk) goes refl (λ w stands backed. led w stands) well;
-    ready = ready_goes s (with_engine s e) goes refl;
-    ground = refl;
-    looked = looked_none g disk;
-    home = refl;
-  }
+  pub event_keeps : CallKeeps g s (with_engine s e) disk disk
+  event_keeps = record { ready = ready_goes s (with_engine s e) goes refl; ground = refl; looked = looked_none g disk; home = refl }

@@ -28,7 +28,7 @@ use Rattle.engine.specs.Checkpoints.{MayStart}
 use Rattle.ckpt_step.specs.declared.ground.Ground.{Ground}
 use Rattle.ckpt_step.specs.Checkpoints.{IsCheckpointOf}
 use Rattle.ckpt_step.specs.Floors.{Follows}
-use Rattle.ckpt_step.specs.Grounds.{AreRoots, IsSteady, StandsOn, number_of}
+use Rattle.ckpt_step.specs.Grounds.{AreRoots, StandsOn, number_of}
 use Rattle.ckpt_step.specs.Laws.{CheckpointsOpen}
 use Rattle.ckpt_step.specs.Plain.{IsPlain}
 use Rattle.ckpt_step.specs.Rooms.{known_in}
@@ -38,7 +38,6 @@ use Rattle.engine_store.specs.Answers.{CheckpointTakes}
 use Rattle.engine_store.specs.Devices.{ArePartedOn, Installed, IsLater, IsNumberOf, device_of, may_open_to}
 use Rattle.engine_store.specs.Held.{Checkpoints, IsGrounded, IsHeld}
 use Rattle.engine_store.specs.Images.{OpensToAny, OpensToLast, OpensToOne}
-use Rattle.engine_store.specs.Opened.{IsWell}
 use Rattle.engine_store.proofs.Contents.{number_read, numbered, still_reads}
 use Rattle.engine_store.proofs.Installing.{any_last, any_more, any_one, last_opens, one_last, one_more, past_later, past_more, pending_last, stays_more, stays_on}
 
@@ -268,21 +267,6 @@ module _ {D : Type 0} (g : Ghosts D) (start_disk before after : D)
     by_takes (Ok end) t = taken t
     by_takes (Err r) (inl n) = not_taken r n
     by_takes (Err r) (inr f) = fallen r f
-
--- ---- the calls that are under way go on
-
-pub goes_on : (downs : DownsGo) (e e' : Engine) → (e' ≡ e) ⊎ ((fault : Fault) × (e' ≡ with_fault e fault)) → (w : World) → Stands e w → w.machine.checkpoint ≡ None
-    → (m : Machine) × (m.checkpoint ≡ None) × Stands e' (record w { machine = m })
-goes_on downs e e' (inl same) w stands idle = (w.machine, idle, subst (λ (x : Engine). Stands x w) (sym same) stands)
-goes_on downs e e' (inr (fault, is)) w stands idle =
-    let down : Machine = after_event w.machine (GoDown fault) in
-    (down, idle, subst (λ (x : Engine). Stands x (record w { machine = down })) (sym is) (downs e w fault stands))
-
--- so it is well
-pub well_taken : {D : Type 0} (g : Ghosts D) (downs : DownsGo) (s s' : Store) (before after : D) → (s'.engine ≡ s.engine) ⊎ ((fault : Fault) × (s'.engine ≡ with_fault s.engine fault)) → IsSteady g s'.engine s'.ground after → IsWell g s before → IsWell g s' after
-well_taken g downs s s' before after is steady well =
-    let on = goes_on downs s.engine s'.engine is well.world well.stands well.idle in
-    record { world = record well.world { machine = on.0 }; stands = on.2; idle = on.1; steady = steady }
 
 -- ---- of one that is down
 

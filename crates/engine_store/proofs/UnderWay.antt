@@ -18,7 +18,6 @@ use Rattle.engine.specs.Whole.{CallsIn, CallsKept, CallsTo, IsUnderWay, KeptBy, 
 use Rattle.engine.proofs.Waited.{filling, held}
 use Rattle.engine_store.specs.Fetches.{CallsBy, CauseSince, CausedSince, ReachesOrNot}
 use Rattle.engine_store.proofs.Fetching.{rose_since}
-use Rattle.engine_store.proofs.Going.{shelf_kept}
 
 -- nothing was kept from a call that waits for a leaf
 pub under_none : (kept : KeptBy) (e : Engine) (w now : World) (session leaf : ℕ) (asked : Call) → IsUnderWay kept w session asked now → Stands e now → waits_in e session ≡ Some leaf → IsUnderWay None w session asked now
@@ -61,11 +60,6 @@ module _ {D : Type 0} (g : Ghosts D) where
   pub calls_stand : (first last : D) (called : Called) (e : Engine) (w : World) (session : ℕ) (asked : Call) → CallsBy g first last called e w session asked → (v : World) × Stands e v
   calls_stand first last (called.Ended answer) e w session asked (kept, caused, later, may, stands) = (later, stands)
   calls_stand first last (called.Waits leaf) e w session asked (now, under, stands) = (now, stands)
-
-  -- with the shelf of the first
-  pub calls_now : (first last : D) (called : Called) (e : Engine) (w : World) (session : ℕ) (asked : Call) → CallsBy g first last called e w session asked → (v : World) × Stands e v × (v.shelf ≡ w.shelf)
-  calls_now first last (called.Ended answer) e w session asked (kept, caused, later, may, stands) = (later, stands, shelf_kept kept (doing_of w session) w session asked answer later may)
-  calls_now first last (called.Waits leaf) e w session asked (now, under, stands) = (now, stands, ap (λ (v : World). v.shelf) under.moved_to)
 
   -- ---- a call begins
 

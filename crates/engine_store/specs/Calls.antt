@@ -1,5 +1,5 @@
 -- What the calls and steps of actors answer between two calls of the store, and what they leave.
-use Rattle.std.specs.Prelude.{◌≡◌, ◌≤◌, ◌⊎◌, ℕ, zero, suc, IsTrue, List, length, Some, Result, Ok, Err}
+use Rattle.std.specs.Prelude.{◌≡◌, ◌≤◌, ◌⊎◌, ℕ, zero, suc, IsTrue, List, length, Option, None, Some, Result, Ok, Err}
 use Rattle.failure.specs.Counts.{Rose}
 use Rattle.disk_model.specs.Crash.{Looked}
 use Rattle.disk_model.specs.declared.disk.Disk.{Ghosts}
@@ -12,11 +12,14 @@ use Rattle.kv_model.specs.Machine.{Completed}
 use Rattle.wt_calls.specs.declared.call.Call.{Call as AnyCall}
 use Rattle.wt_calls.specs.declared.call.Call.TheVariants as call
 use Rattle.wt_calls.specs.Calls.{session_call_in}
+use Rattle.tree_dir.specs.Leaves.{IsDirectory}
 use Rattle.call_steps.specs.declared.reply.Reply.{Reply}
 use Rattle.call_steps.specs.declared.reply.Reply.TheVariants as reply
+use Rattle.call_steps.specs.declared.hub.Hub.{Hub}
 use Rattle.engine_world.specs.Steps.{MayGo, MayKeepOut}
 use Rattle.engine_world.specs.Stands.{Engine}
 use Rattle.engine_world.specs.Worlds.{World}
+use Rattle.engine.specs.Directories.{HubGoesOn}
 use Rattle.engine.specs.Told.{answer_in}
 use Rattle.engine.specs.declared.step.Actor.{Actor}
 use Rattle.engine.specs.declared.step.Actor.TheVariants as actor
@@ -27,8 +30,8 @@ use Rattle.engine.specs.Whole.{KeptBy, MayAnswer, MayCallKept, with_session_more
 use Rattle.engine_store.specs.declared.store.Store.{Store}
 use Rattle.engine_store.specs.Devices.{Installed}
 use Rattle.engine_store.specs.Held.{IsHeld}
-use Rattle.engine_store.specs.Opened.{IsReady, IsWell}
-use Rattle.engine_store.specs.Loads.{IsCause, IsCaused}
+use Rattle.engine_store.specs.Opened.{IsReady}
+use Rattle.engine_store.specs.Loads.{IsCause, IsCaused, LeafSpoils}
 
 -- ---- steps, among which leaves are kept from calls
 
@@ -102,22 +105,41 @@ module _ {D : Type 0} (g : Ghosts D) (start_disk : D) (w : World) (first : Compl
 
 -- ---- which refusals only a device gives, whatever the disk
 
--- A refusal that may be told since a run began: a fault of the disk where its count rose, damage never of an honest disk, since an opening reads all, and want of room by no call of an actor.
-abbrev pub MayTell : {D : Type 0} → Ghosts D → D → D → Refusal → Type 0
-MayTell g start_disk disk DiskFault = Rose (g.faults start_disk) (g.faults disk)
-MayTell g start_disk disk (Corrupt at want found) = IsTrue (g.honest disk) → ⊥
-MayTell g start_disk disk NoSpace = ⊥
-MayTell g start_disk disk _ = Unit {0}
+-- What a read gave, and an engine's hub, at a moment of a run since which no call took a checkpoint.
+pub record Basis : Type 0 where
+  pub bytes : List ℕ
+  pub hub : Hub
 
-abbrev pub MayAnswerSo : {D : Type 0} → Ghosts D → D → D → Answer (List ℕ) → Type 0
-MayAnswerSo g start_disk disk answer = (r : Refusal) → answer ≡ answers.Refused r → MayTell g start_disk disk r
+-- this moment
+abbrev pub basis_of : {D : Type 0} → Ghosts D → Store → D → Basis
+basis_of g s disk = record { bytes = g.seen disk; hub = s.engine.hub }
 
-abbrev pub MayReplySo : {D : Type 0} → Ghosts D → D → D → Reply → Type 0
-MayReplySo g start_disk disk told = (answer : Answer (List ℕ)) → told ≡ reply.Answer answer → MayAnswerSo g start_disk disk answer
+-- a leaf of that engine was at fault
+abbrev pub SpoiltOn : Option Basis → (at want found : ℕ) → Type 0
+SpoiltOn None at want found = Unit {0}
+SpoiltOn (Some b) at want found = (id : ℕ) × LeafSpoils b.bytes b.hub.dir id at want found
+
+-- A refusal that may be told since a run began: a fault of the disk where its count rose, damage of an honest disk where a leaf of the basis is at fault, and want of room by no call of an actor. Without a basis nothing is said of damage.
+abbrev pub MayTell : {D : Type 0} → Ghosts D → Option Basis → D → D → Refusal → Type 0
+MayTell g basis start_disk disk DiskFault = Rose (g.faults start_disk) (g.faults disk)
+MayTell g basis start_disk disk (Corrupt at want found) = IsTrue (g.honest disk) → SpoiltOn basis at want found
+MayTell g basis start_disk disk NoSpace = ⊥
+MayTell g basis start_disk disk _ = Unit {0}
+
+abbrev pub MayAnswerSo : {D : Type 0} → Ghosts D → Option Basis → D → D → Answer (List ℕ) → Type 0
+MayAnswerSo g basis start_disk disk answer = (r : Refusal) → answer ≡ answers.Refused r → MayTell g basis start_disk disk r
+
+abbrev pub MayReplySo : {D : Type 0} → Ghosts D → Option Basis → D → D → Reply → Type 0
+MayReplySo g basis start_disk disk told = (answer : Answer (List ℕ)) → told ≡ reply.Answer answer → MayAnswerSo g basis start_disk disk answer
 
 -- each session's call keeps only such an answer
-abbrev pub AreToldSo : {D : Type 0} → Ghosts D → D → Engine → D → Type 0
-AreToldSo g start_disk e disk = (session : ℕ) → MayAnswerSo g start_disk disk (answer_in e session)
+abbrev pub AreToldSo : {D : Type 0} → Ghosts D → Option Basis → D → Engine → D → Type 0
+AreToldSo g basis start_disk e disk = (session : ℕ) → MayAnswerSo g basis start_disk disk (answer_in e session)
+
+-- An honest disk reads as then, and the hub went on, whose leaves were a directory.
+abbrev pub IsBasis : {D : Type 0} → Ghosts D → Option Basis → Engine → D → Type 0
+IsBasis g None e disk = Unit {0}
+IsBasis g (Some b) e disk = IsTrue (g.honest disk) → (g.seen disk ≡ b.bytes) × IsDirectory b.hub.dir × HubGoesOn b.hub e.hub
 
 -- ---- what each call of an actor keeps
 
@@ -125,14 +147,14 @@ AreToldSo g start_disk e disk = (session : ℕ) → MayAnswerSo g start_disk dis
 abbrev pub Holding : {D : Type 0} → Ghosts D → Store → D → (D → World → Completed → List Installed → Type 0) → Type 0
 Holding {D} g s before Goes = IsTrue (g.honest before) → (start : D) (w : World) (first : Completed) (made : List Installed) → IsHeld g start s before w first made → Goes start w first made
 
--- whatever the disk, since any earlier moment, what is told may be
-abbrev pub TellsSo : {D : Type 0} → Ghosts D → (s s' : Store) → (before after : D) → (D → Type 0) → Type 0
+-- Whatever the disk, since any earlier moment and on any basis, what is told may be, and the basis stays.
+abbrev pub TellsSo : {D : Type 0} → Ghosts D → (s s' : Store) → (before after : D) → (Option Basis → D → Type 0) → Type 0
 TellsSo {D} g s s' before after Told =
-    (start : D) → g.faults start ≤ g.faults before → (IsTrue (g.honest before) → IsWell g s before) → AreToldSo g start s.engine before → Told start × AreToldSo g start s'.engine after
+    (basis : Option Basis) (start : D) → g.faults start ≤ g.faults before → IsBasis g basis s.engine before → AreToldSo g basis start s.engine before
+    → Told basis start × AreToldSo g basis start s'.engine after × IsBasis g basis s'.engine after
 
 -- what holds of the store, and of its ground; the disk was looked at alone
 pub record CallKeeps {D : Type 0} (g : Ghosts D) (s s' : Store) (before after : D) : Type 0 where
-  pub well : IsTrue (g.honest before) → IsWell g s before → IsWell g s' after
   pub ready : IsReady s → IsReady s'
   pub ground : s'.ground ≡ s.ground
   pub looked : Looked g before after
@@ -140,4 +162,4 @@ pub record CallKeeps {D : Type 0} (g : Ghosts D) (s s' : Store) (before after : 
 
 -- a checkpoint, a close and an opening anew keep of each session's call only what may be told
 abbrev pub StaysTold : {D : Type 0} → Ghosts D → (s s' : Store) → (before after : D) → Type 0
-StaysTold {D} g s s' before after = (start : D) → g.faults start ≤ g.faults before → AreToldSo g start s.engine before → AreToldSo g start s'.engine after
+StaysTold {D} g s s' before after = (start : D) → g.faults start ≤ g.faults before → AreToldSo g None start s.engine before → AreToldSo g None start s'.engine after

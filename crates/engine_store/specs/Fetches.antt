@@ -18,7 +18,7 @@ use Rattle.engine.specs.Whole.{IsUnderWay, KeptBy, MayCallKept}
 use Rattle.ckpt_step.specs.Floors.{Follows}
 use Rattle.ckpt_step.specs.Grounds.{StandsOn}
 use Rattle.engine_store.specs.declared.store.Store.{Store}
-use Rattle.engine_store.specs.Calls.{EndsIn, GoesOrKept, MayAnswerSo}
+use Rattle.engine_store.specs.Calls.{Basis, EndsIn, GoesOrKept, MayAnswerSo}
 use Rattle.engine_store.specs.Loads.{IsCause, IsCaused}
 
 -- While the engine is up, the ground is that of the disk's checkpoint, and follows this world: its shelf has the leaves that are in no frame.
@@ -82,13 +82,9 @@ StepsBy g first disk (called.Waits leaf) e w session = (n : ℕ) × (last : Worl
 -- ---- what is told
 
 -- where it has an answer, that may be told
-abbrev pub CalledSo : {D : Type 0} → Ghosts D → D → D → Called → Type 0
-CalledSo g start_disk disk (called.Ended answer) = MayAnswerSo g start_disk disk answer
-CalledSo g start_disk disk (called.Waits leaf) = Unit {0}
-
--- on an honest disk the store is backed, by some world
-abbrev pub IsSomehowReached : {D : Type 0} → Ghosts D → Store → D → Type 0
-IsSomehowReached g s disk = (w : World) × (now : World) × IsReached g s disk w now
+abbrev pub CalledSo : {D : Type 0} → Ghosts D → Option Basis → D → D → Called → Type 0
+CalledSo g basis start_disk disk (called.Ended answer) = MayAnswerSo g basis start_disk disk answer
+CalledSo g basis start_disk disk (called.Waits leaf) = Unit {0}
 
 -- ---- how many steps are left at most
 

@@ -1,19 +1,13 @@
 -- What is made of a survey, step by step.
-use Rattle.std.specs.Prelude.{◌≡◌, ◌⊎◌, ℕ, ◌+◌, ◌^◌, ◌≤◌, ◌++◌, ◌∷◌, IsTrue, List, [], Option, length}
-use Rattle.limits.specs.declared.TheConstants.{TABLES_MAX}
+use Rattle.std.specs.Prelude.{◌≡◌, ◌⊎◌, ℕ, ◌≤◌, IsTrue, List, [], Option}
 use Rattle.failure.specs.Counts.{Rose}
 use Rattle.disk_model.specs.declared.disk.Disk.{Ghosts}
-use Rattle.kv_model.specs.Holds.{Member}
 use Rattle.wt_code.specs.declared.refusals.Refusal.{Refusal}
 use Rattle.wt_code.specs.declared.refusals.Refusal.TheVariants.{NoMemory, Limit as Refusal_Limit}
 use Rattle.wt_code.specs.declared.refusals.Limit.TheVariants.{Checkpoints, Tables}
 use Rattle.row_page.specs.Greatest.{no_name}
 use Rattle.row_page.specs.Rows.{Row}
-use Rattle.stored.specs.Records.{Record}
-use Rattle.stored.specs.TableTree.{Entry, first_key}
-use Rattle.tree_open.specs.declared.place.Upper.{Upper}
 use Rattle.tree_open.specs.Damage.{Refused}
-use Rattle.recover_open.specs.Damage.{EntrySpoils}
 use Rattle.stored.specs.Stored.{Stored}
 use Rattle.device_leaf.specs.Closings.{content_was}
 use Rattle.device_leaf.specs.Openings.{Serves, last_number}
@@ -28,7 +22,8 @@ use Rattle.ckpt_step.specs.Grounds.{AreRoots, AreWritten, found_in, number_of}
 use Rattle.ckpt_step.specs.Rooms.{known_in}
 use Rattle.engine_store.specs.declared.store.Store.{Store}
 use Rattle.engine_store.specs.Marked.{AreAway}
-use Rattle.engine_store.specs.Opened.{HasNumbers}
+use Rattle.engine_store.specs.Loads.{LeafOfSpoils}
+use Rattle.engine_store.specs.Opened.{HasNumbers, LacksNumbers}
 
 -- The ground is that of this checkpoint, or of none, on a device that was not synced since; no leaf was written.
 pub record IsGroundOf (bytes : List ℕ) (hub : Hub) (g : Ground) (old : Option Stored) : Type 0 where
@@ -49,20 +44,6 @@ pub record IsFound (bytes : List ℕ) (s : Store) : Type 0 where
   pub world : Stands s.engine (first_world (content_was old) shelf s.engine)
   pub follows : Follows old s.engine.hub s.ground (first_world (content_was old) shelf s.engine)
   pub away : AreAway s.engine.hub.dir.leaves (known_in s.ground.parts)
-
--- the next number leaves none for as many tables as an engine may have
-abbrev pub LacksNumbers : Record → Type 0
-LacksNumbers r = 2 ^ 32 + length r.tables ≤ r.next_table + TABLES_MAX
-
--- a leaf to which an entry leads that was surveyed is at fault
-pub record LeafOfSpoils (bytes : List ℕ) (uppers : List Upper) (at want found : ℕ) : Type 0 where
-  pub upper : Upper
-  pub among : Member upper uppers
-  pub front : List Entry
-  pub entry : Entry
-  pub others : List Entry
-  pub is : upper.entries.items ≡ front ++ entry ∷ others
-  pub spoils : EntrySpoils bytes entry (first_key others) at want found
 
 -- why no engine begins on what was surveyed
 abbrev pub RefusesBegin : {D : Type 0} → Ghosts D → Above → D → D → Refusal → Type 0

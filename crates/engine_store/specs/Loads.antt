@@ -1,13 +1,16 @@
 -- What a leaf of the directory is on a device, and why it is not read.
-use Rattle.std.specs.Prelude.{◌≡◌, ◌⊎◌, ℕ, true, false, IsTrue, List, [], Option, Some, option_map}
+use Rattle.std.specs.Prelude.{◌≡◌, ◌⊎◌, ◌++◌, ◌∷◌, ℕ, true, false, IsTrue, List, [], Option, Some, option_map}
 use Rattle.failure.specs.Counts.{Rose}
 use Rattle.failure.specs.declared.Fault.{Fault}
 use Rattle.disk_model.specs.declared.disk.Disk.{Ghosts}
 use Rattle.wt_code.specs.declared.refusals.Refusal.{Refusal}
 use Rattle.wt_code.specs.declared.refusals.Refusal.TheVariants.{DiskFault, NoMemory, Panic}
+use Rattle.kv_model.specs.Holds.{Member}
 use Rattle.row_page.specs.Rows.{Row}
+use Rattle.stored.specs.TableTree.{Entry, first_key}
 use Rattle.leaf_rows.specs.declared.marks.Marks.{Marks}
 use Rattle.leaf_frame.specs.Leaf.{HeldLeaf}
+use Rattle.tree_open.specs.declared.place.Upper.{Upper}
 use Rattle.tree_open.specs.Damage.{Refused}
 use Rattle.recover_open.specs.Damage.{EntrySpoils}
 use Rattle.recover_open.specs.Leaves.{IsUnder}
@@ -39,6 +42,16 @@ pub record LeafSpoils (bytes : List ℕ) (dir : Directory) (id at want found : �
   pub leaf : Leaf
   pub there : leaf_named id dir.leaves ≡ Some leaf
   pub spoils : EntrySpoils bytes leaf.entry (low_behind id dir.leaves) at want found
+
+-- a leaf to which an entry leads that was surveyed is at fault
+pub record LeafOfSpoils (bytes : List ℕ) (uppers : List Upper) (at want found : ℕ) : Type 0 where
+  pub upper : Upper
+  pub among : Member upper uppers
+  pub front : List Entry
+  pub entry : Entry
+  pub others : List Entry
+  pub is : upper.entries.items ≡ front ++ entry ∷ others
+  pub spoils : EntrySpoils bytes entry (first_key others) at want found
 
 -- why a leaf is not read: a fault of the disk, want of memory, or damage of its block
 abbrev pub RefusesLeaf : {D : Type 0} → Ghosts D → Directory → ℕ → D → D → Refusal → Type 0

@@ -4,22 +4,30 @@ use Rattle.limits.specs.declared.TheConstants.{TABLES_MAX}
 use Rattle.failure.specs.Counts.{Rose}
 use Rattle.disk_model.specs.declared.disk.Disk.{Ghosts}
 use Rattle.wt_code.specs.declared.refusals.Refusal.{Refusal}
-use Rattle.wt_code.specs.declared.refusals.Refusal.TheVariants.{Limit as Refusal_Limit}
+use Rattle.wt_code.specs.declared.refusals.Refusal.TheVariants.{Corrupt, Limit as Refusal_Limit}
 use Rattle.wt_code.specs.declared.refusals.Limit.TheVariants.{Tables}
 use Rattle.row_page.specs.Greatest.{no_name}
 use Rattle.engine_world.specs.Stands.{Stands}
 use Rattle.engine_world.specs.Systems.{first_world}
 use Rattle.row_page.specs.Rows.{Row}
-use Rattle.stored.specs.Stored.{Stored, IsOn}
+use Rattle.stored.specs.Records.{Record}
+use Rattle.stored.specs.Stored.{Stored, IsOn, IsBlank}
+use Rattle.recover_open.specs.declared.surveying.Above.{Above}
+use Rattle.recover_open.specs.Damage.{IsDamage}
 use Rattle.recover_open.specs.Recoveries.{RecoveryRefused}
+use Rattle.recover_open.specs.Surveys.{CanSurvey, Surveys}
+use Rattle.device_leaf.specs.declared.place.Place.{Place}
 use Rattle.device_leaf.specs.Openings.{last_number}
 use Rattle.device_leaf.specs.Closings.{content_was}
-use Rattle.engine_world.specs.Worlds.{World}
+use Rattle.tree_dir.specs.Leaves.{IsDirectory}
+use Rattle.call_steps.specs.declared.hub.Hub.{Hub}
+use Rattle.engine.specs.Directories.{HubGoesOn}
 use Rattle.ckpt_step.specs.Floors.{Follows}
-use Rattle.ckpt_step.specs.Grounds.{IsSteady, StandsOn}
+use Rattle.ckpt_step.specs.Grounds.{StandsOn}
 use Rattle.ckpt_step.specs.Trees.{AreLow}
 use Rattle.ckpt_step.specs.Rooms.{known_in}
 use Rattle.engine_store.specs.declared.store.Store.{Store}
+use Rattle.engine_store.specs.Loads.{LeafOfSpoils, LeafSpoils}
 use Rattle.engine_store.specs.Marked.{AreAway}
 
 -- whatever the disk: another checkpoint by the engine's run may follow, and each tree is that of a table, with as many levels as a record can tell
@@ -44,18 +52,39 @@ pub record IsOpened (seen : List ℕ) (images : List ℕ → Type 0) (s : Store)
   pub follows : Follows old s.engine.hub s.ground (first_world (content_was old) shelf s.engine)
   pub away : AreAway s.engine.hub.dir.leaves (known_in s.ground.parts)
 
--- on an honest disk the engine stands for a world in which no checkpoint runs, and is steady
-pub record IsWell {D : Type 0} (g : Ghosts D) (s : Store) (disk : D) : Type 0 where
-  pub world : World
-  pub stands : Stands s.engine world
-  pub idle : world.machine.checkpoint ≡ None
-  pub steady : IsSteady g s.engine s.ground disk
+-- whatever the disk, a hub from which calls go on
+abbrev pub IsOutset : Hub → Type 0
+IsOutset h = IsDirectory h.dir × HubGoesOn h h
 
--- Why an opening is refused: as a recovery is, or since the record's next number leaves none for as many tables as an engine may have.
+-- the next number leaves none for as many tables as an engine may have
+abbrev pub LacksNumbers : Record → Type 0
+LacksNumbers r = 2 ^ 32 + length r.tables ≤ r.next_table + TABLES_MAX
+
+-- it has a checkpoint but for its leaves, or none was completed
+abbrev pub IsSurveyable : List ℕ → Type 0
+IsSurveyable bytes = IsBlank bytes ⊎ CanSurvey bytes
+
+-- a leaf to which the device's checkpoint leads is at fault
+pub record HasSpoiltLeaf (bytes : List ℕ) (at want found : ℕ) : Type 0 where
+  pub place : Place
+  pub above : Above
+  pub surveyed : Surveys bytes place above
+  pub leaf : LeafOfSpoils bytes above.uppers.items at want found
+
+-- the device is damaged there, or a leaf to which its checkpoint leads is at fault
+abbrev pub IsAtFault : List ℕ → (at want found : ℕ) → Type 0
+IsAtFault bytes at want found = IsDamage bytes at want found ⊎ HasSpoiltLeaf bytes at want found
+
+-- each leaf of the engine that is at fault is such a one
+abbrev pub SpoilsAreThere : List ℕ → Store → Type 0
+SpoilsAreThere bytes s = (id at want found : ℕ) → LeafSpoils bytes s.engine.hub.dir id at want found → HasSpoiltLeaf bytes at want found
+
+-- Why an opening is refused: as a survey is, since no run may follow the record's, since its next number leaves none for as many tables as an engine may have, or since a leaf of which it may take something out is at fault.
 abbrev pub OpenRefused : (fault known : Type 0) → List ℕ → Refusal → Type 0
 OpenRefused fault known bytes r =
     RecoveryRefused fault known bytes r
-    ⊎ ((r ≡ Refusal_Limit Tables) × (known → (s : Stored) × IsOn bytes s × (2 ^ 32 + length s.kept.tables ≤ s.kept.next_table + TABLES_MAX)))
+    ⊎ (((r ≡ Refusal_Limit Tables) × (known → (s : Stored) → IsOn bytes s → LacksNumbers s.kept) × (known → IsBlank bytes → ⊥))
+    ⊎ ((at : ℕ) × (want : ℕ) × (found : ℕ) × (r ≡ Corrupt at want found) × (known → HasSpoiltLeaf bytes at want found)))
 
 -- the same of a disk, before and after
 abbrev pub RefusesOpen : {D : Type 0} → Ghosts D → (known : Type 0) → D → D → Refusal → Type 0

@@ -8,8 +8,8 @@ ghost use Rattle.stored.specs.Stored.{Reads};
 ghost use Rattle.device_leaf.specs.Openings.{last_number};
 ghost use Rattle.recover_open.specs.Bare.{marks_of};
 ghost use Rattle.recover_open.specs.Surveys.{AboveInForm, Surveys};
-ghost use Rattle.engine_store.specs.Found.{IsFound, LacksNumbers, RefusesBegin};
-ghost use Rattle.engine_store.specs.Opened.{IsReady};
+ghost use Rattle.engine_store.specs.Found.{IsFound, RefusesBegin};
+ghost use Rattle.engine_store.specs.Opened.{IsOutset, IsReady, LacksNumbers, SpoilsAreThere};
 
 use crate::by_place::trees_by_place;
 use crate::marked::bring_marked;
@@ -40,6 +40,8 @@ pub(crate) fn store_above<D: Disk>(
 ) -> Result<Store, Refusal>
     requires { AboveInForm above }
     ensures found { IsTrue (D.honest disk.old) → Surveys (D.seen disk.old) place above → (content : Content) → Reads (D.seen disk.old) content → IfOk result (IsFound (D.seen disk.old)) }
+    ensures spoils { IsTrue (D.honest disk.old) → Surveys (D.seen disk.old) place above → IfOk result (SpoilsAreThere (D.seen disk.old)) }
+    ensures outset { IfOk result (λ s. IsOutset s.engine.hub) }
     ensures ready { IfOk result IsReady }
     ensures sessions { IfOk result (λ s. length s.engine.sessions ≡ 0) }
     ensures err { IfErr result (RefusesBegin D.Disk above disk.old disk.new) }
@@ -63,16 +65,20 @@ pub(crate) fn store_above<D: Disk>(
     let tables = with_entries(alloc, tables, uppers)?;
     let mut engine = start(alloc, marks, next_table, tables)?;
     match bring_marked(alloc, disk, &mut engine, marks, &ids) {
-        Ok(()) => Ok(Store {
-            engine,
-            ground: Ground {
-                place,
-                number,
-                trees,
-                parts: Parts::new(alloc),
-                floor: Name { run: 0, id: 0 },
-            },
-        }),
+        Ok(()) => {
+            // What holds of the leaves of every engine holds of these.
+            engine.leaves();
+            Ok(Store {
+                engine,
+                ground: Ground {
+                    place,
+                    number,
+                    trees,
+                    parts: Parts::new(alloc),
+                    floor: Name { run: 0, id: 0 },
+                },
+            })
+        }
         Err(refusal) => Err(refusal),
     }
 }

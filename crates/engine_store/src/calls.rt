@@ -1,6 +1,6 @@
 //! The calls of actors, whose leaves come from the device.
 
-ghost use Rattle.std.specs.Prelude.{◌≡◌, ◌≢◌, ◌⊎◌, ◌<◌, ◌≤◌, ◌+◌, ℕ, List, None, Some, length, IfErr, IfOk, OnErr, OnOk, IsTrue};
+ghost use Rattle.std.specs.Prelude.{◌≡◌, ◌≢◌, ◌⊎◌, ◌<◌, ◌≤◌, ◌+◌, ℕ, List, Option, None, Some, length, IfErr, IfOk, OnErr, OnOk, IsTrue};
 ghost use Rattle.limits.specs.declared.TheConstants.{SESSIONS_MAX};
 ghost use Rattle.wt_calls.specs.Calls.{session_call_in};
 ghost use Rattle.disk_model.specs.Crash.{Looked};
@@ -14,8 +14,8 @@ ghost use Rattle.engine.specs.Runs.{IsBuilt, StepFits};
 ghost use Rattle.engine.specs.Waits.{IsAway, WaitsAs, awaited_by, turns_in, waits_in};
 ghost use Rattle.engine.specs.Whole.{Ends, IsUnderWay};
 ghost use Rattle.engine.specs.declared.called.Called.TheVariants as reached;
-ghost use Rattle.engine_store.specs.Calls.{AreToldSo, CallKeeps, Called as CalledAs, Finished, Holding, Made, MayAnswerSo, MayOpen, MayReplySo, MayTell, StaysTold, Stepped, TellsSo};
-ghost use Rattle.engine_store.specs.Fetches.{CalledSo, CallsBy, CauseSince, ComesOrNot, IsBacked, IsReached, IsSomehowReached, ReachesOrNot, ReadiesOrNot, StepsBy, rounds_left, session_in};
+ghost use Rattle.engine_store.specs.Calls.{AreToldSo, Basis as ABasis, CallKeeps, Called as CalledAs, Finished, Holding, IsBasis, Made, MayAnswerSo, MayOpen, MayReplySo, MayTell, Stepped, TellsSo};
+ghost use Rattle.engine_store.specs.Fetches.{CalledSo, CallsBy, CauseSince, ComesOrNot, IsBacked, IsReached, ReachesOrNot, ReadiesOrNot, StepsBy, rounds_left, session_in};
 
 use crate::loading::bring;
 use crate::store::Store;
@@ -36,7 +36,7 @@ impl Store {
         ensures refused { IfErr result (λ r. (r ≡ Refusal.NoMemory) ⊎ ((r ≡ Refusal.Limit Limit.Sessions) × (SESSIONS_MAX ≤ length self.old.engine.sessions))) }
         ensures same { OnErr result (self.new ≡ self.old) }
         ensures more { IfOk result (λ number. length self.new.engine.sessions ≡ length self.old.engine.sessions + 1) }
-        ensures told { (disk : D) → StaysTold D.Disk self.old self.new disk disk }
+        ensures told { (disk : D) → TellsSo D.Disk self.old self.new disk disk (λ basis start. Unit {0}) }
         ensures keeps { (disk : D) → CallKeeps D.Disk self.old self.new disk disk }
     {
         // What holds of every engine holds of this one.
@@ -55,7 +55,7 @@ impl Store {
         requires there { number < 4 }
         requires built { IsBuilt call }
         ensures called { (disk : D) → Holding D.Disk self.old disk (λ start w first made. Made D.Disk start w first made self.old self.new disk disk (Call.System number call) result) }
-        ensures told { (disk : D) → TellsSo D.Disk self.old self.new disk disk (λ start. MayAnswerSo D.Disk start disk result) }
+        ensures told { (disk : D) → TellsSo D.Disk self.old self.new disk disk (λ basis start. MayAnswerSo D.Disk basis start disk result) }
         ensures keeps { (disk : D) → CallKeeps D.Disk self.old self.new disk disk }
         ensures sessions { length self.new.engine.sessions ≡ length self.old.engine.sessions }
     {
@@ -67,6 +67,7 @@ impl Store {
     /// A whole call of a session. A leaf that it needs and that is in no frame is read from the device,
     /// once: where that fails, or memory is short, that is the answer, and nothing but an id that was
     /// drawn is changed. The cost of the call (`engine::Local::call`), and of a read for such a leaf.
+    #[inline(always)]
     pub fn call<D: Disk>(
         &mut self,
         alloc: Global,
@@ -76,7 +77,7 @@ impl Store {
     ) -> Answer<Item>
         requires { session < length self.old.engine.sessions }
         ensures called { Holding D.Disk self.old disk.old (λ start w first made. CalledAs D.Disk start w first made self.old self.new disk.old disk.new session (session_call_in call) result) }
-        ensures told { TellsSo D.Disk self.old self.new disk.old disk.new (λ start. MayAnswerSo D.Disk start disk.new result) }
+        ensures told { TellsSo D.Disk self.old self.new disk.old disk.new (λ basis start. MayAnswerSo D.Disk basis start disk.new result) }
         ensures keeps { CallKeeps D.Disk self.old self.new disk.old disk.new }
         ensures sessions { length self.new.engine.sessions ≡ length self.old.engine.sessions }
     {
@@ -87,6 +88,7 @@ impl Store {
     }
 
     /// A whole get, as `call` with `SessionCall::Get`, of bytes that are lent.
+    #[inline(always)]
     pub fn get<D: Disk>(
         &mut self,
         alloc: Global,
@@ -97,7 +99,7 @@ impl Store {
     ) -> Answer<Item>
         requires { session < length self.old.engine.sessions }
         ensures called { Holding D.Disk self.old disk.old (λ start w first made. CalledAs D.Disk start w first made self.old self.new disk.old disk.new session (session_call_in (SessionCall.Get table.now key.now)) result) }
-        ensures told { TellsSo D.Disk self.old self.new disk.old disk.new (λ start. MayAnswerSo D.Disk start disk.new result) }
+        ensures told { TellsSo D.Disk self.old self.new disk.old disk.new (λ basis start. MayAnswerSo D.Disk basis start disk.new result) }
         ensures keeps { CallKeeps D.Disk self.old self.new disk.old disk.new }
         ensures sessions { length self.new.engine.sessions ≡ length self.old.engine.sessions }
     {
@@ -108,6 +110,7 @@ impl Store {
     }
 
     /// A whole put, as `call` with `SessionCall::Put`, of bytes that are lent.
+    #[inline(always)]
     pub fn put<D: Disk>(
         &mut self,
         alloc: Global,
@@ -120,7 +123,7 @@ impl Store {
     ) -> Answer<Item>
         requires { session < length self.old.engine.sessions }
         ensures called { Holding D.Disk self.old disk.old (λ start w first made. CalledAs D.Disk start w first made self.old self.new disk.old disk.new session (session_call_in (SessionCall.Put table.now key.now value.now demand)) result) }
-        ensures told { TellsSo D.Disk self.old self.new disk.old disk.new (λ start. MayAnswerSo D.Disk start disk.new result) }
+        ensures told { TellsSo D.Disk self.old self.new disk.old disk.new (λ basis start. MayAnswerSo D.Disk basis start disk.new result) }
         ensures keeps { CallKeeps D.Disk self.old self.new disk.old disk.new }
         ensures sessions { length self.new.engine.sessions ≡ length self.old.engine.sessions }
     {
@@ -135,7 +138,7 @@ impl Store {
     pub fn step<D: Disk>(&mut self, alloc: Global, disk: &mut D, step: Step) -> Reply
         requires { StepFits self.old.engine step }
         ensures stepped { Holding D.Disk self.old disk.old (λ start w first made. Stepped D.Disk start w first made self.old self.new disk.old disk.new step result) }
-        ensures told { TellsSo D.Disk self.old self.new disk.old disk.new (λ start. MayReplySo D.Disk start disk.new result) }
+        ensures told { TellsSo D.Disk self.old self.new disk.old disk.new (λ basis start. MayReplySo D.Disk basis start disk.new result) }
         ensures keeps { CallKeeps D.Disk self.old self.new disk.old disk.new }
         ensures sessions { length self.new.engine.sessions ≡ length self.old.engine.sessions }
     {
@@ -151,7 +154,7 @@ impl Store {
     pub fn finish<D: Disk>(&mut self, alloc: Global, disk: &mut D, actor: Actor) -> Answer<Item>
         requires { StepFits self.old.engine (Step.Go actor) }
         ensures finished { Holding D.Disk self.old disk.old (λ start w first made. Finished D.Disk start w first made self.old self.new disk.old disk.new actor result) }
-        ensures told { TellsSo D.Disk self.old self.new disk.old disk.new (λ start. MayAnswerSo D.Disk start disk.new result) }
+        ensures told { TellsSo D.Disk self.old self.new disk.old disk.new (λ basis start. MayAnswerSo D.Disk basis start disk.new result) }
         ensures keeps { CallKeeps D.Disk self.old self.new disk.old disk.new }
         ensures sessions { length self.new.engine.sessions ≡ length self.old.engine.sessions }
     {
@@ -167,6 +170,7 @@ impl Store {
     }
 
     // A call that has come so far goes on to its end, leaf after leaf. Each round leaves it fewer steps.
+    #[inline(always)]
     fn end<D: Disk>(
         &mut self,
         alloc: Global,
@@ -180,8 +184,8 @@ impl Store {
             → CallsBy D.Disk disk.old disk.old called self.old.engine w session asked → CallsBy D.Disk disk.old disk.new (reached.Ended result) self.new.engine w session asked }
         ensures steps { IsTrue (D.honest disk.old) → (w : World) → self.old.engine.hub.fault ≡ w.machine.fault → IsBacked D.Disk self.old disk.old w
             → StepsBy D.Disk disk.old disk.old called self.old.engine w session → StepsBy D.Disk disk.old disk.new (reached.Ended result) self.new.engine w session }
-        ensures told { (start : D) → D.faults start ≤ D.faults disk.old → (IsTrue (D.honest disk.old) → IsSomehowReached D.Disk self.old disk.old) → CalledSo D.Disk start disk.old called → AreToldSo D.Disk start self.old.engine disk.old
-            → MayAnswerSo D.Disk start disk.new result × AreToldSo D.Disk start self.new.engine disk.new }
+        ensures told { (basis : Option ABasis) (start : D) → D.faults start ≤ D.faults disk.old → IsBasis D.Disk basis self.old.engine disk.old → CalledSo D.Disk basis start disk.old called → AreToldSo D.Disk basis start self.old.engine disk.old
+            → MayAnswerSo D.Disk basis start disk.new result × AreToldSo D.Disk basis start self.new.engine disk.new }
         ensures goes { (h : AHub) → HubGoesOn h self.old.engine.hub → HubGoesOn h self.new.engine.hub }
         ensures fault { self.new.engine.hub.fault ≡ self.old.engine.hub.fault }
         ensures ground { self.new.ground ≡ self.old.ground }
@@ -199,6 +203,7 @@ impl Store {
     }
 
     // A call that waits for a leaf has it, or is kept out, and goes on up to its answer or to another leaf.
+    #[inline(never)]
     fn go_on<D: Disk>(&mut self, alloc: Global, disk: &mut D, session: u32, leaf: u64) -> Called
         requires there { session < length self.old.engine.sessions }
         requires waits { waits_in self.old.engine session ≡ Some leaf }
@@ -206,8 +211,8 @@ impl Store {
             → CallsBy D.Disk disk.old disk.new result self.new.engine w session asked }
         ensures steps { IsTrue (D.honest disk.old) → (w now : World) → IsReached D.Disk self.old disk.old w now
             → (middle : World) × ((middle ≡ now) ⊎ ((r : Refusal) × CauseSince D.Disk disk.old disk.new w r × MayKeepOut now session r middle)) × Ends result self.new.engine middle session }
-        ensures told { (start : D) → D.faults start ≤ D.faults disk.old → (IsTrue (D.honest disk.old) → IsSomehowReached D.Disk self.old disk.old) → AreToldSo D.Disk start self.old.engine disk.old
-            → CalledSo D.Disk start disk.new result × AreToldSo D.Disk start self.new.engine disk.new }
+        ensures told { (basis : Option ABasis) (start : D) → D.faults start ≤ D.faults disk.old → IsBasis D.Disk basis self.old.engine disk.old → AreToldSo D.Disk basis start self.old.engine disk.old
+            → CalledSo D.Disk basis start disk.new result × AreToldSo D.Disk basis start self.new.engine disk.new }
         ensures waits { WaitsAs result self.new.engine session }
         ensures fewer { rounds_left result self.new.engine session < turns_in self.old.engine session + 1 }
         ensures goes { HubGoesOn self.old.engine.hub self.new.engine.hub }
@@ -230,7 +235,7 @@ impl Store {
     ) -> Result<(), Refusal>
         requires fits { StepFits self.old.engine step.now }
         ensures steps { IsTrue (D.honest disk.old) → (w now : World) → IsReached D.Disk self.old disk.old w now → ReadiesOrNot (CauseSince D.Disk disk.old disk.new w) self.new.engine now step.now result }
-        ensures told { (start : D) → D.faults start ≤ D.faults disk.old → (IsTrue (D.honest disk.old) → IsSomehowReached D.Disk self.old disk.old) → AreToldSo D.Disk start self.old.engine disk.old → AreToldSo D.Disk start self.new.engine disk.new }
+        ensures told { (basis : Option ABasis) (start : D) → D.faults start ≤ D.faults disk.old → IsBasis D.Disk basis self.old.engine disk.old → AreToldSo D.Disk basis start self.old.engine disk.old → AreToldSo D.Disk basis start self.new.engine disk.new }
         ensures ready { OnOk result (awaited_by self.new.engine step.now ≡ None) }
         ensures fits { StepFits self.new.engine step.now }
         ensures then { OnOk result ((next : AHub) → HubGoesOn self.new.engine.hub next → HubGoesOn self.old.engine.hub next) }
@@ -262,7 +267,7 @@ impl Store {
         ensures steps { IsTrue (D.honest disk.old) → (w now : World) → IsReached D.Disk self.old disk.old w now → ComesOrNot (CauseSince D.Disk disk.old disk.new w) self.new.engine now session result }
         ensures reaches { IsTrue (D.honest disk.old) → (w now : World) (asked : Asked) → session < length w.sessions → IsReached D.Disk self.old disk.old w now → IsUnderWay None w session asked now
             → ReachesOrNot (CauseSince D.Disk disk.old disk.new w) self.new.engine w session asked now result }
-        ensures told { (start : D) → D.faults start ≤ D.faults disk.old → (IsTrue (D.honest disk.old) → IsSomehowReached D.Disk self.old disk.old) → AreToldSo D.Disk start self.old.engine disk.old → AreToldSo D.Disk start self.new.engine disk.new }
+        ensures told { (basis : Option ABasis) (start : D) → D.faults start ≤ D.faults disk.old → IsBasis D.Disk basis self.old.engine disk.old → AreToldSo D.Disk basis start self.old.engine disk.old → AreToldSo D.Disk basis start self.new.engine disk.new }
         ensures ready { waits_in self.new.engine session ≡ None }
         ensures turns { turns_in self.new.engine session ≤ turns_in self.old.engine session }
         ensures goes { HubGoesOn self.old.engine.hub self.new.engine.hub }
@@ -285,7 +290,7 @@ impl Store {
         requires away { IsAway self.old.engine.hub.dir.leaves leaf }
         ensures stands { IsTrue (D.honest disk.old) → (w now : World) → IsReached D.Disk self.old disk.old w now → OnOk result (Stands self.new.engine now) }
         ensures cause { IsTrue (D.honest disk.old) → (w now : World) → IsReached D.Disk self.old disk.old w now → IfErr result (CauseSince D.Disk disk.old disk.new w) }
-        ensures told { (start : D) → D.faults start ≤ D.faults disk.old → (IsTrue (D.honest disk.old) → IsSomehowReached D.Disk self.old disk.old) → IfErr result (MayTell D.Disk start disk.new) }
+        ensures told { (basis : Option ABasis) (start : D) → D.faults start ≤ D.faults disk.old → IsBasis D.Disk basis self.old.engine disk.old → IfErr result (MayTell D.Disk basis start disk.new) }
         ensures found { IfErr result (λ r. r ≢ Refusal.NotFound) }
         ensures ready { (session : ℕ) → waits_in self.old.engine session ≡ Some leaf → OnOk result (waits_in self.new.engine session ≡ None) }
         ensures turns { (session : ℕ) → OnOk result (turns_in self.new.engine session ≡ turns_in self.old.engine session) }
@@ -296,6 +301,8 @@ impl Store {
         ensures looked { Looked D.Disk disk.old disk.new }
         ensures home { D.home disk.new ≡ D.home disk.old }
     {
+        // What holds of the leaves of every engine holds of these.
+        self.engine.leaves();
         if let Some(fault) = self.engine.fault() {
             return Err(Refusal::Panic { fault });
         }

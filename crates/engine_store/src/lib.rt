@@ -1,12 +1,13 @@
 //! An engine and its device, in one hand.
 //!
 //! Stands for an engine, and for the last completed checkpoint of its device. Promises that an
-//! opening makes an engine that stands for the machine which what the device holds begins with, and
-//! that a close rolls back each transaction and takes a checkpoint (`ckpt_step`). Where no commit had
-//! a stamp, a checkpoint, a close and an opening anew keep what holds between two calls (`IsHeld`):
-//! at each moment a crash leaves what opens to a checkpoint that was done, or was being installed
-//! since. So do the calls of actors, whose leaves are read from the device when they need them. Leaves
-//! to the caller to attach the disk.
+//! opening of a device that reads makes an engine that stands for the machine which what the device
+//! holds begins with, and that a close rolls back each transaction and takes a checkpoint
+//! (`ckpt_step`). Where no commit had a stamp, a checkpoint, a close and an opening anew keep what
+//! holds between two calls (`IsHeld`): at each moment a crash leaves what opens to a checkpoint that
+//! was done, or was being installed since. So do the calls of actors, whose leaves are read from the
+//! device when they need them. Of a device where a leaf is at fault it promises that damage is told
+//! of such a leaf alone, where a call needs it. Leaves to the caller to attach the disk.
 #![tactic(auto)]
 
 mod above;

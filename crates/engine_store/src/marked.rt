@@ -39,6 +39,7 @@ pub(crate) fn bring_marked<D: Disk>(
     requires owned { LeavesOwned engine.old.hub.tables.tables engine.old.hub.dir.leaves }
     ensures stands { IsTrue (D.honest disk.old) → (w : World) → Stands engine.old w → ((l : ALeaf) → Contains engine.old.hub.dir.leaves l → IsLeafKept (D.seen disk.old) engine.old.hub.dir marks ids.now w.shelf l) → OnOk result (Stands engine.new w) }
     ensures unmarked { OnOk result ((l : ALeaf) → Contains engine.new.hub.dir.leaves l → l.frame ≡ None → IsUnmarked marks l) }
+    ensures leaves { OnOk result (LeavesGoOn engine.old.hub.dir.leaves engine.new.hub.dir.leaves) }
     ensures goes { HubGoesOn engine.old.hub engine.new.hub }
     ensures sessions { engine.new.sessions ≡ engine.old.sessions }
     ensures err { IfErr result (RefusesSome D.Disk engine.old.hub.dir disk.old disk.new) }

@@ -1,9 +1,12 @@
 // How a device is opened.
-ghost use Rattle.std.specs.Prelude.{◌≡◌, ℕ, List, length, IfErr, IfOk, IsTrue};
+ghost use Rattle.std.specs.Prelude.{◌≡◌, ℕ, List, [], Some, length, IfErr, IfOk, OnOk, IsTrue};
 ghost use Rattle.disk_model.specs.Crash.{Looked};
+ghost use Rattle.kv_model.specs.Content.{Content};
+ghost use Rattle.stored.specs.Stored.{Reads};
 ghost use Rattle.recover_open.specs.Recoveries.{KeepsNone};
+ghost use Rattle.engine_store.specs.Calls.{IsBasis, basis_of};
 ghost use Rattle.engine_store.specs.Found.{IsFound};
-ghost use Rattle.engine_store.specs.Opened.{IsOpened, IsReady, RefusesOpen};
+ghost use Rattle.engine_store.specs.Opened.{IsOpened, IsOutset, IsReady, IsSurveyable, RefusesOpen, SpoilsAreThere};
 
 use crate::above::store_above;
 use crate::store::Store;
@@ -17,28 +20,27 @@ use recover_open::{Surveyed, survey};
 use stamp::Name;
 use std::alloc::Global;
 use tree_dir::Dir;
-use verify_dev::verify;
 use wt_code::Refusal;
 
-/// An engine on what a device holds, without a session. All of the device is read, so that damage is
-/// told here; of the leaves none is kept but those of which an opening may take something out: the
-/// others are read again when a call needs them. Nothing is written.
+/// An engine on what a device holds, without a session. The record and the inner pages are read, and
+/// of the leaves those alone of which an opening may take something out: any other is read when a call
+/// needs it, and damage of it told then. Nothing is written.
 ///
-/// Refused as `verify_dev::verify` says, as `75 limit checkpoints` where no run may follow that of the
-/// record, and as `75 limit tables` where its next number leaves none for as many tables as an engine
-/// may have. `O(bytes)`, and `O(n^2)` in the tables at most.
+/// Refused as `recover_open::survey` says, since such a leaf is at fault, as `75 limit checkpoints`
+/// where no run may follow that of the record, and as `75 limit tables` where its next number leaves
+/// none for as many tables as an engine may have. `O(bytes)` of what is read, `O(n)` in the leaves and
+/// blocks, and `O(n^2)` in the tables at most.
 pub fn open_on<D: Disk>(alloc: Global, disk: &mut D) -> Result<Store, Refusal>
-    ensures ok { IsTrue (D.honest disk.old) → IfOk result (IsOpened (D.seen disk.new) (D.may_leave disk.new)) }
+    ensures ok { IsTrue (D.honest disk.old) → (content : Content) → Reads (D.seen disk.old) content → IfOk result (IsOpened (D.seen disk.new) (D.may_leave disk.new)) }
+    ensures surveyed { IsTrue (D.honest disk.old) → OnOk result (IsSurveyable (D.seen disk.old)) }
+    ensures spoils { IsTrue (D.honest disk.old) → IfOk result (SpoilsAreThere (D.seen disk.old)) }
+    ensures basis { IfOk result (λ s. IsBasis D.Disk (Some (basis_of D.Disk s disk.new)) s.engine disk.new) }
     ensures ready { IfOk result IsReady }
     ensures sessions { IfOk result (λ s. length s.engine.sessions ≡ 0) }
     ensures err { IfErr result (RefusesOpen D.Disk (IsTrue (D.honest disk.old)) disk.old disk.new) }
     ensures looked { Looked D.Disk disk.old disk.new }
     ensures home { D.home disk.new ≡ D.home disk.old }
 {
-    match verify(alloc, disk) {
-        Ok(_) => {}
-        Err(refusal) => return Err(refusal),
-    }
     let Surveyed { place, above } = match survey(alloc, disk) {
         Ok(found) => found,
         Err(refusal) => return Err(refusal),
@@ -55,10 +57,14 @@ pub fn open_on<D: Disk>(alloc: Global, disk: &mut D) -> Result<Store, Refusal>
 // An engine on a device on which no checkpoint was completed.
 fn store_on_nothing(alloc: Global, place: Place) -> Result<Store, NoMemory>
     ensures found { (bytes : List ℕ) → KeepsNone bytes place → IfOk result (IsFound bytes) }
+    ensures bare { IfOk result (λ s. s.engine.hub.dir.leaves ≡ []) }
+    ensures outset { IfOk result (λ s. IsOutset s.engine.hub) }
     ensures ready { IfOk result IsReady }
     ensures sessions { IfOk result (λ s. length s.engine.sessions ≡ 0) }
 {
     let engine = Local::open(alloc, 1, 0, 0, Catalog::new(alloc), Dir::new(alloc))?;
+    // What holds of the leaves of every engine holds of these.
+    engine.leaves();
     Ok(Store {
         engine,
         ground: Ground {

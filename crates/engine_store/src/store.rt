@@ -3,7 +3,6 @@ ghost use Rattle.std.specs.Prelude.{◌≡◌, ℕ, List, Option, None, length, 
 ghost use Rattle.failure.specs.Counts.{Rose};
 ghost use Rattle.disk_model.specs.Crash.{SameDisk};
 ghost use Rattle.wt_code.specs.declared.refusals.Refusal.TheVariants.{Corrupt};
-ghost use Rattle.recover_open.specs.Damage.{IsDamage};
 ghost use Rattle.kv_model.specs.Machine.{Completed};
 ghost use Rattle.stored.specs.Stored.{Stored};
 ghost use Rattle.engine_world.specs.Stands.{Stands};
@@ -16,7 +15,7 @@ ghost use Rattle.engine_store.specs.Calls.{StaysTold};
 ghost use Rattle.engine_store.specs.Closes.{Closes};
 ghost use Rattle.engine_store.specs.Devices.{Installed};
 ghost use Rattle.engine_store.specs.Held.{Checkpoints, IsHeld, MayReopen, Shuts};
-ghost use Rattle.engine_store.specs.Opened.{IsReady, IsWell};
+ghost use Rattle.engine_store.specs.Opened.{IsAtFault, IsReady};
 
 use crate::opening::open_on;
 use ckpt_step::{Ground, checkpoint, checkpoints_open, plain_stays};
@@ -40,13 +39,11 @@ impl Store {
     /// device opens as the checkpoint that the machine takes.
     pub fn checkpoint<D: Disk>(&mut self, alloc: Global, disk: &mut D) -> Result<(), Refusal>
         requires ready { IsReady self.old }
-        requires well { IsTrue (D.honest disk.old) → IsWell D.Disk self.old disk.old }
         ensures takes { IsTrue (D.honest disk.old) → (first_disk : D) → (w : World) → (first : Completed) → (made : List Installed) → IsHeld D.Disk first_disk self.old disk.old w first made → IsPlain w.machine
             → Checkpoints D.Disk first_disk w first made self.old self.new disk.old disk.new result }
         ensures refusals { IfErr result IsOfCheckpoint }
         ensures fault { IfErr result (λ r. r ≡ Refusal.DiskFault → Rose (D.faults disk.old) (D.faults disk.new)) }
         ensures sessions { length self.new.engine.sessions ≡ length self.old.engine.sessions }
-        ensures well { IsTrue (D.honest disk.old) → IsWell D.Disk self.new disk.new }
         ensures ready { IsReady self.new }
         ensures told { StaysTold D.Disk self.old self.new disk.old disk.new }
         ensures disk { SameDisk D.Disk disk.old disk.new }
@@ -62,7 +59,6 @@ impl Store {
     /// is not finished; any other refusal comes after the transactions were rolled back.
     pub fn close<D: Disk>(&mut self, alloc: Global, disk: &mut D) -> Result<(), Refusal>
         requires ready { IsReady self.old }
-        requires well { IsTrue (D.honest disk.old) → IsWell D.Disk self.old disk.old }
         ensures closes { IsTrue (D.honest disk.old) → (w : World) → Stands self.old.engine w → w.machine.checkpoint ≡ None → (old : Option Stored) → StandsOn (D.seen disk.old) (D.may_leave disk.old) self.old.engine.hub self.old.ground old
             → Follows old self.old.engine.hub self.old.ground w → Closes D.Disk old w self.old self.new disk.old disk.new result }
         ensures shuts { IsTrue (D.honest disk.old) → (first_disk : D) → (w : World) → (first : Completed) → (made : List Installed) → IsHeld D.Disk first_disk self.old disk.old w first made → IsPlain w.machine
@@ -70,7 +66,6 @@ impl Store {
         ensures refusals { IfErr result IsOfCheckpoint }
         ensures fault { IfErr result (λ r. r ≡ Refusal.DiskFault → Rose (D.faults disk.old) (D.faults disk.new)) }
         ensures sessions { length self.new.engine.sessions ≡ length self.old.engine.sessions }
-        ensures well { IsTrue (D.honest disk.old) → IsWell D.Disk self.new disk.new }
         ensures ready { IsReady self.new }
         ensures told { StaysTold D.Disk self.old self.new disk.old disk.new }
         ensures disk { SameDisk D.Disk disk.old disk.new }
@@ -90,14 +85,12 @@ impl Store {
     /// refused, the store stays as it was.
     pub fn reopen<D: Disk>(&mut self, alloc: Global, disk: &mut D) -> Result<(), Refusal>
         requires ready { IsReady self.old }
-        requires well { IsTrue (D.honest disk.old) → IsWell D.Disk self.old disk.old }
         ensures opens { IsTrue (D.honest disk.old) → (first_disk : D) → (w : World) → (first : Completed) → (made : List Installed) → IsHeld D.Disk first_disk self.old disk.old w first made
             → MayReopen D.Disk first_disk w first made self.old self.new disk.old disk.new result }
         ensures same { OnErr result (self.new ≡ self.old) }
-        ensures damage { IfErr result (λ r. (at want found : ℕ) → r ≡ Corrupt at want found → IsTrue (D.honest disk.old) → IsDamage (D.seen disk.new) at want found) }
+        ensures damage { IfErr result (λ r. (at want found : ℕ) → r ≡ Corrupt at want found → IsTrue (D.honest disk.old) → IsAtFault (D.seen disk.new) at want found) }
         ensures fault { IfErr result (λ r. r ≡ Refusal.DiskFault → Rose (D.faults disk.old) (D.faults disk.new)) }
         ensures sessions { OnOk result (length self.new.engine.sessions ≡ 0) }
-        ensures well { IsTrue (D.honest disk.old) → IsWell D.Disk self.new disk.new }
         ensures ready { IsReady self.new }
         ensures told { StaysTold D.Disk self.old self.new disk.old disk.new }
         ensures disk { SameDisk D.Disk disk.old disk.new }

@@ -5,6 +5,7 @@ ghost use Rattle.ckpt_step.specs.Trees.{AreLow};
 mod checkpoints;
 mod closings;
 mod leaves;
+mod spoilt;
 
 use block_sum::sum;
 use disk_model::MemDisk;
@@ -79,7 +80,7 @@ fn put_sum(rt: &impl Abort, content: &mut [u8], block: usize, at: usize) {
     put(rt, content, at, &sum.to_le_bytes());
 }
 
-fn device(rt: &impl Abort, alloc: Global) -> MemDisk {
+fn content(rt: &impl Abort, alloc: Global) -> Vec<u8> {
     let mut content = Vec::new(alloc);
     content.resize(20_480, 0).expect(rt, "there is memory");
     put(rt, &mut content, 0, &SLOT);
@@ -89,6 +90,10 @@ fn device(rt: &impl Abort, alloc: Global) -> MemDisk {
     put_sum(rt, &mut content, 12_288, 8_331);
     put_sum(rt, &mut content, 16_384, 8_380);
     put_sum(rt, &mut content, 8_192, 32);
+    content
+}
+
+fn device(rt: &impl Abort, alloc: Global, content: Vec<u8>) -> MemDisk {
     let made = MemDisk::new(alloc, content, 1 << 20, Vec::new(alloc));
     made.expect(rt, "there is memory")
 }
@@ -137,7 +142,7 @@ fn offset_at(trees: &[TreePlace], place: usize) -> u64 {
 #[test]
 fn each_table_has_its_own_rows(rt: HostRuntime) {
     let alloc = rt.alloc();
-    let mut disk = device(&rt, alloc);
+    let mut disk = device(&rt, alloc, content(&rt, alloc));
     let mut store = open_on(alloc, &mut disk).expect(&rt, "there is memory");
     assert_eq!(rt; offset_at(&store.ground.trees, 0), 16_384);
     assert_eq!(rt; offset_at(&store.ground.trees, 1), 12_288);

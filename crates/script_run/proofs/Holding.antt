@@ -22,7 +22,8 @@ use Rattle.script_run.specs.declared.told.Told.{Told as LineTold}
 use Rattle.script_run.specs.declared.one_line.Printed.{Printed}
 use Rattle.script_run.specs.declared.one_line.Stop.{Stop}
 use Rattle.script_run.specs.declared.one_line.Stop.TheVariants as stop
-use Rattle.script_run.specs.Runs.{IsAt, IsFit, IsOfActor, IsReplied, IsTold, LineMade}
+use Rattle.engine_store.specs.Opened.{IsReady}
+use Rattle.script_run.specs.Runs.{IsAt, IsOfActor, IsReplied, IsTold, LineMade}
 use Rattle.script_run.specs.Scripts.{IsLater, Script, gives_stamp, listed, refusals_in}
 use Rattle.script_run.proofs.Calming.{CalmLaws, line_calm}
 
@@ -30,19 +31,18 @@ use Rattle.script_run.proofs.Calming.{CalmLaws, line_calm}
 
 module _ {D : Type 0} (g : Ghosts D) where
   pub keeps_none : (store : Store) (disk : D) → CallKeeps g store store disk disk
-  keeps_none store disk = record { well = λ honest well. well; ready = λ ready. ready; ground = refl; looked = looked_none g disk; home = refl }
+  keeps_none store disk = record { ready = λ ready. ready; ground = refl; looked = looked_none g disk; home = refl }
 
   pub keeps_then : (store middle store' : Store) (disk between disk' : D) → CallKeeps g store middle disk between → CallKeeps g middle store' between disk' → CallKeeps g store store' disk disk'
   keeps_then store middle store' disk between disk' a b = record {
-    well = λ honest well. b.well (a.looked.same ∙ honest) (a.well honest well);
     ready = λ ready. b.ready (a.ready ready);
     ground = b.ground ∙ a.ground;
     looked = looked_then g disk between disk' a.looked b.looked;
     home = b.home ∙ a.home;
   }
 
-  pub fit_kept : (store store' : Store) (disk disk' : D) → CallKeeps g store store' disk disk' → IsFit g store disk → IsFit g store' disk'
-  fit_kept store store' disk disk' keeps fit = record { ready = keeps.ready fit.ready; well = λ honest. let before = sym keeps.looked.same ∙ honest in keeps.well before (fit.well before) }
+  pub ready_kept : (store store' : Store) (disk disk' : D) → CallKeeps g store store' disk disk' → IsReady store → IsReady store'
+  ready_kept store store' disk disk' keeps ready = keeps.ready ready
 
 -- ---- a line of an actor
 

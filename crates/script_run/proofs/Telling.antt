@@ -14,10 +14,10 @@ use Rattle.call_steps.specs.declared.reply.Reply.TheVariants as tell
 use Rattle.script_text.specs.declared.replies.Reply.TheVariants.{Answered}
 use Rattle.engine_world.specs.Stands.{Engine}
 use Rattle.engine_store.specs.declared.store.Store.{Store}
-use Rattle.engine_store.specs.Calls.{AreToldSo, CallKeeps, MayAnswerSo, MayReplySo, StaysTold, TellsSo}
+use Rattle.engine_store.specs.Calls.{AreToldSo, MayAnswerSo, MayReplySo, StaysTold, TellsSo}
 use Rattle.script_run.specs.declared.told.Told.{Told}
 use Rattle.script_run.specs.Faults.{RepliesFault, TellsFaults}
-use Rattle.script_run.specs.Runs.{IsFit, IsNoSession, RepliesSo}
+use Rattle.script_run.specs.Runs.{IsNoSession, RepliesSo}
 use Rattle.script_run.specs.Scripts.{in_script}
 
 no-fault : (r : Refusal) → IsNoSession r → r ≡ DiskFault → ⊥
@@ -30,7 +30,7 @@ none_there [] i is = refl
 none_there (x ∷ xs) i is = absurd (omega (arith, is))
 
 module _ {D : Type 0} (g : Ghosts D) where
-  pub told_none : (e : Engine) (disk : D) → length e.sessions ≡ 0 → AreToldSo g disk e disk
+  pub told_none : (e : Engine) (disk : D) → length e.sessions ≡ 0 → AreToldSo g None disk e disk
   told_none e disk none session r is = absurd (other (subst (λ (o : Option State). of_some Done (λ (a : State). a.answer) o ≡ Refused r) (none_there e.sessions session none) is))
     where
       other : (let done : Answer (List ℕ) = Done in done ≡ Refused r) → ⊥
@@ -42,14 +42,14 @@ module _ {D : Type 0} (g : Ghosts D) where
   -- ---- of a call
 
   module _ (store store' : Store) (disk disk' : D) where
-    pub answer_replies : (answer : Answer (List ℕ)) (told : Told) → told.reply ≡ Answered answer → TellsSo g store store' disk disk' (λ start. MayAnswerSo g start disk' answer) → RepliesSo g store store' disk disk' told
-    answer_replies answer told is tells start le well are = let x = tells start le well are in ((λ fault. x.0 DiskFault (the_answer answer (sym is ∙ fault))), x.1)
+    pub answer_replies : (answer : Answer (List ℕ)) (told : Told) → told.reply ≡ Answered answer → TellsSo g store store' disk disk' (λ basis start. MayAnswerSo g basis start disk' answer) → RepliesSo g store store' disk disk' told
+    answer_replies answer told is tells start le are = let x = tells None start le tt are in ((λ fault. x.0 DiskFault (the_answer answer (sym is ∙ fault))), x.1)
       where
         the_answer : (a : Answer (List ℕ)) → Answered a ≡ Answered (Refused DiskFault) → a ≡ Refused DiskFault
         the_answer a e = cc
 
-    pub step_replies : (t : Reply) (told : Told) → told.reply ≡ in_script t → TellsSo g store store' disk disk' (λ start. MayReplySo g start disk' t) → RepliesSo g store store' disk disk' told
-    step_replies t told is tells start le well are = let x = tells start le well are in ((λ fault. x.0 (Refused DiskFault) (the_reply t (sym is ∙ fault)) DiskFault refl), x.1)
+    pub step_replies : (t : Reply) (told : Told) → told.reply ≡ in_script t → TellsSo g store store' disk disk' (λ basis start. MayReplySo g basis start disk' t) → RepliesSo g store store' disk disk' told
+    step_replies t told is tells start le are = let x = tells None start le tt are in ((λ fault. x.0 (Refused DiskFault) (the_reply t (sym is ∙ fault)) DiskFault refl), x.1)
       where
         the_reply : (u : Reply) → in_script u ≡ Answered (Refused DiskFault) → u ≡ tell.Answer (Refused DiskFault)
         the_reply (tell.Answer a) e = cc
@@ -58,18 +58,14 @@ module _ {D : Type 0} (g : Ghosts D) where
 
     -- nothing was made of it
     pub refused_replies : (r : Refusal) (told : Told) → IsNoSession r → told.reply ≡ Answered (Refused r) → StaysTold g store store' disk disk' → RepliesSo g store store' disk disk' told
-    refused_replies r told why is stays start le well are = ((λ fault. absurd (no-fault r why (the_refusal (sym is ∙ fault)))), stays start le are)
+    refused_replies r told why is stays start le are = ((λ fault. absurd (no-fault r why (the_refusal (sym is ∙ fault)))), stays start le are)
       where
         the_refusal : Answered (Refused r) ≡ Answered (Refused DiskFault) → r ≡ DiskFault
         the_refusal e = cc
 
-    -- of a store that is fit
-    pub fit_tells : (told : Told) → IsFit g store disk → RepliesSo g store store' disk disk' told → TellsFaults g store store' disk disk' (λ rose. RepliesFault (Ok told) → rose)
-    fit_tells told fit tells start le are = tells start le fit.well are
-
   -- behind the opening of sessions
-  pub opened_replies : (store middle store' : Store) (disk disk' : D) (told : Told) → CallKeeps g store middle disk disk → StaysTold g store middle disk disk → RepliesSo g middle store' disk disk' told → RepliesSo g store store' disk disk' told
-  opened_replies store middle store' disk disk' told keeps stays tells start le well are = tells start le (λ honest. keeps.well honest (well honest)) (stays start le are)
+  pub opened_replies : (store middle store' : Store) (disk disk' : D) (told : Told) → StaysTold g store middle disk disk → RepliesSo g middle store' disk disk' told → RepliesSo g store store' disk disk' told
+  opened_replies store middle store' disk disk' told stays tells start le are = tells start le (stays start le are)
 
   -- ---- of a line that is asked of the device
 

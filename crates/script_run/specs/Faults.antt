@@ -1,5 +1,5 @@
 -- Which faults of the disk are told, whatever the disk.
-use Rattle.std.specs.Prelude.{◌≡◌, ◌≤◌, Result, Ok, Err}
+use Rattle.std.specs.Prelude.{◌≡◌, ◌≤◌, None, Result, Ok, Err}
 use Rattle.failure.specs.Counts.{Rose}
 use Rattle.wt_code.specs.declared.answers.Answer.TheVariants.{Refused}
 use Rattle.wt_code.specs.declared.refusals.Refusal.{Refusal}
@@ -17,4 +17,4 @@ RepliesFault (Err r) = r ≡ DiskFault
 
 -- Since any moment at which no session's call kept another answer than may be told, this is told of how a fault of the disk rose, and none keeps another now.
 abbrev pub TellsFaults : {D : Type 0} → Ghosts D → (s s' : Store) → (before after : D) → (Type 0 → Type 0) → Type 0
-TellsFaults {D} g s s' before after Says = (start : D) → g.faults start ≤ g.faults before → AreToldSo g start s.engine before → Says (Rose (g.faults start) (g.faults after)) × AreToldSo g start s'.engine after
+TellsFaults {D} g s s' before after Says = (start : D) → g.faults start ≤ g.faults before → AreToldSo g None start s.engine before → Says (Rose (g.faults start) (g.faults after)) × AreToldSo g None start s'.engine after

@@ -5,13 +5,11 @@ use Rattle.wt_code.specs.declared.refusals.Refusal.{Refusal}
 use Rattle.wt_code.specs.declared.answers.Answer.{Answer}
 use Rattle.wt_code.specs.declared.refusals.Refusal.TheVariants.{Corrupt, DiskFault, NoMemory, Limit as Refusal_Limit}
 use Rattle.wt_code.specs.declared.refusals.Limit.TheVariants.{Sessions}
-use Rattle.failure.specs.Counts.{Rose}
 use Rattle.disk_model.specs.declared.disk.Disk.{Ghosts}
 use Rattle.engine_store.specs.declared.store.Store.{Store}
-use Rattle.engine_store.specs.Calls.{MayAnswerOn, TellsSo}
+use Rattle.engine_store.specs.Calls.{MayAnswerOn}
 use Rattle.engine_store.specs.Devices.{device_of}
 use Rattle.engine_store.specs.Held.{IsHeld}
-use Rattle.engine_store.specs.Opened.{IsReady, IsWell}
 use Rattle.ckpt_step.specs.Calm.{IsCalm}
 use Rattle.wt_io.specs.Streams.{Gave, Took}
 use Rattle.wt_calls.specs.declared.call.Call.{Call}
@@ -32,7 +30,7 @@ use Rattle.script_run.specs.declared.one_line.Stop.TheVariants as stop
 use Rattle.script_run.specs.declared.told.Told.{Told}
 use Rattle.script_run.specs.declared.script.End.TheVariants.{Through, Stopped}
 use Rattle.script_run.specs.declared.script.ScriptRun.{ScriptRun}
-use Rattle.script_run.specs.Faults.{RepliesFault}
+use Rattle.script_run.specs.Faults.{RepliesFault, TellsFaults}
 use Rattle.script_run.specs.Lines.{AreLines}
 use Rattle.wt_io.specs.declared.streams.Source.{Ghosts as SourceGhosts}
 use Rattle.wt_io.specs.declared.streams.Sink.{Ghosts as SinkGhosts}
@@ -78,11 +76,6 @@ IsOfActor (Finish who) = Unit {0}
 IsOfActor (OfAll asked) = ⊥
 
 -- ---- on a device
-
--- what the calls of a store ask of it and its disk
-pub record IsFit {D : Type 0} (g : Ghosts D) (store : Store) (disk : D) : Type 0 where
-  pub ready : IsReady store
-  pub well : IsTrue (g.honest disk) → IsWell g store disk
 
 -- The store and its disk stand for s, in a run that began on the first disk. Until a commit has a stamp, none that is under way has one.
 pub record IsAt {D : Type 0} (g : Ghosts D) (first : D) (stamped : Bool) (store : Store) (disk : D) (s : Script) : Type 0 where
@@ -139,7 +132,7 @@ Standing {D} g store disk Goes = IsTrue (g.honest disk) → (first : D) (s : Scr
 
 -- whatever the disk, a fault that is replied rose since any earlier moment
 abbrev pub RepliesSo : {D : Type 0} → Ghosts D → (store store' : Store) → (disk disk' : D) → Told → Type 0
-RepliesSo {D} g store store' disk disk' told = TellsSo g store store' disk disk' (λ start. RepliesFault (Ok told) → Rose (g.faults start) (g.faults disk'))
+RepliesSo {D} g store store' disk disk' told = TellsFaults g store store' disk disk' (λ rose. RepliesFault (Ok told) → rose)
 
 -- what is printed of a line
 pub record IsPrintedOf (asked : Line) (formats : Formats) (reply : Reply) (printed : Printed) : Type 0 where

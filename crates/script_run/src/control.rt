@@ -1,12 +1,12 @@
 // Lines that are asked of the device: a checkpoint, a close, and an opening anew.
 ghost use Rattle.std.specs.Prelude.{◌≡◌, ℕ, Bool, false, Ok, IfErr, IsTrue};
 ghost use Rattle.disk_model.specs.Crash.{SameDisk};
-ghost use Rattle.recover_open.specs.Damage.{IsDamage};
+ghost use Rattle.engine_store.specs.Opened.{IsAtFault, IsReady};
 ghost use Rattle.wt_code.specs.declared.refusals.Refusal.TheVariants.{Corrupt};
 ghost use Rattle.script_text.specs.declared.line.Line.TheVariants.{Control as ControlLine};
 ghost use Rattle.script_text.specs.declared.line.Control.TheVariants.{Checkpoint as CheckpointLine, Close as CloseLine, Crash as CrashLine};
 ghost use Rattle.script_run.specs.Faults.{RepliesFault, TellsFaults};
-ghost use Rattle.script_run.specs.Runs.{IsAt, IsFit, IsTold, RepliedAs};
+ghost use Rattle.script_run.specs.Runs.{IsAt, IsTold, RepliedAs};
 ghost use Rattle.script_run.specs.Scripts.{Script, IsLaterControl};
 
 use crate::told::{PLAIN, Told, done, refused};
@@ -28,12 +28,12 @@ pub(crate) fn control<D: Disk>(
     asked: Control,
 ) -> Result<Told, Refusal>
     requires now { IsLaterControl false asked → ⊥ }
-    requires fit { IsFit D.Disk store.old disk.old }
+    requires ready { IsReady store.old }
     ensures replies { IsTrue (D.honest disk.old) → (first_disk : D) → (stamped : Bool) → (s : Script) → (IsLaterControl stamped asked → ⊥) → IsAt D.Disk first_disk stamped store.old disk.old s → s.formats ≡ formats.old
         → RepliedAs D.Disk first_disk stamped (ControlLine asked) s store.new disk.new formats.new result }
     ensures told { TellsFaults D.Disk store.old store.new disk.old disk.new (λ rose. RepliesFault result → rose) }
-    ensures damage { IfErr result (λ r. (at want found : ℕ) → r ≡ Corrupt at want found → IsTrue (D.honest disk.old) → IsDamage (D.seen disk.new) at want found) }
-    ensures fit { IsFit D.Disk store.new disk.new }
+    ensures damage { IfErr result (λ r. (at want found : ℕ) → r ≡ Corrupt at want found → IsTrue (D.honest disk.old) → IsAtFault (D.seen disk.new) at want found) }
+    ensures ready { IsReady store.new }
     ensures disk { SameDisk D.Disk disk.old disk.new }
 {
     match asked {
@@ -45,10 +45,10 @@ pub(crate) fn control<D: Disk>(
 }
 
 fn checkpoint<D: Disk>(alloc: Global, store: &mut Store, disk: &mut D) -> Told
-    requires fit { IsFit D.Disk store.old disk.old }
+    requires ready { IsReady store.old }
     ensures replies { IsTrue (D.honest disk.old) → (first_disk : D) → (s : Script) → IsAt D.Disk first_disk false store.old disk.old s → IsTold D.Disk first_disk false (ControlLine CheckpointLine) s store.new disk.new s.formats result }
     ensures told { TellsFaults D.Disk store.old store.new disk.old disk.new (λ rose. RepliesFault (Ok result) → rose) }
-    ensures fit { IsFit D.Disk store.new disk.new }
+    ensures ready { IsReady store.new }
     ensures disk { SameDisk D.Disk disk.old disk.new }
 {
     if store.engine.has_started(0) {
@@ -67,12 +67,12 @@ fn close<D: Disk>(
     disk: &mut D,
     formats: &mut [Formats; SESSIONS_MAX],
 ) -> Result<Told, Refusal>
-    requires fit { IsFit D.Disk store.old disk.old }
+    requires ready { IsReady store.old }
     ensures replies { IsTrue (D.honest disk.old) → (first_disk : D) → (s : Script) → IsAt D.Disk first_disk false store.old disk.old s → s.formats ≡ formats.old
         → RepliedAs D.Disk first_disk false (ControlLine CloseLine) s store.new disk.new formats.new result }
     ensures told { TellsFaults D.Disk store.old store.new disk.old disk.new (λ rose. RepliesFault result → rose) }
-    ensures damage { IfErr result (λ r. (at want found : ℕ) → r ≡ Corrupt at want found → IsTrue (D.honest disk.old) → IsDamage (D.seen disk.new) at want found) }
-    ensures fit { IsFit D.Disk store.new disk.new }
+    ensures damage { IfErr result (λ r. (at want found : ℕ) → r ≡ Corrupt at want found → IsTrue (D.honest disk.old) → IsAtFault (D.seen disk.new) at want found) }
+    ensures ready { IsReady store.new }
     ensures disk { SameDisk D.Disk disk.old disk.new }
 {
     if store.engine.has_started(0) {
@@ -91,11 +91,11 @@ fn reopen<D: Disk>(
     disk: &mut D,
     formats: &mut [Formats; SESSIONS_MAX],
 ) -> Result<Told, Refusal>
-    requires fit { IsFit D.Disk store.old disk.old }
+    requires ready { IsReady store.old }
     ensures replies { IsTrue (D.honest disk.old) → (first_disk : D) → (stamped : Bool) → (s : Script) → IsAt D.Disk first_disk stamped store.old disk.old s → RepliedAs D.Disk first_disk stamped (ControlLine CrashLine) s store.new disk.new formats.new result }
     ensures told { TellsFaults D.Disk store.old store.new disk.old disk.new (λ rose. RepliesFault result → rose) }
-    ensures damage { IfErr result (λ r. (at want found : ℕ) → r ≡ Corrupt at want found → IsTrue (D.honest disk.old) → IsDamage (D.seen disk.new) at want found) }
-    ensures fit { IsFit D.Disk store.new disk.new }
+    ensures damage { IfErr result (λ r. (at want found : ℕ) → r ≡ Corrupt at want found → IsTrue (D.honest disk.old) → IsAtFault (D.seen disk.new) at want found) }
+    ensures ready { IsReady store.new }
     ensures disk { SameDisk D.Disk disk.old disk.new }
 {
     match store.reopen(alloc, disk) {

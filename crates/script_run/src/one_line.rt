@@ -1,7 +1,7 @@
 // One line of a script: what it asks for is made, and the line that tells its reply.
 ghost use Rattle.std.specs.Prelude.{◌≡◌, ◌⊎◌, ◌↔◌, ◌<◌, ◌||◌, ◌++◌, ◌∷◌, [], ℕ, Bool, List, false, length, IsTrue, IfOk, IfErr, OnErr};
 ghost use Rattle.disk_model.specs.Crash.{SameDisk};
-ghost use Rattle.recover_open.specs.Damage.{IsDamage};
+ghost use Rattle.engine_store.specs.Opened.{IsAtFault, IsReady};
 ghost use Rattle.wt_code.specs.declared.refusals.Refusal.TheVariants.{Corrupt};
 ghost use Rattle.script_text.specs.declared.line.Line.TheVariants.{Whole as WholeLine, Start as StartLine, Step as StepLine, Finish as FinishLine};
 ghost use Rattle.script_text.specs.Replies.{line_of_reply};
@@ -10,7 +10,7 @@ ghost use Rattle.engine_world.specs.Worlds.{World};
 ghost use Rattle.engine.specs.Runs.{IsBuilt};
 ghost use Rattle.engine_store.specs.Calls.{CallKeeps, MayAnswerSo, StaysTold, TellsSo};
 ghost use Rattle.script_run.specs.Faults.{RepliesFault, TellsFaults};
-ghost use Rattle.script_run.specs.Runs.{IsAnswerTo, IsAnswered, IsAt, IsBegun, IsEnded, IsFit, IsGone, IsKnown, IsNoSession, IsOfActor, IsOfKnown, IsReplied, IsTaken, IsThere, LineMade, OpensAs, PrintsFault, RepliedAs, RepliesSo, Standing, StandingIn, StandsAt, StopsDamaged};
+ghost use Rattle.script_run.specs.Runs.{IsAnswerTo, IsAnswered, IsAt, IsBegun, IsEnded, IsGone, IsKnown, IsNoSession, IsOfActor, IsOfKnown, IsReplied, IsTaken, IsThere, LineMade, OpensAs, PrintsFault, RepliedAs, RepliesSo, Standing, StandingIn, StandsAt, StopsDamaged};
 ghost use Rattle.script_run.specs.Scripts.{Script, IsLater, IsLaterCall, IsLaterControl, actor_in, call_stamps, caller, formats_in, gives_stamp, in_script, kept_after, kept_formats, kept_more, listed, refusals_in};
 
 use crate::control::control;
@@ -62,11 +62,11 @@ pub fn run_line<D: Disk>(
     stamped: bool,
     text: &[u8],
 ) -> Result<Printed, Stop>
-    requires fit { IsFit D.Disk store.old disk.old }
+    requires ready { IsReady store.old }
     ensures made { IsTrue (D.honest disk.old) → (first_disk : D) → (s : Script) → IsAt D.Disk first_disk stamped store.old disk.old s → s.formats ≡ formats.old → LineMade D.Disk first_disk text.now stamped s store.new disk.new formats.new result }
     ensures told { TellsFaults D.Disk store.old store.new disk.old disk.new (λ rose. PrintsFault result → rose) }
-    ensures damage { IsTrue (D.honest disk.old) → (at want found : ℕ) → StopsDamaged at want found result → IsDamage (D.seen disk.new) at want found }
-    ensures fit { IsFit D.Disk store.new disk.new }
+    ensures damage { IsTrue (D.honest disk.old) → (at want found : ℕ) → StopsDamaged at want found result → IsAtFault (D.seen disk.new) at want found }
+    ensures ready { IsReady store.new }
     ensures disk { SameDisk D.Disk disk.old disk.new }
 {
     let line = match parse_line(alloc, text) {
@@ -192,12 +192,12 @@ fn reply_to<D: Disk>(
 ) -> Result<Told, Refusal>
     requires now { IsLater false line → ⊥ }
     requires actor { IsOfKnown line }
-    requires fit { IsFit D.Disk store.old disk.old }
+    requires ready { IsReady store.old }
     ensures replies { IsTrue (D.honest disk.old) → (first_disk : D) → (stamped : Bool) → (s : Script) → (IsLater stamped line → ⊥) → IsAt D.Disk first_disk stamped store.old disk.old s → s.formats ≡ formats.old
         → RepliedAs D.Disk first_disk (stamped || gives_stamp line) line s store.new disk.new formats.new result }
     ensures told { TellsFaults D.Disk store.old store.new disk.old disk.new (λ rose. RepliesFault result → rose) }
-    ensures damage { IfErr result (λ r. (at want found : ℕ) → r ≡ Corrupt at want found → IsTrue (D.honest disk.old) → IsDamage (D.seen disk.new) at want found) }
-    ensures fit { IsFit D.Disk store.new disk.new }
+    ensures damage { IfErr result (λ r. (at want found : ℕ) → r ≡ Corrupt at want found → IsTrue (D.honest disk.old) → IsAtFault (D.seen disk.new) at want found) }
+    ensures ready { IsReady store.new }
     ensures disk { SameDisk D.Disk disk.old disk.new }
 {
     match line {
@@ -352,7 +352,7 @@ fn answer<D: Disk>(alloc: Global, store: &mut Store, disk: &mut D, call: Call) -
 fn answer_to<D: Disk>(alloc: Global, store: &mut Store, disk: &mut D, call: Call) -> Answer<Item>
     requires { IsTaken call store.old.engine }
     ensures replied { StandingIn D.Disk store.old disk.old (λ first_disk s w. IsAnswerTo D.Disk first_disk s store.new disk.new call w result) }
-    ensures told { TellsSo D.Disk store.old store.new disk.old disk.new (λ start. MayAnswerSo D.Disk start disk.new result) }
+    ensures told { TellsSo D.Disk store.old store.new disk.old disk.new (λ basis start. MayAnswerSo D.Disk basis start disk.new result) }
     ensures keeps { CallKeeps D.Disk store.old store.new disk.old disk.new }
 {
     match call {

@@ -2,15 +2,14 @@
 ghost use Rattle.std.specs.Prelude.{◌≡◌, ◌≤◌, ◌+◌, ◌||◌, [], ℕ, Bool, false, length, filter, replicate, IsTrue, IfNone, IfSome};
 ghost use Rattle.failure.specs.Counts.{Rose};
 ghost use Rattle.disk_model.specs.Crash.{SameDisk};
-ghost use Rattle.recover_open.specs.Damage.{IsDamage};
+ghost use Rattle.engine_store.specs.Opened.{IsAtFault, IsReady};
 ghost use Rattle.wt_io.specs.Streams.{AtEnd};
 ghost use Rattle.wt_code.specs.declared.refusals.Refusal.TheVariants.{Corrupt};
 ghost use Rattle.engine_world.specs.Worlds.{World};
 ghost use Rattle.ckpt_step.specs.Calm.{IsCalm};
 ghost use Rattle.engine_store.specs.Held.{IsHeld};
-ghost use Rattle.engine_store.specs.Opened.{IsReady, IsWell};
 ghost use Rattle.script_run.specs.Faults.{TellsFaults};
-ghost use Rattle.script_run.specs.Runs.{IsAt, IsFit, IsRunOver, MetFault};
+ghost use Rattle.script_run.specs.Runs.{IsAt, IsRunOver, MetFault};
 ghost use Rattle.script_run.specs.Scripts.{Script, counts, first_of, listed, plain};
 ghost use Rattle.script_run.specs.Turns.{HasMoved, IsBehind, LineTurn, MeetsFault, PrintTurn, TurnMade, met_with};
 ghost use Rattle.script_run.specs.declared.script.End.TheVariants.{InputFailed as InputFails, OutputFailed as OutputFails, Stopped as Stops};
@@ -69,12 +68,11 @@ pub fn run_script<D: Disk, S: Source, K: Sink>(
     out: &mut K,
 ) -> ScriptRun
     requires ready { IsReady store.old }
-    requires well { IsTrue (D.honest disk.old) → IsWell D.Disk store.old disk.old }
     ensures run { IsTrue (D.honest disk.old) → (w : World) → IsHeld D.Disk disk.old store.old disk.old w w.machine.completed [] → IsCalm w → IsRunOver D.Disk S.Source K.Sink input.old input.new out.old out.new w disk.old disk.new store.new result }
     ensures input { result.end ≡ InputFails → Rose (S.fault_count input.old) (S.fault_count input.new) }
     ensures output { result.end ≡ OutputFails → Rose (K.fault_count out.old) (K.fault_count out.new) }
     ensures fault { length store.old.engine.sessions ≡ 0 → MetFault result → Rose (D.faults disk.old) (D.faults disk.new) }
-    ensures damage { IsTrue (D.honest disk.old) → (at want found : ℕ) → result.end ≡ Stops (Corrupt at want found) → IsDamage (D.seen disk.new) at want found }
+    ensures damage { IsTrue (D.honest disk.old) → (at want found : ℕ) → result.end ≡ Stops (Corrupt at want found) → IsAtFault (D.seen disk.new) at want found }
     ensures disk { SameDisk D.Disk disk.old disk.new }
 {
     let Ok(mut lines) = Lines::new(alloc) else {
@@ -176,7 +174,7 @@ fn turn<D: Disk, S: Source, K: Sink>(
     requires end { IsTrue lines.old.ended → AtEnd (S.left input.old) }
     requires line { place.old.line ≤ place.old.used + 1 }
     requires used { place.old.used ≤ INPUT_MAX + 1 }
-    requires fit { IsFit D.Disk store.old disk.old }
+    requires ready { IsReady store.old }
     ensures made { IsTrue (D.honest disk.old) → (first_disk : D) → (s : Script) → IsAt D.Disk first_disk place.old.stamped store.old disk.old s → s.formats ≡ place.old.formats
         → TurnMade D.Disk first_disk store.new disk.new S.Source K.Sink input.old input.new out.old out.new lines.old lines.new place.old place.new s result }
     ensures moved { IfNone result (HasMoved place.old place.new) }
@@ -187,8 +185,8 @@ fn turn<D: Disk, S: Source, K: Sink>(
     ensures input_fails { IfSome result (λ end. end ≡ InputFails → Rose (S.fault_count input.old) (S.fault_count input.new)) }
     ensures output_fails { IfSome result (λ end. end ≡ OutputFails → Rose (K.fault_count out.old) (K.fault_count out.new)) }
     ensures told { TellsFaults D.Disk store.old store.new disk.old disk.new (λ rose. MeetsFault place.old place.new rose result) }
-    ensures damage { IsTrue (D.honest disk.old) → (at want found : ℕ) → IfSome result (λ end. end ≡ Stops (Corrupt at want found) → IsDamage (D.seen disk.new) at want found) }
-    ensures fit { IsFit D.Disk store.new disk.new }
+    ensures damage { IsTrue (D.honest disk.old) → (at want found : ℕ) → IfSome result (λ end. end ≡ Stops (Corrupt at want found) → IsAtFault (D.seen disk.new) at want found) }
+    ensures ready { IsReady store.new }
     ensures disk { SameDisk D.Disk disk.old disk.new }
 {
     match lines.next(input) {
@@ -210,7 +208,7 @@ fn run_and_print<D: Disk, K: Sink>(
 ) -> Option<End>
     requires line { place.old.line ≤ place.old.used + 1 }
     requires used { place.old.used ≤ INPUT_MAX + 1 }
-    requires fit { IsFit D.Disk store.old disk.old }
+    requires ready { IsReady store.old }
     ensures made { IsTrue (D.honest disk.old) → (first_disk : D) → (s : Script) → IsAt D.Disk first_disk place.old.stamped store.old disk.old s → s.formats ≡ place.old.formats
         → LineTurn D.Disk first_disk store.new disk.new K.Sink out.old out.new text.now s place.old place.new result }
     ensures moved { IfNone result (HasMoved place.old place.new) }
@@ -218,8 +216,8 @@ fn run_and_print<D: Disk, K: Sink>(
     ensures output { K.fault_count out.old ≤ K.fault_count out.new }
     ensures output_fails { IfSome result (λ end. end ≡ OutputFails → Rose (K.fault_count out.old) (K.fault_count out.new)) }
     ensures told { TellsFaults D.Disk store.old store.new disk.old disk.new (λ rose. MeetsFault place.old place.new rose result) }
-    ensures damage { IsTrue (D.honest disk.old) → (at want found : ℕ) → IfSome result (λ end. end ≡ Stops (Corrupt at want found) → IsDamage (D.seen disk.new) at want found) }
-    ensures fit { IsFit D.Disk store.new disk.new }
+    ensures damage { IsTrue (D.honest disk.old) → (at want found : ℕ) → IfSome result (λ end. end ≡ Stops (Corrupt at want found) → IsAtFault (D.seen disk.new) at want found) }
+    ensures ready { IsReady store.new }
     ensures disk { SameDisk D.Disk disk.old disk.new }
 {
     let none = End::Stopped(Refusal::Invalid(Invalid::Text { line: place.line }));

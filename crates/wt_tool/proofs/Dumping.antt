@@ -42,6 +42,7 @@ use Rattle.wt_tool.specs.Points.{Point, Ran, ends, prints, stops}
 use Rattle.wt_tool.specs.Scripts.{told_at}
 use Rattle.wt_tool.specs.Top.{Errors, IsSoFor, Printed, Telling, status_of}
 use Rattle.wt_tool.specs.Words.{name_in}
+use Rattle.wt_tool.proofs.FaultyLeaves.{reader_leaf}
 use Rattle.wt_tool.proofs.Gets.{front_more, rose_before}
 use Rattle.wt_tool.proofs.Naming.{named_goes}
 use Rattle.wt_tool.proofs.Running.{named_as}
@@ -443,7 +444,7 @@ dumped_on failed c form way d d' later keeps opens before now e status bytes uri
 -- ---- whatever the disk
 
 leaves_so : (asked : Asked) (honest : Type 0) (before now : List ℕ) (r : Refusal) → IsByReader asked → IsSoOfLeaves honest before r → IsSoFor asked honest before now r
-leaves_so asked honest before now (Corrupt at want found) by so = λ h. inr (inr (by, so h))
+leaves_so asked honest before now (Corrupt at want found) by so = λ h. inr (inr (reader_leaf asked before now at want found by (so h)))
 leaves_so asked honest before now _ by so = tt
 
 -- of a command that reads leaf by leaf

@@ -1,5 +1,5 @@
 -- What a command leaves of its device, by what its calls and its close did.
-use Rattle.std.specs.Prelude.{◌≡◌, ℕ, IsTrue, List, [], Option, Some, None, Result, Ok, Err}
+use Rattle.std.specs.Prelude.{◌≡◌, ℕ, List, [], Option, Some, None, Result, Ok, Err}
 use Rattle.std.proofs.Common.{inl, refl, sym, subst}
 use Rattle.disk_model.specs.declared.disk.Disk.{Ghosts}
 use Rattle.disk_model.proofs.Crash.{started, widened}
@@ -22,10 +22,9 @@ use Rattle.ckpt_step.specs.Rooms.{Written}
 use Rattle.engine_store.specs.declared.store.Store.{Store}
 use Rattle.engine_store.specs.Held.{IsHeld}
 use Rattle.engine_store.specs.Images.{EachReads}
-use Rattle.engine_store.specs.Opened.{IsReady, IsWell}
-use Rattle.script_run.specs.Runs.{IsFit}
+use Rattle.engine_store.specs.Opened.{IsOpened}
 use Rattle.wt_tool.specs.Led.{Holds, LedBy}
-use Rattle.wt_tool.specs.Parts.{IsLeft, IsOpenedOn, LeavesAt, silent_run}
+use Rattle.wt_tool.specs.Parts.{IsLeft, LeavesAt, silent_run}
 use Rattle.wt_tool.specs.Points.{Closes, Point, Ran, point_of}
 use Rattle.wt_tool.proofs.Closings.{start_opens, still_reads}
 use Rattle.wt_tool.proofs.Quiet.{first_quiet}
@@ -36,13 +35,7 @@ bare_roots : (known : List Table) (leaves : List Leaf) (written : Written) (plac
 bare_roots known leaves written places None roots = tt
 bare_roots known leaves written places (Some s) roots = roots.bare
 
-module _ {D : Type 0} (g : Ghosts D) (disk : D) (s : Store) (on : IsOpenedOn g disk s) where
-  -- what the calls of the store ask
-  pub opened_well : IsWell g s disk
-  opened_well =
-      let world = first_world (content_was on.old) on.shelf s.engine in
-      record { world = world; stands = on.world; idle = refl; steady = λ up. record { world = world; stands = on.world; idle = refl; old = on.old; on = on.on; follows = on.follows } }
-
+module _ {D : Type 0} (g : Ghosts D) (disk : D) (s : Store) (on : IsOpened (g.seen disk) (g.may_leave disk) s) where
   module _ (content : Content) (each : EachReads (g.may_leave disk) content) (seen : Reads (g.seen disk) content) where
     -- the device has one content
     same : content_was on.old ≡ content
@@ -80,9 +73,6 @@ module _ {D : Type 0} (g : Ghosts D) (disk : D) (s : Store) (on : IsOpenedOn g d
     -- the command holds it
     pub first_holds : StartsPlain → ((c : List ℕ) → g.left_since disk (g.moment disk) c → g.may_leave disk c) → Holds g disk (start content).completed s disk first_of
     first_holds law now = record { held = first_held now; quiet = first_quiet content on.shelf s.engine; plain = first_plain law; completed = refl; up = refl }
-
-pub fit_of : {D : Type 0} (g : Ghosts D) (disk : D) (s : Store) → IsReady s → (IsTrue (g.honest disk) → IsOpenedOn g disk s) → IsFit g s disk
-fit_of g disk s ready on = record { ready = ready; well = λ h. opened_well g disk s (on h) }
 
 -- ---- what is left
 

@@ -2,6 +2,7 @@ mod Beside
 mod Called
 mod Closings
 mod Dumping
+mod FaultyLeaves
 mod Finding
 mod Fresh
 mod FreshRuns
@@ -17,6 +18,7 @@ mod Naming
 mod Pieces
 mod Putting
 mod Quiet
+mod Reaching
 mod ScriptRuns
 mod Running
 mod Went

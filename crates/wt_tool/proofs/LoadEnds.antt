@@ -24,7 +24,7 @@ use Rattle.wt_tool.specs.Points.{Point, Ran, point_of, stops}
 use Rattle.wt_tool.specs.Inputs.{IsUntaken}
 use Rattle.wt_tool.specs.Loads.{IsWhole, LoadsRows, LoadsText, RunsLoad, loaded_name}
 use Rattle.wt_tool.specs.Writes.{demand_of}
-use Rattle.wt_tool.specs.Parts.{EndsLoad, LeavesAt, LoadEnds, Loading, NoneOf, TellsEnd, end_of, silent_run}
+use Rattle.wt_tool.specs.Parts.{EndsLoad, LeavesAt, LoadEnds, Loading, TellsEnd, TellsSpoilt, end_of, silent_run}
 use Rattle.wt_tool.specs.Scripts.{told_at}
 use Rattle.wt_tool.specs.Top.{Errors, Telling}
 use Rattle.wt_tool.proofs.Closings.{start_opens}
@@ -52,9 +52,9 @@ dumped_text overwrite renamed ended text d name p ran is dumped named run =
     ))
 
 -- it tells neither of damage nor of the disk
-pub refused_sound : (honest : Type 0) (ended : Bool) (text : List ℕ) (r : Refusal) → IsRefused ended text r → NoneOf honest r
-refused_sound honest ended text r (inl short) = subst (NoneOf honest) (sym short) tt
-refused_sound honest ended text r (inr (number, is, at)) = subst (NoneOf honest) (sym is) tt
+pub refused_sound : (honest : Type 0) (bytes : List ℕ) (ended : Bool) (text : List ℕ) (r : Refusal) → IsRefused ended text r → TellsSpoilt honest bytes r
+refused_sound honest bytes ended text r (inl short) = subst (TellsSpoilt honest bytes) (sym short) tt
+refused_sound honest bytes ended text r (inr (number, is, at)) = subst (TellsSpoilt honest bytes) (sym is) tt
 
 pub refused_calm : (ended : Bool) (text : List ℕ) (r : Refusal) → IsRefused ended text r → r ≡ DiskFault → ⊥
 refused_calm ended text r (inl short) fault = let bad : NoMemory ≡ DiskFault = sym short ∙ fault in cc (bad)
@@ -124,13 +124,13 @@ module _ {D : Type 0} (g : Ghosts D) (failed ended : Type 0) (overwrite : Bool) 
       }
 
 -- how it ends, whatever the disk
-pub untaken_end : (honest disk input : Type 0) (end : End) → IsUntaken input end → EndsLoad honest disk input end
-untaken_end honest disk input end (inl (is, fault)) = subst (EndsLoad honest disk input) (sym is) fault
-untaken_end honest disk input end (inr is) = subst (EndsLoad honest disk input) (sym is) (tt, λ e. let bad : NoMemory ≡ DiskFault = e in cc (bad))
+pub untaken_end : (honest : Type 0) (bytes : List ℕ) (disk input : Type 0) (end : End) → IsUntaken input end → EndsLoad honest bytes disk input end
+untaken_end honest bytes disk input end (inl (is, fault)) = subst (EndsLoad honest bytes disk input) (sym is) fault
+untaken_end honest bytes disk input end (inr is) = subst (EndsLoad honest bytes disk input) (sym is) (tt, λ e. let bad : NoMemory ≡ DiskFault = e in cc (bad))
 
-pub taken_end : (honest disk input : Type 0) (result : Result (Unit {0}) Refusal) → IfErr result (NoneOf honest) → IfErr result (λ r. r ≡ DiskFault → disk) → EndsLoad honest disk input (end_of result)
-taken_end honest disk input (Ok done) sound fault = tt
-taken_end honest disk input (Err r) sound fault = (sound, fault)
+pub taken_end : (honest : Type 0) (bytes : List ℕ) (disk input : Type 0) (result : Result (Unit {0}) Refusal) → IfErr result (TellsSpoilt honest bytes) → IfErr result (λ r. r ≡ DiskFault → disk) → EndsLoad honest bytes disk input (end_of result)
+taken_end honest bytes disk input (Ok done) sound fault = tt
+taken_end honest bytes disk input (Err r) sound fault = (sound, fault)
 
 -- ---- what is told
 
@@ -147,10 +147,10 @@ load_told g Allowed m before now e old new end status l tells = record {
   stays = l.stays;
 }
 
-pub end_telling : (honest disk input : Type 0) (e : Errors) (end : End) (status : ℕ) → EndsLoad honest disk input end → TellsEnd e end None status → Telling (NoneOf honest) e status
-end_telling honest disk input e end status may tells = record { refusals = told_at end; each = each end may; replies = []; end = end; told = tells }
+pub end_telling : (honest : Type 0) (bytes : List ℕ) (disk input : Type 0) (e : Errors) (end : End) (status : ℕ) → EndsLoad honest bytes disk input end → TellsEnd e end None status → Telling (TellsSpoilt honest bytes) e status
+end_telling honest bytes disk input e end status may tells = record { refusals = told_at end; each = each end may; replies = []; end = end; told = tells }
   where
-    each : (x : End) → EndsLoad honest disk input x → AllByRecursion (NoneOf honest) (told_at x)
+    each : (x : End) → EndsLoad honest bytes disk input x → AllByRecursion (TellsSpoilt honest bytes) (told_at x)
     each Through may = tt
     each (Stopped r) may = (may.0, tt)
     each InputFailed may = tt
@@ -162,8 +162,8 @@ pub record LoadMeans (disk input : Type 0) (n : ℕ) : Type 0 where
   pub of_disk : n ≡ 4 → disk
   pub of_input : n ≡ 5 → input
 
-pub load_means : (honest disk input : Type 0) (e : Errors) (end : End) (n : ℕ) → EndsLoad honest disk input end → TellsEnd e end None n → LoadMeans disk input n
-load_means honest disk input e end n may tells =
+pub load_means : (honest : Type 0) (bytes : List ℕ) (disk input : Type 0) (e : Errors) (end : End) (n : ℕ) → EndsLoad honest bytes disk input end → TellsEnd e end None n → LoadMeans disk input n
+load_means honest bytes disk input e end n may tells =
     let means = tells_means e end None n tells in
     record {
       some = elim means.some [
@@ -175,7 +175,7 @@ load_means honest disk input e end n may tells =
             | inr rest ↦ elim rest [
               | inl five ↦ inr (inr (inr (inl five)))
               | inr last ↦ elim last [
-                | inl six ↦ absurd (subst (EndsLoad honest disk input) (means.output six) may)
+                | inl six ↦ absurd (subst (EndsLoad honest bytes disk input) (means.output six) may)
                 | inr twelve ↦ inr (inr (inr (inr twelve)))
               ]
             ]
@@ -183,8 +183,8 @@ load_means honest disk input e end n may tells =
         ]
       ];
       of_disk = λ four. elim (means.disk four) [
-        | inl is ↦ (subst (EndsLoad honest disk input) is may).1 refl
+        | inl is ↦ (subst (EndsLoad honest bytes disk input) is may).1 refl
         | inr none ↦ absurd cc
       ];
-      of_input = λ five. subst (EndsLoad honest disk input) (means.input five) may;
+      of_input = λ five. subst (EndsLoad honest bytes disk input) (means.input five) may;
     }

@@ -1,5 +1,5 @@
 -- What a run of a command is to the definitions.
-use Rattle.std.specs.Prelude.{◌≡◌, ◌⊎◌, ℕ, Bool, not, ◌+◌, ◌<◌, List, [], ◌∷◌, ◌++◌, filter, length, Option, MatchOption, Some, None, IfErr, OnOk, Result, Ok, Err, refl}
+use Rattle.std.specs.Prelude.{◌≡◌, ◌⊎◌, ℕ, Bool, not, ◌+◌, ◌<◌, List, [], ◌∷◌, ◌++◌, filter, length, IsTrue, Option, MatchOption, Some, None, IfErr, OnOk, Result, Ok, Err, refl}
 use Rattle.std.proofs.Common.{inl, inr, sym, ap, subst, ◌∙◌, arith}
 use Rattle.std.specs.List.{AllByRecursion}
 use Rattle.std.proofs.lemmas.List.{append-nil}
@@ -25,10 +25,12 @@ use Rattle.recover_open.specs.Bare.{IsBare}
 use Rattle.stored.specs.Records.{Record}
 use Rattle.recover_open.proofs.Devices.{damage_no_content, kept_is}
 use Rattle.recover_open.proofs.Steps.{refused_further}
+use Rattle.recover_open.specs.Recoveries.{RecoveryRefused}
 use Rattle.ckpt_step.specs.Grounds.{AreRoots}
 use Rattle.ckpt_step.specs.Rooms.{Written, known_in}
 use Rattle.engine_store.specs.declared.store.Store.{Store}
-use Rattle.engine_store.specs.Opened.{HasNumbers, OpenRefused}
+use Rattle.engine_store.specs.Opened.{HasNumbers, IsOpened, LacksNumbers, OpenRefused}
+use Rattle.engine_store.proofs.Refusing.{spoilt_no_content}
 use Rattle.stored.proofs.Device.{one_content, one_stored}
 use Rattle.device_read.specs.Readers.{Held, IsReaderOf}
 use Rattle.device_read.specs.Refusals.{HasNumbers as HasNumbersLeft, LeafIsAtFault, OpenRefused as ReaderRefused}
@@ -36,18 +38,19 @@ use Rattle.device_read.proofs.LeafPlaces.{at_fault}
 use Rattle.wt_line.specs.Line.{Asked, create, write, read, list, verify, script, dump, load}
 use Rattle.script_run.specs.Scripts.{Outside, counts}
 use Rattle.wt_tool.specs.Points.{Point, Ran, point_of, stops}
-use Rattle.engine_store.specs.Devices.{Device, Installed, device_of, last_number, IsWide}
+use Rattle.engine_store.specs.Devices.{Device, Installed, device_of, last_number, IsUsedUp, IsWide}
 use Rattle.wt_tool.specs.Openings.{Named, RefusesOpening, MayOpen, Opens, Opened}
 use Rattle.wt_tool.specs.Commands.{Runs, IsOnEngine, IsByReader}
 use Rattle.wt_tool.specs.Damaged.{DumpsTableOn, ReadsKeysOn, RunsDumpOn, RunsOn, RunsReadOn, device_on, point_on}
 use Rattle.wt_tool.specs.Dumps.{DumpsTable, RunsDump, form_of, way_of}
 use Rattle.wt_tool.specs.Reads.{ReadsKeys, RunsRead}
 use Rattle.wt_tool.specs.Words.{name_in}
-use Rattle.wt_tool.specs.Parts.{at, NoDamage, NoneOf, IsOpenedOn, Leaves, Loading, Reading, Scripting, met_of, end_of, silent_run}
+use Rattle.wt_tool.specs.Parts.{at, NoDamage, TellsOfScript, TellsSpoilt, IsOpenedOn, Leaves, Loading, Reading, Scripting, met_of, end_of, silent_run}
 use Rattle.wt_tool.specs.Loads.{RunsLoad}
-use Rattle.wt_tool.specs.Top.{Went, WentOn, Telling, IsOpenable, IsOpenableFor, IsReadable, IsSo, IsSoFor, IsStatus, Tells, IsTold, IsCut, Streams, Errors, lines, last_line, status_of, first_status, status_at}
+use Rattle.wt_tool.specs.Top.{Went, WentOn, Telling, IsOpenableFor, IsReadable, IsSoFor, IsStatus, Tells, IsTold, IsCut, Streams, Errors, lines, last_line, status_of, first_status, status_at}
 use Rattle.engine_store.specs.Images.{OpensToLast, Stays}
 use Rattle.wt_tool.proofs.Closings.{still_reads, start_opens}
+use Rattle.wt_tool.proofs.FaultyLeaves.{engine_leaf, leaf_fault}
 
 -- ---- the opening
 
@@ -63,37 +66,41 @@ run_below (Some s) numbers = numbers.0
 bare_still : (known : List Table) (leaves : List Leaf) (written : Written) (places : List TreePlace) (s : Stored) → AreRoots known leaves written places (Some s) → IsBare s.kept
 bare_still known leaves written places s roots = roots.bare
 
--- of a store that was opened on a disk which was looked at
-module _ {D : Type 0} (g : Ghosts D) (old mid : D) (s : Store) (looked : Looked g old mid) (opened : IsOpenedOn g mid s) where
+-- of a store that was opened on a disk that reads and was looked at
+module _ {D : Type 0} (g : Ghosts D) (old mid : D) (s : Store) (looked : Looked g old mid) (on : IsOpenedOn g mid s) (content : Content) (reads : Reads (g.seen old) content) where
+  opened : IsOpened (g.seen mid) (g.may_leave mid) s
+  opened = on.reads content (subst (λ (l : List ℕ). Reads l content) (sym looked.content) reads)
+
   still_there : HasStill opened.old (g.seen old)
   still_there = subst (λ (l : List ℕ). HasStill opened.old l) looked.content opened.on.stands.seen_has
 
   one_there : (t : Stored) → IsOn (g.seen old) t → opened.old ≡ Some t
-  one_there t on = one_still (g.seen old) opened.old t still_there on
+  one_there t on_disk = one_still (g.seen old) opened.old t still_there on_disk
 
-  pub opened_reads : (content : Content) × Reads (g.seen old) content
-  opened_reads = (content_was opened.old, still_reads opened.old (g.seen old) still_there)
+  was : content ≡ content_was opened.old
+  was = one_content (g.seen old) content (content_was opened.old) reads (still_reads opened.old (g.seen old) still_there)
 
-  module _ (content : Content) (reads : Reads (g.seen old) content) where
-    was : content ≡ content_was opened.old
-    was = one_content (g.seen old) content (content_was opened.old) reads (still_reads opened.old (g.seen old) still_there)
-
-    pub may_open : MayOpen (point_of g (start content) old)
-    may_open = record {
-      narrow = λ wide. wide.2 (bare_still _ _ _ _ wide.0 (subst (λ (o : Option Stored). AreRoots s.engine.hub.tables.tables s.engine.hub.dir.leaves (known_in s.ground.parts) s.ground.trees.items o) (one_there wide.0 wide.1) opened.on.roots));
-      numbers = λ used. absurd (omega (arith, used.2, (subst (λ (o : Option Stored). HasNumbers o) (one_there used.0 used.1) opened.numbers).1));
-      run = λ same. omega (arith, same, subst (λ (c : Content). c.run < last_number) (sym was) (run_below opened.old opened.numbers));
-    }
+  pub may_open : MayOpen (point_of g (start content) old)
+  may_open = record {
+    narrow = λ wide. wide.2 (bare_still _ _ _ _ wide.0 (subst (λ (o : Option Stored). AreRoots s.engine.hub.tables.tables s.engine.hub.dir.leaves (known_in s.ground.parts) s.ground.trees.items o) (one_there wide.0 wide.1) opened.on.roots));
+    numbers = λ used. absurd (omega (arith, used.2, (subst (λ (o : Option Stored). HasNumbers o) (one_there used.0 used.1) opened.numbers).1));
+    run = λ same. omega (arith, same, subst (λ (c : Content). c.run < last_number) (sym was) (run_below opened.old opened.numbers));
+  }
 
 -- a refusal of an opening that began later
 pub open_further : (fault later : Type 0) (h k : Type 0) (bytes : List ℕ) (r : Refusal) → OpenRefused later k bytes r → (later → fault) → (h → k) → OpenRefused fault h bytes r
 open_further fault later h k bytes r (inl why) more known = inl (refused_further fault later h k bytes r why more known)
-open_further fault later h k bytes r (inr (is, why)) more known = inr (is, λ x. why (known x))
+open_further fault later h k bytes r (inr (inl (is, lacks, shut))) more known = inr (inl (is, (λ x. lacks (known x)), λ x. shut (known x)))
+open_further fault later h k bytes r (inr (inr (at_place, want, found, is, spoilt))) more known = inr (inr (at_place, want, found, is, λ x. spoilt (known x)))
 
 -- a device that reads as something is blank or has a checkpoint
 pub wide_of : (bytes : List ℕ) (content : Content) → Reads bytes content → ((s : Stored) → IsOn bytes s → IsBare s.kept → ⊥) → (IsBlank bytes → ⊥) → IsWide bytes
 wide_of bytes content (inl (blank, is)) none shut = absurd (shut blank)
 wide_of bytes content (inr (s, on, is)) none shut = (s, on, none s on)
+
+used_of : (bytes : List ℕ) (content : Content) → Reads bytes content → ((s : Stored) → IsOn bytes s → LacksNumbers s.kept) → (IsBlank bytes → ⊥) → IsUsedUp bytes
+used_of bytes content (inl (blank, is)) lacks shut = absurd (shut blank)
+used_of bytes content (inr (s, on, is)) lacks shut = (s, on, lacks s on)
 
 -- why a device that reads is not opened
 pub refused_at : (d d' : Device) (known : Type 0) (content : Content) (r : Refusal) → known → Reads d.seen content → OpenRefused (Rose d.faults d'.faults) known d.seen r → RefusesOpening (at d (start content)) d' r
@@ -102,7 +109,8 @@ refused_at d d' known content r k reads (inl (inr (inl none))) = inr (inl none)
 refused_at d d' known content r k reads (inl (inr (inr (inl (is, why))))) = inr (inr (inr (inr (is, ap (λ n. n + 1) (why k content reads)))))
 refused_at d d' known content r k reads (inl (inr (inr (inr (inl (is, why, shut)))))) = inr (inr (inl (is, wide_of d.seen content reads (why k) (shut k))))
 refused_at d d' known content r k reads (inl (inr (inr (inr (inr (at_place, want, found, is, why)))))) = absurd (damage_no_content d.seen at_place want found content (why k) reads)
-refused_at d d' known content r k reads (inr (is, why)) = inr (inr (inr (inl (is, why k))))
+refused_at d d' known content r k reads (inr (inl (is, lacks, shut))) = inr (inr (inr (inl (is, used_of d.seen content reads (lacks k) (shut k)))))
+refused_at d d' known content r k reads (inr (inr (at_place, want, found, is, why))) = absurd (spoilt_no_content d.seen at_place want found content (why k) reads)
 
 pub refused_open : {D : Type 0} (g : Ghosts D) (old new : D) (known : Type 0) (content : Content) (r : Refusal) → known → Reads (g.seen old) content → OpenRefused (Rose (g.faults old) (g.faults new)) known (g.seen old) r
     → RefusesOpening (point_of g (start content) old) (device_of g new) r
@@ -235,7 +243,7 @@ readable_for (verify uri) bytes by opens = absurd by
 readable_for script bytes by opens = absurd by
 readable_for (load no_overwrite name) bytes by opens = absurd by
 
-pub openable_for : (asked : Asked) (bytes : List ℕ) → IsOnEngine asked → IsOpenable bytes → IsOpenableFor asked bytes
+pub openable_for : (asked : Asked) (bytes : List ℕ) → IsOnEngine asked → IsReadable bytes → IsOpenableFor asked bytes
 openable_for (create config uri) bytes on opens = opens
 openable_for (write overwrite uri pairs) bytes on opens = opens
 openable_for script bytes on opens = opens
@@ -295,19 +303,21 @@ telling P e result status told each = record { refusals = met_of result; each = 
 
 -- ---- what is told of damage
 
-no_damage_so : (honest : Type 0) (before now : List ℕ) (r : Refusal) → NoDamage r → IsSo honest before now r
-no_damage_so honest before now (Corrupt at want found) none = absurd none
-no_damage_so honest before now _ none = tt
+no_damage_so : (asked : Asked) (honest : Type 0) (before now : List ℕ) (r : Refusal) → NoDamage r → IsSoFor asked honest before now r
+no_damage_so asked honest before now (Corrupt at want found) none = absurd none
+no_damage_so asked honest before now _ none = tt
 
--- nor of an honest disk, where that is known
-pub none_so : (known honest : Type 0) (before now : List ℕ) (r : Refusal) → (honest → known) → NoneOf known r → IsSo honest before now r
-none_so known honest before now (Corrupt at want found) is none = λ h. absurd (none (is h))
-none_so known honest before now _ is none = tt
+-- of an honest disk, where that is known
+spoilt_so : (asked : Asked) (known honest : Type 0) (before now : List ℕ) (r : Refusal) → IsOnEngine asked → (honest → known) → TellsSpoilt known before r → IsSoFor asked honest before now r
+spoilt_so asked known honest before now (Corrupt at_place want found) on is told = λ h. inr (inr (engine_leaf asked before now at_place want found on (leaf_fault before at_place want found (told (is h)))))
+spoilt_so asked known honest before now _ on is told = tt
 
--- of a command
-pub so_for : (asked : Asked) (honest : Type 0) (before now : List ℕ) (r : Refusal) → IsSo honest before now r → IsSoFor asked honest before now r
-so_for asked honest before now (Corrupt at_place want found) so = λ h. elim (so h) [ inl before_it ↦ inl before_it | inr after_it ↦ inr (inl after_it) ]
-so_for asked honest before now _ so = tt
+script_so : (known honest : Type 0) (before now : List ℕ) (r : Refusal) → (honest → known) → TellsOfScript known now r → IsSoFor script honest before now r
+script_so known honest before now (Corrupt at_place want found) is told = λ h. elim (told (is h)) [
+  | inl damage ↦ inr (inl damage)
+  | inr leaf ↦ inr (inr (inr (leaf_fault now at_place want found leaf)))
+]
+script_so known honest before now _ is told = tt
 
 telling_as : (P Q : Refusal → Type 0) (e : Errors) (status : ℕ) → ((r : Refusal) → P r → Q r) → Telling P e status → Telling Q e status
 telling_as P Q e status more t = record { refusals = t.refusals; each = each t.refusals t.each; replies = t.replies; end = t.end; told = t.told }
@@ -316,23 +326,36 @@ telling_as P Q e status more t = record { refusals = t.refusals; each = each t.r
     each [] so = tt
     each (r ∷ met) so = (more r so.0, each met so.1)
 
-pub told_so : (honest : Type 0) (before now : List ℕ) (e : Errors) (status : ℕ) → Telling NoDamage e status → Telling (IsSo honest before now) e status
-told_so honest before now e status t = telling_as NoDamage (IsSo honest before now) e status (no_damage_so honest before now) t
+pub told_so : (asked : Asked) (honest : Type 0) (before now : List ℕ) (e : Errors) (status : ℕ) → Telling NoDamage e status → Telling (IsSoFor asked honest before now) e status
+told_so asked honest before now e status t = telling_as NoDamage (IsSoFor asked honest before now) e status (no_damage_so asked honest before now) t
 
-pub loaded_so : (known honest : Type 0) (before now : List ℕ) (e : Errors) (status : ℕ) → (honest → known) → Telling (NoneOf known) e status → Telling (IsSo honest before now) e status
-loaded_so known honest before now e status is t = telling_as (NoneOf known) (IsSo honest before now) e status (λ r none. none_so known honest before now r is none) t
+-- of a command on an engine, on a disk that was looked at before
+module _ {D : Type 0} (g : Ghosts D) (old mid new : D) (looked : Looked g old mid) where
+  pub spoilt_further : (asked : Asked) (r : Refusal) → IsOnEngine asked → TellsSpoilt (IsTrue (g.honest mid)) (g.seen mid) r → IsSoFor asked (IsTrue (g.honest old)) (g.seen old) (g.seen new) r
+  spoilt_further asked r on told =
+      spoilt_so asked (IsTrue (g.honest mid)) (IsTrue (g.honest old)) (g.seen old) (g.seen new) r on (λ h. looked.same ∙ h) (subst (λ (l : List ℕ). TellsSpoilt (IsTrue (g.honest mid)) l r) looked.content told)
 
-pub telling_for : (asked : Asked) (honest : Type 0) (before now : List ℕ) (e : Errors) (status : ℕ) → Telling (IsSo honest before now) e status → Telling (IsSoFor asked honest before now) e status
-telling_for asked honest before now e status t = telling_as (IsSo honest before now) (IsSoFor asked honest before now) e status (so_for asked honest before now) t
+  pub loaded_so : (asked : Asked) (e : Errors) (status : ℕ) → IsOnEngine asked → Telling (TellsSpoilt (IsTrue (g.honest mid)) (g.seen mid)) e status → Telling (IsSoFor asked (IsTrue (g.honest old)) (g.seen old) (g.seen new)) e status
+  loaded_so asked e status on t =
+      telling_as (TellsSpoilt (IsTrue (g.honest mid)) (g.seen mid)) (IsSoFor asked (IsTrue (g.honest old)) (g.seen old) (g.seen new)) e status (λ r told. spoilt_further asked r on told) t
+
+  pub scripted_so : (e : Errors) (status : ℕ) → Telling (TellsOfScript (IsTrue (g.honest mid)) (g.seen new)) e status → Telling (IsSoFor script (IsTrue (g.honest old)) (g.seen old) (g.seen new)) e status
+  scripted_so e status t =
+      telling_as (TellsOfScript (IsTrue (g.honest mid)) (g.seen new)) (IsSoFor script (IsTrue (g.honest old)) (g.seen old) (g.seen new)) e status (λ r told. script_so (IsTrue (g.honest mid)) (IsTrue (g.honest old)) (g.seen old) (g.seen new) r (λ h. looked.same ∙ h) told) t
 
 -- damage that an opening tells is there
-pub opening_so : (fault known : Type 0) (bytes now : List ℕ) (r : Refusal) → OpenRefused fault known bytes r → IsSo known bytes now r
-opening_so fault known bytes now r (inl (inl (is, failed))) = subst (IsSo known bytes now) (sym is) tt
-opening_so fault known bytes now r (inl (inr (inl is))) = subst (IsSo known bytes now) (sym is) tt
-opening_so fault known bytes now r (inl (inr (inr (inl (is, why))))) = subst (IsSo known bytes now) (sym is) tt
-opening_so fault known bytes now r (inl (inr (inr (inr (inl (is, why, shut)))))) = subst (IsSo known bytes now) (sym is) tt
-opening_so fault known bytes now r (inl (inr (inr (inr (inr (at, want, found, is, why)))))) = subst (IsSo known bytes now) (sym is) (λ k. inl (why k))
-opening_so fault known bytes now r (inr (is, why)) = subst (IsSo known bytes now) (sym is) tt
+recovery_so : (asked : Asked) (fault known : Type 0) (bytes now : List ℕ) (r : Refusal) → RecoveryRefused fault known bytes r → IsSoFor asked known bytes now r
+recovery_so asked fault known bytes now r (inl (is, failed)) = subst (IsSoFor asked known bytes now) (sym is) tt
+recovery_so asked fault known bytes now r (inr (inl is)) = subst (IsSoFor asked known bytes now) (sym is) tt
+recovery_so asked fault known bytes now r (inr (inr (inl (is, why)))) = subst (IsSoFor asked known bytes now) (sym is) tt
+recovery_so asked fault known bytes now r (inr (inr (inr (inl (is, why, shut))))) = subst (IsSoFor asked known bytes now) (sym is) tt
+recovery_so asked fault known bytes now r (inr (inr (inr (inr (at_place, want, found, is, why))))) = subst (IsSoFor asked known bytes now) (sym is) (λ k. inl (why k))
+
+pub opening_so : (asked : Asked) (fault known : Type 0) (bytes now : List ℕ) (r : Refusal) → IsOnEngine asked → OpenRefused fault known bytes r → IsSoFor asked known bytes now r
+opening_so asked fault known bytes now r on (inl why) = recovery_so asked fault known bytes now r why
+opening_so asked fault known bytes now r on (inr (inl (is, lacks, shut))) = subst (IsSoFor asked known bytes now) (sym is) tt
+opening_so asked fault known bytes now r on (inr (inr (at_place, want, found, is, spoilt))) =
+    subst (IsSoFor asked known bytes now) (sym is) (λ k. inr (inr (engine_leaf asked bytes now at_place want found on (leaf_fault bytes at_place want found (spoilt k)))))
 
 -- why a reader is not opened, seen from further back
 pub reader_further : (fault more known honest : Type 0) (bytes : List ℕ) (r : Refusal) → (fault → more) → (honest → known) → ReaderRefused fault known bytes r → ReaderRefused more honest bytes r
@@ -344,9 +367,9 @@ reader_further fault more known honest bytes r to from (inl (inr (inr (inr (inr 
 reader_further fault more known honest bytes r to from (inr (is, lacks, shut)) = inr (is, (λ h. lacks (from h)), λ h. shut (from h))
 
 -- damage that the opening of a reader tells is there
-pub reader_so : (fault known : Type 0) (bytes now : List ℕ) (r : Refusal) → ReaderRefused fault known bytes r → IsSo known bytes now r
-reader_so fault known bytes now r (inl why) = opening_so fault known bytes now r (inl why)
-reader_so fault known bytes now r (inr (is, lacks, shut)) = subst (IsSo known bytes now) (sym is) tt
+pub reader_so : (asked : Asked) (fault known : Type 0) (bytes now : List ℕ) (r : Refusal) → ReaderRefused fault known bytes r → IsSoFor asked known bytes now r
+reader_so asked fault known bytes now r (inl why) = recovery_so asked fault known bytes now r why
+reader_so asked fault known bytes now r (inr (is, lacks, shut)) = subst (IsSoFor asked known bytes now) (sym is) tt
 
 pub status_some : (r : Refusal) (status : ℕ) → (status ≡ status_of r) ⊎ (status ≡ 12) → status ≡ 0 → ⊥
 status_some r status (inr twelve) none = omega (arith, twelve, none)

@@ -6,18 +6,18 @@ use Rattle.std.specs.Option.{option_to_list}
 use Rattle.disk_model.specs.declared.disk.Disk.{Ghosts}
 use Rattle.wt_code.specs.declared.refusals.Refusal.{Refusal}
 use Rattle.wt_code.specs.declared.refusals.Refusal.TheVariants.{Corrupt, DiskFault, NoMemory}
-use Rattle.recover_open.specs.Damage.{IsDamage}
 use Rattle.kv_model.specs.Content.{Content, start}
 use Rattle.row_page.specs.Rows.{Row}
 use Rattle.engine_store.specs.declared.store.Store.{Store}
+use Rattle.engine_store.specs.Opened.{IsAtFault}
 use Rattle.script_run.specs.declared.script.End.{End}
 use Rattle.script_run.specs.declared.script.End.TheVariants.{Through, Stopped, InputFailed, OutputFailed}
 use Rattle.script_run.specs.declared.script.ScriptRun.{ScriptRun}
 use Rattle.script_run.specs.Scripts.{Outside, counts, first_of, opened_world}
 use Rattle.script_run.specs.Runs.{IsRun}
 use Rattle.wt_tool.specs.Scripts.{told_at, ran_by}
-use Rattle.wt_tool.specs.Parts.{Scripting, TellsEnd}
-use Rattle.wt_tool.specs.Top.{Errors, IsSo, IsStatus, Streams, Telling, Tells, lines, last_line, status_at, status_of, first_status}
+use Rattle.wt_tool.specs.Parts.{Scripting, TellsEnd, TellsOfScript}
+use Rattle.wt_tool.specs.Top.{Errors, IsStatus, Streams, Telling, Tells, lines, last_line, status_at, status_of, first_status}
 
 -- ---- what is a run of it
 
@@ -62,12 +62,12 @@ scripted g o content shelf w before after s told status run tells = record {
 -- ---- what is told, whatever the disk
 
 -- damage that an end tells is there as the script ended
-pub end_so : (honest : Type 0) (before now : List ℕ) (end : End) → (honest → (at want found : ℕ) → end ≡ Stopped (Corrupt at want found) → IsDamage now at want found) → AllByRecursion (IsSo honest before now) (told_at end)
-end_so honest before now Through damage = tt
-end_so honest before now (Stopped (Corrupt at want found)) damage = ((λ known. inr (damage known at want found refl)), tt)
-end_so honest before now (Stopped _) damage = (tt, tt)
-end_so honest before now InputFailed damage = tt
-end_so honest before now OutputFailed damage = tt
+pub end_so : (honest : Type 0) (now : List ℕ) (end : End) → (honest → (at want found : ℕ) → end ≡ Stopped (Corrupt at want found) → IsAtFault now at want found) → AllByRecursion (TellsOfScript honest now) (told_at end)
+end_so honest now Through damage = tt
+end_so honest now (Stopped (Corrupt at want found)) damage = ((λ known. damage known at want found refl), tt)
+end_so honest now (Stopped _) damage = (tt, tt)
+end_so honest now InputFailed damage = tt
+end_so honest now OutputFailed damage = tt
 
 pub tells_end : (P : Refusal → Type 0) (e : Errors) (told : ScriptRun) (status : ℕ) → AllByRecursion P (told_at told.end) → TellsEnd e told.end told.met status → Telling P e status
 tells_end P e told status each tells = record { refusals = told_at told.end; each = each; replies = option_to_list told.met; end = told.end; told = tells }

@@ -24,9 +24,10 @@ use Rattle.recover_open.proofs.Devices.{damage_no_content}
 use Rattle.engine_store.specs.Devices.{device_of}
 use Rattle.verify_dev.specs.declared.report.Report.{Report}
 use Rattle.verify_dev.specs.Reports.{IsVerified, ReportsOr}
+use Rattle.wt_line.specs.Line.{Asked}
 use Rattle.wt_tool.specs.Points.{point_of}
 use Rattle.wt_tool.specs.Parts.{IsOfAttach, met_of}
-use Rattle.wt_tool.specs.Top.{IsAt, IsSo, IsStatus, status_of, first_status}
+use Rattle.wt_tool.specs.Top.{IsAt, IsSoFor, IsStatus, status_of, first_status}
 use Rattle.wt_tool.specs.Verifies.{RefusesVerify, AreTablesOf, tables_in}
 use Rattle.wt_tool.proofs.Listing.{member_named, named_member}
 use Rattle.wt_tool.proofs.Running.{wide_of, status_some, untold_at}
@@ -124,13 +125,13 @@ refused_verify g old new known content r k reads (inr (inl none)) = inr (inl non
 refused_verify g old new known content r k reads (inr (inr (inl (is, why, shut)))) = inr (inr (is, wide_of (g.seen old) content reads (why k) (shut k)))
 refused_verify g old new known content r k reads (inr (inr (inr (at, want, found, is, why)))) = absurd (damage_no_content (g.seen old) at want found content (why k) reads)
 
-pub verify_so : (fault known : Type 0) (bytes now : List ℕ) (r : Refusal) → VerifyRefused fault known bytes r → IsSo known bytes now r
-verify_so fault known bytes now r (inl (inl (is, failed))) = subst (IsSo known bytes now) (sym is) tt
-verify_so fault known bytes now r (inl (inr (inl is))) = subst (IsSo known bytes now) (sym is) tt
-verify_so fault known bytes now r (inl (inr (inr (inl (is, why, shut))))) = subst (IsSo known bytes now) (sym is) tt
-verify_so fault known bytes now r (inl (inr (inr (inr (at, want, found, is, why))))) = subst (IsSo known bytes now) (sym is) (λ k. inl (why k))
-verify_so fault known bytes now r (inr (inl is)) = subst (IsSo known bytes now) (sym is) tt
-verify_so fault known bytes now r (inr (inr is)) = subst (IsSo known bytes now) (sym is) tt
+pub verify_so : (asked : Asked) (fault known : Type 0) (bytes now : List ℕ) (r : Refusal) → VerifyRefused fault known bytes r → IsSoFor asked known bytes now r
+verify_so asked fault known bytes now r (inl (inl (is, failed))) = subst (IsSoFor asked known bytes now) (sym is) tt
+verify_so asked fault known bytes now r (inl (inr (inl is))) = subst (IsSoFor asked known bytes now) (sym is) tt
+verify_so asked fault known bytes now r (inl (inr (inr (inl (is, why, shut))))) = subst (IsSoFor asked known bytes now) (sym is) tt
+verify_so asked fault known bytes now r (inl (inr (inr (inr (at, want, found, is, why))))) = subst (IsSoFor asked known bytes now) (sym is) (λ k. inl (why k))
+verify_so asked fault known bytes now r (inr (inl is)) = subst (IsSoFor asked known bytes now) (sym is) tt
+verify_so asked fault known bytes now r (inr (inr is)) = subst (IsSoFor asked known bytes now) (sym is) tt
 
 -- ---- its status
 

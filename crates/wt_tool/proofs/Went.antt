@@ -1,5 +1,5 @@
 -- What the calls of a command tell, whatever the disk.
-use Rattle.std.specs.Prelude.{◌≡◌, ◌≤◌, ◌⊎◌, ℕ, IsTrue, List, [], ◌∷◌, length, Result, Ok, Err, IfErr, slice_get}
+use Rattle.std.specs.Prelude.{◌≡◌, ◌≤◌, ◌⊎◌, ℕ, IsTrue, List, [], ◌∷◌, length, Option, Some, None, Result, Ok, Err, IfErr, slice_get}
 use Rattle.std.proofs.Common.{inl, inr, refl, sym, subst, ◌∙◌, arith}
 use Rattle.failure.specs.Counts.{Rose}
 use Rattle.disk_model.specs.Crash.{Looked}
@@ -15,10 +15,10 @@ use Rattle.kv_model.specs.Machine.{of_some}
 use Rattle.call_steps.specs.State.{State}
 use Rattle.engine_world.specs.Stands.{Engine}
 use Rattle.engine_store.specs.declared.store.Store.{Store}
-use Rattle.engine_store.specs.Calls.{AreToldSo, CallKeeps, MayAnswerSo, MayTell, StaysTold, TellsSo}
-use Rattle.script_run.specs.Runs.{IsFit}
+use Rattle.engine_store.specs.Calls.{AreToldSo, Basis, CallKeeps, MayAnswerSo, MayTell, TellsSo, basis_of}
+use Rattle.engine_store.specs.Opened.{IsOutset, SpoilsAreThere}
 use Rattle.wt_tool.specs.Led.{CallWent}
-use Rattle.wt_tool.specs.Parts.{NoDamage, NoneOf}
+use Rattle.wt_tool.specs.Parts.{NoDamage, TellsSpoilt}
 
 -- ---- a call
 
@@ -27,41 +27,37 @@ looked_still g disk = record { same = refl; content = refl; images = λ c left. 
 
 module _ {D : Type 0} (g : Ghosts D) (s s' : Store) (before after : D) where
   -- what its refusal tells is one of these
-  went_by : (result : Result (Unit {0}) Refusal) → CallKeeps g s s' before after → TellsSo g s s' before after (λ start. IfErr result (MayTell g start after)) → CallWent g s s' before after result
-  went_by result keeps tells = record {
-    told = λ fit start le told. tells start le fit.well told;
-    fit = λ fit. record { ready = keeps.ready fit.ready; well = λ h. let known = subst IsTrue keeps.looked.same h in keeps.well known (fit.well known) };
-    looked = keeps.looked;
-    home = keeps.home;
-  }
+  went_by : (result : Result (Unit {0}) Refusal) → CallKeeps g s s' before after → TellsSo g s s' before after (λ basis start. IfErr result (MayTell g basis start after)) → CallWent g s s' before after result
+  went_by result keeps tells = record { told = tells; ready = keeps.ready; looked = keeps.looked; home = keeps.home }
 
   -- by its answer
-  pub answered_went : (answer : Answer (List ℕ)) (result : Result (Unit {0}) Refusal) → CallKeeps g s s' before after → TellsSo g s s' before after (λ start. MayAnswerSo g start after answer)
+  pub answered_went : (answer : Answer (List ℕ)) (result : Result (Unit {0}) Refusal) → CallKeeps g s s' before after → TellsSo g s s' before after (λ basis start. MayAnswerSo g basis start after answer)
       → IfErr result (λ r. answer ≡ answers.Refused r) → CallWent g s s' before after result
-  answered_went answer result keeps tells is = went_by result keeps (λ start le well told. let (may, kept) = tells start le well told in (by_result result is start may, kept))
+  answered_went answer result keeps tells is = went_by result keeps (λ basis start le on told. let x = tells basis start le on told in (by_result result is basis start x.0, x.1, x.2))
     where
-      by_result : (x : Result (Unit {0}) Refusal) → IfErr x (λ r. answer ≡ answers.Refused r) → (start : D) → MayAnswerSo g start after answer → IfErr x (MayTell g start after)
-      by_result (Ok done) is start may = tt
-      by_result (Err r) is start may = may r is
+      by_result : (x : Result (Unit {0}) Refusal) → IfErr x (λ r. answer ≡ answers.Refused r) → (basis : Option Basis) (start : D) → MayAnswerSo g basis start after answer → IfErr x (MayTell g basis start after)
+      by_result (Ok done) is basis start may = tt
+      by_result (Err r) is basis start may = may r is
 
 -- memory was too short to begin
 pub short_went : {D : Type 0} (g : Ghosts D) (s : Store) (disk : D) → CallWent g s s disk disk (Err NoMemory)
-short_went g s disk = record { told = λ fit start le told. (tt, told); fit = λ fit. fit; looked = looked_still g disk; home = refl }
+short_went g s disk = record { told = λ basis start le on told. (tt, told, on); ready = λ ready. ready; looked = looked_still g disk; home = refl }
 
 pub short_went_as : {D : Type 0} (g : Ghosts D) (s : Store) (disk : D) (r : Refusal) → r ≡ NoMemory → CallWent g s s disk disk (Err r)
 short_went_as g s disk r is = subst (λ (x : Refusal). CallWent g s s disk disk (Err x)) (sym is) (short_went g s disk)
 
 -- ---- a session that is opened, or is not
 
-pub opened_went : {D : Type 0} (g : Ghosts D) (s s' : Store) (disk : D) → CallKeeps g s s' disk disk → StaysTold g s s' disk disk → CallWent g s s' disk disk (Ok tt)
-opened_went g s s' disk keeps stays = went_by g s s' disk disk (Ok tt) keeps (λ start le well told. (tt, stays start le told))
+pub opened_went : {D : Type 0} (g : Ghosts D) (s s' : Store) (disk : D) → CallKeeps g s s' disk disk → TellsSo g s s' disk disk (λ basis start. Unit {0}) → CallWent g s s' disk disk (Ok tt)
+opened_went g s s' disk keeps tells = went_by g s s' disk disk (Ok tt) keeps (λ basis start le on told. let x = tells basis start le on told in (tt, x.1, x.2))
 
-pub unopened_went : {D : Type 0} (g : Ghosts D) (s s' : Store) (disk : D) (r : Refusal) → CallKeeps g s s' disk disk → StaysTold g s s' disk disk → (r ≡ NoMemory) ⊎ ((r ≡ Refusal_Limit Sessions) × (SESSIONS_MAX ≤ length s.engine.sessions)) → CallWent g s s' disk disk (Err r)
-unopened_went {D} g s s' disk r keeps stays why = went_by g s s' disk disk (Err r) keeps (λ start le well told. (may why start, stays start le told))
+pub unopened_went : {D : Type 0} (g : Ghosts D) (s s' : Store) (disk : D) (r : Refusal) → CallKeeps g s s' disk disk → TellsSo g s s' disk disk (λ basis start. Unit {0}) → (r ≡ NoMemory) ⊎ ((r ≡ Refusal_Limit Sessions) × (SESSIONS_MAX ≤ length s.engine.sessions))
+    → CallWent g s s' disk disk (Err r)
+unopened_went {D} g s s' disk r keeps tells why = went_by g s s' disk disk (Err r) keeps (λ basis start le on told. let x = tells basis start le on told in (may why basis start, x.1, x.2))
   where
-    may : (r ≡ NoMemory) ⊎ ((r ≡ Refusal_Limit Sessions) × (SESSIONS_MAX ≤ length s.engine.sessions)) → (start : D) → MayTell g start disk r
-    may (inl is) start = subst (MayTell g start disk) (sym is) tt
-    may (inr (is, most)) start = subst (MayTell g start disk) (sym is) tt
+    may : (r ≡ NoMemory) ⊎ ((r ≡ Refusal_Limit Sessions) × (SESSIONS_MAX ≤ length s.engine.sessions)) → (basis : Option Basis) (start : D) → MayTell g basis start disk r
+    may (inl is) basis start = subst (MayTell g basis start disk) (sym is) tt
+    may (inr (is, most)) basis start = subst (MayTell g basis start disk) (sym is) tt
 
 -- ---- one call after the other
 
@@ -70,8 +66,8 @@ still_honest g old new looked honest = subst IsTrue (sym looked.same) honest
 
 pub went_then : {D : Type 0} (g : Ghosts D) (s m n : Store) (before mid after : D) (result : Result (Unit {0}) Refusal) → CallWent g s m before mid (Ok tt) → CallWent g m n mid after result → CallWent g s n before after result
 went_then g s m n before mid after result a b = record {
-  told = λ fit start le told. let one = a.told fit start le told in b.told (a.fit fit) start (omega (arith, le, a.looked.count)) one.1;
-  fit = λ fit. b.fit (a.fit fit);
+  told = λ basis start le on told. let one = a.told basis start le on told in b.told basis start (omega (arith, le, a.looked.count)) one.2 one.1;
+  ready = λ ready. b.ready (a.ready ready);
   looked = looked_then g before mid after a.looked b.looked;
   home = b.home ∙ a.home;
 }
@@ -83,34 +79,27 @@ short_behind g s m before after went = went_then g s m m before after after (Err
 -- ---- all calls of a command
 
 -- a store without sessions keeps no answer
-pub none_kept : {D : Type 0} (g : Ghosts D) (start_disk disk : D) (e : Engine) → length e.sessions ≡ 0 → AreToldSo g start_disk e disk
-none_kept g start_disk disk e none session r told = absurd (by_sessions e.sessions none told)
+pub none_kept : {D : Type 0} (g : Ghosts D) (basis : Option Basis) (start_disk disk : D) (e : Engine) → length e.sessions ≡ 0 → AreToldSo g basis start_disk e disk
+none_kept g basis start_disk disk e none session r told = absurd (by_sessions e.sessions none told)
   where
     by_sessions : (all : List State) → length all ≡ 0 → of_some answers.Done (λ (a : State). a.answer) (slice_get all session) ≡ answers.Refused r → ⊥
     by_sessions [] none told = let no : answers.Done ≡ answers.Refused r = told in cc
     by_sessions (a ∷ all) none told = absurd (omega (arith, none))
 
--- a close tells of no damage, whatever the disk
-pub damage_none : (honest : Type 0) (r : Refusal) → NoDamage r → NoneOf honest r
-damage_none honest (Corrupt at want found) none = absurd none
-damage_none honest _ none = tt
+-- what tells of no damage, whatever the disk
+pub damage_none : (honest : Type 0) (bytes : List ℕ) (r : Refusal) → NoDamage r → TellsSpoilt honest bytes r
+damage_none honest bytes (Corrupt at want found) none = absurd none
+damage_none honest bytes _ none = tt
 
 -- what a refusal of the calls of a command tells
-module _ {D : Type 0} (g : Ghosts D) (before after : D) (same : g.honest after ≡ g.honest before) where
-  none_of_told : (r : Refusal) → MayTell g before after r → NoneOf (IsTrue (g.honest before)) r
-  none_of_told (Corrupt at want found) told = λ honest. told (subst IsTrue (sym same) honest)
-  none_of_told _ told = tt
+module _ {D : Type 0} (g : Ghosts D) (s s' : Store) (before after : D) (none : length s.engine.sessions ≡ 0) (r : Refusal) (went : CallWent g s s' before after (Err r)) where
+  -- damage is told of a leaf that was at fault as the engine was opened
+  spoilt_by : (x : Refusal) → (IsTrue (g.honest before) → SpoilsAreThere (g.seen before) s) → MayTell g (Some (basis_of g s before)) before after x → TellsSpoilt (IsTrue (g.honest before)) (g.seen before) x
+  spoilt_by (Corrupt at want found) there told = λ honest. let leaf = told (subst IsTrue (sym went.looked.same) honest) in there honest leaf.0 at want found leaf.1
+  spoilt_by _ there told = tt
 
-  fault_of_told : (r : Refusal) → MayTell g before after r → r ≡ DiskFault → Rose (g.faults before) (g.faults after)
-  fault_of_told r told is = subst (λ (x : Refusal). MayTell g before after x) is told
+  pub refused_spoilt : (IsTrue (g.honest before) → IsOutset s.engine.hub) → (IsTrue (g.honest before) → SpoilsAreThere (g.seen before) s) → TellsSpoilt (IsTrue (g.honest before)) (g.seen before) r
+  refused_spoilt outset there = spoilt_by r there (went.told (Some (basis_of g s before)) before (omega arith) (λ honest. let begun = outset honest in (refl, begun.0, begun.1)) (none_kept g (Some (basis_of g s before)) before before s.engine none)).0
 
--- of those that were made from where the command began
-module _ {D : Type 0} (g : Ghosts D) (s s' : Store) (before after : D) (fit : IsFit g s before) (none : length s.engine.sessions ≡ 0) where
-  told_of : (result : Result (Unit {0}) Refusal) → CallWent g s s' before after result → IfErr result (MayTell g before after)
-  told_of result went = (went.told fit before (omega arith) (none_kept g before before s.engine none)).0
-
-  pub refused_none : (r : Refusal) → CallWent g s s' before after (Err r) → NoneOf (IsTrue (g.honest before)) r
-  refused_none r went = none_of_told g before after went.looked.same r (told_of (Err r) went)
-
-  pub refused_fault : (r : Refusal) → CallWent g s s' before after (Err r) → r ≡ DiskFault → Rose (g.faults before) (g.faults after)
-  refused_fault r went = fault_of_told g before after went.looked.same r (told_of (Err r) went)
+  pub refused_fault : r ≡ DiskFault → Rose (g.faults before) (g.faults after)
+  refused_fault is = subst (λ (x : Refusal). MayTell g None before after x) is (went.told None before (omega arith) tt (none_kept g None before before s.engine none)).0

@@ -1,5 +1,5 @@
 -- To what the calls of a command lead the store that it holds, and its disk.
-use Rattle.std.specs.Prelude.{◌≡◌, ◌≤◌, ℕ, List, [], None, Result, Ok, Err, IfErr, IsTrue, slice_index_or}
+use Rattle.std.specs.Prelude.{◌≡◌, ◌≤◌, ℕ, List, [], Option, None, Result, Ok, Err, IfErr, IsTrue, slice_index_or}
 use Rattle.disk_model.specs.Crash.{Looked}
 use Rattle.disk_model.specs.declared.disk.Disk.{Ghosts}
 use Rattle.wt_code.specs.declared.answers.Answer.TheVariants.{Done, Refused}
@@ -10,9 +10,9 @@ use Rattle.kv_model.specs.Machine.{Completed}
 use Rattle.engine_world.specs.Worlds.{World, Resting, doing_of}
 use Rattle.ckpt_step.specs.Plain.{IsPlain}
 use Rattle.engine_store.specs.declared.store.Store.{Store}
-use Rattle.engine_store.specs.Calls.{AreToldSo, MayTell}
+use Rattle.engine_store.specs.Calls.{AreToldSo, Basis, IsBasis, MayTell}
 use Rattle.engine_store.specs.Held.{IsHeld}
-use Rattle.script_run.specs.Runs.{IsFit}
+use Rattle.engine_store.specs.Opened.{IsReady}
 use Rattle.wt_tool.specs.Points.{Point, Ran, Did, Calls, point_of, stops}
 use Rattle.wt_tool.specs.Writes.{PutsPairs, the_put}
 
@@ -52,10 +52,10 @@ module _ {D : Type 0} (g : Ghosts D) (start_disk : D) (first : Completed) where
 abbrev pub Leading : {D : Type 0} → Ghosts D → Store → D → (D → Completed → World → Type 0) → Type 0
 Leading {D} g s before Goes = IsTrue (g.honest before) → (start : D) (first : Completed) (w : World) → Holds g start first s before w → Goes start first w
 
--- Whatever the disk: what a refusal tells may be told since any earlier moment, and so may what calls keep. The store stays fit, and the disk was looked at alone.
+-- Whatever the disk: what a refusal tells may be told since any earlier moment, on any basis, which stays, and so may what calls keep. The store stays fit, and the disk was looked at alone.
 pub record CallWent {D : Type 0} (g : Ghosts D) (s s' : Store) (before after : D) (result : Result (Unit {0}) Refusal) : Type 0 where
-  pub told : IsFit g s before → (start : D) → g.faults start ≤ g.faults before → AreToldSo g start s.engine before → IfErr result (MayTell g start after) × AreToldSo g start s'.engine after
-  pub fit : IsFit g s before → IsFit g s' after
+  pub told : (basis : Option Basis) (start : D) → g.faults start ≤ g.faults before → IsBasis g basis s.engine before → AreToldSo g basis start s.engine before → IfErr result (MayTell g basis start after) × AreToldSo g basis start s'.engine after × IsBasis g basis s'.engine after
+  pub ready : IsReady s → IsReady s'
   pub looked : Looked g before after
   pub home : g.home after ≡ g.home before
 

@@ -16,7 +16,7 @@ use Rattle.script_run.specs.declared.script.End.TheVariants.{Through, Stopped, I
 use Rattle.script_run.specs.Scripts.{Outside, outside, counts}
 use Rattle.stored.specs.Stored.{Reads}
 use Rattle.engine_store.specs.declared.store.Store.{Store}
-use Rattle.engine_store.specs.Opened.{IsOpened}
+use Rattle.engine_store.specs.Opened.{HasSpoiltLeaf, IsAtFault, IsOpened, IsOutset, SpoilsAreThere}
 use Rattle.device_read.specs.Refusals.{LeafIsAtFault}
 use Rattle.wt_line.specs.Line.{Asked}
 use Rattle.device_read.specs.Spoilt.{IsSpoiltFrom}
@@ -34,10 +34,15 @@ abbrev pub NoDamage : Refusal → Type 0
 NoDamage (Corrupt at want found) = ⊥
 NoDamage _ = Unit {0}
 
--- it tells of no damage of an honest disk
-abbrev pub NoneOf : (honest : Type 0) → Refusal → Type 0
-NoneOf honest (Corrupt at want found) = honest → ⊥
-NoneOf honest _ = Unit {0}
+-- damage of an honest disk is told where a leaf to which its checkpoint leads is at fault
+abbrev pub TellsSpoilt : (honest : Type 0) → List ℕ → Refusal → Type 0
+TellsSpoilt honest bytes (Corrupt at want found) = honest → HasSpoiltLeaf bytes at want found
+TellsSpoilt honest bytes _ = Unit {0}
+
+-- a script tells damage of an honest disk where an opening of its own found it
+abbrev pub TellsOfScript : (honest : Type 0) → List ℕ → Refusal → Type 0
+TellsOfScript honest now (Corrupt at want found) = honest → IsAtFault now at want found
+TellsOfScript honest now _ = Unit {0}
 
 -- why a disk is not attached
 abbrev pub IsOfAttach : Refusal → Type 0
@@ -94,9 +99,11 @@ pub record Reading (Allowed : Point → Ran → Type 0) (p : Point) (now : Devic
   pub there : ran.next.device ≡ now
   pub same : ran.next.machine.completed ≡ p.machine.completed
 
--- what the disk holds is what the store was opened on
-abbrev pub IsOpenedOn : {D : Type 0} → Ghosts D → D → Store → Type 0
-IsOpenedOn g disk s = IsOpened (g.seen disk) (g.may_leave disk) s
+-- The store is as an opening makes it of an honest disk: where that reads, of what it holds. Calls go on from its hub.
+pub record IsOpenedOn {D : Type 0} (g : Ghosts D) (disk : D) (s : Store) : Type 0 where
+  pub reads : (content : Content) → Reads (g.seen disk) content → IsOpened (g.seen disk) (g.may_leave disk) s
+  pub spoils : SpoilsAreThere (g.seen disk) s
+  pub outset : IsOutset s.engine.hub
 
 abbrev pub at : Device → Machine → Point
 at d m = record { machine = m; device = d }
@@ -159,12 +166,12 @@ pub record LoadEnds {D : Type 0} (g : Ghosts D) (Allowed : Point → Ran → Typ
   pub ever : LeavesOnly g old new (OpensToOne m.completed made)
   pub stays : Stays (g.left_since new) made
 
--- how a load may end: damage of an honest disk is never told, a fault of the disk or of the input only where its count rose, and the output is not used
-abbrev pub EndsLoad : (honest disk_failed input_failed : Type 0) → End → Type 0
-EndsLoad honest disk_failed input_failed Through = Unit {0}
-EndsLoad honest disk_failed input_failed (Stopped r) = NoneOf honest r × (r ≡ DiskFault → disk_failed)
-EndsLoad honest disk_failed input_failed InputFailed = input_failed
-EndsLoad honest disk_failed input_failed OutputFailed = ⊥
+-- how a load may end: damage of an honest disk is told where a leaf is at fault, a fault of the disk or of the input only where its count rose, and the output is not used
+abbrev pub EndsLoad : (honest : Type 0) → List ℕ → (disk_failed input_failed : Type 0) → End → Type 0
+EndsLoad honest bytes disk_failed input_failed Through = Unit {0}
+EndsLoad honest bytes disk_failed input_failed (Stopped r) = TellsSpoilt honest bytes r × (r ≡ DiskFault → disk_failed)
+EndsLoad honest bytes disk_failed input_failed InputFailed = input_failed
+EndsLoad honest bytes disk_failed input_failed OutputFailed = ⊥
 
 -- ---- scripts
 

@@ -16,7 +16,7 @@ use Rattle.recover_open.specs.Damage.{IsDamage}
 use Rattle.device_read.specs.Readers.{Held, IsReaderOf}
 use Rattle.device_read.specs.Refusals.{LeafIsAtFault}
 use Rattle.device_read.specs.Spoilt.{IsSpoiltFrom}
-use Rattle.wt_line.specs.Line.{Asked, read, list, dump, home_in}
+use Rattle.wt_line.specs.Line.{Asked, script, verify, home_in}
 use Rattle.script_run.specs.declared.script.End.{End}
 use Rattle.script_run.specs.declared.script.End.TheVariants.{Through, Stopped, InputFailed, OutputFailed}
 use Rattle.script_run.specs.Scripts.{Outside, outside, counts}
@@ -28,20 +28,18 @@ use Rattle.wt_tool.specs.Damaged.{RunsOn, device_on, point_on}
 
 -- ---- the disk
 
--- what an opening of an engine reads of the device is in its grammar: all of it
+-- what `verify` reads of the device is in its grammar: all of it
 abbrev pub IsOpenable : List ℕ → Type 0
 IsOpenable bytes = (content : Content) × Reads bytes content
 
--- what an opening of a reader reads of it is: the record and the inner pages, and no leaf
+-- what any other command reads of it at first is: the record and the inner pages
 abbrev pub IsReadable : List ℕ → Type 0
 IsReadable bytes = (h : Held) × IsReaderOf bytes h
 
 -- what a run of the command reads of the device before it goes on
 abbrev pub IsOpenableFor : Asked → List ℕ → Type 0
-IsOpenableFor (read uri keys) bytes = IsReadable bytes
-IsOpenableFor list bytes = IsReadable bytes
-IsOpenableFor (dump hex reverse uri) bytes = IsReadable bytes
-IsOpenableFor _ bytes = IsOpenable bytes
+IsOpenableFor (verify uri) bytes = IsOpenable bytes
+IsOpenableFor _ bytes = IsReadable bytes
 
 -- words that are no command open nothing
 abbrev pub IsOpenableBy : Option Asked → List ℕ → Type 0
@@ -153,14 +151,15 @@ pub record WentOn {D : Type 0} (g : Ghosts D) (o : Outside) (asked : Asked) (who
   pub kept : ran.next.machine.completed ≡ (start content).completed
   pub looked : Looked g old new
 
--- What a refusal says of the device is so. Damage is told only where the device had it as the run began, or has it as it ended.
-abbrev pub IsSo : (honest : Type 0) → List ℕ → List ℕ → Refusal → Type 0
-IsSo honest before now (Corrupt at want found) = honest → IsDamage before at want found ⊎ IsDamage now at want found
-IsSo honest before now _ = Unit {0}
+-- at which leaf a command may tell damage: one to which the checkpoint of the device leads, as the run began, or of a script also as it ended
+abbrev pub IsLeafOf : Asked → List ℕ → List ℕ → (at want found : ℕ) → Type 0
+IsLeafOf (verify uri) before now at want found = ⊥
+IsLeafOf script before now at want found = LeafIsAtFault before at want found ⊎ LeafIsAtFault now at want found
+IsLeafOf _ before now at want found = LeafIsAtFault before at want found
 
--- The same of a run of a command: one that reads leaf by leaf tells of one leaf, whatever those before it are.
+-- What a refusal says of the device is so. Damage is told only where the device had it as the run began, or has it as it ended: a command that reads leaf by leaf tells of one leaf, whatever the others are.
 abbrev pub IsSoFor : Asked → (honest : Type 0) → List ℕ → List ℕ → Refusal → Type 0
-IsSoFor asked honest before now (Corrupt at want found) = honest → IsDamage before at want found ⊎ (IsDamage now at want found ⊎ (IsByReader asked × LeafIsAtFault before at want found))
+IsSoFor asked honest before now (Corrupt at want found) = honest → IsDamage before at want found ⊎ (IsDamage now at want found ⊎ IsLeafOf asked before now at want found)
 IsSoFor asked honest before now _ = Unit {0}
 
 -- the refusals and the end that the status and the errors tell, whatever the disk; this holds of each refusal
@@ -188,7 +187,7 @@ module _ {D S K E : Type 0} (g : Ghosts D) (s : SourceGhosts S) (k : SinkGhosts 
     pub usage_told : command_of words ≡ None → Tells (errors_of e err err_now) usage 1 status × Took (k.written out) (k.written out_now) [] × (input_now ≡ input) × (disk_now ≡ disk)
     -- Whatever the disk, the status is that of refusals whose lines are on the errors. Damage that they tell of an honest disk is there.
     pub told : (asked : Asked) → command_of words ≡ Some asked → Telling (IsSoFor asked (IsTrue (g.honest disk)) (g.seen disk) (g.seen disk_now)) (errors_of e err err_now) status
-    -- Status 0 and a printed byte come only from a command whose opening of the device is not refused for what it holds.
+    -- Status 0 and a printed byte come only from a command whose opening of the device is not refused for what it holds: the record and the inner pages, and of `verify` all of it.
     pub opened : IsTrue (g.honest disk) → status ≡ 0 → IsOpenableBy (command_of words) (g.seen disk)
     pub silent : IsTrue (g.honest disk) → Took (k.written out) (k.written out_now) [] ⊎ IsOpenableBy (command_of words) (g.seen disk)
     -- The disk is at the home that the words name.

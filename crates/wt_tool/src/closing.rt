@@ -2,10 +2,10 @@
 ghost use Rattle.std.specs.Prelude.{◌≡◌, IfErr};
 ghost use Rattle.failure.specs.Counts.{Rose};
 ghost use Rattle.disk_model.specs.Crash.{SameDisk};
-ghost use Rattle.script_run.specs.Runs.{IsFit};
 ghost use Rattle.wt_tool.specs.Led.{Leading};
 ghost use Rattle.wt_tool.specs.Parts.{IsLeft, NoDamage};
 ghost use Rattle.wt_tool.specs.Points.{Closes, point_of};
+ghost use Rattle.engine_store.specs.Opened.{IsReady};
 
 use disk_model::Disk;
 use engine_store::Store;
@@ -16,7 +16,7 @@ use wt_code::Refusal;
 // Closes the store of a command that gave no stamp. The command ends with it: the memory of the
 // store goes back as a whole, with the process.
 pub(crate) fn close<D: Disk>(alloc: Global, disk: &mut D, store: Store) -> Result<(), Refusal>
-    requires fit { IsFit D.Disk store disk.old }
+    requires ready { IsReady store }
     ensures run { Leading D.Disk store disk.old (λ start first w. IsLeft D.Disk start first Closes (point_of D.Disk w.machine disk.old) disk.new result) }
     ensures sound { IfErr result NoDamage }
     ensures fault { IfErr result (λ r. r ≡ Refusal.DiskFault → Rose (D.faults disk.old) (D.faults disk.new)) }

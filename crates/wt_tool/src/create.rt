@@ -7,7 +7,7 @@ ghost use Rattle.kv_model.specs.Calls.{System as BySystem, Create as CreateOf};
 ghost use Rattle.engine_store.specs.Opened.{IsReady};
 ghost use Rattle.wt_tool.specs.Creates.{RunsCreate};
 ghost use Rattle.wt_tool.specs.Led.{CallWent, DoneBy, Leading};
-ghost use Rattle.wt_tool.specs.Parts.{IsOpenedOn, LeavesFrom, NoneOf};
+ghost use Rattle.wt_tool.specs.Parts.{IsOpenedOn, LeavesFrom, TellsSpoilt};
 
 use crate::closing::close;
 use crate::names::{formats_asked, item_of, name_of};
@@ -30,7 +30,7 @@ pub(crate) fn create<D: Disk>(
     requires none { length store.engine.sessions ≡ 0 }
     requires on { IsTrue (D.honest disk.old) → IsOpenedOn D.Disk disk.old store }
     ensures run { LeavesFrom D.Disk (RunsCreate (option_map (λ x. x.now) config.entry) uri.now) disk.old disk.new result }
-    ensures sound { IfErr result (NoneOf (IsTrue (D.honest disk.old))) }
+    ensures sound { IfErr result (TellsSpoilt (IsTrue (D.honest disk.old)) (D.seen disk.old)) }
     ensures fault { IfErr result (λ r. r ≡ Refusal.DiskFault → Rose (D.faults disk.old) (D.faults disk.new)) }
     ensures disk { SameDisk D.Disk disk.old disk.new }
 {

@@ -10,8 +10,7 @@ ghost use Rattle.dump_text.specs.Grammar.{Row};
 ghost use Rattle.engine_store.specs.Opened.{IsReady};
 ghost use Rattle.wt_tool.specs.Loads.{LoadsRows, LoadsText, PutsRows, loaded_name};
 ghost use Rattle.wt_tool.specs.Writes.{demand_of};
-ghost use Rattle.script_run.specs.Runs.{IsFit};
-ghost use Rattle.wt_tool.specs.Parts.{EndsLoad, IsOpenedOn, LeavesFrom, LoadEnds, LoadsFrom, NoneOf, end_of, load_allowed};
+ghost use Rattle.wt_tool.specs.Parts.{EndsLoad, IsOpenedOn, LeavesFrom, LoadEnds, LoadsFrom, TellsSpoilt, end_of, load_allowed};
 ghost use Rattle.wt_tool.specs.Led.{CallWent, Leading, LedBy};
 ghost use Rattle.wt_tool.specs.Points.{Closes};
 ghost use Rattle.wt_tool.specs.Top.{Telling, errors_of};
@@ -47,7 +46,7 @@ pub(crate) fn load<D: Disk, S: Source, E: Sink>(
     requires none { length store.engine.sessions ≡ 0 }
     requires on { IsTrue (D.honest disk.old) → IsOpenedOn D.Disk disk.old store }
     ensures run { LoadsFrom D.Disk S.Source E.Sink (not no_overwrite) (option_map (λ x. x.now) name.entry) input.old input.new err.old err.new disk.old disk.new result }
-    ensures told { Telling (NoneOf (IsTrue (D.honest disk.old))) (errors_of E.Sink err.old err.new) result }
+    ensures told { Telling (TellsSpoilt (IsTrue (D.honest disk.old)) (D.seen disk.old)) (errors_of E.Sink err.old err.new) result }
     ensures statuses { (result ≡ 0) ⊎ ((result ≡ 1) ⊎ ((result ≡ 4) ⊎ ((result ≡ 5) ⊎ (result ≡ 12)))) }
     ensures disk_fault { result ≡ 4 → Rose (D.faults disk.old) (D.faults disk.new) }
     ensures input_fault { result ≡ 5 → Rose (S.fault_count input.old) (S.fault_count input.new) }
@@ -71,7 +70,7 @@ fn run_load<D: Disk, S: Source>(
     requires on { IsTrue (D.honest disk.old) → IsOpenedOn D.Disk disk.old store }
     ensures run { IsTrue (D.honest disk.old) → (content : Content) → EachReads (D.may_leave disk.old) content
         → LoadEnds D.Disk (load_allowed S.Source input.old input.new overwrite (option_map (λ x. x.now) renamed.entry)) (start content) (S.left input.old) (S.left input.new) disk.old disk.new result }
-    ensures ends { EndsLoad (IsTrue (D.honest disk.old)) (Rose (D.faults disk.old) (D.faults disk.new)) (Rose (S.fault_count input.old) (S.fault_count input.new)) result }
+    ensures ends { EndsLoad (IsTrue (D.honest disk.old)) (D.seen disk.old) (Rose (D.faults disk.old) (D.faults disk.new)) (Rose (S.fault_count input.old) (S.fault_count input.new)) result }
     ensures disk { SameDisk D.Disk disk.old disk.new }
 {
     let taken = match take_input(alloc, input) {
@@ -116,7 +115,7 @@ fn load_text<D: Disk>(
     requires short { length text.now < 2 ^ 63 }
     requires some { ended ≡ false → 0 < length text.now }
     ensures run { LeavesFrom D.Disk (LoadsText overwrite (option_map (λ x. x.now) renamed.entry) ended text.now) disk.old disk.new result }
-    ensures sound { IfErr result (NoneOf (IsTrue (D.honest disk.old))) }
+    ensures sound { IfErr result (TellsSpoilt (IsTrue (D.honest disk.old)) (D.seen disk.old)) }
     ensures fault { IfErr result (λ r. r ≡ Refusal.DiskFault → Rose (D.faults disk.old) (D.faults disk.new)) }
     ensures disk { SameDisk D.Disk disk.old disk.new }
 {
@@ -164,7 +163,7 @@ fn put_all<D: Disk>(
     rows: DumpRows<'_>,
 ) -> Result<(), Refusal>
     requires none { length store.old.engine.sessions ≡ 0 }
-    requires fit { IsFit D.Disk store.old disk.old }
+    requires ready { IsReady store.old }
     ensures led { Leading D.Disk store.old disk.old (λ start first w. LedBy D.Disk start first w store.new disk.old disk.new (LoadsRows name.now formats (demand_of overwrite) rows.entry) Closes result) }
     ensures went { CallWent D.Disk store.old store.new disk.old disk.new result }
 {
@@ -216,7 +215,7 @@ fn put_row<D: Disk>(
     value: Item,
 ) -> Result<(), Refusal>
     requires there { 0 < length store.old.engine.sessions }
-    requires fit { IsFit D.Disk store.old disk.old }
+    requires ready { IsReady store.old }
     ensures led { (rows : List Row) → Leading D.Disk store.old disk.old (λ start first w. LedBy D.Disk start first w store.new disk.old disk.new (PutsRows name.now (demand_of overwrite) ((key, value) ∷ rows)) (PutsRows name.now (demand_of overwrite) rows) result) }
     ensures went { CallWent D.Disk store.old store.new disk.old disk.new result }
     ensures there { length store.new.engine.sessions ≡ length store.old.engine.sessions }

@@ -6,6 +6,7 @@ ghost use Rattle.device_read.specs.Readers.{IsReaderOf};
 ghost use Rattle.device_read.specs.Refusals.{RefusesOpen as RefusesReader};
 ghost use Rattle.device_read.specs.Steps.{CanOpen, HasNumbersAbove, RefusesSurveyed};
 ghost use Rattle.wt_tool.specs.Parts.{IsOfAttach, IsOpenedOn};
+ghost use Rattle.wt_tool.specs.Top.{IsReadable};
 
 use device_read::{Reader, open};
 use disk_model::{Home, Unattached};
@@ -16,6 +17,7 @@ use wt_code::Refusal;
 // Attaches the disk, and makes an engine on what it holds. It changes nothing.
 pub(crate) fn reach<D: Home>(alloc: Global, disk: &mut D, home: &str) -> Result<Store, Refusal>
     ensures ok { IsTrue (D.honest disk.old) → IfOk result (IsOpenedOn D.Disk disk.new) }
+    ensures readable { IsTrue (D.honest disk.old) → OnOk result (IsReadable (D.seen disk.old)) }
     ensures ready { IfOk result IsReady }
     ensures none { IfOk result (λ s. length s.engine.sessions ≡ 0) }
     ensures err { IfErr result (RefusesOpen D.Disk (IsTrue (D.honest disk.old)) disk.old disk.new) }

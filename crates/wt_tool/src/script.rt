@@ -5,8 +5,8 @@ ghost use Rattle.failure.specs.Counts.{Rose};
 ghost use Rattle.disk_model.specs.Crash.{SameDisk};
 ghost use Rattle.engine_store.specs.Opened.{IsReady};
 ghost use Rattle.script_run.specs.Scripts.{counts};
-ghost use Rattle.wt_tool.specs.Parts.{IsOpenedOn, ScriptsFrom, TellsEnd};
-ghost use Rattle.wt_tool.specs.Top.{IsSo, IsStatus, Telling, errors_of, first_status};
+ghost use Rattle.wt_tool.specs.Parts.{IsOpenedOn, ScriptsFrom, TellsEnd, TellsOfScript};
+ghost use Rattle.wt_tool.specs.Top.{IsStatus, Telling, errors_of, first_status};
 
 use crate::status::Status;
 use crate::telling::report;
@@ -31,7 +31,7 @@ pub(crate) fn script<D: Disk, S: Source, K: Sink, E: Sink>(
     requires none { length store.engine.sessions ≡ 0 }
     requires on { IsTrue (D.honest disk.old) → IsOpenedOn D.Disk disk.old store }
     ensures run { ScriptsFrom D.Disk S.Source K.Sink E.Sink input.old input.new out.old out.new err.old err.new disk.old disk.new result }
-    ensures told { Telling (IsSo (IsTrue (D.honest disk.old)) (D.seen disk.old) (D.seen disk.new)) (errors_of E.Sink err.old err.new) result }
+    ensures told { Telling (TellsOfScript (IsTrue (D.honest disk.old)) (D.seen disk.new)) (errors_of E.Sink err.old err.new) result }
     ensures statuses { IsStatus result }
     ensures disk_fault { result ≡ 4 → Rose (D.faults disk.old) (D.faults disk.new) }
     ensures input_fault { result ≡ 5 → Rose (S.fault_count input.old) (S.fault_count input.new) }

@@ -4,9 +4,9 @@ ghost use Rattle.kv_model.specs.Calls.{Session as BySession};
 ghost use Rattle.wt_calls.specs.Calls.{session_call_in};
 ghost use Rattle.engine_world.specs.Stands.{Stands};
 ghost use Rattle.engine_world.specs.Worlds.{World};
-ghost use Rattle.script_run.specs.Runs.{IsFit};
 ghost use Rattle.wt_tool.specs.Led.{DoneBy, IsWord, Leading, OpenedBy, CallWent};
 ghost use Rattle.wt_tool.specs.Openings.{formats_at};
+ghost use Rattle.engine_store.specs.Opened.{IsReady};
 
 use crate::names::plain_formats;
 use ckpt_step::{calm_stays, checkpoints_are_kept};
@@ -42,7 +42,7 @@ pub(crate) fn call<D: Disk>(
 ) -> Result<(), Refusal>
     requires word { IsWord (session_call_in call) }
     requires there { 0 < length store.old.engine.sessions }
-    requires fit { IsFit D.Disk store.old disk.old }
+    requires ready { IsReady store.old }
     ensures led { Leading D.Disk store.old disk.old (λ start first w. DoneBy D.Disk start first w store.new disk.old disk.new (BySession 0) (session_call_in call) result) }
     ensures went { CallWent D.Disk store.old store.new disk.old disk.new result }
     ensures there { length store.new.engine.sessions ≡ length store.old.engine.sessions }

@@ -6,7 +6,7 @@ ghost use Rattle.wt_io.specs.Streams.{Took};
 ghost use Rattle.wt_line.specs.Line.{command_of, meaning};
 ghost use Rattle.wt_tool.specs.Commands.{IsByReader, IsOnEngine};
 ghost use Rattle.wt_tool.specs.Parts.{WentFrom, WentOnFrom, met_of};
-ghost use Rattle.wt_tool.specs.Top.{Promise, Tells, Telling, IsSo, IsSoFor, IsAt, IsOpenable, IsOpenableFor, IsStatus, errors_of, lines, first_status};
+ghost use Rattle.wt_tool.specs.Top.{Promise, Tells, Telling, IsSoFor, IsAt, IsOpenableFor, IsReadable, IsStatus, errors_of, lines, first_status};
 
 use crate::create::create;
 use crate::dump::dump;
@@ -155,9 +155,9 @@ fn run_opened<S: Source, K: Sink, E: Sink, D: Home>(
 ) -> u8
     requires { IsOnEngine (meaning command.now) }
     ensures run { WentFrom D.Disk S.Source K.Sink E.Sink (meaning command.now) input.old input.new out.old out.new err.old err.new disk.old disk.new result }
-    ensures told { Telling (IsSo (IsTrue (D.honest disk.old)) (D.seen disk.old) (D.seen disk.new)) (errors_of E.Sink err.old err.new) result }
-    ensures opened { IsTrue (D.honest disk.old) → result ≡ 0 → IsOpenable (D.seen disk.old) }
-    ensures silent { IsTrue (D.honest disk.old) → Took (K.written out.old) (K.written out.new) [] ⊎ IsOpenable (D.seen disk.old) }
+    ensures told { Telling (IsSoFor (meaning command.now) (IsTrue (D.honest disk.old)) (D.seen disk.old) (D.seen disk.new)) (errors_of E.Sink err.old err.new) result }
+    ensures opened { IsTrue (D.honest disk.old) → result ≡ 0 → IsReadable (D.seen disk.old) }
+    ensures silent { IsTrue (D.honest disk.old) → Took (K.written out.old) (K.written out.new) [] ⊎ IsReadable (D.seen disk.old) }
     ensures home { IsAt D.Disk home.now disk.old disk.new result }
     ensures statuses { IsStatus result }
     ensures disk_fault { result ≡ 4 → Rose (D.faults disk.old) (D.faults disk.new) }

@@ -8,10 +8,9 @@ ghost use Rattle.engine_world.specs.Stands.{Stands};
 ghost use Rattle.engine_world.specs.Worlds.{World};
 ghost use Rattle.engine_store.specs.Opened.{IsReady};
 ghost use Rattle.wt_line.specs.Line.{pair_texts};
-ghost use Rattle.script_run.specs.Runs.{IsFit};
 ghost use Rattle.wt_tool.specs.Points.{Closes, WithSession};
 ghost use Rattle.wt_tool.specs.Writes.{RunsWrite, PutsPairs, demand_of, the_put};
-ghost use Rattle.wt_tool.specs.Parts.{IsOpenedOn, LeavesFrom, NoneOf};
+ghost use Rattle.wt_tool.specs.Parts.{IsOpenedOn, LeavesFrom, TellsSpoilt};
 ghost use Rattle.wt_tool.specs.Led.{CallWent, DoneBy, IsWord, Leading, LedBy, PutsBegun};
 
 use crate::closing::close;
@@ -36,7 +35,7 @@ pub(crate) fn write<D: Disk>(
     requires none { length store.engine.sessions ≡ 0 }
     requires on { IsTrue (D.honest disk.old) → IsOpenedOn D.Disk disk.old store }
     ensures run { LeavesFrom D.Disk (RunsWrite overwrite uri.now (pair_texts pairs.now)) disk.old disk.new result }
-    ensures sound { IfErr result (NoneOf (IsTrue (D.honest disk.old))) }
+    ensures sound { IfErr result (TellsSpoilt (IsTrue (D.honest disk.old)) (D.seen disk.old)) }
     ensures fault { IfErr result (λ r. r ≡ Refusal.DiskFault → Rose (D.faults disk.old) (D.faults disk.new)) }
     ensures disk { SameDisk D.Disk disk.old disk.new }
 {
@@ -64,7 +63,7 @@ fn put_all<D: Disk>(
     pairs: &[(&str, &str)],
 ) -> Result<(), Refusal>
     requires none { length store.old.engine.sessions ≡ 0 }
-    requires fit { IsFit D.Disk store.old disk.old }
+    requires ready { IsReady store.old }
     ensures led { Leading D.Disk store.old disk.old (λ start first w. LedBy D.Disk start first w store.new disk.old disk.new (WithSession (PutsPairs name.now (demand_of overwrite) (pair_texts pairs.now))) Closes result) }
     ensures went { CallWent D.Disk store.old store.new disk.old disk.new result }
 {
@@ -92,7 +91,7 @@ fn put_one<D: Disk>(
     value: &str,
 ) -> Result<(), Refusal>
     requires there { 0 < length store.old.engine.sessions }
-    requires fit { IsFit D.Disk store.old disk.old }
+    requires ready { IsReady store.old }
     ensures led { (pairs : List (List ℕ × List ℕ)) → Leading D.Disk store.old disk.old (λ start first w. LedBy D.Disk start first w store.new disk.old disk.new (PutsPairs name.now (demand_of overwrite) ((key.now, value.now) ∷ pairs)) (PutsPairs name.now (demand_of overwrite) pairs) result) }
     ensures went { CallWent D.Disk store.old store.new disk.old disk.new result }
     ensures there { length store.new.engine.sessions ≡ length store.old.engine.sessions }
@@ -114,7 +113,7 @@ fn put_begun<D: Disk>(
     value: &str,
 ) -> Result<(), Refusal>
     requires there { 0 < length store.old.engine.sessions }
-    requires fit { IsFit D.Disk store.old disk.old }
+    requires ready { IsReady store.old }
     ensures led { (pairs : List (List ℕ × List ℕ)) → Leading D.Disk store.old disk.old (λ start first w. LedBy D.Disk start first w store.new disk.old disk.new (PutsBegun name.now (demand_of overwrite) (key.now, value.now) pairs) (PutsPairs name.now (demand_of overwrite) pairs) result) }
     ensures went { CallWent D.Disk store.old store.new disk.old disk.new result }
     ensures there { length store.new.engine.sessions ≡ length store.old.engine.sessions }
@@ -132,7 +131,7 @@ fn put_begun<D: Disk>(
 // Commits the transaction of the session.
 pub(crate) fn commit<D: Disk>(alloc: Global, disk: &mut D, store: &mut Store) -> Result<(), Refusal>
     requires there { 0 < length store.old.engine.sessions }
-    requires fit { IsFit D.Disk store.old disk.old }
+    requires ready { IsReady store.old }
     ensures led { Leading D.Disk store.old disk.old (λ start first w. DoneBy D.Disk start first w store.new disk.old disk.new (BySession 0) (Commit None None) result) }
     ensures went { CallWent D.Disk store.old store.new disk.old disk.new result }
     ensures there { length store.new.engine.sessions ≡ length store.old.engine.sessions }

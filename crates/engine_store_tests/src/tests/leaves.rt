@@ -77,6 +77,7 @@ fn a_leaf_that_is_not_read_is_read_again(rt: HostRuntime) {
     let alloc = rt.alloc();
     let content = device_of_leaves(&rt, alloc);
     for way in [Way::Up, Way::Down] {
+        let mut openings = 0u64;
         let mut reads = 0u64;
         for call in 0..100u64 {
             let failing = Vec::from_slice(alloc, &[call]).expect(&rt, "there is memory");
@@ -86,6 +87,7 @@ fn a_leaf_that_is_not_read_is_read_again(rt: HostRuntime) {
                 medium: medium.expect(&rt, "there is memory"),
             };
             let Ok(mut store) = open_on(alloc, &mut disk) else {
+                openings = openings.wrapping_add(1);
                 continue;
             };
             assert!(rt; store.open_session::<PlainDisk>(alloc) == Ok(0));
@@ -98,6 +100,8 @@ fn a_leaf_that_is_not_read_is_read_again(rt: HostRuntime) {
             }
             reads = reads.wrapping_add(1);
         }
+        // The length and two slots; the record and an inner page, each by two calls; and the length.
+        assert_eq!(rt; openings, 8);
         // Three leaves, each by two calls.
         assert_eq!(rt; reads, 6);
     }

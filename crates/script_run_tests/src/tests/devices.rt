@@ -156,7 +156,7 @@ pub(super) const STAMPED: &[Row<'static>] = &[
 ];
 
 // A script on a disk whose calls of these numbers fail, which may hold so many bytes. An opening has
-// six calls where there is no checkpoint, and fourteen behind the checkpoint of `READ`.
+// three calls where there is no checkpoint, and six behind the checkpoint of `READ`.
 #[derive(Clone, Copy)]
 pub(super) struct Failing<'a> {
     pub(super) text: &'a str,
@@ -165,11 +165,12 @@ pub(super) struct Failing<'a> {
     pub(super) told: &'a str,
 }
 
-// Call 9 is the sync of the blocks of the checkpoint, 15 that of its slot's first byte.
+// Call 3 asks for the device's length for the checkpoint, 7 is the sync of its blocks, 13 that of its
+// slot's first byte.
 const CHECKPOINT: &str =
     "sys create t S S\ns1 begin\ns1 put t a 1\ns1 commit\nsys ckpt\ns1 begin\nsys ckpt\nsys close\nsys crash\ns1 begin\ns1 get t a\n";
 
-// Behind an opening the leaf is in no frame: calls 30 and 31 read it for the call behind these lines.
+// Behind an opening the leaf is in no frame: calls 20 and 21 read it for the call behind these lines.
 const READ: &str =
     "sys create t S S\ns1 begin\ns1 put t a 1\ns1 commit\nsys ckpt\nsys crash\ns1 begin\ns1 get t a\ns1 get t a\n";
 
@@ -182,43 +183,49 @@ const READ_TO_WRITE: &str =
 pub(super) const FAILING: &[Failing<'static>] = &[
     Failing {
         text: READ,
-        calls: &[30],
+        calls: &[20],
         room: 1 << 20,
         told: "ok\nok\nok\nok\nok\nok\nok\n5 disk fault\nok 1\nThrough Some(DiskFault)",
     },
     Failing {
         text: READ,
-        calls: &[31, 32],
+        calls: &[21, 22],
         room: 1 << 20,
         told: "ok\nok\nok\nok\nok\nok\nok\n5 disk fault\n5 disk fault\nThrough Some(DiskFault)",
     },
     Failing {
         text: READ_BY_STEPS,
-        calls: &[30],
+        calls: &[20],
         room: 1 << 20,
         told: "ok\nok\nok\nok\nok\nok\nok\nstarted\nmore\nmore\n5 disk fault\nok 1\nThrough Some(DiskFault)",
     },
     Failing {
         text: READ_TO_WRITE,
-        calls: &[30],
+        calls: &[20],
         room: 1 << 20,
         told: "ok\nok\nok\nok\nok\nok\nok\n5 disk fault\nok\nok\nok\nok\nok\nok 1\nok 3\nThrough Some(DiskFault)",
     },
     Failing {
         text: CHECKPOINT,
-        calls: &[9],
+        calls: &[3],
+        room: 1 << 20,
+        told: "ok\nok\nok\nok\n5 disk fault\nok\nok\nok\nok\nok\nok 1\nThrough Some(DiskFault)",
+    },
+    Failing {
+        text: CHECKPOINT,
+        calls: &[7],
         room: 1 << 20,
         told: "ok\nok\nok\nok\n5 disk fault\n-31804 panic\n-31804 panic\n-31804 panic\nok\nok\n2 no table\nThrough Some(DiskFault)",
     },
     Failing {
         text: CHECKPOINT,
-        calls: &[15],
+        calls: &[13],
         room: 1 << 20,
         told: "ok\nok\nok\nok\n5 disk fault\n-31804 panic\n-31804 panic\n-31804 panic\nok\nok\nok 1\nThrough Some(DiskFault)",
     },
     Failing {
         text: "sys create t S S\ns1 begin\ns1 put t a 1\ns1 commit\nsys ckpt\nsys crash\nsys ckpt\ns1 begin\ns1 get t a\n",
-        calls: &[33],
+        calls: &[24],
         room: 1 << 20,
         told: "ok\nok\nok\nok\nok\nok\n5 disk fault\nok\nok 1\nThrough Some(DiskFault)",
     },
@@ -230,13 +237,13 @@ pub(super) const FAILING: &[Failing<'static>] = &[
     },
     Failing {
         text: "s1 begin\nsys crash\ns1 begin\n",
-        calls: &[7],
+        calls: &[4],
         room: 8_192,
         told: "ok\nStopped(DiskFault) None",
     },
     Failing {
         text: "s1 begin\nsys close\ns1 begin\n",
-        calls: &[15],
+        calls: &[13],
         room: 1 << 20,
         told: "ok\nStopped(DiskFault) None",
     },

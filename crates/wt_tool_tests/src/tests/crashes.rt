@@ -20,21 +20,21 @@ const CREATE: Step<'static> = Step {
     line: "create|-c|key_format=S,value_format=S|table:t",
     before: State::NoTable,
     after: State::NoRow,
-    calls: 16,
+    calls: 14,
 };
 
 const WRITE: Step<'static> = Step {
     line: "write|t|a|1",
     before: State::NoRow,
     after: State::One,
-    calls: 23,
+    calls: 18,
 };
 
 const WRITE_AGAIN: Step<'static> = Step {
     line: "write|-o|t|a|2",
     before: State::One,
     after: State::Two,
-    calls: 29,
+    calls: 22,
 };
 
 // What a crash leaves of the command, stopped where the call of this number failed; with the
@@ -132,7 +132,7 @@ fn a_crash_with_two_pending_writes_leaves_the_state_before(rt: HostRuntime) {
     let alloc = rt.alloc();
     let device = created(&rt, alloc);
     // The record's write fails, or the sync behind it.
-    for call in 15..17 {
+    for call in 10..12 {
         for pick in 8..64 {
             let content = image(&rt, alloc, &device, &WRITE, call, pick);
             let found = state_of(&rt, alloc, content);

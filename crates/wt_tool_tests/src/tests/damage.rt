@@ -1,5 +1,9 @@
 // One changed byte of a block is told where the block is needed, and no value of it is printed.
-use super::{FORMATS, ROOM, State, bytes_of, disk_of, new_device, run, runs, state_of, written};
+use super::scripts::Case;
+use super::{
+    FORMATS, ROOM, State, bytes_of, disk_of, expect, new_device, run, runs, scripts, state_of,
+    written,
+};
 use disk_model::MemDisk;
 use std::alloc::Global;
 use std::iter::StepBy;
@@ -86,7 +90,8 @@ fn a_changed_byte_of_a_block_is_told(rt: HostRuntime) {
     changes_are_told(&rt, alloc, &LEAF, (59..4096).step_by(64), ways);
 }
 
-// Every command that needs the leaf tells it, and leaves the device as it is.
+// Every command that needs the leaf tells it, and leaves the device as it is. A script goes on. One that
+// takes a checkpoint without a need of the leaf keeps its block, unread.
 #[test]
 fn damage_is_told_where_it_is_needed(rt: HostRuntime) {
     let alloc = rt.alloc();
@@ -103,13 +108,30 @@ fn damage_is_told_where_it_is_needed(rt: HostRuntime) {
         ("read|u|a", 1, "2 no table\n", ""),
         ("dump|t", 1, told, ""),
         ("write|t|b|2", 1, told, ""),
-        ("create|-c|key_format=S,value_format=S|t", 1, told, ""),
         ("list", 0, "", "table:t\n"),
         ("verify", 1, told, ""),
         ("verify|u", 1, told, ""),
     ];
     let disk = runs(&rt, alloc, disk, &rows);
+    let case = Case {
+        text: "s1 begin\ns1 get t a\ns1 get u a\n",
+        reads: &[],
+        writes: &[],
+        status: 0,
+        told: "",
+        printed: "ok\n-31802 corrupt at 12288 want 8748 found 8806\n2 no table\n",
+    };
+    let ran = scripts::run(&rt, alloc, disk, case);
+    let disk = expect(&rt, ran, case.text, case.status, case.told, case.printed);
     assert!(rt; disk.bytes() == before.as_slice());
+    let rows = [
+        ("create|-c|key_format=S,value_format=S|t", 0, "", ""),
+        ("create|u", 0, "", ""),
+        ("list", 0, "", "table:t\ntable:u\n"),
+        ("read|t|a", 1, told, ""),
+        ("verify", 1, told, ""),
+    ];
+    let _ = runs(&rt, alloc, disk, &rows);
 }
 
 // So many bytes of a letter.
@@ -205,12 +227,20 @@ fn a_leaf_at_fault_is_met_where_it_is_needed(rt: HostRuntime) {
         ("dump|u", 0, "", other),
         ("list", 0, "", "table:t\ntable:u\n"),
         ("verify", 1, told.as_str(), ""),
-        ("write|u|l|8", 1, told.as_str(), ""),
+        ("write|t|c|9", 1, told.as_str(), ""),
     ];
     let disk = disk_of(&rt, alloc, content, ROOM, &[]);
     let before = bytes_of(&rt, alloc, &disk);
     let disk = runs(&rt, alloc, disk, &rows);
     assert!(rt; disk.bytes() == before.as_slice());
+    let rows = [
+        ("write|u|l|8", 0, "", ""),
+        ("write|-o|t|b|5", 0, "", ""),
+        ("read|u|k|l", 0, "", "7\n8\n"),
+        ("read|t|b", 0, "", "5\n"),
+        ("read|t|c", 1, told.as_str(), ""),
+    ];
+    let _ = runs(&rt, alloc, disk, &rows);
 }
 
 #[test]

@@ -46,31 +46,30 @@ fn each_call_fails(
     assert_eq!(rt; state_of(rt, alloc, content), after, "{line}");
 }
 
-// An opening attaches the disk. It looks it through: it asks its length and reads both slots, and of a
-// checkpoint it asks the length, reads the record, and asks the length again: 3 calls and 3 more, and
-// 2 for a leaf. And it surveys it, without the leaf, which is read again as its key is put.
+// An opening attaches the disk, asks its length and reads both slots: 4 calls. Of a checkpoint it asks
+// the length, reads the record, and asks the length again: 3 more. The leaf is read as its key is put:
+// 2 calls.
 //
-// A checkpoint syncs, writes the leaf, where there is one, and the record, and syncs: 3 calls or 4.
-// Its slot takes 2 reads; the shut gate with its sync, where both were open; the body, a sync, the
-// gate, a sync.
+// A checkpoint asks the length, syncs, writes the leaf, where there is one, and the record, and syncs:
+// 4 calls or 5. Its slot takes 2 reads; the shut gate with its sync, where both were open; the body, a
+// sync, the gate, a sync.
 #[test]
 fn a_failing_call_of_a_command_leaves_the_state_before(rt: HostRuntime) {
     let alloc = rt.alloc();
     let device = new_device(&rt, alloc);
     let create = "create|-c|key_format=S,value_format=S|table:t";
     let states = (State::NoTable, State::NoRow);
-    each_call_fails(&rt, alloc, &device, create, 7 + 3 + 2 + 4, states);
+    each_call_fails(&rt, alloc, &device, create, 4 + 4 + 2 + 4, states);
     let device = created(&rt, alloc);
     let states = (State::NoRow, State::One);
-    each_call_fails(&rt, alloc, &device, "write|t|a|1", 13 + 4 + 2 + 4, states);
+    each_call_fails(&rt, alloc, &device, "write|t|a|1", 7 + 5 + 2 + 4, states);
     let device = written(&rt, alloc);
     let states = (State::One, State::Two);
-    let calls = 15 + 2 + 4 + 2 + 2 + 4;
+    let calls = 7 + 2 + 5 + 2 + 2 + 4;
     each_call_fails(&rt, alloc, &device, "write|-o|t|a|2", calls, states);
 }
 
-// A read attaches the disk and opens it without its leaves, which asks the length and reads both slots
-// and the record as above: 7 calls; and it reads the leaf of the key: 2 more.
+// A read opens the device as above, by 7 calls, and reads the leaf of the key: 2 more.
 #[test]
 fn a_failing_call_of_read_prints_nothing(rt: HostRuntime) {
     let alloc = rt.alloc();

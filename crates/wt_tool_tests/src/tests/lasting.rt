@@ -84,9 +84,9 @@ fn a_script_keeps_what_its_last_checkpoint_took(rt: HostRuntime) {
 // Two checkpoints: of the table, and of its row.
 const TWICE: &str = "sys create t S S\nsys ckpt\ns1 begin\ns1 put t a 1\ns1 commit\nsys ckpt\n";
 
-// An opening takes 7 calls of the disk. The first checkpoint takes 9, and so does the second, which
+// An opening takes 4 calls of the disk. The first checkpoint takes 10, and so does the second, which
 // writes a leaf too and needs no sync before it.
-const CALLS: u64 = 7 + 9 + 9;
+const CALLS: u64 = 4 + 10 + 10;
 
 // The two checkpoints on a new device, where the call of this number fails; with the number of the
 // calls, none does.
@@ -108,13 +108,13 @@ fn twice(rt: &impl Abort, alloc: Global, call: u64) -> MemDisk {
     ran.disk
 }
 
-// What is read behind it. A failed write or sync takes the engine down. A failed read of a slot
-// leaves it up, so that the second checkpoint takes all.
+// What is read behind it. A failed write or sync takes the engine down. Where the length is not told, or
+// a read of a slot fails, it stays up, so that the second checkpoint takes all.
 fn left(call: u64) -> State {
     match call {
-        10 | 11 => State::One,
-        0..=14 => State::NoTable,
-        15..=23 => State::NoRow,
+        4 | 8 | 9 => State::One,
+        0..=12 => State::NoTable,
+        13..=22 => State::NoRow,
         _ => State::One,
     }
 }
@@ -124,10 +124,10 @@ fn left(call: u64) -> State {
 fn left_by_crash(call: u64, pick: u64) -> State {
     let is_open = matches!(pick % 8, 1 | 3 | 4 | 6);
     match call {
-        14 | 15 if is_open => State::NoRow,
-        14 | 15 => State::NoTable,
-        23 | 24 if is_open => State::One,
-        23 | 24 => State::NoRow,
+        12 | 13 if is_open => State::NoRow,
+        12 | 13 => State::NoTable,
+        22 | 23 if is_open => State::One,
+        22 | 23 => State::NoRow,
         _ => left(call),
     }
 }

@@ -20,7 +20,7 @@ loop-place-init g c = record {
   held = c.requires.held;
   told = subst (λ (l : List (Option TreePlace)). AreTold c.args.was.trees.now l) (sym c.requires.none) (told_empty c.args.was.trees.now);
   disk = record { same = refl; room = refl; home = refl; later = omega arith };
-  ready = λ h. (c.requires.ready h).1;
+  ready = c.requires.ready;
   count = ap length c.requires.none;
   going = λ h w stands none sees old half roots made follows.
       let D = g.D.Disk in
@@ -70,6 +70,9 @@ returns-clause-writes g c h w stands none sees old half roots made follows =
     let on : IsBegun g.D.Disk old was e.hub.dir (known_in c.args.was.parts.now) e.hub.tables.tables e.hub.tables.next c.args.blocks.now c.args.disk.now = record { dir = stands.dir; half = half; roots = roots; made = made; ascend = stands.catalog.numbers } in
     ended w on c.loop-place.place c.loop-place.blocks (placed_by was c.loop-place.taken.trees.items) c.loop-place.taken.parts.items c.loop-place.taken.captured.items c.loop-place.disk
     (c.loop-place.invariant.going h w stands none sees old half roots made follows) (omega (arith, c.loop-place-test.false, c.len-count.ensures.count, ap (λ (k : Known). length k.tables) c.tables.ensures.are))
+
+pub returns-clause-ready : goal.returns-clause-ready
+returns-clause-ready g c h = c.loop-place.invariant.ready (c.loop-place.invariant.disk.same ∙ h)
 
 pub returns-in_err-take_table-clause-writes : goal.returns-in_err-take_table-clause-writes
 returns-in_err-take_table-clause-writes g c h w stands none sees old half roots made follows =

@@ -1,8 +1,9 @@
 use Rattle.std.proofs.Common.{refl, ◌≡◌, ◌∙◌, ◌+◌, sym, ap, subst, List, ℕ, length, Some, arith}
 use Rattle.std.proofs.Math.Path.{fun_ext}
-use Rattle.extent_list.specs.Space.{Space}
+use Rattle.extent_list.specs.Space.{Space, end_of}
 use Rattle.device_layout.specs.declared.addr.Addr.{Addr}
 use Rattle.device_layout.specs.Slots.{slot_at}
+use Rattle.wt_code.specs.declared.store_error.StoreError.{StoreError}
 use Rattle.kv_model.specs.History.{Table, tables}
 use Rattle.kv_model.specs.Holds.{Member}
 use Rattle.stamp.specs.declared.Name.{Name}
@@ -15,11 +16,12 @@ use Rattle.ckpt_step.specs.Parts.{with_parts}
 use Rattle.ckpt_step.specs.Rooms.{Written, known_in}
 use Rattle.ckpt_step.specs.Grounds.{StandsOn}
 use Rattle.ckpt_step.specs.Halves.{AreOldBlocks, AreOwn, half_cell}
-use Rattle.ckpt_step.specs.Runs.{made_of}
+use Rattle.ckpt_step.specs.Runs.{OldStands, made_of}
 use Rattle.ckpt_step.specs.Sizes.{HasPlaces, KeepsLeaves, LacksPlace}
 use Rattle.ckpt_step.specs.Trees.{AreKept, AreLow, addrs_of, kept_by, placed_by}
 use Rattle.ckpt_step.proofs.Following.{respects_now}
 use Rattle.ckpt_step.proofs.Past.{free_space}
+use Rattle.ckpt_step.proofs.LookedAt.{new_looked, not_begun, old_looked, stands_looked}
 use Rattle.ckpt_step.proofs.Made.{made_keeps}
 use Rattle.ckpt_step.proofs.Standing.{new_ground}
 use Rattle.ckpt_step.proofs.Starting.{half_start, known_is, old_ground, past_blocks}
@@ -27,12 +29,22 @@ use Rattle.ckpt_step.proofs.Left.{kept_in}
 use Rattle.ckpt_step.proofs.Told.{placed_length}
 use Rattle.ckpt_step.proofs.writing.write.Goals as goal
 
+pub returns-in-Ok-false-clause-wrote : goal.returns-in-Ok-false-clause-wrote
+returns-in-Ok-false-clause-wrote g c h w stands none sees old on follows = absurd (omega (arith, c.in-Ok-false.ensures.no h c.in-Ok-false.field-0-test, on.within))
+
+pub returns-in-Err-clause-wrote : goal.returns-in-Err-clause-wrote
+returns-in-Err-clause-wrote g c h w stands none sees old on follows =
+    let D = g.D.Disk in
+    let hub = c.args.engine.now.hub in
+    let stand = c.args.ground.now in
+    subst (λ (e : StoreError). OldStands D old w hub stand stand c.args.disk.now c.is_within.new.disk e) (sym c.in-Err.ensures.err)
+    (not_begun D c.args.disk.now c.is_within.new.disk c.is_within.ensures.looked (λ x is. g.met.D.Disk.only_now _ x is) old w hub stand on follows)
+
 pub write_blocks-requires-clause-ready : goal.write_blocks-requires-clause-ready
 write_blocks-requires-clause-ready g c h =
-    let D = g.D.Disk in
-    let was = c.requires.ready h in
-    let on = was.4.1 in
-    (was.0, was.1, was.2, was.3, (was.4.0, half_start (D.seen c.args.disk.now) (D.may_leave c.args.disk.now) c.args.engine.now.hub was.1.catalog.numbers c.args.ground.now was.4.0 on c.begin.new.blocks c.begin.ensures.cells c.begin.ensures.space c.begin.ensures.synced c.begin.ensures.held, on.roots, on.written, was.4.2))
+    let looked = c.is_within.ensures.looked in
+    let within = c.in-Ok-true.ensures.yes (sym looked.same ∙ h) c.in-Ok-true.field-0-test in
+    omega (arith, within, ap end_of c.begin.ensures.space, ap (λ (l : List ℕ). length l) looked.content)
 
 pub settle-requires-clause-kept : goal.settle-requires-clause-kept
 settle-requires-clause-kept g c = subst (λ (l : List TreePlace). AreKept l c.write_blocks.new.taken.trees.items) (sym c.in-Ok.ensures.trees) c.in-Ok.ensures.told.kept
@@ -59,9 +71,13 @@ returns-in-Ok-clause-wrote g c h w stands none sees old on follows =
     let known = hub.tables.tables in
     let next = hub.tables.next in
     let leaves = hub.dir.leaves in
-    let seen = D.seen c.args.disk.now in
-    let images = D.may_leave c.args.disk.now in
+    let before = c.args.disk.now in
+    let start = c.is_within.new.disk in
+    let looked = c.is_within.ensures.looked in
+    let seen = D.seen start in
+    let images = D.may_leave start in
     let stand = c.args.ground.now in
+    let stood = stands_looked (D.seen before) seen (D.may_leave before) images hub stand old looked.content looked.images on in
     let had = known_in stand.parts in
     let mid = c.write_blocks.new.ground in
     let told = c.write_blocks.new.taken.trees.items in
@@ -70,15 +86,15 @@ returns-in-Ok-clause-wrote g c h w stands none sees old on follows =
     let captured = c.write_blocks.new.taken.captured.items in
     let a = c.in-Ok.addr in
     let ascend = stands.catalog.numbers in
-    let half = half_start seen images hub ascend stand old on c.begin.new.blocks c.begin.ensures.cells c.begin.ensures.space c.begin.ensures.synced c.begin.ensures.held in
-    let put = c.in-Ok.ensures.puts h w stands none sees old half on.roots on.written on.number follows in
+    let half = half_start seen images hub ascend stand old stood c.begin.new.blocks c.begin.ensures.cells c.begin.ensures.space c.begin.ensures.synced c.begin.ensures.held in
+    let put = c.in-Ok.ensures.puts (looked.same ∙ h) w stands none sees old half stood.roots stood.written stood.number follows in
     let trees_same : mid.trees.items ≡ stand.trees.items = c.in-Ok.ensures.trees in
     let settled : c.settle.new.ground.trees.items ≡ places = c.settle.ensures.trees ∙ ap (λ (l : List TreePlace). placed_by l told) trees_same in
     let parts : (leaf : ℕ) → known_in c.settle.new.ground.parts leaf ≡ with_parts had more leaf = λ leaf. c.settle.ensures.parts leaf ∙ ap (λ (x : Written). with_parts x more leaf) (fun_ext c.in-Ok.ensures.parts) in
     let count = placed_length stand.trees.items told c.in-Ok.ensures.told.kept ∙ c.in-Ok.ensures.count in
-    let past = subst (λ (l : List TreePlace). AreOldBlocks old (addrs_of l)) (sym trees_same) (past_blocks seen images hub ascend stand old on) in
+    let past = subst (λ (l : List TreePlace). AreOldBlocks old (addrs_of l)) (sym trees_same) (past_blocks seen images hub ascend stand old stood) in
     let kept : (x : Addr) → Member x (addrs_of (kept_by mid.trees.items told)) → Member x captured = λ x there. (put.done.listed x).1 (kept_in stand.trees.items told x (subst (λ (l : List TreePlace). Member x (addrs_of (kept_by l told))) trees_same there)) in
-    let number : mid.number + 1 ≡ put.r.sequence = omega (arith, c.in-Ok.ensures.number, on.number, put.is.names.sequence) in
+    let number : mid.number + 1 ≡ put.r.sequence = omega (arith, c.in-Ok.ensures.number, stood.number, put.is.names.sequence) in
     let rev = known_is known (tables w.machine.history) stands.made in
     let new = made_of put.r known put.trees a in
     let sight = c.requires.sight in
@@ -88,8 +104,8 @@ returns-in-Ok-clause-wrote g c h w stands none sees old on follows =
     (subst (λ (s : Sight). AreUnended w.machine s.list) (sym sight) (are-unended c.args.engine.now.hub.txns w.machine stands.txns))) in
     let stands_now : StandsOn (D.seen c.write_blocks.new.disk) (D.may_leave c.write_blocks.new.disk) hub c.settle.new.ground (Some new) = new_ground (D.seen c.write_blocks.new.disk) mid.place.blocks old known next ascend places put.trees captured count put.r a put.done put.is.names.bare c.settle.new.ground.place.blocks.cells
     (c.settle.ensures.cells old captured a past kept put.done.own put.done.fresh put.done.cells)
-    (D.may_leave c.write_blocks.new.disk) hub had more c.settle.new.ground refl stands.dir put.by_leaves.parted put.of_leaves on.written.later put.each refl (c.settle.ensures.units put.done.units) (c.settle.ensures.held ∙ put.done.idle) c.settle.ensures.end (c.settle.ensures.number ∙ number) (c.settle.ensures.slot ∙ ap (λ (n : ℕ). Some (slot_at n a)) number) settled parts in
-    record {
+    (D.may_leave c.write_blocks.new.disk) hub had more c.settle.new.ground refl stands.dir put.by_leaves.parted put.of_leaves stood.written.later put.each refl (c.settle.ensures.units put.done.units) (c.settle.ensures.held ∙ put.done.idle) c.settle.ensures.end (c.settle.ensures.number ∙ number) (c.settle.ensures.slot ∙ ap (λ (n : ℕ). Some (slot_at n a)) number) settled parts in
+    new_looked D before start looked (λ x is. g.met.D.Disk.only_now _ x is) old w hub stand c.settle.new.ground c.write_blocks.new.disk (record {
       new = new;
       is = put.is;
       left = put.left;
@@ -104,47 +120,51 @@ returns-in-Ok-clause-wrote g c h w stands none sees old on follows =
           (subst (λ (x : Written). KeepsLeaves seen known leaves had new places x) (sym (fun_ext parts)) (made_keeps known next ascend places put.trees count put.done.bytes put.done.there put.r a put.is.names.bare put.done.tables seen leaves had (with_parts had more) put.by_leaves.same));
       had_room = record {
         old = old;
-        has = on.stands.seen_has;
+        has = stood.stands.seen_has;
         space = stand.place.blocks.space;
-        space_is = free_space seen images stand.place.blocks old on.stands on.cells on.units on.within;
-        some = subst (λ (l : List Table). HasPlaces seen (D.capacity c.args.disk.now) old leaves had w.machine stand.place.blocks.space l) (sym rev) (subst (λ (s : Space). HasPlaces seen (D.capacity c.args.disk.now) old leaves had w.machine s known) c.begin.ensures.space put.placed);
+        space_is = free_space seen images stand.place.blocks old stood.stands stood.cells stood.units stood.within;
+        some = subst (λ (l : List Table). HasPlaces seen (D.capacity start) old leaves had w.machine stand.place.blocks.space l) (sym rev) (subst (λ (s : Space). HasPlaces seen (D.capacity start) old leaves had w.machine s known) c.begin.ensures.space put.placed);
       };
-    }
+    })
 
-pub returns-in-Err-clause-wrote : goal.returns-in-Err-clause-wrote
-returns-in-Err-clause-wrote g c h w stands none sees old on follows =
+pub returns-in-Err-write_blocks-clause-wrote : goal.returns-in-Err-write_blocks-clause-wrote
+returns-in-Err-write_blocks-clause-wrote g c h w stands none sees old on follows =
     let D = g.D.Disk in
     let hub = c.args.engine.now.hub in
     let known = hub.tables.tables in
     let leaves = hub.dir.leaves in
-    let seen = D.seen c.args.disk.now in
-    let images = D.may_leave c.args.disk.now in
+    let before = c.args.disk.now in
+    let start = c.is_within.new.disk in
+    let looked = c.is_within.ensures.looked in
+    let seen = D.seen start in
+    let images = D.may_leave start in
     let stand = c.args.ground.now in
+    let stood = stands_looked (D.seen before) seen (D.may_leave before) images hub stand old looked.content looked.images on in
     let had = known_in stand.parts in
     let mid = c.write_blocks.new.ground in
     let captured = c.write_blocks.new.taken.captured.items in
     let ascend = stands.catalog.numbers in
-    let half = half_start seen images hub ascend stand old on c.begin.new.blocks c.begin.ensures.cells c.begin.ensures.space c.begin.ensures.synced c.begin.ensures.held in
-    let put = c.in-Err.ensures.puts h w stands none sees old half on.roots on.written on.number follows in
-    let trees_same : mid.trees.items ≡ stand.trees.items = c.in-Err.ensures.trees in
-    let parts_same : known_in mid.parts ≡ had = fun_ext c.in-Err.ensures.parts in
+    let half = half_start seen images hub ascend stand old stood c.begin.new.blocks c.begin.ensures.cells c.begin.ensures.space c.begin.ensures.synced c.begin.ensures.held in
+    let put = c.in-Err-write_blocks.ensures.puts (looked.same ∙ h) w stands none sees old half stood.roots stood.written stood.number follows in
+    let trees_same : mid.trees.items ≡ stand.trees.items = c.in-Err-write_blocks.ensures.trees in
+    let parts_same : known_in mid.parts ≡ had = fun_ext c.in-Err-write_blocks.ensures.parts in
     let listed : c.deref.result.now ≡ captured = c.deref.ensures.value in
     let rev = known_is known (tables w.machine.history) stands.made in
-    record {
+    old_looked D before start looked (λ x is. g.met.D.Disk.only_now _ x is) old w hub stand _ c.write_blocks.new.disk c.in-Err-write_blocks.error (record {
       left = put.left;
       kept = put.kept;
       on = λ safe.
           let runs = put.runs safe in
-          old_ground seen images hub ascend stand old on (D.seen c.write_blocks.new.disk) (D.may_leave c.write_blocks.new.disk) captured mid.place.blocks _ runs
-          (c.give_up.ensures.cells old (subst (λ (l : List Addr). AreOwn old l) (sym listed) runs.own) (λ u. runs.cells u ∙ ap (λ (l : List Addr). half_cell old l u) (sym listed))) (c.give_up.ensures.units runs.units) c.give_up.ensures.end c.give_up.ensures.synced c.give_up.ensures.held c.in-Err.ensures.slot c.in-Err.ensures.number trees_same c.in-Err.ensures.parts;
+          old_ground seen images hub ascend stand old stood (D.seen c.write_blocks.new.disk) (D.may_leave c.write_blocks.new.disk) captured mid.place.blocks _ runs
+          (c.give_up.ensures.cells old (subst (λ (l : List Addr). AreOwn old l) (sym listed) runs.own) (λ u. runs.cells u ∙ ap (λ (l : List Addr). half_cell old l u) (sym listed))) (c.give_up.ensures.units runs.units) c.give_up.ensures.end c.give_up.ensures.synced c.give_up.ensures.held c.in-Err-write_blocks.ensures.slot c.in-Err-write_blocks.ensures.number trees_same c.in-Err-write_blocks.ensures.parts;
       full = λ is. record {
         old = old;
-        has = on.stands.seen_has;
+        has = stood.stands.seen_has;
         space = stand.place.blocks.space;
-        space_is = free_space seen images stand.place.blocks old on.stands on.cells on.units on.within;
-        none = subst (λ (l : List Table). LacksPlace seen (D.capacity c.args.disk.now) old leaves had w.machine stand.place.blocks.space l) (sym rev) (subst (λ (s : Space). LacksPlace seen (D.capacity c.args.disk.now) old leaves had w.machine s known) c.begin.ensures.space (put.lacks is));
+        space_is = free_space seen images stand.place.blocks old stood.stands stood.cells stood.units stood.within;
+        none = subst (λ (l : List Table). LacksPlace seen (D.capacity start) old leaves had w.machine stand.place.blocks.space l) (sym rev) (subst (λ (s : Space). LacksPlace seen (D.capacity start) old leaves had w.machine s known) c.begin.ensures.space (put.lacks is));
       };
       follows =
           subst (λ (l : List TreePlace). FollowsFrom old known leaves (known_in mid.parts) l mid.floor w) (sym trees_same)
-          (subst (λ (x : Written). FollowsFrom old known leaves x stand.trees.items mid.floor w) (sym parts_same) (subst (λ (n : Name). FollowsFrom old known leaves had stand.trees.items n w) (sym c.in-Err.ensures.floor) follows));
-    }
+          (subst (λ (x : Written). FollowsFrom old known leaves x stand.trees.items mid.floor w) (sym parts_same) (subst (λ (n : Name). FollowsFrom old known leaves had stand.trees.items n w) (sym c.in-Err-write_blocks.ensures.floor) follows));
+    })

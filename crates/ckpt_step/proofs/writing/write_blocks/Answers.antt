@@ -1,4 +1,4 @@
-use Rattle.std.proofs.Common.{◌≡◌, ◌∙◌, ◌+◌, sym, subst, List, Option, ℕ, IsTrue}
+use Rattle.std.proofs.Common.{◌≡◌, ◌∙◌, ◌+◌, sym, subst, List, Option, ℕ, IsTrue, arith}
 use Rattle.device_layout.specs.declared.addr.Addr.{Addr}
 use Rattle.device_layout.specs.declared.slot.Slot.{Slot}
 use Rattle.turtle.specs.Slots.{IsNext}
@@ -157,14 +157,6 @@ returns-in-Err-finish-clause-puts g c h w stands none sees old half roots writte
 
 pub finish-requires-clause-ready : goal.finish-requires-clause-ready
 finish-requires-clause-ready g c h =
-    let D = g.D.Disk in
-    let hub = c.args.engine.now.hub in
-    let known = hub.tables.tables in
-    let leaves = hub.dir.leaves in
-    let had = known_in c.args.ground.now.parts in
-    let past = c.deref.ensures.value in
-    let honest : IsTrue (D.honest c.args.disk.now) = sym c.write_trees.ensures.disk.same ∙ h in
-    let was = c.requires.ready honest in
-    let old = was.4.0 in
-    let all = c.in-Ok.ensures.writes honest was.0 was.1 was.2 was.3 old was.4.1 (subst (λ (l : List TreePlace). AreRoots known leaves had l old) (sym past) was.4.2) (subst (λ (l : List TreePlace). AreWritten known hub.dir had l) (sym past) was.4.3) (subst (λ (l : List TreePlace). FollowsFrom old known leaves had l c.args.ground.now.floor was.0) (sym past) was.4.4) in
-    (all.half.runs.long, all.half.runs.within)
+    let honest : IsTrue (g.D.Disk.honest c.args.disk.now) = sym c.write_trees.ensures.disk.same ∙ h in
+    let within = c.in-Ok.ensures.ready honest in
+    (omega (arith, within), within)

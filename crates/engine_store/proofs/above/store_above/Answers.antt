@@ -9,6 +9,7 @@ use Rattle.stored.specs.Records.{TableRoot}
 use Rattle.stored.specs.Stored.{tables_of as record_tables}
 use Rattle.device_leaf.specs.Openings.{last_number}
 use Rattle.tree_dir.specs.declared.leaf.Leaf.{Leaf}
+use Rattle.tree_dir.specs.Leaves.{IsDirectory}
 use Rattle.tree_open.specs.declared.place.Upper.{Upper}
 use Rattle.recover_open.specs.Bare.{marks_of}
 use Rattle.engine_world.specs.Stands.{Stands}
@@ -24,6 +25,8 @@ use Rattle.engine_store.specs.Places.{AreOver}
 use Rattle.engine_store.specs.Tables.{AreWithEntries}
 use Rattle.engine_store.proofs.BorneTables.{climb_with, many_with, tables_with}
 use Rattle.engine_store.proofs.Founds.{found_above}
+use Rattle.engine_store.proofs.HubsGo.{goes_same, owned_then, spoils_back}
+use Rattle.engine_store.proofs.KeptLeaves.{spoils_of}
 use Rattle.engine_store.proofs.ReadyAbove.{over_many, ready_above}
 use Rattle.engine_store.proofs.OpenedEngine.{begun, begun_kept, begun_stands, led, led_parted, shelf, shelved}
 use Rattle.engine_store.proofs.Refusing.{refused_begin}
@@ -38,6 +41,10 @@ trees_by_place-requires g c =
 -- the tables, each with its entries
 withs : (both : List TableEntries) (parts tables : List TableRoot) (uppers : List Upper) → AreWithEntries both parts uppers → parts ≡ tables → AreWithEntries both tables uppers
 withs both parts tables uppers with same = subst (λ (l : List TableRoot). AreWithEntries both l uppers) same with
+
+-- no two of them have one number
+apart_with : (both : List TableEntries) (tables : List TableRoot) (uppers : List Upper) (next : ℕ) → AreWithEntries both tables uppers → AreRecorded (record_tables tables) next → AllApart SameNumber (tables_of both)
+apart_with both tables uppers next with recorded = subst (λ (l : List Table). AllApart SameNumber l) (sym (tables_with both tables uppers with)) recorded.once
 
 pub start-requires-clause-recorded : goal.start-requires-clause-recorded
 start-requires-clause-recorded g c =
@@ -95,6 +102,30 @@ returns-in-Ok-clause-found g c = λ honest surveyed content reads.
     let run : a.record.run < last_number = omega (arith, c.run_of.ensures, c.if-run_of-ge-NUMBER_MAX.false) in
     found_above a c.requires.is_record both with e unread s c.bring_marked.ensures.goes ps over trees_are c.number_of-number.ensures bytes c.args.place c.requires.bare of recorded first now unmarked refl c.new.ensures refl run (c.has_numbers.ensures.yes yes)
 
+pub returns-in-Ok-clause-spoils : goal.returns-in-Ok-clause-spoils
+returns-in-Ok-clause-spoils g c = λ honest surveyed id at want found spoils.
+    let a = c.args.above in
+    let bytes = g.D.Disk.seen c.args.disk.now in
+    let both = c.in_ok-tables.tables.items in
+    let with = withs both c.into_parts-tables.result.0.items a.record.tables a.uppers.items c.in_ok-tables.ensures c.into_parts-tables.ensures.tables in
+    let unread = c.in_ok-engine.ensures.unread in
+    let d = c.in_ok-engine.engine.hub.dir in
+    let apart = apart_with both a.record.tables a.uppers.items a.record.next_table with (c.records_are_recorded.ensures a.record c.requires.is_record) in
+    let before = spoils_back bytes d c.bring_marked.new.engine.hub.dir id at want found c.in-Ok.ensures.leaves spoils in
+    record {
+      place = c.args.place;
+      above = a;
+      surveyed = surveyed;
+      leaf = spoils_of both d unread.dir apart unread.added bytes a.record.tables a.uppers.items with id at want found before;
+    }
+
+pub returns-in-Ok-clause-outset : goal.returns-in-Ok-clause-outset
+returns-in-Ok-clause-outset g c =
+    let e = c.in_ok-engine.engine.hub in
+    let now = c.bring_marked.new.engine.hub in
+    let owned = leaves_owned c.in_ok-tables.tables.items e.tables.tables e.dir c.in_ok-engine.ensures.unread.tables_are c.in_ok-engine.ensures.unread.added in
+    (subst IsDirectory c.leaves.ensures.are c.leaves.ensures.stand, goes_same now (owned_then e now owned c.in-Ok.ensures.leaves c.bring_marked.ensures.goes))
+
 pub returns-in-Ok-clause-ready : goal.returns-in-Ok-clause-ready
 returns-in-Ok-clause-ready g c =
     let a = c.args.above in
@@ -114,5 +145,5 @@ returns-in-Err-clause-err g c =
     let both = c.in_ok-tables.tables.items in
     let with = withs both c.into_parts-tables.result.0.items a.record.tables a.uppers.items c.in_ok-tables.ensures c.into_parts-tables.ensures.tables in
     let unread = c.in_ok-engine.ensures.unread in
-    let apart : AllApart SameNumber (tables_of both) = subst (λ (l : List Table). AllApart SameNumber l) (sym (tables_with both a.record.tables a.uppers.items with)) (c.records_are_recorded.ensures a.record c.requires.is_record).once in
+    let apart = apart_with both a.record.tables a.uppers.items a.record.next_table with (c.records_are_recorded.ensures a.record c.requires.is_record) in
     refused_begin g.D.Disk c.args.disk.now c.bring_marked.new.disk a both c.in_ok-engine.engine.hub.dir c.in-Err.refusal unread.dir apart unread.added with c.in-Err.ensures.err

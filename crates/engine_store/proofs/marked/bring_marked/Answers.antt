@@ -55,6 +55,9 @@ loop-leaf-preserved g c =
           (λ l there. subst (λ (bytes : List ℕ). IsLeafKept bytes mid.dir c.args.marks c.args.ids.now w.shelf l) (sym now.looked.content) (kept_then (D.seen c.args.disk.now) first.dir mid.dir c.args.marks c.args.ids.now w.shelf now.leaves kept l there));
     }
 
+pub returns-clause-leaves : goal.returns-clause-leaves
+returns-clause-leaves g c = c.loop-leaf.invariant.leaves
+
 pub returns-clause-unmarked : goal.returns-clause-unmarked
 returns-clause-unmarked g c =
     unmarked_then c.args.engine.now.hub.tables.tables c.args.engine.now.hub.dir.leaves c.loop-leaf.engine.hub.dir.leaves c.args.marks c.in_ok-marked.marked.items c.deref-leaf-items.result.now c.loop-leaf.leaf-index c.requires.owned c.loop-leaf.invariant.leaves c.in_ok-marked.ensures

@@ -1,6 +1,6 @@
 use Rattle.std.proofs.Common.{◌∙◌, refl, sym}
 use Rattle.std.specs.Prelude.{ℕ, ◌≡◌, IsTrue}
-use Rattle.recover_open.specs.Damage.{IsDamage}
+use Rattle.engine_store.specs.Opened.{IsAtFault}
 use Rattle.wt_code.specs.declared.refusals.Refusal.TheVariants.{Corrupt}
 use Rattle.script_run.proofs.Devices.{close_done, close_refused, refused_as}
 use Rattle.script_run.specs.Faults.{RepliesFault}
@@ -15,8 +15,8 @@ returns-in-Ok-clause-replies g c = λ honest first s at same.
 
 pub returns-in-Ok-clause-damage : goal.returns-in-Ok-clause-damage
 returns-in-Ok-clause-damage g c =
-    refused_as c.reopen.result (λ r. (at want found : ℕ) → r ≡ Corrupt at want found → IsTrue (g.D.Disk.honest c.close.new.disk) → IsDamage (g.D.Disk.seen c.reopen.new.disk) at want found)
-    (λ r. (at want found : ℕ) → r ≡ Corrupt at want found → IsTrue (g.D.Disk.honest c.args.disk.now) → IsDamage (g.D.Disk.seen c.reopen.new.disk) at want found)
+    refused_as c.reopen.result (λ r. (at want found : ℕ) → r ≡ Corrupt at want found → IsTrue (g.D.Disk.honest c.close.new.disk) → IsAtFault (g.D.Disk.seen c.reopen.new.disk) at want found)
+    (λ r. (at want found : ℕ) → r ≡ Corrupt at want found → IsTrue (g.D.Disk.honest c.args.disk.now) → IsAtFault (g.D.Disk.seen c.reopen.new.disk) at want found)
     (λ r known at want found is honest. known at want found is (c.close.ensures.disk.same ∙ honest)) c.reopen.ensures.damage
 
 pub returns-in-Err-clause-replies : goal.returns-in-Err-clause-replies

@@ -1,3 +1,4 @@
+use Rattle.std.specs.Prelude.{None}
 use Rattle.std.proofs.Common.{◌∙◌, ◌<◌, length, arith, sym, subst}
 use Rattle.engine_store.specs.declared.store.Store.{Store}
 use Rattle.script_run.specs.Runs.{StandsAt}
@@ -28,7 +29,7 @@ opening-preserved g c =
           let x = c.in-Ok.ensures.opened disk ((i.keeps disk).looked.same ∙ honest) first (opened_more h.count w) s.first s.made h.holds.held in
           one-opened c.args.session w (λ v. StandsAt g.D.Disk first store disk s v) (λ v. StandsAt g.D.Disk first store' disk s v) (length store.engine.sessions) (length store'.engine.sessions) h
           (omega (arith, c.opening-test.true, c.sessions.ensures)) c.in-Ok.ensures.more (record { held = x.held; device = h.holds.device });
-      told = λ disk start le are. c.in-Ok.ensures.told disk start le (i.told disk start le are);
+      told = λ disk start le are. (c.in-Ok.ensures.told disk None start le tt (i.told disk start le are)).1;
       keeps = λ disk. keeps_then g.D.Disk before store store' disk disk disk (i.keeps disk) (c.in-Ok.ensures.keeps disk);
     }
 
@@ -43,7 +44,7 @@ returns-in-Err g c =
           (omega (arith, c.opening-test.true, c.sessions.ensures)) c.in-Err.ensures.refused (λ v at. subst (λ (x : Store). StandsAt g.D.Disk first x disk s v) (sym c.in-Err.ensures.same) at);
       refused = is-no-session c.in-Err.refusal (length store.engine.sessions) c.in-Err.ensures.refused;
       there = tt;
-      told = λ disk start le are. c.in-Err.ensures.told disk start le (i.told disk start le are);
+      told = λ disk start le are. (c.in-Err.ensures.told disk None start le tt (i.told disk start le are)).1;
       keeps = λ disk. keeps_then g.D.Disk c.args.store.now store store' disk disk disk (i.keeps disk) (c.in-Err.ensures.keeps disk);
     }
 

@@ -6,8 +6,7 @@ use Rattle.script_run.specs.Runs.{RepliedAs}
 use Rattle.script_run.specs.Scripts.{IsLater, gives_stamp}
 use Rattle.script_run.proofs.Calming.{CalmLaws}
 use Rattle.script_run.proofs.Devices.{gives_none}
-use Rattle.script_run.proofs.Holding.{actor_told, fit_kept, of_actor}
-use Rattle.script_run.proofs.Telling.{fit_tells}
+use Rattle.script_run.proofs.Holding.{actor_told, of_actor, ready_kept}
 use Rattle.script_run.proofs.one_line.reply_to.Goals as goal
 
 pub reply_of-requires-clause-now : goal.reply_of-requires-clause-now
@@ -34,8 +33,8 @@ returns-in_default g c =
       replies = λ honest first stamped s later at same.
           actor_told g.D.Disk first store store' disk disk' c.args.line laws stamped s told c.reply_of.new.formats now at
           (c.reply_of.ensures.replied honest first s (record { held = at.held; device = at.device }) (same ∙ sym c.as_mut_slice.ensures.value));
-      told = fit_tells g.D.Disk store store' disk disk' told c.requires.fit c.reply_of.ensures.told;
+      told = c.reply_of.ensures.told;
       damage = tt;
-      fit = fit_kept g.D.Disk store store' disk disk' keeps c.requires.fit;
+      ready = ready_kept g.D.Disk store store' disk disk' keeps c.requires.ready;
       disk = looked_same g.D.Disk disk disk' keeps.looked keeps.home;
     }

@@ -39,6 +39,6 @@ returns-in-Ok g c =
           subst (λ (l : List Formats). IsReplied g.D.Disk first s store' disk' (StepLine c.args.who) l told) same
           (left-more g.D.Disk first s store' disk' s.formats (λ later. Goes c.actor_in-actor.result s told.formats told.reply later v) (λ later. Replies (StepLine c.args.who) s told.formats told.reply later)
           (λ later is. subst (λ (a : Actor). Opens a s.world (λ v. Goes a s told.formats told.reply later v) (λ but v. Refuses but s v told.reply later)) c.actor_in-actor.ensures (inl is)) x);
-      told = opened_replies g.D.Disk c.args.store.now store store' disk disk' told (c.in-Ok.ensures.keeps disk) (c.in-Ok.ensures.told disk) c.go.ensures.told;
+      told = opened_replies g.D.Disk c.args.store.now store store' disk disk' told (c.in-Ok.ensures.told disk) c.go.ensures.told;
       keeps = keeps_then g.D.Disk c.args.store.now store store' disk disk disk' (c.in-Ok.ensures.keeps disk) c.go.ensures.keeps;
     }

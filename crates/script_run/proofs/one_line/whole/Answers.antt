@@ -36,6 +36,6 @@ returns-in-Ok g c =
           let opened = subst (λ (a : Actor). StandsAt g.D.Disk first store disk s (opened_more (missing a s.world) s.world)) c.caller.ensures (c.in-Ok.ensures.opens disk honest first s s.world at) in
           let v = opened_more (missing (caller c.args.call) s.world) s.world in
           left-more g.D.Disk first s store' disk' s.formats (λ later. Answers c.args.call s told.formats told.reply later v ⊎ Refuses NoMemory s v told.reply later) (λ later. Replies (Whole c.args.call) s told.formats told.reply later) (λ later is. inl is) (c.answer.ensures.replied honest first s v opened);
-      told = opened_replies g.D.Disk c.args.store.now store store' disk disk' told (c.in-Ok.ensures.keeps disk) (c.in-Ok.ensures.told disk) c.answer.ensures.told;
+      told = opened_replies g.D.Disk c.args.store.now store store' disk disk' told (c.in-Ok.ensures.told disk) c.answer.ensures.told;
       keeps = keeps_then g.D.Disk c.args.store.now store store' disk disk disk' (c.in-Ok.ensures.keeps disk) c.answer.ensures.keeps;
     }

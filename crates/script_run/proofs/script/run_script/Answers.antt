@@ -32,7 +32,7 @@ lines-init g c =
       used = omega (arith, place.used);
       reads = omega arith;
       writes = omega arith;
-      fit = record { ready = c.requires.ready; well = c.requires.well };
+      ready = c.requires.ready;
       disk = same_disk g.D.Disk c.args.disk.now;
       told = λ none. told_none g.D.Disk c.args.store.now.engine c.args.disk.now none;
       met = λ none met. absurd (none-met DiskFault (sym place.met ∙ met));
@@ -69,7 +69,7 @@ lines-preserved g c =
       used = e.moved.within;
       reads = omega (arith, i.reads, c.turn.ensures.input);
       writes = omega (arith, i.writes, c.turn.ensures.output);
-      fit = c.turn.ensures.fit;
+      ready = c.turn.ensures.ready;
       disk = same_disk_then g.D.Disk c.args.disk.now c.lines.disk c.turn.new.disk i.disk c.turn.ensures.disk;
       told = λ none. (e.told c.args.disk.now i.disk.later (i.told none)).1;
       met = λ none met.

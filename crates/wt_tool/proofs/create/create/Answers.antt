@@ -10,9 +10,9 @@ use Rattle.wt_tool.specs.Points.{Point, Ran, point_of, Closes}
 use Rattle.wt_tool.specs.Openings.{Configured}
 use Rattle.wt_tool.specs.Creates.{MakesTable, RunsCreate}
 use Rattle.wt_tool.proofs.Leading.{made_led}
-use Rattle.wt_tool.proofs.Leaving.{first_of, first_holds, fit_of, left_as, left_behind, left_refused, untouched}
+use Rattle.wt_tool.proofs.Leaving.{first_of, first_holds, left_as, left_behind, left_refused, untouched}
 use Rattle.wt_tool.proofs.Naming.{named_goes, named_none, configured_goes, configured_refused, unconfigured_no_fault, unconfigured_sound}
-use Rattle.wt_tool.proofs.Went.{damage_none, refused_fault, refused_none}
+use Rattle.wt_tool.proofs.Went.{damage_none, refused_fault, refused_spoilt}
 use Rattle.wt_tool.proofs.create.create.Goals as goal
 
 abbrev words : Option (Bor (List ℕ)) → Option (List ℕ)
@@ -26,7 +26,7 @@ whole : (config : Option (List ℕ)) (uri name : List ℕ) (formats : Formats) �
 whole config uri name formats named asked p ran run = named_goes uri (Made config) name named p ran (configured_goes config (λ f. MakesTable name f Closes) formats asked p ran run)
 
 pub close-requires : goal.close-requires
-close-requires g c = record { fit = (c.in-Ok-make.ensures.went c.args.disk.now).fit (fit_of g.D.Disk c.args.disk.now c.args.store c.requires.ready c.requires.on) }
+close-requires g c = record { ready = (c.in-Ok-make.ensures.went c.args.disk.now).ready c.requires.ready }
 
 pub returns-in_default-clause-run : goal.returns-in_default-clause-run
 returns-in_default-clause-run g c h content each =
@@ -41,7 +41,7 @@ returns-in-Err-clause-run g c h content each =
     (configured_refused (words c.args.config) (λ f. MakesTable c.in-Some.name.now f Closes) c.in-Err.refusal c.in-Err.ensures.refused p))
 
 pub returns-in-Err-clause-sound : goal.returns-in-Err-clause-sound
-returns-in-Err-clause-sound g c = damage_none _ c.in-Err.refusal (unconfigured_sound (words c.args.config) c.in-Err.refusal c.in-Err.ensures.refused)
+returns-in-Err-clause-sound g c = damage_none _ _ c.in-Err.refusal (unconfigured_sound (words c.args.config) c.in-Err.refusal c.in-Err.ensures.refused)
 
 pub returns-in-Err-clause-fault : goal.returns-in-Err-clause-fault
 returns-in-Err-clause-fault g c is = absurd (unconfigured_no_fault (words c.args.config) c.in-Err.refusal c.in-Err.ensures.refused is)
@@ -50,8 +50,8 @@ pub returns-in-Ok-make-clause-run : goal.returns-in-Ok-make-clause-run
 returns-in-Ok-make-clause-run g c h content each =
     let D = g.D.Disk in
     let disk = c.args.disk.now in
-    let on = c.requires.on h in
     let reads = each.0 _ (g.met.D.Disk.reads_an_image _ h) in
+    let on = (c.requires.on h).reads content reads in
     let w = first_of D disk c.args.store on content each reads in
     let holds = first_holds D disk c.args.store on content each reads c.plain_stays.ensures.starts (λ d left. g.met.D.Disk.only_now _ d left) in
     let Run : Point → Ran → Type 0 = MakesTable c.in-Some.name.now c.in-Ok.formats Closes in
@@ -62,14 +62,14 @@ returns-in-Ok-make-clause-run g c h content each =
     (λ v held. c.close.ensures.run h disk (start content).completed v held))
 
 pub returns-in-Ok-make-clause-sound : goal.returns-in-Ok-make-clause-sound
-returns-in-Ok-make-clause-sound g c = err_map c.close.result c.close.ensures.sound (damage_none _)
+returns-in-Ok-make-clause-sound g c = err_map c.close.result c.close.ensures.sound (damage_none _ _)
 
 pub returns-in-Err-make-clause-run : goal.returns-in-Err-make-clause-run
 returns-in-Err-make-clause-run g c h content each =
     let D = g.D.Disk in
     let disk = c.args.disk.now in
-    let on = c.requires.on h in
     let reads = each.0 _ (g.met.D.Disk.reads_an_image _ h) in
+    let on = (c.requires.on h).reads content reads in
     let w = first_of D disk c.args.store on content each reads in
     let holds = first_holds D disk c.args.store on content each reads c.plain_stays.ensures.starts (λ d left. g.met.D.Disk.only_now _ d left) in
     let Run : Point → Ran → Type 0 = MakesTable c.in-Some.name.now c.in-Ok.formats Closes in
@@ -79,7 +79,7 @@ returns-in-Err-make-clause-run g c h content each =
     (made_led D disk (start content).completed c.in-Some.name.now c.in-Ok.formats Closes w c.make.new.store disk disk (Err c.in-Err-make.refusal) (c.in-Err-make.ensures.led disk h disk (start content).completed w holds)))
 
 pub returns-in-Err-make-clause-sound : goal.returns-in-Err-make-clause-sound
-returns-in-Err-make-clause-sound g c = refused_none g.D.Disk c.args.store c.make.new.store c.args.disk.now c.args.disk.now (fit_of g.D.Disk c.args.disk.now c.args.store c.requires.ready c.requires.on) c.requires.none c.in-Err-make.refusal (c.in-Err-make.ensures.went c.args.disk.now)
+returns-in-Err-make-clause-sound g c = refused_spoilt g.D.Disk c.args.store c.make.new.store c.args.disk.now c.args.disk.now c.requires.none c.in-Err-make.refusal (c.in-Err-make.ensures.went c.args.disk.now) (λ h. (c.requires.on h).outset) (λ h. (c.requires.on h).spoils)
 
 pub returns-in-Err-make-clause-fault : goal.returns-in-Err-make-clause-fault
-returns-in-Err-make-clause-fault g c = refused_fault g.D.Disk c.args.store c.make.new.store c.args.disk.now c.args.disk.now (fit_of g.D.Disk c.args.disk.now c.args.store c.requires.ready c.requires.on) c.requires.none c.in-Err-make.refusal (c.in-Err-make.ensures.went c.args.disk.now)
+returns-in-Err-make-clause-fault g c = refused_fault g.D.Disk c.args.store c.make.new.store c.args.disk.now c.args.disk.now c.requires.none c.in-Err-make.refusal (c.in-Err-make.ensures.went c.args.disk.now)

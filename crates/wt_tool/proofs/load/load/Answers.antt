@@ -13,13 +13,13 @@ returns-clause-run g c h content each =
     c.args.disk.now c.run_load-end.new.disk c.run_load-end.result c.tell.result (c.run_load-end.ensures.run h content each) c.tell.ensures
 
 pub returns-clause-told : goal.returns-clause-told
-returns-clause-told g c = end_telling _ _ _ (errors_of g.E.Sink c.args.err.now c.tell.new.err) c.run_load-end.result c.tell.result c.run_load-end.ensures.ends c.tell.ensures
+returns-clause-told g c = end_telling _ _ _ _ (errors_of g.E.Sink c.args.err.now c.tell.new.err) c.run_load-end.result c.tell.result c.run_load-end.ensures.ends c.tell.ensures
 
 pub returns-clause-statuses : goal.returns-clause-statuses
-returns-clause-statuses g c = (load_means _ _ _ (errors_of g.E.Sink c.args.err.now c.tell.new.err) c.run_load-end.result c.tell.result c.run_load-end.ensures.ends c.tell.ensures).some
+returns-clause-statuses g c = (load_means _ _ _ _ (errors_of g.E.Sink c.args.err.now c.tell.new.err) c.run_load-end.result c.tell.result c.run_load-end.ensures.ends c.tell.ensures).some
 
 pub returns-clause-disk_fault : goal.returns-clause-disk_fault
-returns-clause-disk_fault g c is = (load_means _ _ _ (errors_of g.E.Sink c.args.err.now c.tell.new.err) c.run_load-end.result c.tell.result c.run_load-end.ensures.ends c.tell.ensures).of_disk is
+returns-clause-disk_fault g c is = (load_means _ _ _ _ (errors_of g.E.Sink c.args.err.now c.tell.new.err) c.run_load-end.result c.tell.result c.run_load-end.ensures.ends c.tell.ensures).of_disk is
 
 pub returns-clause-input_fault : goal.returns-clause-input_fault
-returns-clause-input_fault g c is = (load_means _ _ _ (errors_of g.E.Sink c.args.err.now c.tell.new.err) c.run_load-end.result c.tell.result c.run_load-end.ensures.ends c.tell.ensures).of_input is
+returns-clause-input_fault g c is = (load_means _ _ _ _ (errors_of g.E.Sink c.args.err.now c.tell.new.err) c.run_load-end.result c.tell.result c.run_load-end.ensures.ends c.tell.ensures).of_input is

@@ -7,9 +7,9 @@ use Rattle.dump_text.specs.declared.whole.Dumped.{Dumped}
 use Rattle.wt_tool.specs.Points.{Closes, Point, Ran, point_of}
 use Rattle.wt_tool.specs.Loads.{LoadsRows, LoadsText}
 use Rattle.wt_tool.specs.Writes.{demand_of}
-use Rattle.wt_tool.proofs.Leaving.{first_of, first_holds, fit_of, left_as, left_behind, left_refused, untouched}
+use Rattle.wt_tool.proofs.Leaving.{first_of, first_holds, left_as, left_behind, left_refused, untouched}
 use Rattle.wt_tool.proofs.LoadEnds.{dumped_text, refused_calm, refused_sound, refused_text}
-use Rattle.wt_tool.proofs.Went.{damage_none, refused_fault, refused_none, still_honest}
+use Rattle.wt_tool.proofs.Went.{damage_none, refused_fault, refused_spoilt, still_honest}
 use Rattle.wt_tool.proofs.load.load_text.Goals as goal
 
 abbrev Renamed : Option (Bor (List ℕ)) → Option (List ℕ)
@@ -18,11 +18,8 @@ Renamed renamed = option_map {T = Bor (List ℕ)} {U = List ℕ} (λ x. x.now) r
 abbrev Loads : Bool → List ℕ → Dumped → Point → Ran → Type 0
 Loads overwrite name d p ran = LoadsRows name d.table.formats (demand_of overwrite) d.rows p ran
 
-pub put_all-requires-clause-fit : goal.put_all-requires-clause-fit
-put_all-requires-clause-fit g c = fit_of g.D.Disk c.args.disk.now c.args.store c.requires.ready c.requires.on
-
 pub close-requires : goal.close-requires
-close-requires g c = record { fit = c.in-Ok-put_all.ensures.went.fit (fit_of g.D.Disk c.args.disk.now c.args.store c.requires.ready c.requires.on) }
+close-requires g c = record { ready = c.in-Ok-put_all.ensures.went.ready c.requires.ready }
 
 pub returns-in-Err-clause-run : goal.returns-in-Err-clause-run
 returns-in-Err-clause-run g c h content each =
@@ -30,7 +27,7 @@ returns-in-Err-clause-run g c h content each =
     (refused_text c.args.overwrite (Renamed c.args.renamed) c.args.ended c.args.text.now (point_of g.D.Disk (start content) c.args.disk.now) c.in-Err.refusal c.in-Err.ensures.refused)
 
 pub returns-in-Err-clause-sound : goal.returns-in-Err-clause-sound
-returns-in-Err-clause-sound g c = refused_sound _ c.args.ended c.args.text.now c.in-Err.refusal c.in-Err.ensures.refused
+returns-in-Err-clause-sound g c = refused_sound _ _ c.args.ended c.args.text.now c.in-Err.refusal c.in-Err.ensures.refused
 
 pub returns-in-Err-clause-fault : goal.returns-in-Err-clause-fault
 returns-in-Err-clause-fault g c is = absurd (refused_calm c.args.ended c.args.text.now c.in-Err.refusal c.in-Err.ensures.refused is)
@@ -39,8 +36,8 @@ pub returns-in-Ok-put_all-clause-run : goal.returns-in-Ok-put_all-clause-run
 returns-in-Ok-put_all-clause-run g c h content each =
     let D = g.D.Disk in
     let disk = c.args.disk.now in
-    let on = c.requires.on h in
     let reads = each.0 _ (g.met.D.Disk.reads_an_image _ h) in
+    let on = (c.requires.on h).reads content reads in
     let w = first_of D disk c.args.store on content each reads in
     let holds = first_holds D disk c.args.store on content each reads c.plain_stays.ensures.starts (λ d left. g.met.D.Disk.only_now _ d left) in
     let Run : Point → Ran → Type 0 = Loads c.args.overwrite c.loaded_name-name.result.now c.in-Ok.dumped in
@@ -50,7 +47,7 @@ returns-in-Ok-put_all-clause-run g c h content each =
     (λ v held. c.close.ensures.run (still_honest D disk c.put_all.new.disk c.in-Ok-put_all.ensures.went.looked h) disk (start content).completed v held))
 
 pub returns-in-Ok-put_all-clause-sound : goal.returns-in-Ok-put_all-clause-sound
-returns-in-Ok-put_all-clause-sound g c = err_map c.close.result c.close.ensures.sound (damage_none _)
+returns-in-Ok-put_all-clause-sound g c = err_map c.close.result c.close.ensures.sound (damage_none _ _)
 
 pub returns-in-Ok-put_all-clause-fault : goal.returns-in-Ok-put_all-clause-fault
 returns-in-Ok-put_all-clause-fault g c = err_map c.close.result c.close.ensures.fault (λ r why is. rose_sooner _ _ _ c.in-Ok-put_all.ensures.went.looked.count (why is))
@@ -62,8 +59,8 @@ pub returns-in-Err-put_all-clause-run : goal.returns-in-Err-put_all-clause-run
 returns-in-Err-put_all-clause-run g c h content each =
     let D = g.D.Disk in
     let disk = c.args.disk.now in
-    let on = c.requires.on h in
     let reads = each.0 _ (g.met.D.Disk.reads_an_image _ h) in
+    let on = (c.requires.on h).reads content reads in
     let w = first_of D disk c.args.store on content each reads in
     let holds = first_holds D disk c.args.store on content each reads c.plain_stays.ensures.starts (λ d left. g.met.D.Disk.only_now _ d left) in
     let Run : Point → Ran → Type 0 = Loads c.args.overwrite c.loaded_name-name.result.now c.in-Ok.dumped in
@@ -72,10 +69,10 @@ returns-in-Err-put_all-clause-run g c h content each =
     (left_refused D disk (start content).completed Run w c.put_all.new.store disk c.put_all.new.disk Closes c.in-Err-put_all.refusal (c.in-Err-put_all.ensures.led h disk (start content).completed w holds))
 
 pub returns-in-Err-put_all-clause-sound : goal.returns-in-Err-put_all-clause-sound
-returns-in-Err-put_all-clause-sound g c = refused_none g.D.Disk c.args.store c.put_all.new.store c.args.disk.now c.put_all.new.disk (fit_of g.D.Disk c.args.disk.now c.args.store c.requires.ready c.requires.on) c.requires.none c.in-Err-put_all.refusal c.in-Err-put_all.ensures.went
+returns-in-Err-put_all-clause-sound g c = refused_spoilt g.D.Disk c.args.store c.put_all.new.store c.args.disk.now c.put_all.new.disk c.requires.none c.in-Err-put_all.refusal c.in-Err-put_all.ensures.went (λ h. (c.requires.on h).outset) (λ h. (c.requires.on h).spoils)
 
 pub returns-in-Err-put_all-clause-fault : goal.returns-in-Err-put_all-clause-fault
-returns-in-Err-put_all-clause-fault g c = refused_fault g.D.Disk c.args.store c.put_all.new.store c.args.disk.now c.put_all.new.disk (fit_of g.D.Disk c.args.disk.now c.args.store c.requires.ready c.requires.on) c.requires.none c.in-Err-put_all.refusal c.in-Err-put_all.ensures.went
+returns-in-Err-put_all-clause-fault g c = refused_fault g.D.Disk c.args.store c.put_all.new.store c.args.disk.now c.put_all.new.disk c.requires.none c.in-Err-put_all.refusal c.in-Err-put_all.ensures.went
 
 pub returns-in-Err-put_all-clause-disk : goal.returns-in-Err-put_all-clause-disk
 returns-in-Err-put_all-clause-disk g c = looked_same g.D.Disk c.args.disk.now c.put_all.new.disk c.in-Err-put_all.ensures.went.looked c.in-Err-put_all.ensures.went.home

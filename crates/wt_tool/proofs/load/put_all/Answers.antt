@@ -19,8 +19,8 @@ rows-init g c = record {
   there = c.in-Ok.ensures.there;
 }
 
-pub put_row-requires-clause-fit : goal.put_row-requires-clause-fit
-put_row-requires-clause-fit g c = c.rows.invariant.went.fit c.requires.fit
+pub put_row-requires-clause-ready : goal.put_row-requires-clause-ready
+put_row-requires-clause-ready g c = c.rows.invariant.went.ready c.requires.ready
 
 pub rows-preserved : goal.rows-preserved
 rows-preserved g c = record {

@@ -11,11 +11,11 @@ use Rattle.wt_tool.proofs.load.put_row.Goals as goal
 put_is : (table name key value : List ℕ) (d e : Demand) → table ≡ name → d ≡ e → PutKey table key value d ≡ PutKey name key value e
 put_is table name key value d e same asks = λ i. PutKey (same i) key value (asks i)
 
-pub call-requires-2-clause-fit : goal.call-requires-2-clause-fit
-call-requires-2-clause-fit g c = c.in-Ok-call.ensures.went.fit c.requires.fit
+pub call-requires-2-clause-ready : goal.call-requires-2-clause-ready
+call-requires-2-clause-ready g c = c.in-Ok-call.ensures.went.ready c.requires.ready
 
-pub commit-requires-clause-fit : goal.commit-requires-clause-fit
-commit-requires-clause-fit g c = c.in-Ok-call-2.ensures.went.fit (c.in-Ok-call.ensures.went.fit c.requires.fit)
+pub commit-requires-clause-ready : goal.commit-requires-clause-ready
+commit-requires-clause-ready g c = c.in-Ok-call-2.ensures.went.ready (c.in-Ok-call.ensures.went.ready c.requires.ready)
 
 pub returns-in_default-clause-led : goal.returns-in_default-clause-led
 returns-in_default-clause-led g c rows h start first w holds =

@@ -18,7 +18,7 @@ returns-in-Err-clause-run g c h content each =
     c.args.disk.now c.in-Err.end c.in-Err.ensures.taken.0 (λ d left. g.met.D.Disk.only_now _ d left) each c.in-Err.ensures.taken.1 c.in-Err.ensures.failed
 
 pub returns-in-Err-clause-ends : goal.returns-in-Err-clause-ends
-returns-in-Err-clause-ends g c = untaken_end _ _ _ c.in-Err.end c.in-Err.ensures.failed
+returns-in-Err-clause-ends g c = untaken_end _ _ _ _ c.in-Err.end c.in-Err.ensures.failed
 
 pub load_text-loaded-requires-clause-short : goal.load_text-loaded-requires-clause-short
 load_text-loaded-requires-clause-short g c =
@@ -45,6 +45,7 @@ returns-clause-run g c h content each =
 pub returns-clause-ends : goal.returns-clause-ends
 returns-clause-ends g c =
     let honest = IsTrue (g.D.Disk.honest c.args.disk.now) in
+    let bytes = g.D.Disk.seen c.args.disk.now in
     let disk = Rose (g.D.Disk.faults c.args.disk.now) (g.D.Disk.faults c.load_text-loaded.new.disk) in
     let input = Rose (g.S.Source.fault_count c.args.input.now) (g.S.Source.fault_count c.take_input.new.input) in
-    subst (λ (e : End). EndsLoad honest disk input e) (sym c.end_for.ensures) (taken_end honest disk input c.load_text-loaded.result c.load_text-loaded.ensures.sound c.load_text-loaded.ensures.fault)
+    subst (λ (e : End). EndsLoad honest bytes disk input e) (sym c.end_for.ensures) (taken_end honest bytes disk input c.load_text-loaded.result c.load_text-loaded.ensures.sound c.load_text-loaded.ensures.fault)

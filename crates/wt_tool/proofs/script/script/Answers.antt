@@ -5,12 +5,9 @@ use Rattle.engine_world.specs.Worlds.{World}
 use Rattle.script_run.specs.Scripts.{Outside, outside}
 use Rattle.script_run.specs.Runs.{IsRun}
 use Rattle.wt_tool.specs.Top.{Streams, errors_of, streams_of}
-use Rattle.wt_tool.proofs.Leaving.{first_of, first_held, first_plain, opened_well}
+use Rattle.wt_tool.proofs.Leaving.{first_of, first_held, first_plain}
 use Rattle.wt_tool.proofs.ScriptRuns.{end_so, four_rest, scripted, tells_end, tells_means}
 use Rattle.wt_tool.proofs.script.script.Goals as goal
-
-pub run_script-ran-requires-clause-well : goal.run_script-ran-requires-clause-well
-run_script-ran-requires-clause-well g c h = opened_well g.D.Disk c.args.disk.now c.args.store (c.requires.on h)
 
 pub returns-clause-run : goal.returns-clause-run
 returns-clause-run g c h content each =
@@ -18,8 +15,8 @@ returns-clause-run g c h content each =
     let o : Outside = outside g.S.Source g.K.Sink c.args.input.now c.run_script-ran.new.input c.args.out.now c.run_script-ran.new.out in
     let w : Streams = streams_of g.S.Source g.K.Sink g.E.Sink c.args.input.now c.run_script-ran.new.input c.args.out.now c.run_script-ran.new.out c.args.err.now c.told-status.new.err in
     let s = c.args.store in
-    let on = c.requires.on h in
     let reads = each.0 _ (g.met.D.Disk.reads_an_image _ h) in
+    let on = (c.requires.on h).reads content reads in
     let held = first_held D c.args.disk.now s on content each reads (λ d left. g.met.D.Disk.only_now _ d left) in
     let calm = c.calm_stays.ensures.starts content on.shelf s.engine (first_plain D c.args.disk.now s on content each reads c.plain_stays.ensures.starts) in
     let world = ap (λ (l : List (Option Call)). let v : World = record { machine = start content; sessions = []; systems = l; shelf = on.shelf } in v) (four_rest s.engine.systems c.actors.ensures.systems) in
@@ -30,7 +27,7 @@ returns-clause-run g c h content each =
 
 pub returns-clause-told : goal.returns-clause-told
 returns-clause-told g c = tells_end _ (errors_of g.E.Sink c.args.err.now c.told-status.new.err) c.run_script-ran.result c.told-status.result
-    (end_so _ _ _ c.run_script-ran.result.end c.run_script-ran.ensures.damage) c.told-status.ensures
+    (end_so _ _ c.run_script-ran.result.end c.run_script-ran.ensures.damage) c.told-status.ensures
 
 pub returns-clause-statuses : goal.returns-clause-statuses
 returns-clause-statuses g c = (tells_means (errors_of g.E.Sink c.args.err.now c.told-status.new.err) c.run_script-ran.result.end c.run_script-ran.result.met c.told-status.result c.told-status.ensures).some

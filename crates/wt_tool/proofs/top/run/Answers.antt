@@ -11,7 +11,7 @@ use Rattle.wt_tool.specs.Commands.{IsByReader, IsOnEngine, Runs}
 use Rattle.wt_tool.specs.Parts.{silent_run}
 use Rattle.wt_tool.specs.Points.{Point, Ran, point_of}
 use Rattle.wt_tool.specs.Top.{IsOpenableFor, Streams, streams_of}
-use Rattle.wt_tool.proofs.Running.{gave_none, looked_went, not_both, openable_for, telling, telling_for}
+use Rattle.wt_tool.proofs.Running.{gave_none, looked_went, not_both, openable_for, telling}
 use Rattle.wt_tool.proofs.Verifying.{done_only, verify_at, verify_said, verify_so}
 use Rattle.wt_tool.proofs.top.run.Goals as goal
 
@@ -32,7 +32,7 @@ returns-in-Verify-clause-run g c h content each =
     (λ d left. each.0 d (looked.images d left)) first.each (took_none _) c.told.ensures.told
 
 pub returns-in-Verify-clause-told : goal.returns-in-Verify-clause-told
-returns-in-Verify-clause-told g c = telling_for (meaning c.args.command.now) _ _ _ _ c.told.result (telling _ _ c.verify-result.result c.told.result c.told.ensures.told (err_map c.verify-result.result c.verify-result.ensures.err (verify_so _ _ (g.D.Disk.seen c.args.disk.now) (g.D.Disk.seen c.verify-result.new.disk))))
+returns-in-Verify-clause-told g c = telling _ _ c.verify-result.result c.told.result c.told.ensures.told (err_map c.verify-result.result c.verify-result.ensures.err (verify_so (meaning c.args.command.now) _ _ (g.D.Disk.seen c.args.disk.now) (g.D.Disk.seen c.verify-result.new.disk)))
 
 pub returns-in-Verify-clause-damaged : goal.returns-in-Verify-clause-damaged
 returns-in-Verify-clause-damaged g c h whole content reads spoilt by = absurd (subst (λ (a : Command). IsByReader (meaning a)) c.in-Verify.is by)
@@ -73,9 +73,6 @@ on_engine (Load no_overwrite name) no_verify no_read no_list no_dump = tt
 
 pub run_opened-requires : goal.run_opened-requires
 run_opened-requires g c = on_engine c.args.command.now c.in_default.not-Verify c.in_default.not-Read c.in_default.not-List c.in_default.not-Dump
-
-pub returns-in_default-clause-told : goal.returns-in_default-clause-told
-returns-in_default-clause-told g c = telling_for (meaning c.args.command.now) _ _ _ _ c.run_opened.result c.run_opened.ensures.told
 
 pub returns-in_default-clause-damaged : goal.returns-in_default-clause-damaged
 returns-in_default-clause-damaged g c h whole content reads spoilt by =

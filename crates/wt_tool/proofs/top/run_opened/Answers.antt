@@ -14,8 +14,8 @@ use Rattle.wt_tool.specs.Points.{Point, point_of}
 use Rattle.wt_tool.specs.Creates.{RunsCreate}
 use Rattle.wt_tool.specs.Writes.{RunsWrite}
 use Rattle.wt_tool.specs.Commands.{IsOnEngine, Runs}
-use Rattle.wt_tool.specs.Top.{Errors, IsSo, Streams, Telling, Went, errors_of, streams_of}
-use Rattle.wt_tool.proofs.Running.{refused_open, not_opened, may_open, opened_reads, opens_of, gave_none, telling, loaded_so, none_so, opening_so, status_some, untold_at, stopped, left_by_calls, load_status, load_went, script_went}
+use Rattle.wt_tool.specs.Top.{Errors, IsSoFor, Streams, Telling, Went, errors_of, streams_of}
+use Rattle.wt_tool.proofs.Running.{refused_open, not_opened, may_open, opens_of, gave_none, telling, loaded_so, opening_so, scripted_so, spoilt_further, status_some, untold_at, stopped, left_by_calls, load_status, load_went, script_went}
 use Rattle.wt_tool.proofs.top.run_opened.Goals as goal
 
 if_err : {T E : Type 0} (P : E → Type 0) (r : Result T E) (e : E) → r ≡ Err e → IfErr r P → P e
@@ -36,7 +36,7 @@ returns-in-Err-clause-run g c h content each =
     (λ d left. each.0 d (looked.images d left)) first.each (took_none _) c.report.ensures.told
 
 pub returns-in-Err-clause-told : goal.returns-in-Err-clause-told
-returns-in-Err-clause-told g c = telling _ _ (Err c.in-Err.refusal) c.report.result c.report.ensures.told (opening_so _ _ _ (g.D.Disk.seen c.reach.new.disk) c.in-Err.refusal c.in-Err.ensures.err)
+returns-in-Err-clause-told g c = telling _ _ (Err c.in-Err.refusal) c.report.result c.report.ensures.told (opening_so (meaning c.args.command.now) _ _ _ (g.D.Disk.seen c.reach.new.disk) c.in-Err.refusal c.requires c.in-Err.ensures.err)
 
 pub returns-in-Err-clause-opened : goal.returns-in-Err-clause-opened
 returns-in-Err-clause-opened g c h none = absurd (status_some c.in-Err.refusal c.report.result c.report.ensures.status none)
@@ -66,7 +66,8 @@ returns-in-Create-clause-run g c h content each =
     (took_none _) c.told.ensures.told
 
 pub returns-in-Create-clause-told : goal.returns-in-Create-clause-told
-returns-in-Create-clause-told g c = telling _ _ c.create-result.result c.told.result c.told.ensures.told (err_map c.create-result.result c.create-result.ensures.sound (λ r none. none_so _ _ _ _ r (λ h. c.reach.ensures.looked.same ∙ h) none))
+returns-in-Create-clause-told g c =
+    telling _ _ c.create-result.result c.told.result c.told.ensures.told (err_map c.create-result.result c.create-result.ensures.sound (λ r told. spoilt_further g.D.Disk c.args.disk.now c.reach.new.disk c.create-result.new.disk c.reach.ensures.looked (meaning c.args.command.now) r c.requires told))
 
 pub returns-in-Write-clause-run : goal.returns-in-Write-clause-run
 returns-in-Write-clause-run g c h content each =
@@ -85,13 +86,15 @@ returns-in-Write-clause-run g c h content each =
     (took_none _) c.told-in-Write.ensures.told
 
 pub returns-in-Write-clause-told : goal.returns-in-Write-clause-told
-returns-in-Write-clause-told g c = telling _ _ c.write-result.result c.told-in-Write.result c.told-in-Write.ensures.told (err_map c.write-result.result c.write-result.ensures.sound (λ r none. none_so _ _ _ _ r (λ h. c.reach.ensures.looked.same ∙ h) none))
+returns-in-Write-clause-told g c =
+    telling _ _ c.write-result.result c.told-in-Write.result c.told-in-Write.ensures.told
+    (err_map c.write-result.result c.write-result.ensures.sound (λ r told. spoilt_further g.D.Disk c.args.disk.now c.reach.new.disk c.write-result.new.disk c.reach.ensures.looked (meaning c.args.command.now) r c.requires told))
 
 pub returns-in-Create-clause-opened : goal.returns-in-Create-clause-opened
-returns-in-Create-clause-opened g c h none = (opened_reads g.D.Disk c.args.disk.now c.reach.new.disk c.in-Ok.store c.reach.ensures.looked (c.in-Ok.ensures.ok h))
+returns-in-Create-clause-opened g c h none = c.in-Ok.ensures.readable h
 
 pub returns-in-Write-clause-opened : goal.returns-in-Write-clause-opened
-returns-in-Write-clause-opened g c h none = (opened_reads g.D.Disk c.args.disk.now c.reach.new.disk c.in-Ok.store c.reach.ensures.looked (c.in-Ok.ensures.ok h))
+returns-in-Write-clause-opened g c h none = c.in-Ok.ensures.readable h
 
 pub returns-in-Script-clause-run : goal.returns-in-Script-clause-run
 returns-in-Script-clause-run g c h content each =
@@ -109,16 +112,15 @@ returns-in-Script-clause-run g c h content each =
 pub returns-in-Script-clause-told : goal.returns-in-Script-clause-told
 returns-in-Script-clause-told g c =
     let D = g.D.Disk in
-    let looked = c.reach.ensures.looked in
     let e : Errors = errors_of g.E.Sink c.args.err.now c.script.new.err in
-    subst (λ (b : Bool). Telling (IsSo (IsTrue b) (D.seen c.args.disk.now) (D.seen c.script.new.disk)) e c.script.result) looked.same
-    (subst (λ (l : List ℕ). Telling (IsSo (IsTrue (D.honest c.reach.new.disk)) l (D.seen c.script.new.disk)) e c.script.result) looked.content c.script.ensures.told)
+    subst (λ (a : Command). Telling (IsSoFor (meaning a) (IsTrue (D.honest c.args.disk.now)) (D.seen c.args.disk.now) (D.seen c.script.new.disk)) e c.script.result) (sym c.in-Script.is)
+    (scripted_so D c.args.disk.now c.reach.new.disk c.script.new.disk c.reach.ensures.looked e c.script.result c.script.ensures.told)
 
 pub returns-in-Script-clause-silent : goal.returns-in-Script-clause-silent
-returns-in-Script-clause-silent g c h = inr ((opened_reads g.D.Disk c.args.disk.now c.reach.new.disk c.in-Ok.store c.reach.ensures.looked (c.in-Ok.ensures.ok h)))
+returns-in-Script-clause-silent g c h = inr (c.in-Ok.ensures.readable h)
 
 pub returns-in-Script-clause-opened : goal.returns-in-Script-clause-opened
-returns-in-Script-clause-opened g c h none = (opened_reads g.D.Disk c.args.disk.now c.reach.new.disk c.in-Ok.store c.reach.ensures.looked (c.in-Ok.ensures.ok h))
+returns-in-Script-clause-opened g c h none = c.in-Ok.ensures.readable h
 
 pub returns-in-Load-clause-run : goal.returns-in-Load-clause-run
 returns-in-Load-clause-run g c h content each =
@@ -135,10 +137,11 @@ returns-in-Load-clause-run g c h content each =
     (c.load.ensures.run (looked.same ∙ h) content ((λ d left. each.0 d (looked.images d left)), each.1)))
 
 pub returns-in-Load-clause-told : goal.returns-in-Load-clause-told
-returns-in-Load-clause-told g c = loaded_so _ _ _ _ _ c.load.result (λ h. c.reach.ensures.looked.same ∙ h) c.load.ensures.told
+returns-in-Load-clause-told g c =
+    loaded_so g.D.Disk c.args.disk.now c.reach.new.disk c.load.new.disk c.reach.ensures.looked (meaning c.args.command.now) (errors_of g.E.Sink c.args.err.now c.load.new.err) c.load.result c.requires c.load.ensures.told
 
 pub returns-in-Load-clause-opened : goal.returns-in-Load-clause-opened
-returns-in-Load-clause-opened g c h none = (opened_reads g.D.Disk c.args.disk.now c.reach.new.disk c.in-Ok.store c.reach.ensures.looked (c.in-Ok.ensures.ok h))
+returns-in-Load-clause-opened g c h none = c.in-Ok.ensures.readable h
 
 pub returns-in-Load-clause-statuses : goal.returns-in-Load-clause-statuses
 returns-in-Load-clause-statuses g c = (load_status c.load.result c.load.ensures.statuses).0

@@ -18,7 +18,7 @@ use Rattle.wt_tool.specs.Lists.{RunsList}
 use Rattle.wt_tool.specs.Commands.{IsByReader}
 use Rattle.wt_tool.specs.Parts.{Reading}
 use Rattle.wt_tool.specs.Top.{Streams, errors_of, streams_of}
-use Rattle.wt_tool.proofs.Running.{refused_reader, reader_fault, reader_may_open, reader_refused_at, reader_so, readable_for, not_read, not_read_on, opens_of, opens_on, gave_none, so_for, telling, telling_for, told_so, status_some, untold_at, stopped, stopped_on, reading_went, went_of}
+use Rattle.wt_tool.proofs.Running.{refused_reader, reader_fault, reader_may_open, reader_refused_at, reader_so, readable_for, not_read, not_read_on, opens_of, opens_on, gave_none, telling, told_so, status_some, untold_at, stopped, stopped_on, reading_went, went_of}
 use Rattle.wt_tool.proofs.Dumping.{leaves_further, spoilt_now, told_leaves}
 use Rattle.wt_tool.proofs.top.run_reader.Goals as goal
 
@@ -60,7 +60,7 @@ returns-in-Err-clause-damaged g c h whole content reads spoilt by =
     (took_none _) c.report.ensures.told
 
 pub returns-in-Err-clause-told : goal.returns-in-Err-clause-told
-returns-in-Err-clause-told g c = telling _ _ (Err c.in-Err.refusal) c.report.result c.report.ensures.told (so_for (meaning c.args.command.now) _ _ _ c.in-Err.refusal (reader_so _ _ _ (g.D.Disk.seen c.reach_reader.new.disk) c.in-Err.refusal c.in-Err.ensures.err))
+returns-in-Err-clause-told g c = telling _ _ (Err c.in-Err.refusal) c.report.result c.report.ensures.told (reader_so (meaning c.args.command.now) _ _ _ (g.D.Disk.seen c.reach_reader.new.disk) c.in-Err.refusal c.in-Err.ensures.err)
 
 pub returns-in-Err-clause-opened : goal.returns-in-Err-clause-opened
 returns-in-Err-clause-opened g c h none = absurd (status_some c.in-Err.refusal c.report.result c.report.ensures.status none)
@@ -153,7 +153,7 @@ returns-in-List-clause-run g c h content each =
 
 pub returns-in-List-clause-told : goal.returns-in-List-clause-told
 returns-in-List-clause-told g c =
-    telling_for (meaning c.args.command.now) _ _ _ _ c.list.result (told_so _ _ _ _ c.list.result c.list.ensures.told)
+    told_so (meaning c.args.command.now) _ _ _ _ c.list.result c.list.ensures.told
 
 pub returns-in-List-clause-opened : goal.returns-in-List-clause-opened
 returns-in-List-clause-opened g c h none = readable_for (meaning c.args.command.now) (g.D.Disk.seen c.args.disk.now) c.requires (c.in-Ok.reader, c.in-Ok.ensures.ok h)

@@ -19,8 +19,8 @@ loop-key-init g c = record {
   there = c.in-Ok.ensures.there;
 }
 
-pub put_one-requires-clause-fit : goal.put_one-requires-clause-fit
-put_one-requires-clause-fit g c = c.loop-key.invariant.went.fit c.requires.fit
+pub put_one-requires-clause-ready : goal.put_one-requires-clause-ready
+put_one-requires-clause-ready g c = c.loop-key.invariant.went.ready c.requires.ready
 
 pub loop-key-preserved : goal.loop-key-preserved
 loop-key-preserved g c = record {

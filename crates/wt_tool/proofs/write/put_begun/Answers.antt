@@ -4,8 +4,8 @@ use Rattle.wt_tool.proofs.Putting.{begun_led, begun_refused, begun_short}
 use Rattle.wt_tool.proofs.Went.{short_went_as, still_honest, went_then}
 use Rattle.wt_tool.proofs.write.put_begun.Goals as goal
 
-pub commit-requires-clause-fit : goal.commit-requires-clause-fit
-commit-requires-clause-fit g c = c.in-Ok-call.ensures.went.fit c.requires.fit
+pub commit-requires-clause-ready : goal.commit-requires-clause-ready
+commit-requires-clause-ready g c = c.in-Ok-call.ensures.went.ready c.requires.ready
 
 pub returns-in-Ok-call-clause-led : goal.returns-in-Ok-call-clause-led
 returns-in-Ok-call-clause-led g c pairs h start first w holds =

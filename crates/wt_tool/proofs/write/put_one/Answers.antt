@@ -3,8 +3,8 @@ use Rattle.wt_tool.proofs.Putting.{put_led, put_refused}
 use Rattle.wt_tool.proofs.Went.{still_honest, went_then}
 use Rattle.wt_tool.proofs.write.put_one.Goals as goal
 
-pub put_begun-requires-clause-fit : goal.put_begun-requires-clause-fit
-put_begun-requires-clause-fit g c = c.in-Ok.ensures.went.fit c.requires.fit
+pub put_begun-requires-clause-ready : goal.put_begun-requires-clause-ready
+put_begun-requires-clause-ready g c = c.in-Ok.ensures.went.ready c.requires.ready
 
 pub returns-in-Ok-clause-led : goal.returns-in-Ok-clause-led
 returns-in-Ok-clause-led g c pairs h start first w holds =

@@ -10,8 +10,8 @@ use Rattle.wt_tool.specs.Points.{Closes, Point, Ran, WithSession, point_of}
 use Rattle.wt_tool.specs.Writes.{PutsPairs, RunsWrite, WritesPairs, demand_of}
 use Rattle.wt_tool.proofs.Naming.{named_goes, named_none}
 use Rattle.wt_tool.proofs.Putting.{Words, writes_none, writes_some}
-use Rattle.wt_tool.proofs.Leaving.{first_of, first_holds, fit_of, left_as, left_behind, left_refused, untouched}
-use Rattle.wt_tool.proofs.Went.{damage_none, refused_fault, refused_none, still_honest}
+use Rattle.wt_tool.proofs.Leaving.{first_of, first_holds, left_as, left_behind, left_refused, untouched}
+use Rattle.wt_tool.proofs.Went.{damage_none, refused_fault, refused_spoilt, still_honest}
 use Rattle.wt_tool.proofs.write.write.Goals as goal
 
 abbrev Written : Bool → Words → List ℕ → Point → Ran → Type 0
@@ -20,11 +20,8 @@ Written overwrite pairs name p ran = WritesPairs name (demand_of overwrite) (pai
 abbrev Put : Bool → Words → List ℕ → Point → Ran → Type 0
 Put overwrite pairs name p ran = WithSession (PutsPairs name (demand_of overwrite) (pair_texts pairs)) p ran
 
-pub put_all-requires-clause-fit : goal.put_all-requires-clause-fit
-put_all-requires-clause-fit g c = fit_of g.D.Disk c.args.disk.now c.args.store c.requires.ready c.requires.on
-
 pub close-requires : goal.close-requires
-close-requires g c = record { fit = c.in-Ok.ensures.went.fit (fit_of g.D.Disk c.args.disk.now c.args.store c.requires.ready c.requires.on) }
+close-requires g c = record { ready = c.in-Ok.ensures.went.ready c.requires.ready }
 
 pub returns-in_default-clause-run : goal.returns-in_default-clause-run
 returns-in_default-clause-run g c h content each =
@@ -41,8 +38,8 @@ pub returns-in-Ok-clause-run : goal.returns-in-Ok-clause-run
 returns-in-Ok-clause-run g c h content each =
     let D = g.D.Disk in
     let disk = c.args.disk.now in
-    let on = c.requires.on h in
     let reads = each.0 _ (g.met.D.Disk.reads_an_image _ h) in
+    let on = (c.requires.on h).reads content reads in
     let w = first_of D disk c.args.store on content each reads in
     let holds = first_holds D disk c.args.store on content each reads c.plain_stays.ensures.starts (λ d left. g.met.D.Disk.only_now _ d left) in
     left_as D disk (start content).completed (Put c.args.overwrite c.args.pairs.now c.in-Some.name.now) (RunsWrite c.args.overwrite c.args.uri.now (pair_texts c.args.pairs.now)) (point_of D (start content) disk) c.close.new.disk c.close.result
@@ -51,7 +48,7 @@ returns-in-Ok-clause-run g c h content each =
     (λ v held. c.close.ensures.run (still_honest D disk c.put_all.new.disk c.in-Ok.ensures.went.looked h) disk (start content).completed v held))
 
 pub returns-in-Ok-clause-sound : goal.returns-in-Ok-clause-sound
-returns-in-Ok-clause-sound g c = err_map c.close.result c.close.ensures.sound (damage_none _)
+returns-in-Ok-clause-sound g c = err_map c.close.result c.close.ensures.sound (damage_none _ _)
 
 pub returns-in-Ok-clause-fault : goal.returns-in-Ok-clause-fault
 returns-in-Ok-clause-fault g c = err_map c.close.result c.close.ensures.fault (λ r why is. rose_sooner _ _ _ c.in-Ok.ensures.went.looked.count (why is))
@@ -63,8 +60,8 @@ pub returns-in-Err-clause-run : goal.returns-in-Err-clause-run
 returns-in-Err-clause-run g c h content each =
     let D = g.D.Disk in
     let disk = c.args.disk.now in
-    let on = c.requires.on h in
     let reads = each.0 _ (g.met.D.Disk.reads_an_image _ h) in
+    let on = (c.requires.on h).reads content reads in
     let w = first_of D disk c.args.store on content each reads in
     let holds = first_holds D disk c.args.store on content each reads c.plain_stays.ensures.starts (λ d left. g.met.D.Disk.only_now _ d left) in
     left_as D disk (start content).completed (Put c.args.overwrite c.args.pairs.now c.in-Some.name.now) (RunsWrite c.args.overwrite c.args.uri.now (pair_texts c.args.pairs.now)) (point_of D (start content) disk) c.put_all.new.disk (Err c.in-Err.refusal)
@@ -72,10 +69,10 @@ returns-in-Err-clause-run g c h content each =
     (left_refused D disk (start content).completed (Put c.args.overwrite c.args.pairs.now c.in-Some.name.now) w c.put_all.new.store disk c.put_all.new.disk Closes c.in-Err.refusal (c.in-Err.ensures.led h disk (start content).completed w holds))
 
 pub returns-in-Err-clause-sound : goal.returns-in-Err-clause-sound
-returns-in-Err-clause-sound g c = refused_none g.D.Disk c.args.store c.put_all.new.store c.args.disk.now c.put_all.new.disk (fit_of g.D.Disk c.args.disk.now c.args.store c.requires.ready c.requires.on) c.requires.none c.in-Err.refusal c.in-Err.ensures.went
+returns-in-Err-clause-sound g c = refused_spoilt g.D.Disk c.args.store c.put_all.new.store c.args.disk.now c.put_all.new.disk c.requires.none c.in-Err.refusal c.in-Err.ensures.went (λ h. (c.requires.on h).outset) (λ h. (c.requires.on h).spoils)
 
 pub returns-in-Err-clause-fault : goal.returns-in-Err-clause-fault
-returns-in-Err-clause-fault g c = refused_fault g.D.Disk c.args.store c.put_all.new.store c.args.disk.now c.put_all.new.disk (fit_of g.D.Disk c.args.disk.now c.args.store c.requires.ready c.requires.on) c.requires.none c.in-Err.refusal c.in-Err.ensures.went
+returns-in-Err-clause-fault g c = refused_fault g.D.Disk c.args.store c.put_all.new.store c.args.disk.now c.put_all.new.disk c.requires.none c.in-Err.refusal c.in-Err.ensures.went
 
 pub returns-in-Err-clause-disk : goal.returns-in-Err-clause-disk
 returns-in-Err-clause-disk g c = looked_same g.D.Disk c.args.disk.now c.put_all.new.disk c.in-Err.ensures.went.looked c.in-Err.ensures.went.home

@@ -1,6 +1,7 @@
 use Rattle.std.proofs.Common.{arith}
 use Rattle.wt_calls.specs.declared.call.Call.TheVariants as calls
 use Rattle.ckpt_step.proofs.Ordinary.{engines_are, fits_are}
+use Rattle.engine_store.proofs.Bases.{basis_here}
 use Rattle.engine_store.proofs.Going.{goes_answer}
 use Rattle.engine_store.proofs.SystemCalls.{event_held, event_keeps}
 use Rattle.engine_store.proofs.Telling.{always_told, keep_told}
@@ -17,13 +18,11 @@ returns-clause-called g c = λ disk h start w first made held.
     }
 
 pub returns-clause-told : goal.returns-clause-told
-returns-clause-told g c = λ disk start le well told. (
-  always_told g.D.Disk start disk c.call_system.result c.call_system.ensures.tells,
-  keep_told g.D.Disk start disk c.args.self.now.engine c.call_system.new.self c.call_system.ensures.own told,
+returns-clause-told g c = λ disk basis start le on told. (
+  always_told g.D.Disk basis start disk c.call_system.result c.call_system.ensures.tells,
+  keep_told g.D.Disk basis start disk c.args.self.now.engine c.call_system.new.self c.call_system.ensures.own told,
+  basis_here g.D.Disk basis c.args.self.now.engine c.call_system.new.self disk c.call_system.ensures.goes on,
 )
 
 pub returns-clause-keeps : goal.returns-clause-keeps
-returns-clause-keeps g c = λ disk.
-    event_keeps g.D.Disk disk c.args.self.now c.call_system.new.self c.call_system.ensures.goes (λ w stands.
-    let x = c.call_system.ensures.answer w stands in
-    (x.0, x.2, goes_answer w x.0 (calls.System c.args.number c.args.call) c.call_system.result (engines_are c.args.self.now.engine w stands c.actors.ensures.built) ((fits_are c.args.self.now.engine).1 (calls.System c.args.number c.args.call) (omega (arith, c.requires.there, c.actors.ensures.systems), c.requires.built)) x.1))
+returns-clause-keeps g c = λ disk. event_keeps g.D.Disk disk c.args.self.now c.call_system.new.self c.call_system.ensures.goes

@@ -1,12 +1,9 @@
-use Rattle.std.proofs.Common.{ap, length, arith}
+use Rattle.std.proofs.Common.{None, ap, length, arith}
 use Rattle.catalog.specs.Known.{Known}
 use Rattle.txn_table.specs.Tabled.{Table as Txns}
 use Rattle.engine_store.proofs.KeptAnswers.{own_taken, told_own}
-use Rattle.engine_store.proofs.Taking.{checkpoints_by, well_taken}
+use Rattle.engine_store.proofs.Taking.{checkpoints_by}
 use Rattle.engine_store.proofs.store.Store.checkpoint.Goals as goal
-
-pub checkpoint-requires-clause-steady : goal.checkpoint-requires-clause-steady
-checkpoint-requires-clause-steady g c = λ h. (c.requires.well h).steady
 
 pub returns-clause-takes : goal.returns-clause-takes
 returns-clause-takes g c = λ h first_disk w first made held plain.
@@ -14,13 +11,9 @@ returns-clause-takes g c = λ h first_disk w first made held plain.
     c.args.self.now (record { engine = c.checkpoint.new.engine; ground = c.checkpoint.new.ground }) w first made held c.checkpoint.ensures.disk.later c.checkpoint.ensures.disk.room c.checkpoints_open.ensures c.downs_go.ensures plain c.checkpoint.result
     (λ old on follows. c.checkpoint.ensures.takes h w held.stands held.idle old on follows) c.checkpoint.ensures.down
 
-pub returns-clause-well : goal.returns-clause-well
-returns-clause-well g c = λ h.
-    well_taken g.D.Disk c.downs_go.ensures c.args.self.now (record { engine = c.checkpoint.new.engine; ground = c.checkpoint.new.ground }) c.args.disk.now c.checkpoint.new.disk c.checkpoint.ensures.engine (c.checkpoint.ensures.steady h) (c.requires.well h)
-
 pub returns-clause-told : goal.returns-clause-told
 returns-clause-told g c = λ start le.
-    told_own g.D.Disk start c.args.disk.now c.checkpoint.new.disk c.checkpoint.ensures.disk c.args.self.now.engine c.checkpoint.new.engine (own_taken c.args.self.now.engine c.checkpoint.new.engine c.checkpoint.ensures.engine)
+    told_own g.D.Disk None start c.args.disk.now c.checkpoint.new.disk c.checkpoint.ensures.disk c.args.self.now.engine c.checkpoint.new.engine (own_taken c.args.self.now.engine c.checkpoint.new.engine c.checkpoint.ensures.engine)
 
 pub returns-clause-ready : goal.returns-clause-ready
 returns-clause-ready g c = record {

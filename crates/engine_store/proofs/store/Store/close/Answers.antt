@@ -1,12 +1,11 @@
-use Rattle.std.proofs.Common.{◌∙◌, ap, length, sym, refl, arith}
+use Rattle.std.proofs.Common.{◌∙◌, None, ap, length, sym, refl, arith}
 use Rattle.catalog.specs.Known.{Known}
 use Rattle.txn_table.specs.Tabled.{Table as Txns}
 use Rattle.ckpt_step.proofs.Staying.{no_fewer}
 use Rattle.engine_store.specs.Closes.{rolled}
 use Rattle.engine_store.proofs.Closings.{checkpoint_rolled, closes_last, may_roll}
 use Rattle.engine_store.proofs.KeptAnswers.{own_taken, own_then, told_own}
-use Rattle.engine_store.proofs.Shutting.{is_rolled, shuts_by, shuts_refused, steady_rolled, well_rolled, with_rolled}
-use Rattle.engine_store.proofs.Taking.{well_taken}
+use Rattle.engine_store.proofs.Shutting.{is_rolled, shuts_by, shuts_refused}
 use Rattle.engine_store.proofs.store.Store.close.Goals as goal
 
 pub checkpoint-requires-clause-run : goal.checkpoint-requires-clause-run
@@ -14,12 +13,6 @@ checkpoint-requires-clause-run g c = omega (arith, c.roll_back_all.ensures.goes.
 
 pub checkpoint-requires-clause-trees : goal.checkpoint-requires-clause-trees
 checkpoint-requires-clause-trees g c = omega (arith, no_fewer c.args.self.now.engine.hub.tables.tables c.roll_back_all.new.self.hub.tables.tables c.roll_back_all.ensures.goes.tables, c.requires.ready.trees)
-
-pub checkpoint-requires-clause-steady : goal.checkpoint-requires-clause-steady
-checkpoint-requires-clause-steady g c = λ h.
-    let before = c.args.self.now in
-    steady_rolled g.D.Disk c.args.disk.now before c.roll_back_all.new.self c.roll_back_all.ensures.goes
-    (λ w st free. c.roll_back_all.ensures.rolled_back w st (may_roll before.engine c.may_close.result c.in-Ok.field-0 c.may_close.ensures.told c.in-Ok.is w st free)) (c.requires.well h)
 
 pub returns-clause-closes : goal.returns-clause-closes
 returns-clause-closes g c = λ h w st free old on follows.
@@ -50,20 +43,11 @@ returns-clause-shuts g c = λ h first_disk w first made held plain.
     (record { engine = c.checkpoint.new.engine; ground = c.checkpoint.new.ground }) c.checkpoint.result
     (λ old on follows. c.checkpoint.ensures.takes h (rolled w) stands (checkpoint_rolled w.machine ∙ held.idle) old on follows)
 
-pub returns-clause-well : goal.returns-clause-well
-returns-clause-well g c = λ h.
-    let D = g.D.Disk in
-    let before = c.args.self.now in
-    let middle = c.roll_back_all.new.self in
-    well_taken D c.downs_go.ensures (with_rolled before middle) (record { engine = c.checkpoint.new.engine; ground = c.checkpoint.new.ground }) c.args.disk.now c.checkpoint.new.disk c.checkpoint.ensures.engine (c.checkpoint.ensures.steady h)
-    (well_rolled D c.args.disk.now before middle c.roll_back_all.ensures.goes
-    (λ w st free. c.roll_back_all.ensures.rolled_back w st (may_roll before.engine c.may_close.result c.in-Ok.field-0 c.may_close.ensures.told c.in-Ok.is w st free)) (c.requires.well h))
-
 pub returns-clause-told : goal.returns-clause-told
 returns-clause-told g c = λ start le.
     let before = c.args.self.now.engine in
     let middle = c.roll_back_all.new.self in
-    told_own g.D.Disk start c.args.disk.now c.checkpoint.new.disk c.checkpoint.ensures.disk before c.checkpoint.new.engine
+    told_own g.D.Disk None start c.args.disk.now c.checkpoint.new.disk c.checkpoint.ensures.disk before c.checkpoint.new.engine
     (own_then before middle c.checkpoint.new.engine c.roll_back_all.ensures.own (own_taken middle c.checkpoint.new.engine c.checkpoint.ensures.engine))
 
 pub returns-clause-ready : goal.returns-clause-ready

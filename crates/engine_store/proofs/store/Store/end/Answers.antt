@@ -5,9 +5,9 @@ use Rattle.engine_store.proofs.Rounds.{GoneOn, gone_more}
 use Rattle.engine_store.proofs.store.Store.end.Goals as goal
 
 pub returns-in-Ended-clause-told : goal.returns-in-Ended-clause-told
-returns-in-Ended-clause-told g c = λ start le some so told.
-    let x = c.loop-called.invariant.told start le some so told in
-    (subst (λ (called : Called). CalledSo g.D.Disk start c.loop-called.disk called) c.in-Ended.is x.0, x.1)
+returns-in-Ended-clause-told g c = λ basis start le on so told.
+    let x = c.loop-called.invariant.told basis start le on so told in
+    (subst (λ (called : Called). CalledSo g.D.Disk basis start c.loop-called.disk called) c.in-Ended.is x.0, x.1)
 
 pub loop-called-preserved : goal.loop-called-preserved
 loop-called-preserved g c =

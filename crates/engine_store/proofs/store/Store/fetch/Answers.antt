@@ -1,5 +1,6 @@
-use Rattle.std.proofs.Common.{◌∙◌, sym}
+use Rattle.std.proofs.Common.{◌∙◌, subst, sym}
 use Rattle.failure.specs.Counts.{Rose}
+use Rattle.tree_dir.specs.Leaves.{IsDirectory}
 use Rattle.engine_store.proofs.Fetching.{caused, none_known, shelf_here, tells_leaf}
 use Rattle.engine_store.proofs.store.Store.fetch.Goals as goal
 
@@ -15,6 +16,5 @@ returns-clause-cause g c = λ h w now reached.
     (shelf_here g.D.Disk c.args.self.now c.args.disk.now w now c.args.leaf reached (sym c.fault.ensures ∙ c.in_default.is) c.requires.away (none_known _ c.of.result _ c.of.ensures c.in_default-of.is)))
 
 pub returns-clause-told : goal.returns-clause-told
-returns-clause-told g c = λ start le reached.
-    tells_leaf g.D.Disk start c.args.disk.now c.bring.new.disk le c.bring.ensures.looked c.args.self.now c.args.leaf c.bring.result reached c.bring.ensures.err c.bring.ensures.lacks
-    (sym c.fault.ensures ∙ c.in_default.is) c.requires.away (none_known _ c.of.result _ c.of.ensures c.in_default-of.is)
+returns-clause-told g c = λ basis start le on.
+    tells_leaf g.D.Disk basis start c.args.disk.now c.bring.new.disk le c.bring.ensures.looked c.args.self.now c.args.leaf c.bring.result on (subst IsDirectory c.leaves.ensures.are c.leaves.ensures.stand) c.requires.away c.bring.ensures.err

@@ -5,6 +5,7 @@ use Rattle.engine.specs.declared.step.Step.TheVariants as step
 use Rattle.call_steps.specs.declared.reply.Reply.TheVariants as reply
 use Rattle.ckpt_step.proofs.Ordinary.{engines_are}
 use Rattle.engine_store.specs.Calls.{Finished}
+use Rattle.engine_store.proofs.Bases.{basis_here}
 use Rattle.engine_store.proofs.Finishing.{EndedLater, finish_held, finish_keeps, finish_told}
 use Rattle.engine_store.proofs.Going.{goes_step}
 use Rattle.engine_store.proofs.SystemCalls.{event_held, event_keeps}
@@ -50,12 +51,11 @@ returns-in-System-clause-finished g c = λ h start w first made held.
     })
 
 pub returns-in-System-clause-told : goal.returns-in-System-clause-told
-returns-in-System-clause-told g c = λ start le well told. (
-  always_told g.D.Disk start c.args.disk.now c.finish_system.result c.finish_system.ensures.tells,
-  keep_told g.D.Disk start c.args.disk.now c.args.self.now.engine c.finish_system.new.self c.finish_system.ensures.own told,
+returns-in-System-clause-told g c = λ basis start le on told. (
+  always_told g.D.Disk basis start c.args.disk.now c.finish_system.result c.finish_system.ensures.tells,
+  keep_told g.D.Disk basis start c.args.disk.now c.args.self.now.engine c.finish_system.new.self c.finish_system.ensures.own told,
+  basis_here g.D.Disk basis c.args.self.now.engine c.finish_system.new.self c.args.disk.now c.finish_system.ensures.goes on,
 )
 
 pub returns-in-System-clause-keeps : goal.returns-in-System-clause-keeps
-returns-in-System-clause-keeps g c = event_keeps g.D.Disk c.args.disk.now c.args.self.now c.finish_system.new.self c.finish_system.ensures.goes (λ w stands.
-    let x = c.finish_system.ensures.steps w stands in
-    (x.0, x.2, goes_step w x.0 (step.Go (by.System c.in-System.number)) (reply.Answer c.finish_system.result) (engines_are c.args.self.now.engine w stands c.actors.ensures.built) tt x.1))
+returns-in-System-clause-keeps g c = event_keeps g.D.Disk c.args.disk.now c.args.self.now c.finish_system.new.self c.finish_system.ensures.goes

@@ -16,9 +16,9 @@ returns-clause-steps g c = λ h w now reached.
     steps_come g.D.Disk c.args.disk.now c.let_in.new.disk c.let_in.new.self.engine c.resume.new.self w now c.args.session c.let_in.result c.resume.result (c.let_in.ensures.steps h w now reached) c.resume.ensures.ends
 
 pub returns-clause-told : goal.returns-clause-told
-returns-clause-told g c = λ start le reached told.
+returns-clause-told g c = λ basis start le on told.
     let mid = c.let_in.new.self.engine in
-    let kept = c.let_in.ensures.told start le reached told in (
-      called_told g.D.Disk start c.let_in.new.disk (answer_in mid c.args.session) c.resume.result c.resume.ensures.tells (kept c.args.session),
-      keep_told g.D.Disk start c.let_in.new.disk mid c.resume.new.self c.resume.ensures.own kept,
+    let kept = c.let_in.ensures.told basis start le on told in (
+      called_told g.D.Disk basis start c.let_in.new.disk (answer_in mid c.args.session) c.resume.result c.resume.ensures.tells (kept c.args.session),
+      keep_told g.D.Disk basis start c.let_in.new.disk mid c.resume.new.self c.resume.ensures.own kept,
     )

@@ -1,38 +1,35 @@
-use Rattle.std.proofs.Common.{IsTrue, refl, subst, sym, List, ℕ}
+use Rattle.std.proofs.Common.{IsTrue, None, refl, subst, sym, List, ℕ}
 use Rattle.failure.specs.Counts.{Rose}
 use Rattle.disk_model.proofs.Crash.{looked_same}
-use Rattle.recover_open.specs.Damage.{IsDamage}
+use Rattle.engine_store.specs.Opened.{IsAtFault}
 use Rattle.engine_store.proofs.KeptAnswers.{told_own}
-use Rattle.engine_store.proofs.Reopening.{damage_of, fault_of, not_reopened, reopened, well_looked, well_opened}
+use Rattle.engine_store.proofs.RefusalsTold.{damage_of, fault_of}
+use Rattle.engine_store.proofs.Reopening.{not_reopened, reopened}
 use Rattle.engine_store.proofs.Telling.{none_told}
 use Rattle.engine_store.proofs.store.Store.reopen.Goals as goal
 
 pub returns-in-Ok-clause-opens : goal.returns-in-Ok-clause-opens
 returns-in-Ok-clause-opens g c = λ h first_disk w first made held.
-    reopened g.D.Disk first_disk c.args.disk.now c.open_on.new.disk c.open_on.ensures.looked (g.met.D.Disk.reads_an_image c.args.disk.now h) c.args.self.now w first made held c.in-Ok.opened (c.in-Ok.ensures.ok h) c.plain_stays.ensures.starts
-
-pub returns-in-Ok-clause-well : goal.returns-in-Ok-clause-well
-returns-in-Ok-clause-well g c = λ h. well_opened g.D.Disk c.open_on.new.disk c.in-Ok.opened (c.in-Ok.ensures.ok h)
+    let image = g.met.D.Disk.reads_an_image c.args.disk.now h in
+    let any = held.images (g.D.Disk.seen c.args.disk.now) image in
+    reopened g.D.Disk first_disk c.args.disk.now c.open_on.new.disk c.open_on.ensures.looked image c.args.self.now w first made held c.in-Ok.opened (c.in-Ok.ensures.ok h any.2.0 any.2.1) c.plain_stays.ensures.starts
 
 pub returns-in-Ok-clause-told : goal.returns-in-Ok-clause-told
-returns-in-Ok-clause-told g c = λ start le told. none_told g.D.Disk start c.open_on.new.disk c.in-Ok.opened.engine c.in-Ok.ensures.sessions
+returns-in-Ok-clause-told g c = λ start le told. none_told g.D.Disk None start c.open_on.new.disk c.in-Ok.opened.engine c.in-Ok.ensures.sessions
 
 pub returns-in-Err-clause-opens : goal.returns-in-Err-clause-opens
 returns-in-Err-clause-opens g c = λ h first_disk w first made held.
     not_reopened g.D.Disk first_disk c.args.disk.now c.open_on.new.disk c.open_on.ensures.looked (g.met.D.Disk.reads_an_image c.args.disk.now h) c.args.self.now w first made held (IsTrue (g.D.Disk.honest c.args.disk.now)) h c.args.self.now refl c.in-Err.refusal c.in-Err.ensures.err
 
-pub returns-in-Err-clause-well : goal.returns-in-Err-clause-well
-returns-in-Err-clause-well g c = λ h. well_looked g.D.Disk c.args.disk.now c.open_on.new.disk c.open_on.ensures.looked c.args.self.now (c.requires.well h)
-
 pub returns-in-Err-clause-told : goal.returns-in-Err-clause-told
 returns-in-Err-clause-told g c = λ start le told.
-    told_own g.D.Disk start c.args.disk.now c.open_on.new.disk (looked_same g.D.Disk c.args.disk.now c.open_on.new.disk c.open_on.ensures.looked c.open_on.ensures.home) c.args.self.now.engine c.args.self.now.engine (λ session but own. own) told
+    told_own g.D.Disk None start c.args.disk.now c.open_on.new.disk (looked_same g.D.Disk c.args.disk.now c.open_on.new.disk c.open_on.ensures.looked c.open_on.ensures.home) c.args.self.now.engine c.args.self.now.engine (λ session but own. own) told
 
 pub returns-in-Err-clause-damage : goal.returns-in-Err-clause-damage
 returns-in-Err-clause-damage g c = λ at want found is h.
     let D = g.D.Disk in
     let before = c.args.disk.now in
-    subst (λ (l : List ℕ). IsDamage l at want found) (sym c.open_on.ensures.looked.content)
+    subst (λ (l : List ℕ). IsAtFault l at want found) (sym c.open_on.ensures.looked.content)
     (damage_of (Rose (D.faults before) (D.faults c.open_on.new.disk)) (IsTrue (D.honest before)) (D.seen before) c.in-Err.refusal c.in-Err.ensures.err at want found is h)
 
 pub returns-in-Err-clause-fault : goal.returns-in-Err-clause-fault

@@ -1,7 +1,8 @@
 use Rattle.call_steps.specs.declared.reply.Reply.TheVariants as reply
 use Rattle.engine_store.specs.declared.store.Store.{Store}
 use Rattle.engine_store.specs.Fetches.{CauseSince}
-use Rattle.engine_store.proofs.Stepping.{StepsOn, led_out, led_step, reached_well, step_held, step_keeps}
+use Rattle.engine_store.proofs.Bases.{basis_goes}
+use Rattle.engine_store.proofs.Stepping.{StepsOn, led_out, led_step, step_held, step_keeps}
 use Rattle.engine_store.proofs.Telling.{keep_told, reply_told}
 use Rattle.engine_store.proofs.store.Store.step.Given as given
 use Rattle.engine_store.proofs.store.Store.step.Goals as goal
@@ -23,12 +24,13 @@ pub returns-in-Ok-clause-stepped : goal.returns-in-Ok-clause-stepped
 returns-in-Ok-clause-stepped g c = step_held g.D.Disk c.args.self.now (later g c) c.args.disk.now c.make_ready.new.disk c.args.step c.step.result (made g c)
 
 pub returns-in-Ok-clause-told : goal.returns-in-Ok-clause-told
-returns-in-Ok-clause-told g c = λ start le well told.
+returns-in-Ok-clause-told g c = λ basis start le on told.
     let disk = c.make_ready.new.disk in
     let mid = c.make_ready.new.self.engine in
-    let kept = c.make_ready.ensures.told start le (λ h. reached_well g.D.Disk c.args.self.now c.args.disk.now (well h)) told in (
-      reply_told g.D.Disk start disk mid c.args.step c.step.result c.step.ensures.tells kept,
-      keep_told g.D.Disk start disk mid c.step.new.self c.step.ensures.own kept,
+    let kept = c.make_ready.ensures.told basis start le on told in (
+      reply_told g.D.Disk basis start disk mid c.args.step c.step.result c.step.ensures.tells kept,
+      keep_told g.D.Disk basis start disk mid c.step.new.self c.step.ensures.own kept,
+      basis_goes g.D.Disk basis c.args.self.now.engine c.step.new.self c.args.disk.now disk c.make_ready.ensures.looked (c.in-Ok.ensures.then c.step.new.self.hub c.step.ensures.goes) on,
     )
 
 pub returns-in-Ok-clause-keeps : goal.returns-in-Ok-clause-keeps
@@ -47,9 +49,10 @@ returns-in-Err-clause-stepped g c = step_held g.D.Disk c.args.self.now c.make_re
     })
 
 pub returns-in-Err-clause-told : goal.returns-in-Err-clause-told
-returns-in-Err-clause-told g c = λ start le well told. (
+returns-in-Err-clause-told g c = λ basis start le on told. (
   λ answer is. absurd (cc),
-  c.make_ready.ensures.told start le (λ h. reached_well g.D.Disk c.args.self.now c.args.disk.now (well h)) told,
+  c.make_ready.ensures.told basis start le on told,
+  basis_goes g.D.Disk basis c.args.self.now.engine c.make_ready.new.self.engine c.args.disk.now c.make_ready.new.disk c.make_ready.ensures.looked c.in-Err.ensures.goes on,
 )
 
 pub returns-in-Err-clause-keeps : goal.returns-in-Err-clause-keeps
