@@ -27,7 +27,7 @@ last_of (e ∷ f ∷ es) = last_of (f ∷ es)
 abbrev pub AboveLast : Entry → Option Entry → Type 0
 AboveLast e last = of_some true (λ (x : Entry). is_below x.key e.key) last ≡ true
 
-climbs_more : (es : List Entry) (e : Entry) → Climbs es → AboveLast e (last_of es) → Climbs (es ++ e ∷ [])
+pub climbs_more : (es : List Entry) (e : Entry) → Climbs es → AboveLast e (last_of es) → Climbs (es ++ e ∷ [])
 climbs_more [] e climbs above = tt
 climbs_more (x ∷ []) e climbs above = (above, tt)
 climbs_more (x ∷ y ∷ es) e climbs above = (climbs.0, climbs_more (y ∷ es) e climbs.1 above)
@@ -119,3 +119,7 @@ images_stand (i ∷ images) image rows low first are fit least = images_from i i
 pub lent_test : (last : Option (Bor Entry)) (e : Entry) → of_some true (λ (x : Bor Entry). is_below x.now.key e.key) last ≡ true → AboveLast e (option_map (λ (x : Bor Entry). x.now) last)
 lent_test None e is = refl
 lent_test (Some x) e is = is
+
+pub lent_from : (last : Option (Bor Entry)) (e : Entry) → AboveLast e (option_map (λ (x : Bor Entry). x.now) last) → of_some true (λ (x : Bor Entry). is_below x.now.key e.key) last ≡ true
+lent_from None e is = refl
+lent_from (Some x) e is = is

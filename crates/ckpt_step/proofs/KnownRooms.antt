@@ -1,5 +1,5 @@
 -- What stands in the rooms of a map, by its look-ups.
-use Rattle.std.specs.Prelude.{◌≡◌, ℕ, ◌<◌, ◌==◌, true, false, cond, List, [], ◌∷◌, Option, Some, None, Result, Ok, Err, OnOk, OnErr, option_map, is_some, Vec, if◌then◌else◌, refl}
+use Rattle.std.specs.Prelude.{◌≡◌, ◌≢◌, ℕ, ◌<◌, ◌==◌, true, false, cond, List, [], ◌∷◌, Option, Some, None, Result, Ok, Err, OnOk, OnErr, option_map, is_some, Vec, if◌then◌else◌, refl}
 use Rattle.std.specs.Map.{lookup}
 use Rattle.std.specs.BTreeMap.{is_at}
 use Rattle.std.specs.Cmp.{nat_cmp_is}
@@ -92,6 +92,19 @@ room_kept es next leaf room puts id had = room_found next id ∙ (ap is_some (pu
   | inl same ↦ (let at : is_at (nat_cmp leaf) id ≡ true = test_turned leaf id ∙ eq-eqb id leaf same in rw at refl)
   | inr differ ↦ (let at : is_at (nat_cmp leaf) id ≡ false = test_turned leaf id ∙ ne_eqb id leaf differ in rw at (sym (room_found es id) ∙ had))
 ])
+
+-- ---- a map less
+
+-- a key has no room any more
+abbrev pub LetsGo : ByLeaf → ByLeaf → ℕ → Type 0
+LetsGo es next leaf = (q : ℕ) → found next q ≡ cond (is_at (nat_cmp leaf) q) None (found es q)
+
+pub known_gone : (es next : ByLeaf) (leaf : ℕ) → LetsGo es next leaf → known_in (rooms_in next) leaf ≡ None
+known_gone es next leaf goes = known_found next leaf ∙ (ap entries_in (goes leaf) ∙ (let at : is_at (nat_cmp leaf) leaf ≡ true = test_turned leaf leaf ∙ eq-eqb leaf leaf refl in rw at refl))
+
+pub known_left : (es next : ByLeaf) (leaf : ℕ) → LetsGo es next leaf → (id : ℕ) → id ≢ leaf → known_in (rooms_in next) id ≡ known_in (rooms_in es) id
+known_left es next leaf goes id other =
+    known_found next id ∙ (ap entries_in (goes id) ∙ (let at : is_at (nat_cmp leaf) id ≡ false = test_turned leaf id ∙ ne_eqb id leaf other in rw at (sym (known_found es id))))
 
 -- ---- of answers
 

@@ -79,3 +79,17 @@ mod LeadingLeaves
 mod PartNames
 mod PartRooms
 mod KeptPlaces
+mod Ascending
+pub mod NextLeaf
+mod GivingFollows
+mod GivingGround
+mod GivingLeaves
+mod GivingParts
+mod GivingShelf
+pub mod GivingWay
+mod MadeParts
+pub mod NewestTrees
+mod PartStamps
+mod EntryImages
+mod UnderMade
+mod InPlace

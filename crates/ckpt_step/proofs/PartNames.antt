@@ -91,7 +91,7 @@ version_both key (r ∷ xs) ys o is = elim (cases_Bool (bytes_eq r.0 key)) [
 ]
 
 -- a version that they show is that of a row of the key
-shown_lies : (leaves : List Leaf) (table : ℕ) (l : Leaf) (key : List ℕ) (rows : List Row) (v : Version PageChange) → LieIn leaves table l rows → version_at key rows ≡ Some v → leaf_under table key leaves ≡ Some l
+pub shown_lies : (leaves : List Leaf) (table : ℕ) (l : Leaf) (key : List ℕ) (rows : List Row) (v : Version PageChange) → LieIn leaves table l rows → version_at key rows ≡ Some v → leaf_under table key leaves ≡ Some l
 shown_lies leaves table l key [] v lie is = absurd (none_some is)
 shown_lies leaves table l key (r ∷ rows) v lie is = elim (cases_Bool (bytes_eq r.0 key)) [
   | inl same ↦ subst (λ (k : List ℕ). leaf_under table k leaves ≡ Some l) ((bytes_eq-Decides r.0 key).0 same) lie.0

@@ -18,3 +18,4 @@ pub mod Steps
 pub mod Drafting
 pub mod Rooms
 pub mod Stays
+pub mod Giving

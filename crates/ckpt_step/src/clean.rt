@@ -111,7 +111,7 @@ pub(crate) fn step_of<'a>(engine: &'a Local, leaf: &'a Leaf, was: Before<'a>) ->
 
 // The entries that the checkpoint before has of a leaf; none where nothing was ever written of it, or
 // no rows.
-fn part_of<'a>(parts: &'a Parts, leaf: &'a Leaf) -> Option<&'a [Entry]>
+pub(crate) fn part_of<'a>(parts: &'a Parts, leaf: &'a Leaf) -> Option<&'a [Entry]>
     ensures { option_map (λ es. es.now) result ≡ part_in (known_in parts.now) leaf.now }
 {
     match parts.of(leaf.id) {

@@ -4,9 +4,11 @@ ghost use Rattle.ckpt_step.specs.Calm.{AnswersCalm, KeptCalm, KeptOutCalm, Opens
 ghost use Rattle.ckpt_step.specs.Keeps.{EnginesAreOrdinary, FitsAreOrdinary, KeptKeep, KeptOutKeep, StepsKeep};
 ghost use Rattle.ckpt_step.specs.Plain.{OpensPlain, RollsBackPlain, StartsPlain, StaysPlain};
 ghost use Rattle.ckpt_step.specs.Stays.{GroundsStay};
+ghost use Rattle.ckpt_step.specs.Giving.{CheckpointsHaveNewest, GroundsGiveWay};
 
 use disk_model::Disk;
 use stored::what_is_read_is_regular;
+use tree_dir::leaves_give_way;
 
 /// A device that has a checkpoint of a machine, of each key of which the newest version suffices,
 /// opens as the checkpoint that the machine takes.
@@ -52,3 +54,17 @@ pub fn checkpoints_are_kept()
 pub fn grounds_stay<D: Disk>()
     ensures { (disk : D) → GroundsStay (D.seen disk) (D.may_leave disk) }
 {}
+
+/// Each tree of a checkpoint of a machine has the newest version of each key of its table.
+pub fn checkpoints_have_newest()
+    ensures { CheckpointsHaveNewest }
+{}
+
+/// A leaf gives way to what the last completed checkpoint has of it, which has the newest version of
+/// each key, durable at the oldest stamp: the shelf has the rows of its new leaves, and the ground is
+/// still that of the checkpoint.
+pub fn grounds_give_way<D: Disk>()
+    ensures { (disk : D) → GroundsGiveWay (D.seen disk) (D.may_leave disk) }
+{
+    leaves_give_way();
+}

@@ -262,7 +262,7 @@ fn links_of(alloc: Global, entries: &[Entry]) -> Result<Vec<Link>, NoMemory>
 }
 
 // A copy of these entries. The error is want of memory. One allocation for each.
-fn copy_of(alloc: Global, entries: &[Entry]) -> Result<Vec<Entry>, NoMemory>
+pub(crate) fn copy_of(alloc: Global, entries: &[Entry]) -> Result<Vec<Entry>, NoMemory>
     ensures { IfOk result (λ v. v.items ≡ entries.now) }
 {
     let mut copies = Vec::with_capacity(alloc, entries.len())?;
@@ -323,7 +323,7 @@ fn link_fits(link: Link)
 }
 
 // Whether an entry's key is above that of the last one, where there is one.
-fn is_above(entry: &Entry, last: Option<&Entry>) -> bool
+pub(crate) fn is_above(entry: &Entry, last: Option<&Entry>) -> bool
     ensures { result ≡ of_some true (λ e. is_below e.now.key entry.now.key) last.entry }
 {
     match last {

@@ -4,13 +4,15 @@
 //! number, and where its trees stand. Promises that a checkpoint keeps of each table the newest
 //! version of each key, that at each moment the device has the checkpoint before or the new one,
 //! whole, and that what is refused gives back what it wrote; and that the new one opens as the
-//! checkpoint that the machine takes (`checkpoints_open`). Leaves to the caller to open the device,
-//! and when a checkpoint may come.
+//! checkpoint that the machine takes (`checkpoints_open`). Says what may take the place of a leaf that
+//! leaves memory, and that the next checkpoint stands then as before. Leaves to the caller to open the
+//! device, when a checkpoint may come, and which leaves leave.
 #![tactic(auto)]
 
 mod before;
 mod books;
 mod clean;
+mod giving;
 mod ground;
 mod laws;
 mod leaves;
@@ -22,7 +24,11 @@ mod taking;
 mod trees;
 mod writing;
 
+pub use giving::entries_in_place;
 pub use ground::Ground;
-pub use laws::{calm_stays, checkpoints_are_kept, checkpoints_open, grounds_stay, plain_stays};
+pub use laws::{
+    calm_stays, checkpoints_are_kept, checkpoints_have_newest, checkpoints_open, grounds_give_way,
+    grounds_stay, plain_stays,
+};
 pub use parts::Parts;
 pub use taking::checkpoint;

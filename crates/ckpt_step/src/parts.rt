@@ -1,5 +1,5 @@
 // What a checkpoint has of the leaves of tables.
-ghost use Rattle.std.specs.Prelude.{◌≡◌, ◌==◌, ℕ, [], Some, true, if◌then◌else◌, option_map, OnOk};
+ghost use Rattle.std.specs.Prelude.{◌≡◌, ◌≢◌, ◌==◌, ℕ, [], None, Some, true, if◌then◌else◌, option_map, OnOk};
 ghost use Rattle.ckpt_step.specs.Rooms.{has_room, known_in};
 
 use failure::NoMemory;
@@ -54,6 +54,14 @@ impl Parts {
             Some(entries) => Some(entries),
             None => None,
         }
+    }
+
+    /// Nothing is kept of a leaf any more. `O(log n)`.
+    pub fn forget(&mut self, leaf: u64)
+        ensures gone { known_in self.new leaf ≡ None }
+        ensures others { (id : ℕ) → id ≢ leaf → known_in self.new id ≡ known_in self.old id }
+    {
+        let _ = self.by_leaf.remove(&leaf);
     }
 
     // Room for the entries of a leaf. The error is want of memory. `O(log n)`.
