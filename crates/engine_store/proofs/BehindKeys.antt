@@ -1,12 +1,10 @@
 -- The low key of the leaf behind another one, as it is looked up.
-use Rattle.std.proofs.Common.{◌≡◌, ℕ, List, [], ◌∷◌, Option, Some, None, refl, sym, ap, subst, ◌∙◌, inl, inr}
-use Rattle.std.specs.Prelude.{◌==◌, IfErr, IfOk, IsTrue, Result, Ok, Err, option_map}
-use Rattle.std.proofs.lemmas.Bool.{cases_Bool}
+use Rattle.std.proofs.Common.{◌≡◌, ℕ, List, Option, Some, sym, ap, subst, ◌∙◌, inl, inr}
+use Rattle.std.specs.Prelude.{IfErr, IfOk, IsTrue, Result, Ok, Err, option_map}
 use Rattle.device_layout.specs.declared.link.Link.{Link}
 use Rattle.disk_model.specs.declared.disk.Disk.{Ghosts}
 use Rattle.failure.specs.Counts.{Rose}
 use Rattle.wt_code.specs.declared.refusals.Refusal.{Refusal}
-use Rattle.kv_model.specs.Holds.{Member}
 use Rattle.leaf_frame.specs.Leaf.{HeldLeaf}
 use Rattle.leaf_load.specs.Loads.{IsLoaded, entry_of}
 use Rattle.leaf_rows.specs.declared.marks.Marks.{Marks}
@@ -14,34 +12,13 @@ use Rattle.stored.specs.TableTree.{Entry}
 use Rattle.recover_open.specs.Damage.{EntrySpoils}
 use Rattle.tree_open.specs.Damage.{Refused}
 use Rattle.tree_dir.specs.declared.leaf.Leaf.{Leaf}
-use Rattle.tree_dir.specs.Leaves.{Directory, IsDirectory, leaf_behind, leaf_named, of_table}
-use Rattle.tree_dir.proofs.Parting.{ids-name}
-use Rattle.ckpt_step.proofs.Members.{none_some, some_same}
-use Rattle.ckpt_step.proofs.TableLeaves.{contains_of}
+use Rattle.tree_dir.specs.Leaves.{Directory, IsDirectory, leaf_behind, leaf_named}
+use Rattle.ckpt_step.proofs.NextLeaf.{found_behind}
 use Rattle.engine_store.specs.Loads.{IsReadAs, RefusesLeaf, low_behind}
-
-of_is : (n : ℕ) (b l : Leaf) → of_table n b ≡ Some l → b ≡ l
-of_is n b l is = elim (cases_Bool (b.table == n)) [ inl own ↦ some_same (rw own at is) | inr other ↦ absurd (none_some (rw other at is)) ]
-
-behind_in : (id : ℕ) (leaves : List Leaf) (l : Leaf) → leaf_behind id leaves ≡ Some l → Member l leaves
-behind_in id [] l is = absurd (none_some is)
-behind_in id (a ∷ []) l is = absurd (none_some is)
-behind_in id (a ∷ b ∷ leaves) l is = elim (cases_Bool (a.id == id)) [
-  | inl here ↦ inr (inl (sym (of_is a.table b l (rw here at is))))
-  | inr other ↦ inr (behind_in id (b ∷ leaves) l (rw other at is))
-]
 
 -- by the id of the next leaf
 pub behind_key : (d : Directory) → IsDirectory d → (id next : ℕ) (l : Leaf) → Some next ≡ option_map (λ (x : Leaf). x.id) (leaf_behind id d.leaves) → Some l ≡ leaf_named next d.leaves → low_behind id d.leaves ≡ Some l.entry.key
-behind_key d is id next l there named = by (leaf_behind id d.leaves) refl
-  where
-    by : (o : Option Leaf) → leaf_behind id d.leaves ≡ o → low_behind id d.leaves ≡ Some l.entry.key
-    by None none = absurd (none_some (sym (there ∙ ap (option_map (λ (x : Leaf). x.id)) none)))
-    by (Some x) some =
-        let same_id : next ≡ x.id = some_same (there ∙ ap (option_map (λ (y : Leaf). y.id)) some) in
-        let found : leaf_named next d.leaves ≡ Some x = ap (λ (k : ℕ). leaf_named k d.leaves) same_id ∙ ids-name d is x (contains_of d.leaves x (behind_in id d.leaves x some)) in
-        let one : l ≡ x = some_same (named ∙ found) in
-        ap (option_map (λ (y : Leaf). y.entry.key)) some ∙ ap (λ (y : Leaf). Some y.entry.key) (sym one)
+behind_key d is id next l there named = ap (option_map (λ (y : Leaf). y.entry.key)) (sym (found_behind d is id next there) ∙ sym named)
 
 -- ---- what was read there
 

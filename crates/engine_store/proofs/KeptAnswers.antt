@@ -50,7 +50,7 @@ module _ {D : Type 0} (g : Ghosts D) (basis : Option Basis) (start before after 
   told_own e e' own told session = answer_own (answer_in e session) (answer_in e' session) (own session) (told session)
 
 -- the same sessions keep the same
-own_same : (e e' : Engine) → e'.sessions ≡ e.sessions → KeepOwn e e'
+pub own_same : (e e' : Engine) → e'.sessions ≡ e.sessions → KeepOwn e e'
 own_same e e' same session but own = subst (λ (l : List State). IsOwnAnswer but (of_some answers.Done (λ (a : State). a.answer) (slice_get l session))) (sym same) own
 
 -- a checkpoint changes no session

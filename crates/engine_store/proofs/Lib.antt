@@ -25,6 +25,7 @@ pub mod RefusalsTold
 pub mod Closings
 pub mod Contents
 pub mod Installing
+pub mod Relieving
 pub mod Taking
 pub mod Shutting
 pub mod Reopening

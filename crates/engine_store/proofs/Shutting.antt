@@ -41,7 +41,7 @@ use Rattle.engine_store.specs.declared.store.Store.{Store}
 use Rattle.engine_store.specs.Answers.{CheckpointTakes, CloseTakes, StartedAs, answer_of}
 use Rattle.engine_store.specs.Closes.{rolled}
 use Rattle.engine_store.specs.Devices.{Device, Installed, IsNumberOf, device_of, last_number, may_open_to}
-use Rattle.engine_store.specs.Held.{Checkpoints, IsGrounded, IsHeld, Shuts}
+use Rattle.engine_store.specs.Held.{CheckpointsOn, IsGrounded, IsHeld, Shuts}
 use Rattle.engine_store.specs.Images.{OpensToLast}
 use Rattle.engine_store.proofs.Closings.{free_of, up_of}
 use Rattle.engine_store.proofs.Contents.{most_number}
@@ -259,7 +259,7 @@ module _ {D : Type 0} (g : Ghosts D) (start_disk before : D) (image : g.may_leav
 
     module _ (after : D) (counts : g.moment before ≤ g.moment after → (c : List ℕ) → g.may_leave after c → g.left_since after (g.moment before) c) (only : (c : List ℕ) → g.left_since after (g.moment after) c → g.may_leave after c)
         (count : g.faults before ≤ g.faults after) (room : g.capacity after ≡ g.capacity before) (law : CheckpointsOpen) (downs : DownsGo) (s' : Store) (result : Result (Unit {0}) Refusal) where
-      from_checkpoint : Checkpoints g start_disk (rolled w) first made s1 s' before after result → Shuts g start_disk w first made s s' before after result
+      from_checkpoint : CheckpointsOn g start_disk (rolled w) first made s1 s' before after w.shelf result → Shuts g start_disk w first made s s' before after result
       from_checkpoint t = record {
         next = t.next;
         now = t.now;

@@ -28,6 +28,7 @@ use Rattle.engine.specs.Checkpoints.{MayStart}
 use Rattle.ckpt_step.specs.declared.ground.Ground.{Ground}
 use Rattle.ckpt_step.specs.Checkpoints.{IsCheckpointOf}
 use Rattle.ckpt_step.specs.Floors.{Follows}
+use Rattle.ckpt_step.specs.Giving.{CheckpointsHaveNewest, HasNewest}
 use Rattle.ckpt_step.specs.Grounds.{AreRoots, StandsOn, number_of}
 use Rattle.ckpt_step.specs.Laws.{CheckpointsOpen}
 use Rattle.ckpt_step.specs.Plain.{IsPlain}
@@ -36,8 +37,9 @@ use Rattle.ckpt_step.specs.Takes.{Fallen, NotTaken, Taken, Takes, WhyNot}
 use Rattle.engine_store.specs.declared.store.Store.{Store}
 use Rattle.engine_store.specs.Answers.{CheckpointTakes}
 use Rattle.engine_store.specs.Devices.{ArePartedOn, Installed, IsLater, IsNumberOf, device_of, may_open_to}
-use Rattle.engine_store.specs.Held.{Checkpoints, IsGrounded, IsHeld}
+use Rattle.engine_store.specs.Held.{Checkpoints, CheckpointsOn, IsGrounded, IsHeld}
 use Rattle.engine_store.specs.Images.{OpensToAny, OpensToLast, OpensToOne}
+use Rattle.engine_store.specs.Relieves.{IsRelieved, LetsGo}
 use Rattle.engine_store.proofs.Contents.{number_read, numbered, still_reads}
 use Rattle.engine_store.proofs.Installing.{any_last, any_more, any_one, last_opens, one_last, one_more, past_later, past_more, pending_last, stays_more, stays_on}
 
@@ -154,7 +156,7 @@ module _ {D : Type 0} (g : Ghosts D) (start_disk before after : D)
     number = number_of grounded.old
 
     abbrev Gives : Result (Unit {0}) Refusal → Type 0
-    Gives result = Checkpoints g start_disk w first made s s' before after result
+    Gives result = CheckpointsOn g start_disk w first made s s' before after w.shelf result
 
     is_later : g.moment before ≤ g.moment after → IsLater (device_of g before) (device_of g after)
     is_later le = record { faults = count; moment = le }
@@ -185,18 +187,27 @@ module _ {D : Type 0} (g : Ghosts D) (start_disk before after : D)
       opens_new : (c : List ℕ) → IsOn c new → Opens c (checkpointed m).completed
       opens_new c on = (content_of new, inr (new, on, refl), new_opens c on)
 
-    taken : Taken g grounded.old w s.ground s'.ground s.engine s'.engine before after → Gives (Ok tt)
-    taken t = record {
-      next = checkpointed m;
-      now = made ++ installed None ∷ [];
-      behind = record { later = is_later t.leaves.later; capacity = room; has = (t.new, number, t.is, t.on.stands.seen_has) };
-      takes = inr (number, Ok tt, counted, t.may, record { storing = StoredWhole; takes = (s.engine.hub.dir.leaves, known_in s.ground.parts, parted, t.had_room); told = refl; leaves = refl });
-      installs = refl;
-      held = done_held t.new (installed None) (opens_new t.new t.is) t.leaves (record w { machine = checkpointed m }) t.stands refl refl refl t.each
-          (subst (λ (e : Engine). StandsOn (g.seen after) (g.may_leave after) e.hub s'.ground (Some t.new)) (sym t.same) t.on)
-          (subst (λ (e : Engine). Follows (Some t.new) e.hub s'.ground (record w { machine = checkpointed m })) (sym t.same) t.follows) (new_opens t.new t.is (g.seen after) t.on.stands.seen_has);
-      plain = record { idle = refl; suffice = λ table key. record { reached = (plain.suffice table key).reached } };
-    }
+    -- it was taken of this engine, and then leaves may have left their frames
+    module _ (stand : Ground) (e : Engine) (t : Taken g grounded.old w s.ground stand s.engine e before after) where
+      abbrev later : World
+      later = record w { machine = checkpointed m }
+
+      pub taken_on : StandsOn (g.seen after) (g.may_leave after) e.hub stand (Some t.new)
+      taken_on = subst (λ (x : Engine). StandsOn (g.seen after) (g.may_leave after) x.hub stand (Some t.new)) (sym t.same) t.on
+
+      pub taken_follows : Follows (Some t.new) e.hub stand later
+      taken_follows = subst (λ (x : Engine). Follows (Some t.new) x.hub stand later) (sym t.same) t.follows
+
+      pub taken : (r : IsRelieved (g.seen after) (g.may_leave after) (Some t.new) later s') → CheckpointsOn g start_disk w first made s s' before after r.shelf (Ok tt)
+      taken r = record {
+        next = checkpointed m;
+        now = made ++ installed None ∷ [];
+        behind = record { later = is_later t.leaves.later; capacity = room; has = (t.new, number, t.is, t.on.stands.seen_has) };
+        takes = inr (number, Ok tt, counted, t.may, record { storing = StoredWhole; takes = (s.engine.hub.dir.leaves, known_in s.ground.parts, parted, t.had_room); told = refl; leaves = refl });
+        installs = refl;
+        held = done_held t.new (installed None) (opens_new t.new t.is) t.leaves (record w { machine = checkpointed m; shelf = r.shelf }) r.stands refl refl refl t.each r.on r.follows (new_opens t.new t.is (g.seen after) t.on.stands.seen_has);
+        plain = record { idle = refl; suffice = λ table key. record { reached = (plain.suffice table key).reached } };
+      }
 
     refused_by : (r : Refusal) → WhyNot (Rose (g.faults before) (g.faults after)) (g.seen before) (g.capacity before) s.engine.hub.dir.leaves (known_in s.ground.parts) m number r → CheckpointTakes (device_of g before) (device_of g after) m (Refused r) m
     refused_by r (inl barred) = inr (number, Err r, counted, barred, (refl, refl))
@@ -264,7 +275,7 @@ module _ {D : Type 0} (g : Ghosts D) (start_disk before after : D)
     ])
 
     pub by_takes : (result : Result (Unit {0}) Refusal) → Takes g grounded.old w s.ground s'.ground s.engine s'.engine before after result → Gives result
-    by_takes (Ok end) t = taken t
+    by_takes (Ok end) t = taken s'.ground s'.engine t (record { shelf = w.shelf; stands = t.stands; on = taken_on s'.ground s'.engine t; follows = taken_follows s'.ground s'.engine t })
     by_takes (Err r) (inl n) = not_taken r n
     by_takes (Err r) (inr f) = fallen r f
 
@@ -275,7 +286,7 @@ module _ {D : Type 0} (g : Ghosts D) (start_disk disk : D) (image : g.may_leave 
   pub number_held : (n : ℕ) × IsNumberOf (g.seen disk) n
   number_held = let any = held.images (g.seen disk) image in number_read (g.seen disk) any.2.0 any.2.1
 
-  refused_down : (fault : Fault) → w.machine.fault ≡ Some fault → IsPlain w.machine → Checkpoints g start_disk w first made s s disk disk (Err (Panic fault))
+  refused_down : (fault : Fault) → w.machine.fault ≡ Some fault → IsPlain w.machine → CheckpointsOn g start_disk w first made s s disk disk w.shelf (Err (Panic fault))
   refused_down fault down plain = record {
     next = w.machine;
     now = made;
@@ -290,11 +301,11 @@ module _ {D : Type 0} (g : Ghosts D) (start_disk disk : D) (image : g.may_leave 
       not_both up = let e : None ≡ Some fault = sym up ∙ down in cc
 
   pub by_down : (s' : Store) (after : D) (result : Result (Unit {0}) Refusal) (fault : Fault) → w.machine.fault ≡ Some fault → IsPlain w.machine → result ≡ Err (Panic fault) → s' ≡ s → after ≡ disk
-      → Checkpoints g start_disk w first made s s' disk after result
+      → CheckpointsOn g start_disk w first made s s' disk after w.shelf result
   by_down s' after result fault down plain is same still =
-      subst (λ (d : D). Checkpoints g start_disk w first made s s' disk d result) (sym still)
-      (subst (λ (x : Store). Checkpoints g start_disk w first made s x disk disk result) (sym same)
-      (subst (λ (r : Result (Unit {0}) Refusal). Checkpoints g start_disk w first made s s disk disk r) (sym is)
+      subst (λ (d : D). CheckpointsOn g start_disk w first made s s' disk d w.shelf result) (sym still)
+      (subst (λ (x : Store). CheckpointsOn g start_disk w first made s x disk disk w.shelf result) (sym same)
+      (subst (λ (r : Result (Unit {0}) Refusal). CheckpointsOn g start_disk w first made s s disk disk w.shelf r) (sym is)
       (refused_down fault down plain)))
 
 -- ---- of either
@@ -310,7 +321,7 @@ module _ {D : Type 0} (g : Ghosts D) (start_disk before after : D)
     (count : g.faults before ≤ g.faults after) (room : g.capacity after ≡ g.capacity before) (law : CheckpointsOpen) (downs : DownsGo) (plain : IsPlain w.machine) (result : Result (Unit {0}) Refusal)
     (takes : (old : Option Stored) → StandsOn (g.seen before) (g.may_leave before) s.engine.hub s.ground old → Follows old s.engine.hub s.ground w → Takes g old w s.ground s'.ground s.engine s'.engine before after result)
     (down : (fault : Fault) → s.engine.hub.fault ≡ Some fault → (result ≡ Err (Panic fault)) × (s'.engine ≡ s.engine) × (s'.ground ≡ s.ground) × (after ≡ before)) where
-  by_fault : (f : Option Fault) → w.machine.fault ≡ f → Checkpoints g start_disk w first made s s' before after result
+  by_fault : (f : Option Fault) → w.machine.fault ≡ f → CheckpointsOn g start_disk w first made s s' before after w.shelf result
   by_fault None up =
       let on = held.on up in
       by_takes g start_disk before after counts only image s s' w first made held on count room law downs plain result (takes on.old on.on on.follows)
@@ -319,4 +330,31 @@ module _ {D : Type 0} (g : Ghosts D) (start_disk before after : D)
       by_down g start_disk before image s w first made held s' after result fault is plain told.0 (same_store s s' told.1 told.2) told.3
 
   pub checkpoints_by : Checkpoints g start_disk w first made s s' before after result
-  checkpoints_by = by_fault w.machine.fault refl
+  checkpoints_by = (w.shelf, by_fault w.machine.fault refl)
+
+-- ---- of one behind which leaves left their frames
+
+-- the checkpoint has still the newest version of each key of the machine that took it
+newest_taken : (m : Machine) (s : Stored) → HasNewest (Some s) m → HasNewest (Some s) (checkpointed m)
+newest_taken m s newest t place tree has = let rows = newest t place tree has in record { fit = rows.fit; newest = rows.newest }
+
+-- stand, e: the ground and the engine when it was taken
+module _ {D : Type 0} (g : Ghosts D) (start_disk before after : D)
+    (counts : g.moment before ≤ g.moment after → (c : List ℕ) → g.may_leave after c → g.left_since after (g.moment before) c) (only : (c : List ℕ) → g.left_since after (g.moment after) c → g.may_leave after c)
+    (image : g.may_leave before (g.seen before)) (s s' : Store) (w : World) (first : Completed) (made : List Installed) (held : IsHeld g start_disk s before w first made)
+    (count : g.faults before ≤ g.faults after) (room : g.capacity after ≡ g.capacity before) (law : CheckpointsOpen) (downs : DownsGo) (plain : IsPlain w.machine) (have : CheckpointsHaveNewest) (stand : Ground) (e : Engine)
+    (takes : (old : Option Stored) → StandsOn (g.seen before) (g.may_leave before) s.engine.hub s.ground old → Follows old s.engine.hub s.ground w → Taken g old w s.ground stand s.engine e before after)
+    (up : (fault : Fault) → s.engine.hub.fault ≡ Some fault → ⊥) (goes : LetsGo g (record { engine = e; ground = stand }) s') where
+  by_up : (f : Option Fault) → w.machine.fault ≡ f → Checkpoints g start_disk w first made s s' before after (Ok tt)
+  by_up (Some fault) is = absurd (up fault (held.stands.fault ∙ is))
+  by_up None is =
+      let on = held.on is in
+      let t = takes on.old on.on on.follows in
+      let r = goes.relieves after (Some t.new) (record w { machine = checkpointed w.machine }) t.stands refl
+      (taken_on g start_disk before after counts only image s s' w first made held on count room law downs plain stand e t)
+      (taken_follows g start_disk before after counts only image s s' w first made held on count room law downs plain stand e t)
+      (newest_taken w.machine t.new (have w.machine (number_of on.old) t.new t.is)) in
+      (r.shelf, taken g start_disk before after counts only image s s' w first made held on count room law downs plain stand e t r)
+
+  pub relieved_by : Checkpoints g start_disk w first made s s' before after (Ok tt)
+  relieved_by = by_up w.machine.fault refl

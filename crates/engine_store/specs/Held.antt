@@ -43,15 +43,19 @@ module _ {D : Type 0} (g : Ghosts D) (start_disk : D) where
     pub past : AllByRecursion (λ (i : Installed). i.at ≤ g.moment disk) made
 
   module _ (w : World) (first : Completed) (made : List Installed) (s s' : Store) (before after : D) where
-    -- a checkpoint in one event
-    pub record Checkpoints (result : Result (Unit {0}) Refusal) : Type 0 where
+    -- a checkpoint in one event, behind which this is on the shelf
+    pub record CheckpointsOn (shelf : ℕ → List Row) (result : Result (Unit {0}) Refusal) : Type 0 where
       pub next : Machine
       pub now : List Installed
       pub behind : IsLeft (device_of g before) (device_of g after) w.machine next (answer_of result)
       pub takes : CheckpointTakes (device_of g before) (device_of g after) w.machine (answer_of result) next
       pub installs : Installs (answer_of result) (checkpointed w.machine).completed (device_of g after) next made now
-      pub held : IsHeld s' after (record w { machine = next }) first now
+      pub held : IsHeld s' after (record w { machine = next; shelf = shelf }) first now
       pub plain : IsPlain next
+
+    -- leaves may have left their frames
+    abbrev pub Checkpoints : Result (Unit {0}) Refusal → Type 0
+    Checkpoints result = (shelf : ℕ → List Row) × CheckpointsOn shelf result
 
     -- a close
     pub record Shuts (result : Result (Unit {0}) Refusal) : Type 0 where

@@ -12,3 +12,4 @@ pub mod Calls
 pub mod Fetches
 pub mod Found
 pub mod Held
+pub mod Relieves

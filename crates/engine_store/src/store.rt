@@ -18,7 +18,7 @@ ghost use Rattle.engine_store.specs.Held.{Checkpoints, IsHeld, MayReopen, Shuts}
 ghost use Rattle.engine_store.specs.Opened.{IsAtFault, IsReady};
 
 use crate::opening::open_on;
-use ckpt_step::{Ground, checkpoint, checkpoints_open, plain_stays};
+use ckpt_step::{Ground, checkpoint, checkpoints_have_newest, checkpoints_open, plain_stays};
 use disk_model::Disk;
 use engine::Local;
 use engine_world::downs_go;
@@ -36,7 +36,9 @@ pub struct Store {
 
 impl Store {
     /// Takes a checkpoint in one event (`ckpt_step::checkpoint`). Where no commit had a stamp, the
-    /// device opens as the checkpoint that the machine takes.
+    /// device opens as the checkpoint that the machine takes. Once it is taken, and while no session
+    /// has a call, a transaction or a cursor on a leaf, leaves leave their frames: those behind the
+    /// first 64, and those of which it has several images.
     pub fn checkpoint<D: Disk>(&mut self, alloc: Global, disk: &mut D) -> Result<(), Refusal>
         requires ready { IsReady self.old }
         ensures takes { IsTrue (D.honest disk.old) → (first_disk : D) → (w : World) → (first : Completed) → (made : List Installed) → IsHeld D.Disk first_disk self.old disk.old w first made → IsPlain w.machine
@@ -49,9 +51,15 @@ impl Store {
         ensures disk { SameDisk D.Disk disk.old disk.new }
     {
         checkpoints_open();
+        checkpoints_have_newest();
         downs_go();
-        let Store { engine, ground } = self;
-        checkpoint(alloc, disk, ground, engine)
+        match checkpoint(alloc, disk, &mut self.ground, &mut self.engine) {
+            Ok(()) => {
+                self.relieve::<D>(alloc);
+                Ok(())
+            }
+            Err(refusal) => Err(refusal),
+        }
     }
 
     /// Rolls back the transaction of each session, and takes a checkpoint (`ckpt_step::checkpoint`).

@@ -42,8 +42,8 @@ pub same_disk : {D : Type 0} (g : Ghosts D) (disk : D) → SameDisk g disk disk
 same_disk g disk = record { same = refl; room = refl; home = refl; later = omega arith }
 
 -- a machine on which no commit has a stamp, with the calls that are under way
-calm_on : (w : World) (m : Machine) → IsCalm w → IsPlain m → IsCalm (record w { machine = m })
-calm_on w m calm plain = record { plain = plain; doings = calm.doings; systems = calm.systems }
+calm_on : (w : World) (m : Machine) (shelf : ℕ → List Row) → IsCalm w → IsPlain m → IsCalm (record w { machine = m; shelf = shelf })
+calm_on w m shelf calm plain = record { plain = plain; doings = calm.doings; systems = calm.systems }
 
 -- nothing is known of stamps
 pub at_any : {D : Type 0} (g : Ghosts D) (first : D) (stamped : Bool) (store : Store) (disk : D) (s : Script) → IsAt g first stamped store disk s → IsAt g first true store disk s
@@ -66,9 +66,9 @@ module _ {D : Type 0} (g : Ghosts D) (first : D) (s : Script) (store store' : St
   calm : IsCalm s.world
   calm = at.calm refl
 
-  module _ (x : held.Checkpoints g first s.world s.first s.made store store' disk disk' result) where
+  module _ (shelf : ℕ → List Row) (x : held.CheckpointsOn g first s.world s.first s.made store store' disk disk' shelf result) where
     abbrev checkpoint_later : Script
-    checkpoint_later = on_device s x.next (device_of g disk') x.now
+    checkpoint_later = on_device (record s { world = record s.world { shelf = shelf } }) x.next (device_of g disk') x.now
 
     checkpoint_is : (reply : Reply) → reply ≡ Answered (answer_of result) → Checkpoints s reply checkpoint_later
     checkpoint_is reply told = record {
@@ -80,11 +80,12 @@ module _ {D : Type 0} (g : Ghosts D) (first : D) (s : Script) (store store' : St
       takes = subst (λ (d : Device). CheckpointTakes d (device_of g disk') s.world.machine (answer_of result) x.next) (sym at.device) x.takes;
       installs = x.installs;
       told = told;
+      shelf = shelf;
       leaves = refl;
     }
 
     checkpoint_at : IsAt g first false store' disk' checkpoint_later
-    checkpoint_at = record { held = x.held; device = refl; calm = λ is. calm_on s.world x.next calm x.plain }
+    checkpoint_at = record { held = x.held; device = refl; calm = λ is. calm_on s.world x.next shelf calm x.plain }
 
   module _ (x : held.Shuts g first s.world s.first s.made store store' disk disk' result) where
     abbrev close_later : Script
@@ -102,7 +103,7 @@ module _ {D : Type 0} (g : Ghosts D) (first : D) (s : Script) (store store' : St
     }
 
     close_at : IsAt g first false store' disk' close_later
-    close_at = record { held = x.held; device = refl; calm = λ is. calm_on s.world x.next calm x.plain }
+    close_at = record { held = x.held; device = refl; calm = λ is. calm_on s.world x.next s.world.shelf calm x.plain }
 
 module _ {D : Type 0} (g : Ghosts D) (first : D) (s : Script) (store : Store) (disk : D) (told : Told) where
   pub checkpoint_busy : IsAt g first false store disk s → is_there (slice_index_or s.world.systems 0 None) ≡ true → told.reply ≡ Answered (Refused (Invalid InCall)) → told.formats ≡ plain
@@ -134,11 +135,11 @@ module _ {D : Type 0} (g : Ghosts D) (first : D) (s : Script) (store : Store) (d
   pub checkpoint_told : (result : Result (Unit {0}) Refusal) (told : Told) → held.Checkpoints g first s.world s.first s.made store store' disk disk' result → told.reply ≡ Answered (answer_of result) → told.formats ≡ plain
       → IsTold g first false (OfAll Checkpoint) s store' disk' s.formats told
   checkpoint_told result told x reply formats =
-      let later = checkpoint_later g first s store store' disk disk' result at x in
+      let later = checkpoint_later g first s store store' disk disk' result at x.0 x.1 in
       record {
         later = later;
-        replies = (formats, by_idle s told.reply later _ idle (checkpoint_is g first s store store' disk disk' result at x told.reply reply));
-        at = checkpoint_at g first s store store' disk disk' result at x;
+        replies = (formats, by_idle s told.reply later _ idle (checkpoint_is g first s store store' disk disk' result at x.0 x.1 told.reply reply));
+        at = checkpoint_at g first s store store' disk disk' result at x.0 x.1;
         start = refl;
         kept_is = refl;
       }

@@ -215,7 +215,7 @@ BySystem s reply later Goes = MatchBool (is_there (slice_index_or s.world.system
 abbrev pub on_device : Script → Machine → Device → List Installed → Script
 on_device s m device made = record s { world = record s.world { machine = m }; device = device; made = made }
 
--- a checkpoint in one event
+-- a checkpoint in one event, behind which leaves may have left their frames
 pub record Checkpoints (s : Script) (reply : Reply) (later : Script) : Type 0 where
   pub answer : Answer (List ℕ)
   pub next : Machine
@@ -225,7 +225,8 @@ pub record Checkpoints (s : Script) (reply : Reply) (later : Script) : Type 0 wh
   pub takes : CheckpointTakes s.device device s.world.machine answer next
   pub installs : Installs answer (checkpointed s.world.machine).completed device next s.made made
   pub told : reply ≡ Answered answer
-  pub leaves : later ≡ on_device s next device made
+  pub shelf : ℕ → List Row
+  pub leaves : later ≡ on_device (record s { world = record s.world { shelf = shelf } }) next device made
 
 -- a close
 pub record Closes (s : Script) (answer : Answer (List ℕ)) (later : Script) : Type 0 where

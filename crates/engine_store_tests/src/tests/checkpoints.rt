@@ -37,7 +37,7 @@ fn value(rt: &impl Abort, alloc: Global, bench: &mut Bench) -> Option<u8> {
     }
 }
 
-fn take(rt: &impl Abort, alloc: Global, bench: &mut Bench) -> Result<(), Refusal> {
+pub(super) fn take(rt: &impl Abort, alloc: Global, bench: &mut Bench) -> Result<(), Refusal> {
     let marks = bench.store.engine.marks();
     assert!(rt; marks.run.saturating_sub(1) <= bench.store.ground.number);
     assert!(rt; bench.store.ground.trees.len() <= bench.store.engine.tables().len());

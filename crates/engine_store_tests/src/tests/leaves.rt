@@ -1,4 +1,5 @@
 // A table of many leaves, which are read one by one as a cursor comes to them.
+use super::checkpoints::take;
 use super::closings::{Bench, ask, begin, close, commit, create, new_device, open, put};
 use super::item;
 use disk_model::{Disk, MemDisk};
@@ -12,8 +13,8 @@ use wt_code::{Answer, Refusal};
 // How many rows there are: each has 12,000 bytes, so a leaf has two of them.
 const ROWS: u8 = 5;
 
-// A device with the rows, each of whose keys is one letter.
-fn device_of_leaves(rt: &impl Abort, alloc: Global) -> Vec<u8> {
+// A store with the rows, each of whose keys is one letter.
+fn filled(rt: &impl Abort, alloc: Global) -> Bench {
     let mut bench = open(rt, alloc, new_device(rt, alloc, &[]));
     create(rt, alloc, &mut bench, b"a");
     begin(rt, alloc, &mut bench, 0);
@@ -24,8 +25,26 @@ fn device_of_leaves(rt: &impl Abort, alloc: Global) -> Vec<u8> {
         put(rt, alloc, &mut bench, 0, (b"a", &key, &value));
     }
     commit(rt, alloc, &mut bench, 0);
+    bench
+}
+
+// A device with the rows.
+fn device_of_leaves(rt: &impl Abort, alloc: Global) -> Vec<u8> {
+    let mut bench = filled(rt, alloc);
     close(rt, alloc, &mut bench);
     Vec::from_slice(alloc, bench.disk.medium.bytes()).expect(rt, "there is memory")
+}
+
+// How many frames have a leaf.
+fn framed(bench: &Bench) -> usize {
+    let frames = u32::try_from(bench.store.engine.frames()).unwrap_or(0);
+    let mut count = 0usize;
+    for frame in 0..frames {
+        if bench.store.engine.id_in(frame).is_some() {
+            count = count.saturating_add(1);
+        }
+    }
+    count
 }
 
 // The letter of the row to which a step of the cursor comes, none where there is none, or a refusal.
@@ -104,5 +123,48 @@ fn a_leaf_that_is_not_read_is_read_again(rt: HostRuntime) {
         assert_eq!(rt; openings, 8);
         // Three leaves, each by two calls.
         assert_eq!(rt; reads, 6);
+    }
+}
+
+// A leaf that grew to three images leaves its frame once a checkpoint is taken while nobody is at work,
+// and is read again as three. One more row is put into the last of them.
+#[test]
+fn a_leaf_that_grew_is_parted_by_a_checkpoint(rt: HostRuntime) {
+    let alloc = rt.alloc();
+    let mut bench = filled(&rt, alloc);
+    begin(&rt, alloc, &mut bench, 1);
+    assert!(rt; take(&rt, alloc, &mut bench) == Ok(()));
+    assert_eq!(rt; framed(&bench), 1);
+    commit(&rt, alloc, &mut bench, 1);
+    assert!(rt; take(&rt, alloc, &mut bench) == Ok(()));
+    assert_eq!(rt; framed(&bench), 0);
+    begin(&rt, alloc, &mut bench, 0);
+    assert_eq!(rt; walk(&rt, alloc, &mut bench, Way::Up), 0);
+    assert_eq!(rt; walk(&rt, alloc, &mut bench, Way::Down), 0);
+    put(&rt, alloc, &mut bench, 0, (b"a", b"z", b"last"));
+    commit(&rt, alloc, &mut bench, 0);
+    assert_eq!(rt; framed(&bench), 3);
+    let before = bench.disk.medium.bytes().len();
+    assert!(rt; take(&rt, alloc, &mut bench) == Ok(()));
+    // The leaf of the last row, an inner page and the record, of which two find room that was let go.
+    assert_eq!(rt;
+        bench.disk.medium.bytes().len(),
+        before.saturating_add(16_384)
+    );
+    assert_eq!(rt; framed(&bench), 3);
+    close(&rt, alloc, &mut bench);
+    let content = Vec::from_slice(alloc, bench.disk.medium.bytes());
+    let medium = MemDisk::new(
+        alloc,
+        content.expect(&rt, "there is memory"),
+        1 << 20,
+        Vec::new(alloc),
+    );
+    let medium = medium.expect(&rt, "there is memory");
+    let mut bench = open(&rt, alloc, PlainDisk { medium });
+    begin(&rt, alloc, &mut bench, 0);
+    for row in 0..ROWS {
+        let found = step(&rt, alloc, &mut bench, Way::Up);
+        assert_eq!(rt; found, Ok(Some(b'a'.wrapping_add(row))));
     }
 }

@@ -1,22 +1,51 @@
-use Rattle.std.proofs.Common.{None, ap, length, arith}
+use Rattle.std.proofs.Common.{◌≡◌, ◌∙◌, None, Ok, Err, Result, Vec, Global, ap, length, subst, sym, arith}
 use Rattle.catalog.specs.Known.{Known}
+use Rattle.ckpt_step.specs.Trees.{AreLow}
+use Rattle.failure.specs.declared.Fault.{Fault}
+use Rattle.tree_open.specs.declared.place.TreePlace.{TreePlace}
 use Rattle.txn_table.specs.Tabled.{Table as Txns}
-use Rattle.engine_store.proofs.KeptAnswers.{own_taken, told_own}
-use Rattle.engine_store.proofs.Taking.{checkpoints_by}
+use Rattle.wt_code.specs.declared.refusals.Refusal.{Refusal}
+use Rattle.wt_code.specs.declared.refusals.Refusal.TheVariants.{Panic}
+use Rattle.engine_store.proofs.KeptAnswers.{own_same, own_taken, own_then, told_own}
+use Rattle.engine_store.proofs.Taking.{checkpoints_by, relieved_by}
 use Rattle.engine_store.proofs.store.Store.checkpoint.Goals as goal
 
-pub returns-clause-takes : goal.returns-clause-takes
-returns-clause-takes g c = λ h first_disk w first made held plain.
-    checkpoints_by g.D.Disk first_disk c.args.disk.now c.checkpoint.new.disk (λ later d left. g.met.D.Disk.counts_now _ _ d later left) (λ d left. g.met.D.Disk.only_now _ d left) (g.met.D.Disk.reads_an_image c.args.disk.now h)
-    c.args.self.now (record { engine = c.checkpoint.new.engine; ground = c.checkpoint.new.ground }) w first made held c.checkpoint.ensures.disk.later c.checkpoint.ensures.disk.room c.checkpoints_open.ensures c.downs_go.ensures plain c.checkpoint.result
-    (λ old on follows. c.checkpoint.ensures.takes h w held.stands held.idle old on follows) c.checkpoint.ensures.down
+not_down : (fault : Fault) (result : Result (Unit {0}) Refusal) → result ≡ Ok tt → result ≡ Err (Panic fault) → ⊥
+not_down fault result done down = let e : Ok tt ≡ Err (Panic fault) = sym done ∙ down in cc
 
-pub returns-clause-told : goal.returns-clause-told
-returns-clause-told g c = λ start le.
+pub returns-in-Ok-clause-takes : goal.returns-in-Ok-clause-takes
+returns-in-Ok-clause-takes g c = λ h first_disk w first made held plain.
+    relieved_by g.D.Disk first_disk c.args.disk.now c.checkpoint.new.disk (λ later d left. g.met.D.Disk.counts_now _ _ d later left) (λ d left. g.met.D.Disk.only_now _ d left) (g.met.D.Disk.reads_an_image c.args.disk.now h)
+    c.args.self.now c.relieve.new.self w first made held c.checkpoint.ensures.disk.later c.checkpoint.ensures.disk.room c.checkpoints_open.ensures c.downs_go.ensures plain c.checkpoints_have_newest.ensures c.checkpoint.new.ground c.checkpoint.new.engine
+    (λ old on follows. c.in-Ok.ensures.takes h w held.stands held.idle old on follows) (λ fault down. not_down fault c.checkpoint.result c.in-Ok.is (c.checkpoint.ensures.down fault down).0) c.relieve.ensures
+
+pub returns-in-Ok-clause-told : goal.returns-in-Ok-clause-told
+returns-in-Ok-clause-told g c = λ start le.
+    let taken = own_taken c.args.self.now.engine c.checkpoint.new.engine c.checkpoint.ensures.engine in
+    let relieved = own_same c.checkpoint.new.engine c.relieve.new.self.engine c.relieve.ensures.alike.sessions in
+    told_own g.D.Disk None start c.args.disk.now c.checkpoint.new.disk c.checkpoint.ensures.disk c.args.self.now.engine c.relieve.new.self.engine (own_then c.args.self.now.engine c.checkpoint.new.engine c.relieve.new.self.engine taken relieved)
+
+pub returns-in-Ok-clause-ready : goal.returns-in-Ok-clause-ready
+returns-in-Ok-clause-ready g c =
+    let alike = c.relieve.ensures.alike in
+    record {
+      run = omega (arith, ap (λ (t : Txns). t.run) alike.txns, alike.number, ap (λ (t : Txns). t.run) c.checkpoint.ensures.hub.1, c.requires.ready.run, c.checkpoint.ensures.run);
+      trees = omega (arith, ap (λ (v : Vec TreePlace Global). length v.items) alike.trees, ap (λ (k : Known). length k.tables) alike.tables, ap (λ (k : Known). length k.tables) c.checkpoint.ensures.hub.0, c.checkpoint.ensures.trees);
+      low = subst (λ (v : Vec TreePlace Global). AreLow v.items) (sym alike.trees) c.checkpoint.ensures.low;
+    }
+
+pub returns-in-Err-clause-takes : goal.returns-in-Err-clause-takes
+returns-in-Err-clause-takes g c = λ h first_disk w first made held plain.
+    checkpoints_by g.D.Disk first_disk c.args.disk.now c.checkpoint.new.disk (λ later d left. g.met.D.Disk.counts_now _ _ d later left) (λ d left. g.met.D.Disk.only_now _ d left) (g.met.D.Disk.reads_an_image c.args.disk.now h)
+    c.args.self.now (record { engine = c.checkpoint.new.engine; ground = c.checkpoint.new.ground }) w first made held c.checkpoint.ensures.disk.later c.checkpoint.ensures.disk.room c.checkpoints_open.ensures c.downs_go.ensures plain (Err c.in-Err.refusal)
+    (λ old on follows. c.in-Err.ensures.takes h w held.stands held.idle old on follows) c.in-Err.ensures.down
+
+pub returns-in-Err-clause-told : goal.returns-in-Err-clause-told
+returns-in-Err-clause-told g c = λ start le.
     told_own g.D.Disk None start c.args.disk.now c.checkpoint.new.disk c.checkpoint.ensures.disk c.args.self.now.engine c.checkpoint.new.engine (own_taken c.args.self.now.engine c.checkpoint.new.engine c.checkpoint.ensures.engine)
 
-pub returns-clause-ready : goal.returns-clause-ready
-returns-clause-ready g c = record {
+pub returns-in-Err-clause-ready : goal.returns-in-Err-clause-ready
+returns-in-Err-clause-ready g c = record {
   run = omega (arith, ap (λ (t : Txns). t.run) c.checkpoint.ensures.hub.1, c.requires.ready.run, c.checkpoint.ensures.run);
   trees = omega (arith, ap (λ (k : Known). length k.tables) c.checkpoint.ensures.hub.0, c.checkpoint.ensures.trees);
   low = c.checkpoint.ensures.low;
