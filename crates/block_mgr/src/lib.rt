@@ -11,8 +11,6 @@
 mod admit;
 mod blocks;
 mod cell;
-#[cfg(test)]
-mod checkpoint_tests;
 mod fill;
 mod found;
 mod holders;
@@ -24,8 +22,6 @@ mod put;
 mod read;
 mod settle;
 mod store;
-#[cfg(test)]
-mod tests;
 
 pub use blocks::Blocks;
 pub use device_layout::Addr;

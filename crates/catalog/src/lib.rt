@@ -16,8 +16,6 @@ mod names;
 mod opening;
 mod places;
 mod table;
-#[cfg(test)]
-mod tests;
 
 pub use crate::catalog::Catalog;
 pub use created::Created;

@@ -22,9 +22,6 @@ pub use reading::decode;
 pub use record::{LentRecord, LentRoot, Record, Root, Snapshot, TableRoot};
 pub use writing::encode;
 
-#[cfg(test)]
-mod tests;
-
 /// A block is that of one record at most.
 pub fn one_record()
     ensures { (block : List ℕ) (r q : StoredRecord) → IsRecord r → IsRecord q → block ≡ block_of (record_image r) → block ≡ block_of (record_image q) → r ≡ q }

@@ -13,8 +13,6 @@ mod config_item;
 mod formats;
 mod laws;
 mod parse;
-#[cfg(test)]
-mod tests;
 
 pub use config_item::{ConfigItem, get};
 pub use formats::{formats_of, table_formats};

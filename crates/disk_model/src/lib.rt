@@ -13,8 +13,6 @@ mod disk;
 mod image;
 mod mem;
 mod steps;
-#[cfg(test)]
-mod tests;
 
 pub use call::{Call, Look};
 pub use disk::{Disk, Home, Unattached};

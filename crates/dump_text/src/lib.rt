@@ -13,8 +13,6 @@ mod laws;
 mod reader;
 mod rows;
 mod taken;
-#[cfg(test)]
-mod tests;
 mod unescape;
 mod whole;
 mod write;

@@ -11,8 +11,6 @@ mod laws;
 mod opening;
 mod parting;
 mod table_entries;
-#[cfg(test)]
-mod tests;
 mod unread;
 
 pub use failure::NoMemory;

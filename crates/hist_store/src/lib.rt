@@ -17,8 +17,6 @@ mod key_history;
 mod laws;
 mod names;
 mod places;
-#[cfg(test)]
-mod tests;
 mod versions;
 
 pub use failure::NoMemory;

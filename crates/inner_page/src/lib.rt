@@ -41,9 +41,6 @@ pub use table::{Entry, Inner};
 pub use table_reading::decode;
 pub use table_writing::encode;
 
-#[cfg(test)]
-mod tests;
-
 /// A block is that of one inner page of a table at most.
 pub fn one_page()
     ensures { (block : List ℕ) (level other : ℕ) (p q : List StoredEntry) → IsTablePage block level p → IsTablePage block other q → (level ≡ other) × (p ≡ q) }

@@ -16,8 +16,6 @@ mod fits;
 mod gathered;
 mod laws;
 mod leaf;
-#[cfg(test)]
-mod tests;
 mod version;
 
 pub use capturing::capture;

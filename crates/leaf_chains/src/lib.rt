@@ -18,8 +18,6 @@ mod heads;
 mod laws;
 mod places;
 mod slot;
-#[cfg(test)]
-mod tests;
 
 pub use added::Added;
 pub use chains::LeafChains;

@@ -15,6 +15,3 @@ mod page;
 pub use kept::is_surely_seen;
 pub use laws::one_is_loaded;
 pub use load::load_leaf;
-
-#[cfg(test)]
-mod tests;

@@ -20,8 +20,6 @@ ghost use Rattle.std.specs.declared.cmp.Ordering.{Ordering};
 mod edit;
 mod put;
 mod search;
-#[cfg(test)]
-mod tests;
 mod walk;
 
 use crate::edit::write;

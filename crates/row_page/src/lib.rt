@@ -25,9 +25,6 @@ pub use change::CellChange;
 pub use leaf::Leaf;
 pub use leaf_writer::LeafWriter;
 
-#[cfg(test)]
-mod tests;
-
 /// The bytes of a block spell one list of rows at most.
 pub fn one_spelling()
     ensures { (bytes : List ℕ) (rows others : List Row) → IsPage bytes rows → IsPage bytes others → rows ≡ others }

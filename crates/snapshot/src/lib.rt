@@ -13,8 +13,6 @@ ghost use Rattle.snapshot.specs.SightLaws.{CommittedGoOn, LivingStayUnseen, Sigh
 
 mod sight;
 mod snapshot;
-#[cfg(test)]
-mod tests;
 
 pub use failure::NoMemory;
 pub use sight::is_seen;

@@ -21,5 +21,4 @@ pub mod Around
 pub mod LeavesWith
 pub mod GivingWay
 pub mod Cutting
-pub mod TestTables
 pub mod Walking

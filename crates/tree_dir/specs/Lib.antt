@@ -6,4 +6,3 @@ pub mod Order
 pub mod Sound
 pub mod Added
 pub mod Levels
-pub mod Tries

@@ -24,8 +24,6 @@ mod neighbours;
 mod places;
 mod replacing;
 mod slots;
-#[cfg(test)]
-mod tests;
 mod walk;
 
 pub use dir::Dir;

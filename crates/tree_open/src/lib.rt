@@ -12,8 +12,6 @@ mod law;
 mod layer;
 mod page;
 mod place;
-#[cfg(test)]
-mod tests;
 mod tree;
 
 pub use law::{a_tree_is_read, one_tree};

@@ -18,8 +18,6 @@ mod keep;
 mod leaf;
 mod leaves;
 mod levels;
-#[cfg(test)]
-mod tests;
 mod tree;
 
 pub use draft::TreeDraft;

@@ -21,8 +21,6 @@ mod events;
 mod frames;
 mod later;
 mod look;
-#[cfg(test)]
-mod tests;
 mod update;
 
 pub use chain::Chain;

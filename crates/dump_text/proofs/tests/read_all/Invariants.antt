@@ -1,5 +1,0 @@
-use Rattle.std.proofs.Common.{length}
-use Rattle.dump_text.proofs.tests.read_all.Given as goal
-
-abbrev pub decreases-loop-out : goal.decreases-loop-out
-decreases-loop-out g l = length l.rows
