@@ -23,20 +23,20 @@ use Rattle.tree_write.specs.Cuts.{AreFullLeaves}
 use Rattle.tree_write.specs.Drafts.{Drafted, aligned}
 use Rattle.tree_write.specs.Sizes.{WritesLeaves}
 use Rattle.tree_write.specs.Steps.{LeavesStopped, links_in}
-use Rattle.tree_write.specs.Writes.{MayWriteOver}
+use Rattle.tree_write.specs.Writes.{KeepSame, MayWriteOver}
 use Rattle.tree_write.proofs.Drafting.{draft_begun, draft_failed}
 use Rattle.tree_write.proofs.Parts.{RowsBelow, join_more, none_stand, part_stands}
 use Rattle.engine_world.specs.Worlds.{World}
 use Rattle.ckpt_step.specs.Drafting.{AreLeavesDrafted, Drafting, DraftStopped, IsLeafDrafted}
 use Rattle.ckpt_step.specs.Floors.{AreNewestIn}
-use Rattle.ckpt_step.specs.Parts.{AreOfLeaves, LieIn, links_over, part_of, parts_of, with_parts}
+use Rattle.ckpt_step.specs.Parts.{AreOfLeaves, IsPart, LieIn, links_over, part_of, parts_of, with_parts}
 use Rattle.ckpt_step.specs.Rooms.{Written}
 use Rattle.ckpt_step.specs.Sizes.{AreNewestOf}
 use Rattle.ckpt_step.specs.declared.parts.LeafPart.{LeafPart}
 use Rattle.ckpt_step.proofs.LowKeys.{first_below, over_more, parted_length, parted_more}
 use Rattle.ckpt_step.proofs.Members.{all_made}
 use Rattle.ckpt_step.proofs.TableLeaves.{contains_of}
-use Rattle.ckpt_step.proofs.WithParts.{NoneOf, part_alike, parts_alike, parts_more, with_alike, with_both, with_none}
+use Rattle.ckpt_step.proofs.WithParts.{NoneOf, lies_alike, part_alike, parts_alike, parts_more, with_alike, with_both, with_none}
 
 -- ---- lists
 
@@ -51,14 +51,26 @@ all_into P Q (x ∷ xs) into all = (into x all.0, all_into P Q xs into all.1)
 -- ---- by leaf
 
 module _ (seen : List ℕ) (leaves : List Leaf) (had : Written) (w : World) (table : ℕ) where
+  -- a leaf of which the same is known is captured as well
+  pub drafted_alike : (written next : Written) (l : Leaf) (images : List (List Row)) → next l.id ≡ written l.id → IsLeafDrafted seen leaves had w table written l images → IsLeafDrafted seen leaves had w table next l images
+  drafted_alike written next l images same drafted =
+      let part : part_of written l ≡ part_of next l = part_alike written next l (sym same) in
+      record {
+        is = subst (λ (es : List Entry). IsPart leaves table l es images) part drafted.is;
+        many = subst (λ (es : List Entry). length es ≡ length images) part drafted.many;
+        newest = drafted.newest;
+        shelved = λ lies. drafted.shelved (lies_alike written next l (sym same) lies);
+        same = subst (λ (es : List Entry). KeepSame seen (links_in (part_of had l)) (links_in es) images) part drafted.same;
+      }
+
   -- the parts of the leaves so far are the same, and a leaf more has its own
   leaves_more : (written next : Written) (front : List Leaf) (parts : List (List (List Row))) (l : Leaf) (images : List (List Row)) → AllByRecursion (λ (x : Leaf). next x.id ≡ written x.id) front → AreLeavesDrafted seen leaves had w table written front parts
-      → IsLeafDrafted seen leaves had w table l images (part_of next l) → AreLeavesDrafted seen leaves had w table next (front ++ l ∷ []) (parts ++ images ∷ [])
+      → IsLeafDrafted seen leaves had w table next l images → AreLeavesDrafted seen leaves had w table next (front ++ l ∷ []) (parts ++ images ∷ [])
   leaves_more written next [] [] l images same each is = (is, tt)
   leaves_more written next [] (x ∷ parts) l images same each is = absurd each
   leaves_more written next (f ∷ front) [] l images same each is = absurd each
   leaves_more written next (f ∷ front) (x ∷ parts) l images same each is =
-      (subst (λ (part : List Entry). IsLeafDrafted seen leaves had w table f x part) (part_alike written next f (sym same.0)) each.0, leaves_more written next front parts l images same.1 each.1 is)
+      (drafted_alike written next f x same.0 each.0, leaves_more written next front parts l images same.1 each.1 is)
 
   pub newest_of : (written : Written) (front : List Leaf) (parts : List (List (List Row))) → AreLeavesDrafted seen leaves had w table written front parts → AreNewestOf w.machine leaves table front parts
   newest_of written [] [] each = tt
@@ -118,7 +130,7 @@ module _ {D : Type 0} (g : Ghosts D) (old : Option Stored) (first : Books) (leav
       → ((x : Leaf) → Contains front x → x.id ≢ l.id) → AllByRecursion (λ (p : LeafPart). p.leaf ≡ l.id) own_more → part_of (with_parts had own_more) l ≡ own
       → RowsBelow l.entry.key (join (join drafting.parts))
       → more' ≡ between_more ++ own_more → captured' ≡ between_captured ++ addrs
-      → IsLeafDrafted (g.seen before) leaves had w table l images own
+      → IsLeafDrafted (g.seen before) leaves had w table (with_parts had own_more) l images
       → Drafted g old first books books' before after (links_over had front drafting.parts ++ aligned (links_in (part_of had l)) images) (join drafting.parts ++ images) (drafting.addrs ++ addrs) (es ++ own)
       → Drafting g old first leaves had w table books books' more more' captured captured' before after (front ++ l ∷ []) (es ++ own)
   drafting_more images own own_more addrs differ of part below more_are captured_are is drafted = record {
@@ -133,11 +145,14 @@ module _ {D : Type 0} (g : Ghosts D) (old : Option Stored) (first : Books) (leav
     parted = parted_more leaves table front drafting.parts l images drafting.parted is.is.lie;
     drafted = subst (λ (m : List (List Row)). Drafted g old first books books' before after (links_over had (front ++ l ∷ []) (drafting.parts ++ images ∷ [])) m (drafting.addrs ++ addrs) (es ++ own)) (sym (join_more drafting.parts images))
         (subst (λ (m : List Link). Drafted g old first books books' before after m (join drafting.parts ++ images) (drafting.addrs ++ addrs) (es ++ own)) (sym (over_more had front drafting.parts l images (parted_length leaves table front drafting.parts drafting.parted))) drafted);
-    stand = part_stands es own drafting.parts images drafting.drafted.written.bear drafting.stand is.is.stay is.is.full is.is.some (first_below own l.entry.key (join (join drafting.parts)) is.is.begins below);
+    stand = part_stands es own drafting.parts images drafting.drafted.written.bear drafting.stand own_part.stay own_part.full own_part.some (first_below own l.entry.key (join (join drafting.parts)) own_part.begins below);
     entries_are = ap (λ (m : List Entry). m ++ own) (drafting.entries_are ∙ sym (parts_alike (with_parts had (drafting.own_more ++ own_more)) (with_parts had drafting.own_more) front same)) ∙ (ap (λ (m : List Entry). parts_of (with_parts had (drafting.own_more ++ own_more)) front ++ m) (sym part_is) ∙ sym (parts_more (with_parts had (drafting.own_more ++ own_more)) front l));
-    each = leaves_more (g.seen before) leaves had w table (with_parts had drafting.own_more) (with_parts had (drafting.own_more ++ own_more)) front drafting.parts l images same drafting.each (subst (λ (m : List Entry). IsLeafDrafted (g.seen before) leaves had w table l images m) (sym part_is) is);
+    each = leaves_more (g.seen before) leaves had w table (with_parts had drafting.own_more) (with_parts had (drafting.own_more ++ own_more)) front drafting.parts l images same drafting.each (drafted_alike (g.seen before) leaves had w table (with_parts had own_more) (with_parts had (drafting.own_more ++ own_more)) l images last is);
   }
     where
+      own_part : IsPart leaves table l own images
+      own_part = subst (λ (m : List Entry). IsPart leaves table l m images) part is.is
+
       apart : (x : Leaf) → Contains front x → NoneOf x.id own_more
       apart x there = all_into (λ (p : LeafPart). p.leaf ≡ l.id) (λ (p : LeafPart). p.leaf ≡ x.id → ⊥) own_more (λ p its same. differ x there (sym same ∙ its)) of
 

@@ -140,7 +140,7 @@ module _ {D : Type 0} (g : Ghosts D) (old : Option Stored) (first : Books) (was 
           let one = at l there own_table in
           record {
             same = subst (λ (m : List (List Row)). KeepSame (g.seen before) (links_in (part_of had l)) (links_in (part_of written l)) m) (sym (behind l there own_table)) one.is.same;
-            shelved = λ free. ap join (behind l there own_table) ∙ one.is.shelved free;
+            shelved = λ lies. ap join (behind l there own_table) ∙ one.is.shelved lies;
           };
       has = wrote.has;
       is = wrote.is;

@@ -21,7 +21,7 @@ use Rattle.row_page.specs.Rows.{Row}
 use Rattle.stored.specs.TableTree.{Entry as TreeEntry, TableTree}
 use Rattle.stored.specs.Tree.{join}
 use Rattle.tree_dir.specs.declared.leaf.Leaf.{Leaf}
-use Rattle.ckpt_step.specs.Floors.{AreNewestBefore, FollowsFrom, GoesOn, Respects, is_before, newest_before}
+use Rattle.ckpt_step.specs.Floors.{AreNewestBefore, FollowsFrom, GoesOn, IsAsItLies, Respects, is_before, newest_before}
 use Rattle.ckpt_step.specs.Parts.{AreBelowFloor, part_leaves, part_of}
 use Rattle.ckpt_step.specs.Rooms.{Written}
 use Rattle.ckpt_step.specs.Trees.{HasTreeAt}
@@ -243,7 +243,7 @@ follows_goes old known leaves written places floor w v goes shelf follows =
           let own = follows.leaf i t place tree l at stands has there its in
           record {
             before = λ part is below key under. on.1 t.number key ∙ own.before part is below key under;
-            same = λ none. own.same none ∙ ap (λ (s : ℕ → List Row). s l.id) (sym shelf);
+            same = λ lies. own.same lies ∙ ap (λ (s : ℕ → List Row). s l.id) (sym shelf);
           };
     }
 
@@ -258,10 +258,10 @@ none_newest : (l : List (Version Change)) → newest_before no_floor l ≡ None
 none_newest [] = refl
 none_newest (v ∷ older) = let none : is_before no_floor v.window.name ≡ false = none_before v.window.name in rw none (none_newest older)
 
--- of the leaves in no frame what they are loaded from is all that is asked
+-- of the leaves that are as they lie what they are loaded from is all that is asked
 abbrev pub AreShelved : Option Stored → List Table → List Leaf → Written → List TreePlace → World → Type 0
 AreShelved old known leaves written places w =
-    (i : ℕ) (t : Table) (place : TreePlace) (tree : TableTree) (l : Leaf) → slice_get known i ≡ Some t → slice_get places i ≡ Some place → HasTreeAt old t place tree → Contains leaves l → l.table ≡ t.number → l.frame ≡ None → join (part_leaves place tree (part_of written l)) ≡ w.shelf l.id
+    (i : ℕ) (t : Table) (place : TreePlace) (tree : TableTree) (l : Leaf) → slice_get known i ≡ Some t → slice_get places i ≡ Some place → HasTreeAt old t place tree → Contains leaves l → l.table ≡ t.number → IsAsItLies written l → join (part_leaves place tree (part_of written l)) ≡ w.shelf l.id
 
 -- no leaf in a frame is clean before the first checkpoint
 pub follows_none : (old : Option Stored) (known : List Table) (leaves : List Leaf) (written : Written) (places : List TreePlace) (w : World) → AreShelved old known leaves written places w → FollowsFrom old known leaves written places no_floor w

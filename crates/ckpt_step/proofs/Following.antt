@@ -45,7 +45,7 @@ rows_at m (u ∷ known) (x ∷ trees) (suc i) t tree are at also = rows_at m kno
 -- lead: the leaves of each tree lead apart
 module _ (known : List Table) (next : ℕ) (ascend : NumbersAscend 1 known next) (places : List TreePlace) (trees : List TableTree) (count : length places ≡ length known) (bytes : List ℕ) (there : AreTreesAt bytes places trees) (r : Record) (a : Addr) (bare : IsBare r) (tables : r.tables ≡ roots_by_name known (roots_of places))
     (leaves : List Leaf) (written : Written) (w : World) (are : AreRowsOf w.machine known trees) (parted : AreParted known leaves written places trees) (shelved : AreOnShelf known leaves written places trees w.shelf) (lead : (i : ℕ) (p : TreePlace) → slice_get places i ≡ Some p → LeadApart p.leaves.items) where
-  -- a leaf in no frame has the rows of its block, and the part of one whose names are below a floor has the newest before it
+  -- a leaf that is as it lies has the rows of its block, and the part of one whose names are below a floor has the newest before it
   pub follows_new : (floor : Name) → Respects w.machine floor → FollowsFrom (Some (made_of r known trees a)) known leaves written places floor w
   follows_new floor respects = record {
     respects = respects;

@@ -19,10 +19,11 @@ use Rattle.ckpt_step.specs.Floors.{FollowsFrom, IsLeafBefore, newest_before}
 use Rattle.ckpt_step.specs.Parts.{AreBelowFloor, part_leaves, part_of}
 use Rattle.ckpt_step.specs.Rooms.{Written}
 use Rattle.ckpt_step.specs.Trees.{HasTreeAt, table_root}
-use Rattle.ckpt_step.proofs.GivingLeaves.{IsGiving, below_next, made, same_in, same_of, under_was}
+use Rattle.ckpt_step.proofs.GivingLeaves.{IsGiving, below_next, made, other_id, same_in, same_of, under_was}
 use Rattle.ckpt_step.proofs.GivingShelf.{IsTreeOf, new_before, shelf_new, shelf_old, shelf_then}
 use Rattle.ckpt_step.proofs.Members.{some_same}
 use Rattle.ckpt_step.proofs.Pairs.{one_index}
+use Rattle.ckpt_step.proofs.WithParts.{lies_alike}
 
 -- a checkpoint has one tree of a table
 pub one_tree : (old : Option Stored) (seen : List ℕ) (t u : Table) (p q : TreePlace) (tree other : TableTree) → HasStill old seen → HasTreeAt old t p tree → HasTreeAt old u q other → t.number ≡ u.number → tree ≡ other
@@ -46,9 +47,9 @@ module _ (d n : Directory) (l : Leaf) (entries : List Entry) (ids : List ℕ) (h
       let was = follows.leaf i t p other x at stands there c its in
       record {
         before = λ part is below key under. was.before part (sym (same_in d n l entries ids had has g x now) ∙ is) below key (under_was d n l entries ids had has g t.number key x c under);
-        same = λ none.
+        same = λ lies.
             ap (λ (part : List Entry). join (part_leaves p other part)) (same_of d n l entries ids had has g x now)
-            ∙ (was.same none ∙ sym (shelf_old d n l entries ids had has g seen w.machine place tree own w.shelf x.id (below_next d n l entries ids had has g x c)));
+            ∙ (was.same (lies_alike had has x (sym (g.others x.id (other_id d n l entries ids had has g x now))) lies) ∙ sym (shelf_old d n l entries ids had has g seen w.machine place tree own w.shelf x.id (below_next d n l entries ids had has g x c)));
       }
 
   -- a new one
@@ -58,7 +59,7 @@ module _ (d n : Directory) (l : Leaf) (entries : List Entry) (ids : List ℕ) (h
         let one : part_of has x ≡ part = ap (λ (o : Option (List Entry)). of_some [] (λ (es : List Entry). es) o) is in
         subst (λ (es : List Entry). newest_before floor (line w.machine.history l.table key) ≡ shown_at key (join (part_leaves place tree es))) one
         (new_before d n l entries ids had has g seen w.machine place tree own floor x c (subst (λ (es : List Entry). AreBelowFloor floor es) (sym one) below) key under);
-    same = λ none. sym (shelf_new d n l entries ids had has g seen w.machine place tree own w.shelf x c);
+    same = λ lies. sym (shelf_new d n l entries ids had has g seen w.machine place tree own w.shelf x c);
   }
 
   leaf_then : (i : ℕ) (t : Table) (p : TreePlace) (other : TableTree) (x : Leaf) → slice_get known i ≡ Some t → slice_get places i ≡ Some p → HasTreeAt old t p other → Contains n.leaves x → x.table ≡ t.number → IsLeafBefore w.machine shelf floor n.leaves has t.number p other x

@@ -41,7 +41,7 @@ parts_made has table (id ∷ ids) (e ∷ entries) many each =
     ap (λ (part : List Entry). part ++ parts_of has (leaves_with table ids entries)) (each (new_leaf table id e) (inl refl))
     ∙ ap (λ (rest : List Entry). e ∷ rest) (parts_made has table ids entries (omega (arith, many)) (λ m there. each m (inr there)))
 
-own_some : (e : Entry) → has_rows e.link ≡ true → own_part e ≡ Some (e ∷ [])
+pub own_some : (e : Entry) → has_rows e.link ≡ true → own_part e ≡ Some (e ∷ [])
 own_some e has = elim (cases_Bool (e.link.greatest.id == 0)) [
   | inl is ↦ absurd (let clash : false ≡ true = rw is at has in cc)
   | inr isnt ↦ rw isnt refl

@@ -26,7 +26,7 @@ use Rattle.ckpt_step.specs.declared.parts.LeafPart.{LeafPart}
 use Rattle.ckpt_step.proofs.Members.{some_same}
 use Rattle.ckpt_step.proofs.Moving.{back_all, keeps_moved}
 use Rattle.ckpt_step.proofs.TableParts.{others_alike, own_alike, parted_alike}
-use Rattle.ckpt_step.proofs.WithParts.{part_alike}
+use Rattle.ckpt_step.proofs.WithParts.{lies_alike, part_alike}
 use Rattle.ckpt_step.proofs.Goings.{IsAtTable}
 use Rattle.ckpt_step.proofs.GoingLinks.{part_there}
 
@@ -95,12 +95,12 @@ module _ {D : Type 0} {g : Ghosts D} {old : Option Stored} {was : List TreePlace
           (subst (λ (y : TableTree). KeepSame (g.seen start) (links_in (part_of had l)) (links_in (part_of (with_parts had all_parts) l)) (part_leaves place y (part_of (with_parts had all_parts) l))) last.tree_is
           (subst (λ (part : List Entry). KeepSame (g.seen start) (links_in (part_of had l)) (links_in part) (part_leaves place tree part)) (part_alike (with_parts had one.own_more) (with_parts had all_parts) l (now_alike l in_it mine)) kept))
     ];
-    shelved = λ j u p x l known_at place_at tree_at in_it own free. elim (which_tree j u p x known_at place_at tree_at) [
-      | inl before ↦ subst (λ (part : List Entry). join (part_leaves p x part) ≡ w.shelf l.id) (part_alike (with_parts had more) (with_parts had all_parts) l (was_alike j u known_at before.other l in_it own)) (on.going.by_leaves.shelved j u p x l known_at before.place_at before.tree_at in_it own free)
+    shelved = λ j u p x l known_at place_at tree_at in_it own lies. elim (which_tree j u p x known_at place_at tree_at) [
+      | inl before ↦ subst (λ (part : List Entry). join (part_leaves p x part) ≡ w.shelf l.id) (part_alike (with_parts had more) (with_parts had all_parts) l (was_alike j u known_at before.other l in_it own)) (on.going.by_leaves.shelved j u p x l known_at before.place_at before.tree_at in_it own (lies_alike (with_parts had more) (with_parts had all_parts) l (was_alike j u known_at before.other l in_it own) lies))
       | inr last ↦
           let mine : l.table ≡ t.number = own ∙ ap (λ (v : Table). v.number) (sym last.table) in
           subst (λ (q : TreePlace). join (part_leaves q x (part_of (with_parts had all_parts) l)) ≡ w.shelf l.id) last.place_is
           (subst (λ (y : TableTree). join (part_leaves place y (part_of (with_parts had all_parts) l)) ≡ w.shelf l.id) last.tree_is
-          (subst (λ (part : List Entry). join (part_leaves place tree part) ≡ w.shelf l.id) (part_alike (with_parts had one.own_more) (with_parts had all_parts) l (now_alike l in_it mine)) ((one.each l in_it mine).shelved free)))
+          (subst (λ (part : List Entry). join (part_leaves place tree part) ≡ w.shelf l.id) (part_alike (with_parts had one.own_more) (with_parts had all_parts) l (now_alike l in_it mine)) ((one.each l in_it mine).shelved (lies_alike (with_parts had one.own_more) (with_parts had all_parts) l (now_alike l in_it mine) lies))))
     ];
   }

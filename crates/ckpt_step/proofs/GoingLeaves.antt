@@ -13,6 +13,7 @@ use Rattle.tree_dir.specs.Leaves.{Directory, IsDirectory, begins_by, leaf_under,
 use Rattle.tree_dir.proofs.Members.{head-in, later, split}
 use Rattle.engine_world.proofs.Homes.{same-id}
 use Rattle.engine.specs.Directories.{LeafGoesOn, LeavesGoOn}
+use Rattle.ckpt_step.specs.Floors.{IsAsItLies}
 use Rattle.ckpt_step.specs.Parts.{IsPart, LieIn, own_part, part_in, part_of, parts_of}
 use Rattle.ckpt_step.specs.Rooms.{Written}
 use Rattle.ckpt_step.proofs.TableLeaves.{contains_of, in_table, member_of, table_in, under_in, under_of}
@@ -116,6 +117,11 @@ part_same written l n goes = ap (λ (id : ℕ). option_or (written id) (own_part
 
 pub part_of_same : (written : Written) (l n : Leaf) → LeafGoesOn l n → part_of written n ≡ part_of written l
 part_of_same written l n goes = ap (λ (o : Option (List Entry)). of_some [] (λ (es : List Entry). es) o) (part_same written l n goes)
+
+-- one that is as it lies was so
+pub lies_was : (written : Written) (l n : Leaf) → LeafGoesOn l n → IsAsItLies written n → IsAsItLies written l
+lies_was written l n goes (inl free) = inl (goes.stays free)
+lies_was written l n goes (inr none) = inr (ap (λ (id : ℕ). written id) (sym goes.id) ∙ none)
 
 pub parts_same : (written : Written) (leaves next : List Leaf) → LeavesGoOn leaves next → parts_of written next ≡ parts_of written leaves
 parts_same written [] [] goes = refl

@@ -62,7 +62,7 @@ module _ {D : Type 0} {g : Ghosts D} {old : Option Stored} {was : List TreePlace
     by_leaves = record {
       parted = λ i t place tree known_at place_at tree_at. absurd (none_some place_at);
       same = λ i t place tree l known_at place_at tree_at there own. absurd (none_some place_at);
-      shelved = λ i t place tree l known_at place_at tree_at there own free. absurd (none_some place_at);
+      shelved = λ i t place tree l known_at place_at tree_at there own lies. absurd (none_some place_at);
     };
     of_first = tt;
     keeps = keeps_refl (Has first.cells) (g.seen start);

@@ -117,7 +117,7 @@ module _ {D : Type 0} (g : Ghosts D) (old : Option Stored) (first : Books) (e : 
         subst (λ (m : List Entry). Drafting g old first leaves had w t.number books books' more more' captured captured' before after (front ++ l ∷ []) m) (sym made.es_are)
         (drafting_more g old first leaves had w t.number books mid books' more between_more more' captured between_captured captured' before between after front es drafting l images entries (made.made ∷ []) wrote.2
         differs (made.of_leaf, tt) (part_written (with_parts had (made.made ∷ [])) l entries noted) below made.more_are made.captured_are
-        (written_drafted law e w s stands none sees had floor t.number l there own (g.seen before) held images entries loaded made.cut made.entries own_many same) wrote.4)
+        (written_drafted law e w s stands none sees had floor t.number l there own (g.seen before) (with_parts had (made.made ∷ [])) held images entries noted loaded made.cut made.entries own_many same) wrote.4)
 
     -- or some of its images are
     pub takes_stopped : (all_es : List Entry) (x : StoreError) → StopsLeaf g s held l (part_of had l) mid books' es all_es between_more more' between_captured captured' between after x → DraftStopped g old first leaves had w t.number books books' more more' captured captured' before after x

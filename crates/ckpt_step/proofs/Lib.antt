@@ -57,6 +57,7 @@ pub mod NewParts
 pub mod PartedRows
 pub mod EntryKeys
 pub mod LeafSteps
+mod LettingGo
 mod LoadedLeaves
 mod TakenLeaves
 mod DraftingMore

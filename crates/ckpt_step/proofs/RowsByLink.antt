@@ -66,7 +66,7 @@ some_behind all leaves pre (e ∷ mine) post before (rows ∷ own) after distinc
 -- a leaf among them, with its images, between those before and behind
 pub record IsDraftedAt (seen : List ℕ) (leaves : List Leaf) (had : Written) (w : World) (table : ℕ) (written : Written) (front : List Leaf) (parts : List (List (List Row))) (l : Leaf) : Type 0 where
   pub images : List (List Row)
-  pub is : IsLeafDrafted seen leaves had w table l images (part_of written l)
+  pub is : IsLeafDrafted seen leaves had w table written l images
   pub pre : List Entry
   pub post : List Entry
   pub before : List (List Row)
@@ -81,7 +81,7 @@ drafted_at seen leaves had w table written [] parts l each there = absurd there
 drafted_at seen leaves had w table written (f ∷ front) [] l each there = absurd each
 drafted_at seen leaves had w table written (f ∷ front) (images ∷ parts) l each (inl same) = record {
   images = images;
-  is = subst (λ (x : Leaf). IsLeafDrafted seen leaves had w table x images (part_of written x)) (sym same) each.0;
+  is = subst (λ (x : Leaf). IsLeafDrafted seen leaves had w table written x images) (sym same) each.0;
   pre = [];
   post = parts_of written front;
   before = [];

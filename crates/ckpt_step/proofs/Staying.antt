@@ -27,7 +27,7 @@ use Rattle.ckpt_step.specs.Rooms.{Written, known_in}
 use Rattle.ckpt_step.specs.Stays.{GroundsStay}
 use Rattle.ckpt_step.specs.declared.ground.Ground.{Ground}
 use Rattle.ckpt_step.proofs.ByPlace.{place_one}
-use Rattle.ckpt_step.proofs.GoingLeaves.{leaf_before, of_there, part_of_same, part_on, part_same, parts_same, there_of, under_from}
+use Rattle.ckpt_step.proofs.GoingLeaves.{leaf_before, lies_was, of_there, part_of_same, part_on, part_same, parts_same, there_of, under_from}
 use Rattle.ckpt_step.proofs.Members.{get_within, none_some, some_same}
 
 -- tables that keep their places are no fewer
@@ -120,9 +120,9 @@ module _ (hub next : Hub) (goes : HubGoesOn hub next) (was : IsDirectory hub.dir
       let own = each b.leaf b.there (sym b.goes_on.table ∙ its) in
       record {
         before = λ part is below key under. newest t.number key ∙ own.before part (sym (part_same written b.leaf n b.goes_on) ∙ is) below key (under_from hub.dir next.dir t.number (goes.dir.kept i t at) b.leaf n b.goes_on was b.there key under);
-        same = λ none.
+        same = λ lies.
             ap (λ (part : List Entry). join (part_leaves place tree part)) (part_of_same written b.leaf n b.goes_on)
-            ∙ (own.same (b.goes_on.stays none) ∙ (ap (λ (id : ℕ). w.shelf id) (sym b.goes_on.id) ∙ ap (λ (shelf : ℕ → List Row). shelf n.id) (sym shelf)));
+            ∙ (own.same (lies_was written b.leaf n b.goes_on lies) ∙ (ap (λ (id : ℕ). w.shelf id) (sym b.goes_on.id) ∙ ap (λ (shelf : ℕ → List Row). shelf n.id) (sym shelf)));
       }
 
   -- few_places: the checkpoint has no more trees than there were tables

@@ -39,6 +39,7 @@ use Rattle.ckpt_step.specs.Steps.{IsKept, IsLoaded}
 use Rattle.ckpt_step.proofs.CleanTrees.{clean_newest}
 use Rattle.ckpt_step.proofs.LoadedLeaves.{captured_lie, captured_newest, stands_in}
 use Rattle.ckpt_step.proofs.Members.{none_some}
+use Rattle.ckpt_step.proofs.WithParts.{part_written}
 
 -- ---- a leaf in no frame
 
@@ -84,7 +85,7 @@ module _ (law : CapturesAreNewest) (e : Engine) (w : World) (s : Sight) (stands 
     | inl frame ↦ absurd (none_some (sym (unloaded w stands there) ∙ frame.laid.placed))
     | inr device ↦ λ key under.
         let stand : StandsFor w.machine table key [] (shown_at key (w.shelf l.id)) [] = subst (λ (n : ℕ). StandsFor w.machine n key [] (shown_at key (w.shelf l.id)) []) own (device.keys key (subst (λ (n : ℕ). leaf_under n key leaves ≡ Some l) (sym own) under)) in
-        shelf_newest law w.machine s table key (shown_at key (w.shelf l.id)) stands.valid none sees stand ∙ ap (λ (rows : List Row). shown_at key rows) (sym (before.same device.none))
+        shelf_newest law w.machine s table key (shown_at key (w.shelf l.id)) stands.valid none sees stand ∙ ap (λ (rows : List Row). shown_at key rows) (sym (before.same (inl device.none)))
   ]
   kept_newest place tree (inr clean) before =
       let part : part_of had l ≡ clean.part = ap (λ (o : Option (List Entry)). of_some [] (λ (es : List Entry). es) o) clean.there in
@@ -93,7 +94,7 @@ module _ (law : CapturesAreNewest) (e : Engine) (w : World) (s : Sight) (stands 
       (clean_newest law w.machine s table leaves l clean.held clean.greatest floor (join (part_leaves place tree clean.part)) stands.valid none sees stand.keys clean.loaded.chains_fit clean.loaded.rows_fit clean.none_above clean.under (before.before clean.part clean.there clean.below))
 
   pub kept_drafted : (seen : List ℕ) (place : TreePlace) (tree : TableTree) → IsKept e had floor l → IsLeafBefore w.machine w.shelf floor leaves had table place tree l → IsPart leaves table l (part_of had l) (part_leaves place tree (part_of had l))
-      → IsLeafDrafted seen leaves had w table l (part_leaves place tree (part_of had l)) (part_of had l)
+      → IsLeafDrafted seen leaves had w table had l (part_leaves place tree (part_of had l))
   kept_drafted seen place tree kept before is = record {
     is = is;
     many = sym (length-map (part_of had l) (λ (x : Entry). rows_behind place.leaves.items tree.leaves x.link));
@@ -107,10 +108,10 @@ module _ (law : CapturesAreNewest) (e : Engine) (w : World) (s : Sight) (stands 
   pub written_newest : (held : HeldLeaf) (images : List (List Row)) → IsLoaded e l held → AreCutOf s held images → AreNewestIn w.machine leaves table l (join images)
   written_newest held images loaded cut = captured_newest e w s table l held (join images) stands there (stands_in e w table l held stands there own loaded) cut.captured law none sees
 
-  pub written_drafted : (seen : List ℕ) (held : HeldLeaf) (images : List (List Row)) (part : List Entry) → IsLoaded e l held → AreCutOf s held images → AreEntriesFrom l.entry.key part images → length part ≡ length images → KeepSame seen (links_in (part_of had l)) (links_in part) images
-      → IsLeafDrafted seen leaves had w table l images part
-  written_drafted seen held images part loaded cut entries many same = record {
-    is = record {
+  pub written_drafted : (seen : List ℕ) (written : Written) (held : HeldLeaf) (images : List (List Row)) (part : List Entry) → written l.id ≡ Some part → IsLoaded e l held → AreCutOf s held images → AreEntriesFrom l.entry.key part images → length part ≡ length images → KeepSame seen (links_in (part_of had l)) (links_in part) images
+      → IsLeafDrafted seen leaves had w table written l images
+  written_drafted seen written held images part noted loaded cut entries many same = record {
+    is = subst (λ (es : List Entry). IsPart leaves table l es images) (sym its) (record {
       fit = entries.fit;
       climbs = entries.climbs;
       begins = entries.begins;
@@ -119,9 +120,12 @@ module _ (law : CapturesAreNewest) (e : Engine) (w : World) (s : Sight) (stands 
       some = cut.some;
       rows_fit = cut.captured.fit;
       lie = captured_lie e w s table l held (join images) stands there (stands_in e w table l held stands there own loaded) cut.captured;
-    };
-    many = many;
+    });
+    many = subst (λ (es : List Entry). length es ≡ length images) (sym its) many;
     newest = written_newest held images loaded cut;
-    shelved = λ free. absurd (none_some (sym free ∙ loaded.placed));
-    same = same;
+    shelved = λ lies. absurd (elim lies [ inl free ↦ none_some (sym free ∙ loaded.placed) | inr none ↦ none_some (sym none ∙ noted) ]);
+    same = subst (λ (es : List Entry). KeepSame seen (links_in (part_of had l)) (links_in es) images) (sym its) same;
   }
+    where
+      its : part_of written l ≡ part
+      its = part_written written l part noted

@@ -1,12 +1,13 @@
 -- What is known of leaves once a running checkpoint wrote more of them.
 use Rattle.std.specs.Prelude.{◌≡◌, ℕ, ◌==◌, true, false, List, [], ◌∷◌, ◌++◌, Option, Some, None, if◌then◌else◌, refl}
 use Rattle.std.specs.List.{AllByRecursion}
-use Rattle.std.proofs.Common.{sym, ◌∙◌, ap, append_assoc}
+use Rattle.std.proofs.Common.{inl, inr, sym, ◌∙◌, ap, append_assoc}
 use Rattle.std.proofs.lemmas.Bool.{eq-eqb, ne_eqb}
 use Rattle.std.proofs.lemmas.List.{append-nil}
 use Rattle.kv_model.specs.Machine.{of_some}
 use Rattle.stored.specs.TableTree.{Entry}
 use Rattle.tree_dir.specs.declared.leaf.Leaf.{Leaf}
+use Rattle.ckpt_step.specs.Floors.{IsAsItLies}
 use Rattle.ckpt_step.specs.Parts.{part_in, part_of, parts_of, with_parts}
 use Rattle.ckpt_step.specs.Rooms.{Written}
 use Rattle.ckpt_step.specs.declared.parts.LeafPart.{LeafPart}
@@ -49,6 +50,11 @@ in_alike written other l same = ap (λ (o : Option (List Entry)). part_in (λ id
 
 pub part_alike : (written other : Written) (l : Leaf) → written l.id ≡ other l.id → part_of written l ≡ part_of other l
 part_alike written other l same = ap (λ (o : Option (List Entry)). part_of (λ id. o) l) same
+
+-- where it is as it lies by the one, it is by the other
+pub lies_alike : (written other : Written) (l : Leaf) → written l.id ≡ other l.id → IsAsItLies other l → IsAsItLies written l
+lies_alike written other l same (inl free) = inl free
+lies_alike written other l same (inr none) = inr (same ∙ none)
 
 -- where it was written with these
 pub part_written : (written : Written) (l : Leaf) (part : List Entry) → written l.id ≡ Some part → part_of written l ≡ part

@@ -1,5 +1,5 @@
 -- A table's tree, as it is captured leaf by leaf.
-use Rattle.std.specs.Prelude.{◌≡◌, ℕ, ◌≤◌, List, [], ◌∷◌, ◌++◌, length, Option, None, Result, Ok, Err, IfSome}
+use Rattle.std.specs.Prelude.{◌≡◌, ℕ, ◌≤◌, List, [], ◌∷◌, ◌++◌, length, Option, Result, Ok, Err, IfSome}
 use Rattle.std.specs.List.{AllByRecursion}
 use Rattle.disk_model.specs.declared.disk.Disk.{Ghosts}
 use Rattle.block_mgr.specs.Blocks.{Books}
@@ -24,7 +24,7 @@ use Rattle.tree_write.specs.Cuts.{AreFullLeaves}
 use Rattle.tree_write.specs.Drafts.{AreLiveLeaves, Drafted, StandBelow, aligned}
 use Rattle.tree_write.specs.Steps.{LeavesStopped, links_in}
 use Rattle.tree_write.specs.Writes.{KeepSame}
-use Rattle.ckpt_step.specs.Floors.{AreNewestIn}
+use Rattle.ckpt_step.specs.Floors.{AreNewestIn, IsAsItLies}
 use Rattle.ckpt_step.specs.Parts.{AreOfLeaves, ArePartedBy, IsPart, links_over, part_of, parts_of, with_parts}
 use Rattle.ckpt_step.specs.Rooms.{Written}
 use Rattle.ckpt_step.specs.Sizes.{LacksFront}
@@ -32,20 +32,20 @@ use Rattle.ckpt_step.specs.declared.parts.LeafPart.{LeafPart}
 
 -- table: the number of the table; leaves: those of the directory; had: what the checkpoint before has of them; seen: what the device had as the table was begun
 module _ (seen : List ℕ) (leaves : List Leaf) (had : Written) (w : World) (table : ℕ) where
-  -- A leaf is captured with these entries of its images: they are its part now. The rows are the newest of its keys, and where it is in no frame those of its block. An image that the checkpoint before has at the same place keeps its block.
-  pub record IsLeafDrafted (l : Leaf) (images : List (List Row)) (part : List Entry) : Type 0 where
-    pub is : IsPart leaves table l part images
-    pub many : length part ≡ length images
+  -- A leaf is captured, and the entries of its images are its part now. The rows are the newest of its keys, and where it is in no frame, or was not written, those of its block. An image that the checkpoint before has at the same place keeps its block.
+  pub record IsLeafDrafted (written : Written) (l : Leaf) (images : List (List Row)) : Type 0 where
+    pub is : IsPart leaves table l (part_of written l) images
+    pub many : length (part_of written l) ≡ length images
     pub newest : AreNewestIn w.machine leaves table l (join images)
-    pub shelved : l.frame ≡ None → join images ≡ w.shelf l.id
-    pub same : KeepSame seen (links_in (part_of had l)) (links_in part) images
+    pub shelved : IsAsItLies written l → join images ≡ w.shelf l.id
+    pub same : KeepSame seen (links_in (part_of had l)) (links_in (part_of written l)) images
 
   -- so is each of these
   abbrev pub AreLeavesDrafted : Written → List Leaf → List (List (List Row)) → Type 0
   AreLeavesDrafted written [] [] = Unit {0}
   AreLeavesDrafted written [] (images ∷ parts) = ⊥
   AreLeavesDrafted written (l ∷ front) [] = ⊥
-  AreLeavesDrafted written (l ∷ front) (images ∷ parts) = IsLeafDrafted l images (part_of written l) × AreLeavesDrafted written front parts
+  AreLeavesDrafted written (l ∷ front) (images ∷ parts) = IsLeafDrafted written l images × AreLeavesDrafted written front parts
 
 -- books, more, captured, before: as the table was begun
 module _ {D : Type 0} (g : Ghosts D) (old : Option Stored) (first : Books) (leaves : List Leaf) (had : Written) (w : World) (table : ℕ) (books books' : Books) (more more' : List LeafPart) (captured captured' : List Addr) (before after : D) where

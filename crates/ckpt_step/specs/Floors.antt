@@ -1,4 +1,4 @@
--- What a checkpoint had of the names before a floor, and of leaves that are in no frame, and what no call changes of them.
+-- What a checkpoint had of the names before a floor, and of leaves that are as they lie on the device, and what no call changes of them.
 use Rattle.std.specs.Prelude.{◌≡◌, ◌⊎◌, ℕ, ◌≤◌, ◌<◌, ◌==◌, ◌&&◌, ◌||◌, Bool, false, nat_lt, List, [], ◌∷◌, Option, None, Some, MatchOption, if◌then◌else◌, slice_get}
 use Rattle.std.specs.List.{Contains}
 use Rattle.item.specs.declared.Change.{Change}
@@ -55,10 +55,14 @@ AreNewestBefore m floor leaves table l rows = (key : List ℕ) → leaf_under ta
 abbrev pub AreNewestIn : Machine → List Leaf → ℕ → Leaf → List Row → Type 0
 AreNewestIn m leaves table l rows = (key : List ℕ) → leaf_under table key leaves ≡ Some l → head_of (line m.history table key) ≡ shown_at key rows
 
--- What the checkpoint has of a leaf of the table, whose tree stands at a place. before: where all its names are below the floor, its rows are the newest before it. same: where the leaf is in no frame, they are those of its block, from which it will be loaded.
+-- the leaf is in no frame, or no checkpoint of this engine wrote it
+abbrev pub IsAsItLies : Written → Leaf → Type 0
+IsAsItLies written l = (l.frame ≡ None) ⊎ (written l.id ≡ None)
+
+-- What the checkpoint has of a leaf of the table, whose tree stands at a place. before: where all its names are below the floor, its rows are the newest before it. same: where the leaf is in no frame, or no checkpoint of this engine wrote it, they are those of its block, from which it is loaded.
 pub record IsLeafBefore (m : Machine) (shelf : ℕ → List Row) (floor : Name) (leaves : List Leaf) (written : Written) (table : ℕ) (place : TreePlace) (tree : TableTree) (l : Leaf) : Type 0 where
   pub before : (part : List Entry) → part_in written l ≡ Some part → AreBelowFloor floor part → AreNewestBefore m floor leaves table l (join (part_leaves place tree part))
-  pub same : l.frame ≡ None → join (part_leaves place tree (part_of written l)) ≡ shelf l.id
+  pub same : IsAsItLies written l → join (part_leaves place tree (part_of written l)) ≡ shelf l.id
 
 -- The machine respects the floor, and so it is with each leaf of each table that the checkpoint has.
 pub record FollowsFrom (old : Option Stored) (known : List Table) (leaves : List Leaf) (written : Written) (places : List TreePlace) (floor : Name) (w : World) : Type 0 where

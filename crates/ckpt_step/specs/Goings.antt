@@ -30,6 +30,7 @@ use Rattle.tree_write.specs.Drafts.{IsCutBy}
 use Rattle.tree_write.specs.Steps.{links_in}
 use Rattle.tree_write.specs.Writes.{KeepSame, LeadApart, MayWriteOver}
 use Rattle.ckpt_step.specs.Checkpoints.{AreRowsOf, IsRowsOf}
+use Rattle.ckpt_step.specs.Floors.{IsAsItLies}
 use Rattle.ckpt_step.specs.Halves.{ByLeaves, Half, IsNewBlock}
 use Rattle.ckpt_step.specs.Parts.{AreOfLeaves, ArePartedBy, IsParted, links_over, part_in, part_leaves, part_of, with_parts}
 use Rattle.ckpt_step.specs.Rooms.{Written}
@@ -88,7 +89,7 @@ module _ {D : Type 0} (g : Ghosts D) (old : Option Stored) (first : Books) (was 
   -- a leaf of the table, as it is now
   pub record IsLeafNow (written : Written) (place : TreePlace) (tree : TableTree) (l : Leaf) : Type 0 where
     pub same : KeepSame (g.seen before) (links_in (part_of had l)) (links_in (part_of written l)) (part_leaves place tree (part_of written l))
-    pub shelved : l.frame ≡ None → join (part_leaves place tree (part_of written l)) ≡ w.shelf l.id
+    pub shelved : IsAsItLies written l → join (part_leaves place tree (part_of written l)) ≡ w.shelf l.id
 
   -- the tree of the table is captured, and its place stands behind the others
   pub record OneMore : Type 0 where

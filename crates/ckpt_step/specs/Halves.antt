@@ -1,5 +1,5 @@
 -- A checkpoint that is half written: the trees of the first tables are captured.
-use Rattle.std.specs.Prelude.{◌≡◌, ◌⊎◌, ◌+◌, ◌*◌, ◌/◌, ◌≤◌, ◌==◌, ℕ, true, false, List, length, Option, None, Some, Result, Ok, Err, slice_get, if◌then◌else◌}
+use Rattle.std.specs.Prelude.{◌≡◌, ◌⊎◌, ◌+◌, ◌*◌, ◌/◌, ◌≤◌, ◌==◌, ℕ, true, false, List, length, Option, Some, Result, Ok, Err, slice_get, if◌then◌else◌}
 use Rattle.std.specs.List.{Contains, fold}
 use Rattle.disk_model.specs.Crash.{LeavesOnly}
 use Rattle.disk_model.specs.declared.disk.Disk.{Ghosts}
@@ -27,6 +27,7 @@ use Rattle.tree_write.specs.Captures.{IsSafe, with_addrs}
 use Rattle.tree_write.specs.Steps.{links_in}
 use Rattle.tree_write.specs.Writes.{KeepSame}
 use Rattle.ckpt_step.specs.Checkpoints.{AreRowsOf}
+use Rattle.ckpt_step.specs.Floors.{IsAsItLies}
 use Rattle.ckpt_step.specs.Grounds.{found_in}
 use Rattle.ckpt_step.specs.Sizes.{PlacesTables, LacksTables}
 use Rattle.ckpt_step.specs.Parts.{AreOfLeaves, IsParted, part_leaves, part_of, with_parts}
@@ -122,11 +123,11 @@ abbrev pub AreParted : List Table → List Leaf → Written → List TreePlace �
 AreParted known leaves written places trees =
     (i : ℕ) (t : Table) (place : TreePlace) (tree : TableTree) → slice_get known i ≡ Some t → slice_get places i ≡ Some place → slice_get trees i ≡ Some tree → IsParted leaves t.number written place tree
 
--- By table and leaf in no frame, it has the rows of its block.
+-- By table and leaf that is in no frame, or was not written, it has the rows of its block.
 abbrev pub AreOnShelf : List Table → List Leaf → Written → List TreePlace → List TableTree → (ℕ → List Row) → Type 0
 AreOnShelf known leaves written places trees shelf =
     (i : ℕ) (t : Table) (place : TreePlace) (tree : TableTree) (l : Leaf) → slice_get known i ≡ Some t → slice_get places i ≡ Some place → slice_get trees i ≡ Some tree → Contains leaves l → l.table ≡ t.number
-    → l.frame ≡ None → join (part_leaves place tree (part_of written l)) ≡ shelf l.id
+    → IsAsItLies written l → join (part_leaves place tree (part_of written l)) ≡ shelf l.id
 
 -- what the trees of these tables are by leaves
 pub record ByLeaves (bytes : List ℕ) (known : List Table) (leaves : List Leaf) (before : Written) (shelf : ℕ → List Row) (places : List TreePlace) (trees : List TableTree) (written : Written) : Type 0 where

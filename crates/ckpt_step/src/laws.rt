@@ -3,7 +3,7 @@ ghost use Rattle.ckpt_step.specs.Laws.{CheckpointsOpen};
 ghost use Rattle.ckpt_step.specs.Calm.{AnswersCalm, KeptCalm, KeptOutCalm, OpensCalm, StartsCalm, StepsCalm, StoresCalm};
 ghost use Rattle.ckpt_step.specs.Keeps.{EnginesAreOrdinary, FitsAreOrdinary, KeptKeep, KeptOutKeep, StepsKeep};
 ghost use Rattle.ckpt_step.specs.Plain.{OpensPlain, RollsBackPlain, StartsPlain, StaysPlain};
-ghost use Rattle.ckpt_step.specs.Stays.{GroundsStay};
+ghost use Rattle.ckpt_step.specs.Stays.{GroundsLetGo, GroundsStay};
 ghost use Rattle.ckpt_step.specs.Giving.{CheckpointsHaveNewest, GroundsGiveWay};
 
 use disk_model::Disk;
@@ -53,6 +53,12 @@ pub fn checkpoints_are_kept()
 /// leaves that come into frames, and follows it where its machine goes on and the shelf stays.
 pub fn grounds_stay<D: Disk>()
     ensures { (disk : D) → GroundsStay (D.seen disk) (D.may_leave disk) }
+{}
+
+/// So it does, in the same world, where a leaf that no checkpoint of the engine wrote goes out of its
+/// frame.
+pub fn grounds_let_go<D: Disk>()
+    ensures { (disk : D) → GroundsLetGo (D.seen disk) (D.may_leave disk) }
 {}
 
 /// Each tree of a checkpoint of a machine has the newest version of each key of its table.

@@ -28,7 +28,7 @@ pub use giving::entries_in_place;
 pub use ground::Ground;
 pub use laws::{
     calm_stays, checkpoints_are_kept, checkpoints_have_newest, checkpoints_open, grounds_give_way,
-    grounds_stay, plain_stays,
+    grounds_let_go, grounds_stay, plain_stays,
 };
 pub use parts::Parts;
 pub use taking::checkpoint;

@@ -1,5 +1,5 @@
 // What a checkpoint has of the leaves of tables.
-ghost use Rattle.std.specs.Prelude.{◌≡◌, ◌≢◌, ◌==◌, ℕ, [], None, Some, true, if◌then◌else◌, option_map, OnOk};
+ghost use Rattle.std.specs.Prelude.{◌≡◌, ◌≢◌, ◌==◌, ℕ, [], None, Some, true, if◌then◌else◌, option_map, OnErr, OnOk};
 ghost use Rattle.ckpt_step.specs.Rooms.{has_room, known_in};
 
 use failure::NoMemory;
@@ -54,6 +54,16 @@ impl Parts {
             Some(entries) => Some(entries),
             None => None,
         }
+    }
+
+    /// These are the entries of a leaf from now on. Without memory they are as they were. `O(log n)`.
+    pub fn keep(&mut self, leaf: u64, entries: Vec<Entry>) -> Result<(), NoMemory>
+        ensures known { OnOk result ((id : ℕ) → known_in self.new id ≡ (if id == leaf then Some entries.items else known_in self.old id)) }
+        ensures kept { OnErr result ((id : ℕ) → known_in self.new id ≡ known_in self.old id) }
+    {
+        self.reserve(leaf)?;
+        self.put(LeafPart { leaf, entries });
+        Ok(())
     }
 
     /// Nothing is kept of a leaf any more. `O(log n)`.

@@ -58,7 +58,7 @@ pub without-is : (e : Engine) (dir : Directory) (frame : ℕ) (pieces : List Fra
     → without_leaf e dir frame ≡ record e { hub = record e.hub { dir = dir }; pieces = pieces; states = states }
 without-is e dir frame pieces states p s = λ i. record e { hub = record e.hub { dir = dir }; pieces = sym p i; states = sym s i }
 
-empty-fits : PieceFits empty_piece
+pub empty-fits : PieceFits empty_piece
 empty-fits f is = absurd (cc)
 
 pub way-sound : (e : Engine) (dir : Directory) (frame id : ℕ) (entries : List Entry) (ids : List ℕ) → GaveWay e.hub.dir dir id entries ids → IsSound e → IsSound (without_leaf e dir frame)

@@ -25,7 +25,8 @@ pub mod Waited
 pub mod FramesMore
 pub mod LeavesCome
 pub mod GivingWay
-pub mod Resting
+pub mod GoingOut
+pub mod EachBelow
 pub mod Directories
 pub mod Owning
 pub mod SystemTold

@@ -1,12 +1,15 @@
 -- Frames, the leaf that comes into one, and leaves that leave one.
-use Rattle.std.specs.Prelude.{◌≡◌, ◌≢◌, ◌≤◌, ◌++◌, ℕ, nat_lt, List, [], ◌∷◌, length, if◌then◌else◌, None, Some, slice_set}
+use Rattle.std.specs.Prelude.{◌≡◌, ◌≢◌, ◌≤◌, ◌+◌, ◌++◌, ℕ, nat_lt, List, [], ◌∷◌, length, if◌then◌else◌, None, Some, slice_get, slice_set}
 use Rattle.leaf_frame.specs.Leaf.{HeldLeaf}
 use Rattle.stored.specs.TableTree.{Entry}
 use Rattle.tree_dir.specs.declared.leaf.Framed.{Framed}
 use Rattle.tree_dir.specs.declared.leaf.Leaf.{Leaf}
 use Rattle.tree_dir.specs.Leaves.{Directory, GaveWay, changed, in_frame, leaf_named}
+use Rattle.call_steps.specs.declared.frame.Frame.{Frame}
 use Rattle.call_steps.specs.declared.frame.FramePiece.{FramePiece}
+use Rattle.call_steps.specs.State.{State}
 use Rattle.engine_world.specs.GivingWay.{without_leaf}
+use Rattle.engine_world.specs.GoingOut.{IsAside, gone_out}
 use Rattle.engine_world.specs.Leaves.{frame_in}
 use Rattle.engine_world.specs.Stands.{Engine}
 
@@ -48,3 +51,35 @@ pub record HasGivenWay (old new : Engine) (id : ℕ) (entries : List Entry) : Ty
   pub ids : List ℕ
   pub gave : GaveWay old.hub.dir new.hub.dir id entries ids
   pub is : new ≡ without_leaf old new.hub.dir framed.frame
+
+-- ---- a leaf that goes out of its frame
+
+-- a leaf that was read, and whose keys were never written since
+abbrev pub IsUnwritten : HeldLeaf → Type 0
+IsUnwritten leaf = (leaf.chains ≡ []) × (1 ≤ length leaf.page)
+
+-- no call is at the leaf in the frame
+abbrev pub AllAside : ℕ → List State → Type 0
+AllAside frame sessions = (session : ℕ) (a : State) → slice_get sessions session ≡ Some a → IsAside frame a
+
+-- no hazard word names the frame
+abbrev pub IsUnpinned : ℕ → List ℕ → Type 0
+IsUnpinned frame words = (word : ℕ) → slice_get words word ≢ Some (frame + 1)
+
+-- The leaf of this id, which is in a frame, may go out of it: it has rows and no chains, no call is at it, and no hazard word names its frame.
+pub record MayGoOut (e : Engine) (id : ℕ) : Type 0 where
+  pub leaf : Leaf
+  pub there : leaf_named id e.hub.dir.leaves ≡ Some leaf
+  pub framed : Framed
+  pub placed : leaf.frame ≡ Some framed
+  pub frame : Frame
+  pub filled : frame_in e.pieces framed.frame ≡ Some frame
+  pub unwritten : frame.leaf.chains ≡ []
+  pub rows : 1 ≤ length frame.leaf.page
+  pub aside : (session : ℕ) (a : State) → slice_get e.sessions session ≡ Some a → IsAside framed.frame a
+  pub unpinned : (word : ℕ) → slice_get e.hazards word ≢ Some (framed.frame + 1)
+
+-- it has
+pub record HasGoneOut (old new : Engine) (id : ℕ) : Type 0 where
+  pub may : MayGoOut old id
+  pub is : new ≡ gone_out old id may.framed.frame

@@ -128,7 +128,7 @@ fn rests_whole(session: &SessionState) -> bool
 }
 
 // The frame has no leaf any more.
-fn empty(pieces: &mut [FramePiece], frame: u32)
+pub(crate) fn empty(pieces: &mut [FramePiece], frame: u32)
     ensures { pieces.new ≡ slice_set pieces.old frame (record { generation = 0; frame = None }) }
 {
     let at = frame as usize;
@@ -140,7 +140,8 @@ fn empty(pieces: &mut [FramePiece], frame: u32)
     }
 }
 
-fn clear(states: &mut [u64], frame: u32)
+// Its state word is that of no leaf.
+pub(crate) fn clear(states: &mut [u64], frame: u32)
     ensures { states.new ≡ slice_set states.old frame 0 }
 {
     let at = frame as usize;

@@ -20,6 +20,7 @@ mod checkpoint;
 mod close;
 mod frames;
 mod giving;
+mod going_out;
 mod leaves;
 mod lent;
 mod local;

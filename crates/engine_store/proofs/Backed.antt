@@ -48,7 +48,7 @@ stands_looked bytes seen was images hub g old same fewer on = record {
 }
 
 pub ready_goes : (s s' : Store) → HubGoesOn s.engine.hub s'.engine.hub → s'.ground ≡ s.ground → IsReady s → IsReady s'
-ready_goes s s' goes ground ready = subst (λ (x : Ground). IsReady (record { engine = s'.engine; ground = x })) (sym ground) (record {
+ready_goes s s' goes ground ready = subst (λ (x : Ground). IsReady (record s' { ground = x })) (sym ground) (record {
   run = omega (arith, goes.run, ready.run);
   trees = omega (arith, ready.trees, no_fewer s.engine.hub.tables.tables s'.engine.hub.tables.tables goes.tables);
   low = ready.low;

@@ -11,6 +11,7 @@ use Rattle.engine.specs.Directories.{HubGoesOn}
 use Rattle.engine.specs.Waits.{IsAway}
 use Rattle.engine.proofs.Directories.{goes-then}
 use Rattle.engine_store.specs.Calls.{Basis, IsBasis, SpoiltOn}
+use Rattle.engine_store.specs.GoneOut.{all_out}
 use Rattle.engine_store.specs.Loads.{LeafSpoils}
 use Rattle.engine_store.proofs.SpoiltLeaves.{spoils_before}
 
@@ -20,7 +21,7 @@ module _ {D : Type 0} (g : Ghosts D) (basis : Option Basis) where
     where
       by : (b : Option Basis) → IsBasis g b e before → IsBasis g b e' after
       by None is = tt
-      by (Some b) is = λ honest. let x = is (sym looked.same ∙ honest) in (looked.content ∙ x.0, x.1, on b.hub x.2)
+      by (Some b) is = λ honest. let x = is (sym looked.same ∙ honest) in (looked.content ∙ x.0, x.1, on (all_out b.hub) x.2)
 
   pub basis_goes : (e e' : Engine) (before after : D) → Looked g before after → HubGoesOn e.hub e'.hub → IsBasis g basis e before → IsBasis g basis e' after
   basis_goes e e' before after looked goes is = basis_on e e' before after looked (λ h on. goes-then h e.hub e'.hub on goes) is

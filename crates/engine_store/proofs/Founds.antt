@@ -13,7 +13,7 @@ use Rattle.row_page.specs.Greatest.{no_name}
 use Rattle.row_page.specs.Rows.{Row}
 use Rattle.stored.specs.Records.{IsRecord}
 use Rattle.stored.specs.Stored.{Stored, content_of, tables_of as record_tables}
-use Rattle.stored.specs.TableTree.{TableTree}
+use Rattle.stored.specs.TableTree.{Entry, TableTree}
 use Rattle.stored.specs.Tree.{join}
 use Rattle.checkpoint_core.specs.Stands.{HasStill}
 use Rattle.device_leaf.specs.declared.place.Place.{Place}
@@ -30,22 +30,23 @@ use Rattle.engine_world.specs.Worlds.{World}
 use Rattle.engine.specs.Directories.{HubGoesOn}
 use Rattle.engine_start.specs.declared.table_entries.TableEntries.{TableEntries}
 use Rattle.engine_start.specs.Entries.{IsUnread, entries_of}
-use Rattle.ckpt_step.specs.Floors.{Follows, FollowsFrom}
+use Rattle.ckpt_step.specs.Floors.{Follows, FollowsFrom, IsAsItLies}
 use Rattle.ckpt_step.specs.Grounds.{AreRoots, AreWritten, found_in}
 use Rattle.ckpt_step.specs.Parts.{part_leaves, part_of}
-use Rattle.ckpt_step.specs.Rooms.{Rooms, known_in}
+use Rattle.ckpt_step.specs.Rooms.{Rooms, Written, known_in}
 use Rattle.ckpt_step.specs.Trees.{HasTreeAt, table_root}
 use Rattle.ckpt_step.proofs.Members.{none_some}
 use Rattle.ckpt_step.proofs.TableLeaves.{contains_of, in_table, member_of, table_in}
 use Rattle.engine_store.specs.declared.store.Store.{Store}
 use Rattle.engine_store.specs.ByPlace.{places_in}
 use Rattle.engine_store.specs.Found.{IsFound}
-use Rattle.engine_store.specs.Marked.{AreAway, IsUnmarked}
+use Rattle.engine_store.specs.Marked.{IsUnmarked, KeepMarked}
 use Rattle.engine_store.specs.Opened.{IsOpened}
 use Rattle.engine_store.specs.Places.{AreOver}
 use Rattle.engine_store.specs.Tables.{AreWithEntries}
 use Rattle.engine_store.proofs.LeafBehind.{entries_in}
 use Rattle.engine_store.proofs.LeavesGo.{leaf_went}
+use Rattle.engine_store.proofs.MarkedParts.{away_kept, part_own, part_same, roots_kept, whole_or_bare, written_kept}
 use Rattle.engine_store.proofs.Nothing.{no_shelf}
 use Rattle.engine_store.proofs.OpenedEngine.{begun, begun_kept, begun_own, known_at, own_went, shelf, still_first}
 use Rattle.engine_store.proofs.OpenedFollows.{follows_from, shelf_same, starts_below}
@@ -61,9 +62,13 @@ module _ (a : Above) (is_record : IsRecord a.record) (both : List TableEntries) 
   -- ---- on a device that reads
 
   module _ (bytes : List ℕ) (place : Place) (bare : IsBare a.record) (of : IsSurveyedOf bytes place a) (recorded : AreRecorded (record_tables a.record.tables) a.record.next_table)
-      (first : Stands e (begun bytes place a of both with recorded e unread)) (now : Stands s.engine (begun bytes place a of both with recorded e unread)) (unmarked : (l : Leaf) → Contains s.engine.hub.dir.leaves l → l.frame ≡ None → IsUnmarked (marks_of a.record) l) where
+      (first : Stands e (begun bytes place a of both with recorded e unread)) (now : Stands s.engine (begun bytes place a of both with recorded e unread)) (unmarked : (l : Leaf) → Contains s.engine.hub.dir.leaves l → l.frame ≡ None → IsUnmarked (marks_of a.record) l)
+      (keep : KeepMarked s.engine.hub.tables.tables s.engine.hub.dir.leaves (marks_of a.record) (known_in s.ground.parts)) where
     abbrev d : Directory
     d = s.engine.hub.dir
+
+    abbrev written_now : Written
+    written_now = known_in s.ground.parts
 
     abbrev old : Stored
     old = old_of bytes place a of
@@ -86,9 +91,9 @@ module _ (a : Above) (is_record : IsRecord a.record) (both : List TableEntries) 
     written : AreWritten s.engine.hub.tables.tables d (known_in []) (places_in a.record.tables ps)
     written = written_are bytes place a is_record bare of both with d now.dir own ps (many a is_record both with e unread s goes ps over trees_are number) are s.engine.hub.tables.tables known_now
 
-    -- a leaf that is in no frame has on the shelf what the device has
-    same : (t : Table) (p : TreePlace) (tree : TableTree) (l : Leaf) → HasTreeAt (Some old) t p tree → Contains d.leaves l → l.table ≡ t.number → l.frame ≡ None → join (part_leaves p tree (part_of (known_in []) l)) ≡ on_shelf l.id
-    same t p tree l at there its none =
+    -- a leaf that is in no frame, or of which nothing is kept, has on the shelf what the device has
+    same : (t : Table) (p : TreePlace) (tree : TableTree) (l : Leaf) → HasTreeAt (Some old) t p tree → Contains d.leaves l → l.table ≡ t.number → IsAsItLies written_now l → join (part_leaves p tree (part_of written_now l)) ≡ on_shelf l.id
+    same t p tree l at there its as_it_lies =
         let has = tree_there bytes place a is_record bare of t p tree at in
         let leads = tree_leads bytes place a is_record bare of t p tree at in
         let entries = own_tree bytes place a is_record bare of both with d now.dir own t p tree at in
@@ -98,40 +103,39 @@ module _ (a : Above) (is_record : IsRecord a.record) (both : List TableEntries) 
         let number_is : l.table ≡ pair.its.table.number = its ∙ sym (ap (λ (x : Table). x.number) pair.table) in
         let was = leaf_went (leaves_of pair.its.table.number e.hub.dir.leaves) (leaves_of pair.its.table.number d.leaves) l (goes.dir.kept place_of.0 pair.its.table place_of.1) (table_in pair.its.table.number d.leaves l (member_of d.leaves l there) number_is) in
         let before : Contains e.hub.dir.leaves was.0 = contains_of e.hub.dir.leaves was.0 (in_table pair.its.table.number e.hub.dir.leaves was.0 was.1).0 in
-        rows_are bytes d now.dir t.number p tree has at.1 leads entries fits l there its
+        ap (λ (part : List Entry). join (part_leaves p tree part)) (part_same s.engine.hub.tables.tables d now.dir (marks_of a.record) written_now keep l there)
+        ∙ (rows_are bytes d now.dir t.number p tree has at.1 leads entries fits l there its
         ∙ shelf_same bytes e.hub.dir (marks_of a.record) a.record.snapshot.ids on_shelf was.0 l (rows_of bytes d now.dir t.number p tree has at.1 leads entries fits l.entry)
-        (begun_kept bytes place a of both with recorded e unread was.0 before) was.2.id was.2.entry (unmarked l there none) (under bytes d now.dir t.number p tree has at.1 leads entries fits l there its).leaf
+        (begun_kept bytes place a of both with recorded e unread was.0 before) was.2.id was.2.entry (whole_or_bare s.engine.hub.tables.tables d now.dir (marks_of a.record) written_now keep now.owned unmarked l there as_it_lies) (under bytes d now.dir t.number p tree has at.1 leads entries fits l there its).leaf)
 
-    follows : FollowsFrom (Some old) s.engine.hub.tables.tables d.leaves (known_in []) (places_in a.record.tables ps) no_name (first_world (content_of old) on_shelf s.engine)
-    follows = follows_from (Some old) s.engine.hub.tables.tables d.leaves (places_in a.record.tables ps) (first_world (content_of old) on_shelf s.engine) (starts_below (content_of old)) same
+    follows : FollowsFrom (Some old) s.engine.hub.tables.tables d.leaves written_now (places_in a.record.tables ps) no_name (first_world (content_of old) on_shelf s.engine)
+    follows = follows_from (Some old) s.engine.hub.tables.tables d.leaves written_now (places_in a.record.tables ps) (first_world (content_of old) on_shelf s.engine) (starts_below (content_of old)) (part_own s.engine.hub.tables.tables d now.dir (marks_of a.record) written_now keep) same
 
-    pub found_above : s.ground.place ≡ place → s.ground.parts ≡ [] → s.ground.floor ≡ no_name → a.record.run < last_number → a.record.next_table + TABLES_MAX < 2 ^ 32 + length a.record.tables → IsFound bytes s
-    found_above place_is parts floor run numbers = record {
+    pub found_above : s.ground.place ≡ place → s.ground.floor ≡ no_name → a.record.run < last_number → a.record.next_table + TABLES_MAX < 2 ^ 32 + length a.record.tables → IsFound bytes s
+    found_above place_is floor run numbers = record {
       old = Some old;
       numbers = (run, numbers);
       on = record {
         serves = subst (λ (x : Place). Serves bytes x (Some old)) (sym place_is) of.serves;
         books = subst (λ (x : Place). Counts (found_in (Some old)) x.blocks) (sym place_is) of.books;
         number = number;
-        roots = subst (λ (r : Rooms). AreRoots s.engine.hub.tables.tables d.leaves (known_in r) s.ground.trees.items (Some old)) (sym parts) (subst (λ (l : List TreePlace). AreRoots s.engine.hub.tables.tables d.leaves (known_in []) l (Some old)) (sym trees_are) roots);
-        written = subst (λ (r : Rooms). AreWritten s.engine.hub.tables.tables d (known_in r) s.ground.trees.items) (sym parts) (subst (λ (l : List TreePlace). AreWritten s.engine.hub.tables.tables d (known_in []) l) (sym trees_are) written);
-        parts = parts;
+        roots = subst (λ (l : List TreePlace). AreRoots s.engine.hub.tables.tables d.leaves written_now l (Some old)) (sym trees_are) (roots_kept s.engine.hub.tables.tables d now.dir (marks_of a.record) written_now keep (places_in a.record.tables ps) old roots);
+        written = subst (λ (l : List TreePlace). AreWritten s.engine.hub.tables.tables d written_now l) (sym trees_are) (written_kept s.engine.hub.tables.tables d now.dir (marks_of a.record) written_now keep (places_in a.record.tables ps) written);
         floor = floor;
       };
       shelf = on_shelf;
       world = still_first (content_of old) on_shelf e s.engine now;
-      follows = following parts floor;
-      away = subst (λ (r : Rooms). AreAway d.leaves (known_in r)) (sym parts) (λ l there none. (refl, (unmarked l there none).leads));
+      follows = following floor;
+      away = λ l there none. (away_kept s.engine.hub.tables.tables d now.dir (marks_of a.record) written_now keep l there none, (unmarked l there none).leads);
     }
       where
         w : World
         w = first_world (content_of old) on_shelf s.engine
 
-        following : s.ground.parts ≡ [] → s.ground.floor ≡ no_name → Follows (Some old) s.engine.hub s.ground w
-        following parts floor =
-            subst (λ (r : Rooms). FollowsFrom (Some old) s.engine.hub.tables.tables d.leaves (known_in r) s.ground.trees.items s.ground.floor w) (sym parts)
-            (subst (λ (f : Name). FollowsFrom (Some old) s.engine.hub.tables.tables d.leaves (known_in []) s.ground.trees.items f w) (sym floor)
-            (subst (λ (l : List TreePlace). FollowsFrom (Some old) s.engine.hub.tables.tables d.leaves (known_in []) l no_name w) (sym trees_are) follows))
+        following : s.ground.floor ≡ no_name → Follows (Some old) s.engine.hub s.ground w
+        following floor =
+            subst (λ (f : Name). FollowsFrom (Some old) s.engine.hub.tables.tables d.leaves written_now s.ground.trees.items f w) (sym floor)
+            (subst (λ (l : List TreePlace). FollowsFrom (Some old) s.engine.hub.tables.tables d.leaves written_now l no_name w) (sym trees_are) follows)
 
 -- ---- without one
 
@@ -148,7 +152,6 @@ found_none bytes s keeps number none parts floor known bare st = record {
       later = λ id le. refl;
       made_since = λ i t l there at among its. absurd (none_some (ap (λ (ts : List Table). slice_get ts i) (sym known) ∙ there));
     });
-    parts = parts;
     floor = floor;
   };
   shelf = no_shelf;

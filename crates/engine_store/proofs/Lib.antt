@@ -6,6 +6,7 @@ pub mod BorneTables
 pub mod KeptLeaves
 pub mod LeavesGo
 pub mod HubsGo
+pub mod AllOut
 pub mod SpoiltLeaves
 pub mod Bases
 pub mod LoadedPages
@@ -17,6 +18,7 @@ pub mod OpenedParts
 pub mod OpenedRoots
 pub mod OpenedFollows
 pub mod OpenedEngine
+pub mod MarkedParts
 pub mod Nothing
 pub mod ReadyAbove
 pub mod Founds
@@ -38,6 +40,7 @@ pub mod MoreSessions
 pub mod WholeLeaves
 pub mod Fetching
 pub mod Telling
+pub mod GoingOut
 pub mod UnderWay
 pub mod StepsGoing
 pub mod Rounds

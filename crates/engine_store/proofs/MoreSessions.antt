@@ -20,7 +20,7 @@ use Rattle.engine_store.proofs.Going.{goes_more}
 
 -- the store with its engine as it is now
 abbrev pub with_engine : Store → Engine → Store
-with_engine s e = record { engine = e; ground = s.ground }
+with_engine s e = record s { engine = e }
 
 same_store : (s : Store) (e : Engine) → e ≡ s.engine → with_engine s e ≡ s
 same_store s e is = ap (λ (x : Engine). with_engine s x) is

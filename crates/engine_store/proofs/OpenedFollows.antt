@@ -1,5 +1,5 @@
 -- What the device has of each leaf of an engine that was opened on it: of the leaves that are in no frame what stands on the shelf.
-use Rattle.std.proofs.Common.{◌≡◌, ℕ, List, [], ◌∷◌, Option, Some, None, sym, ap, subst, ◌∙◌, inl, inr, arith}
+use Rattle.std.proofs.Common.{◌≡◌, ◌⊎◌, false, ℕ, List, [], ◌∷◌, Option, Some, None, refl, sym, ap, subst, ◌∙◌, inl, inr, arith}
 use Rattle.std.specs.Prelude.{◌==◌, true, IsTrue, nat_lt}
 use Rattle.std.specs.List.{Contains}
 use Rattle.std.proofs.lemmas.Bool.{cases_Bool, false≢true, ltb-true}
@@ -16,7 +16,7 @@ use Rattle.row_page.specs.Rows.{Row}
 use Rattle.snapshot.specs.Past.{is_below}
 use Rattle.stamp.specs.declared.Name.{Name}
 use Rattle.stored.specs.Stored.{Stored}
-use Rattle.stored.specs.TableTree.{Entry, TableTree}
+use Rattle.stored.specs.TableTree.{Entry, TableTree, root_entry}
 use Rattle.stored.specs.Tree.{join}
 use Rattle.tree_dir.specs.declared.leaf.Leaf.{Leaf}
 use Rattle.tree_dir.specs.Leaves.{Directory}
@@ -24,10 +24,11 @@ use Rattle.tree_open.specs.declared.place.TreePlace.{TreePlace}
 use Rattle.device_leaf.specs.Leaves.{LeafIs}
 use Rattle.recover_open.proofs.OneLeaf.{one_leaf}
 use Rattle.engine_world.specs.Worlds.{World}
-use Rattle.ckpt_step.specs.Floors.{FollowsFrom, Respects}
-use Rattle.ckpt_step.specs.Parts.{AreBelowFloor, part_in, part_leaves, part_of}
-use Rattle.ckpt_step.specs.Rooms.{known_in}
+use Rattle.ckpt_step.specs.Floors.{FollowsFrom, IsAsItLies, Respects}
+use Rattle.ckpt_step.specs.Parts.{AreBelowFloor, has_rows, own_part, part_in, part_leaves, part_of}
+use Rattle.ckpt_step.specs.Rooms.{Written}
 use Rattle.ckpt_step.specs.Trees.{HasTreeAt}
+use Rattle.ckpt_step.proofs.Links.{some_rows}
 use Rattle.engine_store.specs.Marked.{IsLeafKept, IsUnmarked}
 
 -- ---- names
@@ -46,7 +47,7 @@ none_below x is = elim (cases_Bool (nat_lt x.run 0)) [
 ]
 
 -- so no part is below it
-no_part : (l : Leaf) (part : List Entry) → part_in (known_in []) l ≡ Some part → AreBelowFloor no_name part → ⊥
+no_part : (l : Leaf) (part : List Entry) → own_part l.entry ≡ Some part → AreBelowFloor no_name part → ⊥
 no_part l part is below = elim (cases_Bool (l.entry.link.greatest.id == 0)) [
   | inl none ↦ let clash : None ≡ Some part = rw none at is in cc
   | inr some ↦
@@ -63,19 +64,27 @@ unmarked_seen bytes marks ids link rows sure leaf =
     all_kept (is_seen_row marks ids) rows
     (surely_seen marks ids rows (subst (λ (n : Name). IsTrue (are_surely_seen marks n (most_in (durables_of rows)))) says.greatest (subst (λ (k : ℕ). IsTrue (are_surely_seen marks link.greatest k)) says.durable sure)))
 
+-- a leaf without rows has none to keep
+bare_seen : (bytes : List ℕ) (marks : Marks) (ids : List ℕ) (link : Link) (rows : List Row) → has_rows link ≡ false → LeafIs bytes link rows → seen_rows marks ids rows ≡ rows
+bare_seen bytes marks ids link [] none leaf = refl
+bare_seen bytes marks ids link (r ∷ rows) none leaf = absurd (false≢true (sym none ∙ some_rows (root_entry link) (r ∷ rows) leaf.bears (omega arith)))
+
 -- the rows of the block are those on the shelf
-pub shelf_same : (bytes : List ℕ) (d : Directory) (marks : Marks) (ids : List ℕ) (shelf : ℕ → List Row) (was l : Leaf) (rows : List Row) → IsLeafKept bytes d marks ids shelf was → l.id ≡ was.id → l.entry ≡ was.entry → IsUnmarked marks l → LeafIs bytes l.entry.link rows → rows ≡ shelf l.id
-shelf_same bytes d marks ids shelf was l rows kept id entry unmarked leaf =
+pub shelf_same : (bytes : List ℕ) (d : Directory) (marks : Marks) (ids : List ℕ) (shelf : ℕ → List Row) (was l : Leaf) (rows : List Row) → IsLeafKept bytes d marks ids shelf was → l.id ≡ was.id → l.entry ≡ was.entry → IsUnmarked marks l ⊎ (has_rows l.entry.link ≡ false) → LeafIs bytes l.entry.link rows → rows ≡ shelf l.id
+shelf_same bytes d marks ids shelf was l rows kept id entry all leaf =
     let before : LeafIs bytes l.entry.link kept.rows = subst (λ (e : Entry). LeafIs bytes e.link kept.rows) (sym entry) kept.under.leaf in
-    one_leaf bytes l.entry.link rows kept.rows leaf before
-    ∙ (sym (unmarked_seen bytes marks ids l.entry.link kept.rows unmarked.seen before)
-    ∙ (sym kept.kept ∙ ap shelf (sym id)))
+    let seen : seen_rows marks ids kept.rows ≡ kept.rows = elim all [
+      | inl unmarked ↦ unmarked_seen bytes marks ids l.entry.link kept.rows unmarked.seen before
+      | inr none ↦ bare_seen bytes marks ids l.entry.link kept.rows none before
+    ] in
+    one_leaf bytes l.entry.link rows kept.rows leaf before ∙ (sym seen ∙ (sym kept.kept ∙ ap shelf (sym id)))
 
 -- ---- all leaves
 
-pub follows_from : (old : Option Stored) (known : List Table) (leaves : List Leaf) (places : List TreePlace) (w : World) → Respects w.machine no_name
-    → ((t : Table) (p : TreePlace) (tree : TableTree) (l : Leaf) → HasTreeAt old t p tree → Contains leaves l → l.table ≡ t.number → l.frame ≡ None → join (part_leaves p tree (part_of (known_in []) l)) ≡ w.shelf l.id) → FollowsFrom old known leaves (known_in []) places no_name w
-follows_from old known leaves places w respects same = record {
+-- written: of each leaf what its own entry says
+pub follows_from : (old : Option Stored) (known : List Table) (leaves : List Leaf) (written : Written) (places : List TreePlace) (w : World) → Respects w.machine no_name → ((l : Leaf) → Contains leaves l → part_in written l ≡ own_part l.entry)
+    → ((t : Table) (p : TreePlace) (tree : TableTree) (l : Leaf) → HasTreeAt old t p tree → Contains leaves l → l.table ≡ t.number → IsAsItLies written l → join (part_leaves p tree (part_of written l)) ≡ w.shelf l.id) → FollowsFrom old known leaves written places no_name w
+follows_from old known leaves written places w respects own same = record {
   respects = respects;
-  leaf = λ i t p tree l known_at stands at there its. record { before = λ part is below. absurd (no_part l part is below); same = λ none. same t p tree l at there its none };
+  leaf = λ i t p tree l known_at stands at there its. record { before = λ part is below. absurd (no_part l part (sym (own l there) ∙ is) below); same = λ lies. same t p tree l at there its lies };
 }

@@ -48,7 +48,7 @@ module _ {D : Type 0} (g : Ghosts D) where
   module _ (law : (disk : D) → GroundsGiveWay (g.seen disk) (g.may_leave disk)) (s : Store) (e : Engine) (ground : Ground) (id oldest : ℕ) (entries : List Entry) (way : HasGivenWay s.engine e id entries) (dir : IsDirectory e.hub.dir)
       (stands : (way : HasGivenWay s.engine e id entries) (w : World) (shelf : ℕ → List Row) → Stands s.engine w → w.machine.checkpoint ≡ None → IsShelved w.machine s.engine.hub.dir e.hub.dir (leaves_with way.leaf.table way.ids entries) w.shelf shelf → Stands e (record w { shelf = shelf }))
       (marks : (w : World) → Stands s.engine w → oldest ≡ w.machine.oldest) (over : MayTakeOver s.engine.hub.dir (known_in s.ground.parts) id oldest entries) (forgets : Forgets s.ground ground id) where
-    pub gave : LetsGo g s (record { engine = e; ground = ground })
+    pub gave : LetsGo g s (record s { engine = e; ground = ground })
     gave = record {
       alike = record {
         sessions = ap (λ (x : Engine). x.sessions) way.is;

@@ -100,7 +100,7 @@ module _ (seen : List ℕ) (images : List ℕ → Type 0) (e : Engine) (g : Grou
             tree = tree.0;
             has = part_has e.hub.dir.leaves t.number written p tree.0 tree.1.1 apart tree.2 seen there_tree l there owned.3;
             lie = (tree.2.parts l there owned.3).lie;
-            same = (follows.leaf at t p tree.0 l owned.2 is (subst (λ (o : Option Stored). HasTreeAt o t p tree.0) (sym some) tree.1) there owned.3).same away;
+            same = (follows.leaf at t p tree.0 l owned.2 is (subst (λ (o : Option Stored). HasTreeAt o t p tree.0) (sym some) tree.1) there owned.3).same (inl away);
           }
 
       by_place : (o : Option TreePlace) → slice_get g.trees.items at ≡ o → IsInTree old l (w.shelf l.id)

@@ -207,7 +207,7 @@ is_rolled seen images old w ground e middle goes st later on follows =
 
 -- with the transactions rolled back
 abbrev pub with_rolled : Store → Engine → Store
-with_rolled s middle = record { engine = middle; ground = s.ground }
+with_rolled s middle = record s { engine = middle }
 
 -- ---- what it leaves
 

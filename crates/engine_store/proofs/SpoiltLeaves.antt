@@ -1,5 +1,5 @@
 -- A leaf that is in no frame and at fault was so before, where the hub went on.
-use Rattle.std.proofs.Common.{◌≡◌, ◌≢◌, ◌⊎◌, ℕ, zero, suc, List, [], ◌∷◌, Option, Some, None, refl, sym, ap, subst, ◌∙◌, inl, inr}
+use Rattle.std.proofs.Common.{◌≡◌, ◌≢◌, ◌⊎◌, ℕ, zero, suc, List, [], ◌∷◌, map, Option, Some, None, refl, sym, ap, subst, ◌∙◌, inl, inr}
 use Rattle.std.specs.Prelude.{slice_get}
 use Rattle.std.specs.List.{Contains}
 use Rattle.std.proofs.lemmas.Bool.{cases_eq}
@@ -7,16 +7,19 @@ use Rattle.kv_model.specs.History.{Table}
 use Rattle.stored.specs.TableTree.{Entry}
 use Rattle.recover_open.specs.Damage.{EntrySpoils}
 use Rattle.tree_dir.specs.declared.leaf.Leaf.{Leaf}
-use Rattle.tree_dir.specs.Leaves.{Directory, IsDirectory, leaf_named, leaves_of}
+use Rattle.tree_dir.specs.Leaves.{Directory, IsDirectory, in_frame, leaf_named, leaves_of}
 use Rattle.tree_dir.proofs.Parting.{ids-name}
 use Rattle.call_steps.specs.declared.hub.Hub.{Hub}
-use Rattle.engine.specs.Directories.{HubGoesOn}
+use Rattle.engine.specs.Directories.{HubGoesOn, LeafGoesOn, LeavesGoOn}
 use Rattle.engine.specs.Waits.{IsAway}
 use Rattle.ckpt_step.proofs.Members.{none_some, some_same}
 use Rattle.ckpt_step.proofs.TableLeaves.{contains_of, in_table, member_of, table_in}
 use Rattle.engine_store.specs.declared.store.Store.{Store}
+use Rattle.kv_model.specs.Holds.{Member}
+use Rattle.engine_store.specs.GoneOut.{all_out}
 use Rattle.engine_store.specs.Loads.{LeafSpoils, low_behind}
 use Rattle.engine_store.specs.Opened.{SpoilsAreThere}
+use Rattle.engine_store.proofs.AllOut.{of_outs, outs_go}
 use Rattle.engine_store.proofs.KeptLeaves.{named_there}
 use Rattle.engine_store.proofs.LeafBehind.{low_own}
 use Rattle.engine_store.proofs.LeavesGo.{leaf_went, low_goes}
@@ -49,7 +52,23 @@ known_or (x ∷ known) number = elim (cases_eq number x.number) [
 low_of : (d : Directory) → IsDirectory d → (id n : ℕ) (l : Leaf) → Contains d.leaves l → l.id ≡ id → l.table ≡ n → low_behind id d.leaves ≡ low_behind id (leaves_of n d.leaves)
 low_of d is id n l there same its = subst (λ (k : ℕ). low_behind k d.leaves ≡ low_behind k (leaves_of n d.leaves)) same (low_own d is n l there its)
 
-pub spoils_before : (bytes : List ℕ) (h next : Hub) (id at want found : ℕ) → IsDirectory h.dir → IsDirectory next.dir → HubGoesOn h next → IsAway next.dir.leaves id → LeafSpoils bytes next.dir id at want found → LeafSpoils bytes h.dir id at want found
+-- leaves that may have left their frames since
+module _ (leaves next : List Leaf) (goes : LeavesGoOn (map (in_frame None) leaves) next) where
+  was_there : (n : Leaf) → Member n next → (l : Leaf) × Member l leaves × LeafGoesOn (in_frame None l) n
+  was_there n there =
+      let was = leaf_went (map (in_frame None) leaves) next n goes there in
+      let x = source leaves was.0 was.1 in
+      (x.0, x.1, subst (λ (y : Leaf). LeafGoesOn y n) x.2 was.2)
+    where
+      source : (ls : List Leaf) (y : Leaf) → Member y (map (in_frame None) ls) → (l : Leaf) × Member l ls × (y ≡ in_frame None l)
+      source [] y at = absurd at
+      source (l ∷ ls) y (inl same) = (l, inl refl, same)
+      source (l ∷ ls) y (inr at) = let later = source ls y at in (later.0, inr later.1, later.2)
+
+  low_then : (id : ℕ) → low_behind id next ≡ low_behind id leaves
+  low_then id = low_goes (map (in_frame None) leaves) next id goes ∙ sym (low_goes (map (in_frame None) leaves) leaves id (outs_go leaves))
+
+pub spoils_before : (bytes : List ℕ) (h next : Hub) (id at want found : ℕ) → IsDirectory h.dir → IsDirectory next.dir → HubGoesOn (all_out h) next → IsAway next.dir.leaves id → LeafSpoils bytes next.dir id at want found → LeafSpoils bytes h.dir id at want found
 spoils_before bytes h next id at want found was now goes (x, named, none) spoils = by (known_or h.tables.tables spoils.leaf.table)
   where
     l : Leaf
@@ -65,14 +84,14 @@ spoils_before bytes h next id at want found was now goes (x, named, none) spoils
     by (inr other) = absurd ((goes.dir.made l there.0 other).2 away)
     by (inl (i, t, known, its)) =
         let n = t.number in
-        let kept = goes.dir.kept i t known in
-        let before = leaf_went (leaves_of n h.dir.leaves) (leaves_of n next.dir.leaves) l kept (table_in n next.dir.leaves l (member_of next.dir.leaves l there.0) its) in
+        let kept = subst (λ (ls : List Leaf). LeavesGoOn ls (leaves_of n next.dir.leaves)) (of_outs n h.dir.leaves) (goes.dir.kept i t known) in
+        let before = was_there (leaves_of n h.dir.leaves) (leaves_of n next.dir.leaves) kept l (table_in n next.dir.leaves l (member_of next.dir.leaves l there.0) its) in
         let w = before.0 in
         let own = in_table n h.dir.leaves w before.1 in
         let among = contains_of h.dir.leaves w own.0 in
         let its_id : w.id ≡ id = sym before.2.id ∙ there.1 in
         let low : low_behind id next.dir.leaves ≡ low_behind id h.dir.leaves =
-        low_of next.dir now id n l there.0 there.1 its ∙ (low_goes (leaves_of n h.dir.leaves) (leaves_of n next.dir.leaves) id kept ∙ sym (low_of h.dir was id n w among its_id own.1)) in
+        low_of next.dir now id n l there.0 there.1 its ∙ (low_then (leaves_of n h.dir.leaves) (leaves_of n next.dir.leaves) kept id ∙ sym (low_of h.dir was id n w among its_id own.1)) in
         record {
           leaf = w;
           there = ap (λ (k : ℕ). leaf_named k h.dir.leaves) (sym its_id) ∙ ids-name h.dir was w among;

@@ -30,6 +30,7 @@ use Rattle.engine.specs.Whole.{KeptBy, MayAnswer, MayCallKept, with_session_more
 use Rattle.engine_store.specs.declared.store.Store.{Store}
 use Rattle.engine_store.specs.Devices.{Installed}
 use Rattle.engine_store.specs.Held.{IsHeld}
+use Rattle.engine_store.specs.GoneOut.{all_out}
 use Rattle.engine_store.specs.Opened.{IsReady}
 use Rattle.engine_store.specs.Loads.{IsCause, IsCaused, LeafSpoils}
 
@@ -136,10 +137,10 @@ MayReplySo g basis start_disk disk told = (answer : Answer (List ℕ)) → told 
 abbrev pub AreToldSo : {D : Type 0} → Ghosts D → Option Basis → D → Engine → D → Type 0
 AreToldSo g basis start_disk e disk = (session : ℕ) → MayAnswerSo g basis start_disk disk (answer_in e session)
 
--- An honest disk reads as then, and the hub went on, whose leaves were a directory.
+-- An honest disk reads as then, and the hub went on, whose leaves were a directory. Since then leaves may have left their frames.
 abbrev pub IsBasis : {D : Type 0} → Ghosts D → Option Basis → Engine → D → Type 0
 IsBasis g None e disk = Unit {0}
-IsBasis g (Some b) e disk = IsTrue (g.honest disk) → (g.seen disk ≡ b.bytes) × IsDirectory b.hub.dir × HubGoesOn b.hub e.hub
+IsBasis g (Some b) e disk = IsTrue (g.honest disk) → (g.seen disk ≡ b.bytes) × IsDirectory b.hub.dir × HubGoesOn (all_out b.hub) e.hub
 
 -- ---- what each call of an actor keeps
 

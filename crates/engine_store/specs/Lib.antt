@@ -1,6 +1,7 @@
 pub mod Devices
 pub mod Images
 pub mod Answers
+pub mod GoneOut
 pub mod Opened
 pub mod Closes
 pub mod ByPlace

@@ -1,5 +1,5 @@
 -- Leaves of which an opening may take something out, and those that stay on the device.
-use Rattle.std.specs.Prelude.{◌≡◌, ◌≢◌, ◌⊎◌, ℕ, true, List, slice_get, Some, None}
+use Rattle.std.specs.Prelude.{◌≡◌, ◌≢◌, ◌⊎◌, ℕ, true, List, Option, slice_get, Some, None, if◌then◌else◌}
 use Rattle.std.specs.List.{Contains}
 use Rattle.device_layout.specs.declared.link.Link.{Link}
 use Rattle.kv_model.specs.History.{Table}
@@ -7,12 +7,14 @@ use Rattle.row_page.specs.Rows.{Row}
 use Rattle.leaf_rows.specs.Contents.{seen_rows}
 use Rattle.leaf_rows.specs.declared.marks.Marks.{Marks}
 use Rattle.stored.specs.Links.{nowhere}
+use Rattle.stored.specs.TableTree.{Entry}
 use Rattle.recover_open.specs.Leaves.{IsUnder}
 use Rattle.tree_dir.specs.declared.leaf.Leaf.{Leaf}
-use Rattle.tree_dir.specs.Leaves.{Directory}
+use Rattle.tree_dir.specs.Leaves.{Directory, leaf_named}
 use Rattle.call_steps.specs.declared.hub.Hub.{Hub}
 use Rattle.leaf_load.specs.Loads.{are_surely_seen}
-use Rattle.ckpt_step.specs.Parts.{has_rows}
+use Rattle.engine.specs.Waits.{in_none}
+use Rattle.ckpt_step.specs.Parts.{has_rows, own_part}
 use Rattle.ckpt_step.specs.Rooms.{Written}
 use Rattle.engine_store.specs.Loads.{low_behind}
 
@@ -36,6 +38,16 @@ AreMarkedOf leaves table marks ids = (l : Leaf) → Contains leaves l → l.tabl
 -- each leaf of a table that the engine knows has its id among these, or is unmarked
 abbrev pub AreMarked : Hub → Marks → List ℕ → Type 0
 AreMarked hub marks ids = (i : ℕ) (t : Table) (l : Leaf) → slice_get hub.tables.tables i ≡ Some t → Contains hub.dir.leaves l → l.table ≡ t.number → Contains ids l.id ⊎ IsUnmarked marks l
+
+-- the part that a leaf has by its own entry, where it is in a frame
+abbrev pub framed_part : Option Leaf → Option (List Entry)
+framed_part None = None
+framed_part (Some l) = if in_none l.frame then None else own_part l.entry
+
+-- Something is kept of leaves in frames alone: the parts that they have by their own entries. It is kept of each of which an opening may take something out.
+pub record KeepMarked (known : List Table) (leaves : List Leaf) (marks : Marks) (written : Written) : Type 0 where
+  pub own : (id : ℕ) → (written id ≡ None) ⊎ (written id ≡ framed_part (leaf_named id leaves))
+  pub marked : (i : ℕ) (t : Table) (l : Leaf) → slice_get known i ≡ Some t → Contains leaves l → l.table ≡ t.number → (written l.id ≡ framed_part (leaf_named l.id leaves)) ⊎ IsUnmarked marks l
 
 -- it has all of these ids
 abbrev pub HasAll : List ℕ → List ℕ → Type 0

@@ -28,6 +28,7 @@ use Rattle.ckpt_step.specs.Trees.{AreLow}
 use Rattle.ckpt_step.specs.Rooms.{known_in}
 use Rattle.engine_store.specs.declared.store.Store.{Store}
 use Rattle.engine_store.specs.Loads.{LeafOfSpoils, LeafSpoils}
+use Rattle.engine_store.specs.GoneOut.{all_out}
 use Rattle.engine_store.specs.Marked.{AreAway}
 
 -- whatever the disk: another checkpoint by the engine's run may follow, and each tree is that of a table, with as many levels as a record can tell
@@ -54,7 +55,7 @@ pub record IsOpened (seen : List ℕ) (images : List ℕ → Type 0) (s : Store)
 
 -- whatever the disk, a hub from which calls go on
 abbrev pub IsOutset : Hub → Type 0
-IsOutset h = IsDirectory h.dir × HubGoesOn h h
+IsOutset h = IsDirectory h.dir × HubGoesOn (all_out h) h
 
 -- the next number leaves none for as many tables as an engine may have
 abbrev pub LacksNumbers : Record → Type 0

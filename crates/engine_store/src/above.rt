@@ -12,12 +12,13 @@ ghost use Rattle.engine_store.specs.Found.{IsFound, RefusesBegin};
 ghost use Rattle.engine_store.specs.Opened.{IsOutset, IsReady, LacksNumbers, SpoilsAreThere};
 
 use crate::by_place::trees_by_place;
-use crate::marked::bring_marked;
+use crate::eviction::Clock;
+use crate::marked::{bring_marked, keep_marked};
 use crate::places::trees_over;
 use crate::store::Store;
 use crate::tables::with_entries;
 use checkpoint_record::{Record, TableRoot, records_are_recorded};
-use ckpt_step::{Ground, Parts};
+use ckpt_step::Ground;
 use device_leaf::Place;
 use disk_model::Disk;
 use engine_start::start;
@@ -68,15 +69,17 @@ pub(crate) fn store_above<D: Disk>(
         Ok(()) => {
             // What holds of the leaves of every engine holds of these.
             engine.leaves();
+            let parts = keep_marked(alloc, &engine, &marks)?;
             Ok(Store {
                 engine,
                 ground: Ground {
                     place,
                     number,
                     trees,
-                    parts: Parts::new(alloc),
+                    parts,
                     floor: Name { run: 0, id: 0 },
                 },
+                clock: Clock::new(),
             })
         }
         Err(refusal) => Err(refusal),

@@ -81,6 +81,26 @@ impl Store {
         ensures keeps { CallKeeps D.Disk self.old self.new disk.old disk.new }
         ensures sessions { length self.new.engine.sessions ≡ length self.old.engine.sessions }
     {
+        let told = self.call_through(alloc, disk, session, call);
+        self.make_way::<D>();
+        told
+    }
+
+    // The same, with the leaves that it read still in their frames.
+    #[inline(always)]
+    fn call_through<D: Disk>(
+        &mut self,
+        alloc: Global,
+        disk: &mut D,
+        session: u32,
+        call: SessionCall,
+    ) -> Answer<Item>
+        requires { session < length self.old.engine.sessions }
+        ensures called { Holding D.Disk self.old disk.old (λ start w first made. CalledAs D.Disk start w first made self.old self.new disk.old disk.new session (session_call_in call) result) }
+        ensures told { TellsSo D.Disk self.old self.new disk.old disk.new (λ basis start. MayAnswerSo D.Disk basis start disk.new result) }
+        ensures keeps { CallKeeps D.Disk self.old self.new disk.old disk.new }
+        ensures sessions { length self.new.engine.sessions ≡ length self.old.engine.sessions }
+    {
         // What holds of every engine holds of this one.
         self.engine.actors();
         let called = self.engine.call(alloc, session, call);
@@ -90,6 +110,27 @@ impl Store {
     /// A whole get, as `call` with `SessionCall::Get`, of bytes that are lent.
     #[inline(always)]
     pub fn get<D: Disk>(
+        &mut self,
+        alloc: Global,
+        disk: &mut D,
+        session: u32,
+        table: &[u8],
+        key: &[u8],
+    ) -> Answer<Item>
+        requires { session < length self.old.engine.sessions }
+        ensures called { Holding D.Disk self.old disk.old (λ start w first made. CalledAs D.Disk start w first made self.old self.new disk.old disk.new session (session_call_in (SessionCall.Get table.now key.now)) result) }
+        ensures told { TellsSo D.Disk self.old self.new disk.old disk.new (λ basis start. MayAnswerSo D.Disk basis start disk.new result) }
+        ensures keeps { CallKeeps D.Disk self.old self.new disk.old disk.new }
+        ensures sessions { length self.new.engine.sessions ≡ length self.old.engine.sessions }
+    {
+        let told = self.get_through(alloc, disk, session, table, key);
+        self.make_way::<D>();
+        told
+    }
+
+    // The same, with the leaves that it read still in their frames.
+    #[inline(always)]
+    fn get_through<D: Disk>(
         &mut self,
         alloc: Global,
         disk: &mut D,
@@ -127,6 +168,29 @@ impl Store {
         ensures keeps { CallKeeps D.Disk self.old self.new disk.old disk.new }
         ensures sessions { length self.new.engine.sessions ≡ length self.old.engine.sessions }
     {
+        let told = self.put_through(alloc, disk, session, table, key, value, demand);
+        self.make_way::<D>();
+        told
+    }
+
+    // The same, with the leaves that it read still in their frames.
+    #[inline(always)]
+    fn put_through<D: Disk>(
+        &mut self,
+        alloc: Global,
+        disk: &mut D,
+        session: u32,
+        table: &[u8],
+        key: &[u8],
+        value: &[u8],
+        demand: Demand,
+    ) -> Answer<Item>
+        requires { session < length self.old.engine.sessions }
+        ensures called { Holding D.Disk self.old disk.old (λ start w first made. CalledAs D.Disk start w first made self.old self.new disk.old disk.new session (session_call_in (SessionCall.Put table.now key.now value.now demand)) result) }
+        ensures told { TellsSo D.Disk self.old self.new disk.old disk.new (λ basis start. MayAnswerSo D.Disk basis start disk.new result) }
+        ensures keeps { CallKeeps D.Disk self.old self.new disk.old disk.new }
+        ensures sessions { length self.new.engine.sessions ≡ length self.old.engine.sessions }
+    {
         // What holds of every engine holds of this one.
         self.engine.actors();
         let called = self.engine.put(alloc, session, table, key, value, demand);
@@ -136,6 +200,19 @@ impl Store {
     /// One step of an actor. A call that waits for a leaf has it read first; where it cannot be had,
     /// that is the step.
     pub fn step<D: Disk>(&mut self, alloc: Global, disk: &mut D, step: Step) -> Reply
+        requires { StepFits self.old.engine step }
+        ensures stepped { Holding D.Disk self.old disk.old (λ start w first made. Stepped D.Disk start w first made self.old self.new disk.old disk.new step result) }
+        ensures told { TellsSo D.Disk self.old self.new disk.old disk.new (λ basis start. MayReplySo D.Disk basis start disk.new result) }
+        ensures keeps { CallKeeps D.Disk self.old self.new disk.old disk.new }
+        ensures sessions { length self.new.engine.sessions ≡ length self.old.engine.sessions }
+    {
+        let told = self.step_through(alloc, disk, step);
+        self.make_way::<D>();
+        told
+    }
+
+    // The same, with the leaves that it read still in their frames.
+    fn step_through<D: Disk>(&mut self, alloc: Global, disk: &mut D, step: Step) -> Reply
         requires { StepFits self.old.engine step }
         ensures stepped { Holding D.Disk self.old disk.old (λ start w first made. Stepped D.Disk start w first made self.old self.new disk.old disk.new step result) }
         ensures told { TellsSo D.Disk self.old self.new disk.old disk.new (λ basis start. MayReplySo D.Disk basis start disk.new result) }
@@ -152,6 +229,19 @@ impl Store {
 
     /// All that is left of the call that an actor has started.
     pub fn finish<D: Disk>(&mut self, alloc: Global, disk: &mut D, actor: Actor) -> Answer<Item>
+        requires { StepFits self.old.engine (Step.Go actor) }
+        ensures finished { Holding D.Disk self.old disk.old (λ start w first made. Finished D.Disk start w first made self.old self.new disk.old disk.new actor result) }
+        ensures told { TellsSo D.Disk self.old self.new disk.old disk.new (λ basis start. MayAnswerSo D.Disk basis start disk.new result) }
+        ensures keeps { CallKeeps D.Disk self.old self.new disk.old disk.new }
+        ensures sessions { length self.new.engine.sessions ≡ length self.old.engine.sessions }
+    {
+        let told = self.finish_through(alloc, disk, actor);
+        self.make_way::<D>();
+        told
+    }
+
+    // The same, with the leaves that it read still in their frames.
+    fn finish_through<D: Disk>(&mut self, alloc: Global, disk: &mut D, actor: Actor) -> Answer<Item>
         requires { StepFits self.old.engine (Step.Go actor) }
         ensures finished { Holding D.Disk self.old disk.old (λ start w first made. Finished D.Disk start w first made self.old self.new disk.old disk.new actor result) }
         ensures told { TellsSo D.Disk self.old self.new disk.old disk.new (λ basis start. MayAnswerSo D.Disk basis start disk.new result) }
@@ -310,6 +400,7 @@ impl Store {
         if let Some(_) = self.ground.parts.of(leaf) {
             return Err(Refusal::NoMemory);
         }
+        self.clock.tick();
         bring(alloc, disk, &mut self.engine, leaf)
     }
 }

@@ -1,6 +1,7 @@
 //! Leaves of which an opening may take something out, or whose blocks no checkpoint keeps.
 
-ghost use Rattle.std.specs.Prelude.{◌≡◌, ◌++◌, ◌∷◌, [], ℕ, List, None, false, IfErr, IfOk, OnOk, IsTrue};
+ghost use Rattle.std.specs.Prelude.{◌≡◌, ◌⊎◌, ◌==◌, ◌<◌, ◌++◌, ◌∷◌, [], ℕ, List, None, false, length, get_or, if◌then◌else◌, option_map, IfErr, IfOk, OnOk, IsTrue};
+ghost use Rattle.std.specs.Option.{option_or};
 ghost use Rattle.std.specs.List.{Contains};
 ghost use Rattle.disk_model.specs.Crash.{Looked};
 ghost use Rattle.engine_world.specs.Leaves.{LeavesOwned};
@@ -9,16 +10,20 @@ ghost use Rattle.engine_world.specs.Worlds.{World};
 ghost use Rattle.engine.specs.Directories.{HubGoesOn, LeavesGoOn};
 ghost use Rattle.engine.specs.Waits.{IsAway, in_none};
 ghost use Rattle.tree_dir.specs.declared.leaf.Leaf.{Leaf as ALeaf};
-ghost use Rattle.engine_store.specs.Marked.{AreMarked, AreMarkedOf, HasAll, IsFramed, IsLeafKept, IsUnmarked, LeadsOn};
+ghost use Rattle.tree_dir.specs.Leaves.{leaf_named};
+ghost use Rattle.ckpt_step.specs.Rooms.{known_in};
+ghost use Rattle.engine_store.specs.Marked.{AreMarked, AreMarkedOf, HasAll, IsFramed, IsLeafKept, IsUnmarked, KeepMarked, LeadsOn, framed_part};
 ghost use Rattle.engine_store.specs.Loads.{RefusesLeaf, RefusesSome};
 
 use crate::loading::{link_of, read_leaf};
 use catalog::Table;
+use ckpt_step::Parts;
 use device_layout::Link;
 use device_leaf::is_nowhere;
 use disk_model::Disk;
 use engine::Local;
 use failure::NoMemory;
+use inner_page::Entry;
 use leaf_load::{is_surely_seen, one_is_loaded};
 use leaf_rows::Marks;
 use std::alloc::Global;
@@ -54,6 +59,60 @@ pub(crate) fn bring_marked<D: Disk>(
         }
     }
     Ok(())
+}
+
+/// Of the leaves of which an opening with these marks may take something out, which are in frames, the
+/// entries by which the device's checkpoint has them: they are not in their frames as they lie on the
+/// device. The error is want of memory. `O(n)` in the leaves, and `O(log n)` for each of those.
+pub(crate) fn keep_marked(alloc: Global, engine: &Local, marks: &Marks) -> Result<Parts, NoMemory>
+    ensures { IfOk result (λ parts. KeepMarked engine.now.hub.tables.tables engine.now.hub.dir.leaves marks.now (known_in parts)) }
+{
+    let marked = marked_of(alloc, engine, marks)?;
+    own_parts(alloc, engine.leaves(), &marked)
+}
+
+// Of the leaves of these ids that are in frames, their own entries.
+fn own_parts(alloc: Global, leaves: &Dir, ids: &[u64]) -> Result<Parts, NoMemory>
+    ensures own { IfOk result (λ parts. (id : ℕ) → (known_in parts id ≡ None) ⊎ (known_in parts id ≡ framed_part (leaf_named id leaves.now.leaves))) }
+    ensures all { IfOk result (λ parts. (k : ℕ) → k < length ids.now → known_in parts (get_or ids.now k 0) ≡ framed_part (leaf_named (get_or ids.now k 0) leaves.now.leaves)) }
+{
+    let mut parts = Parts::new(alloc);
+    for leaf in ids {
+        keep_own(alloc, &mut parts, leaves, *leaf)?;
+    }
+    Ok(parts)
+}
+
+// Keeps the own entry of the leaf of this id, where it is in a frame and its link leads to rows.
+fn keep_own(alloc: Global, parts: &mut Parts, leaves: &Dir, leaf: u64) -> Result<(), NoMemory>
+    ensures { OnOk result ((id : ℕ) → known_in parts.new id ≡ (if id == leaf then option_or (framed_part (leaf_named leaf leaves.now.leaves)) (known_in parts.old leaf) else known_in parts.old id)) }
+{
+    match framed_entry(leaves, leaf) {
+        None => Ok(()),
+        Some(entry) => parts.keep(leaf, one_copy(alloc, entry)?),
+    }
+}
+
+fn framed_entry(leaves: &Dir, leaf: u64) -> Option<&Entry>
+    ensures { option_map (λ e. e.now ∷ []) result ≡ framed_part (leaf_named leaf leaves.now.leaves) }
+{
+    let found = leaves.leaf(leaf)?;
+    if is_in_none(found) || found.entry.link.greatest.id == 0 {
+        None
+    } else {
+        Some(&found.entry)
+    }
+}
+
+fn one_copy(alloc: Global, entry: &Entry) -> Result<Vec<Entry>, NoMemory>
+    ensures { IfOk result (λ v. v.items ≡ entry.now ∷ []) }
+{
+    let mut entries = Vec::with_capacity(alloc, 1)?;
+    entries.push_reserved(Entry {
+        key: entry.key.copy()?,
+        link: entry.link,
+    });
+    Ok(entries)
 }
 
 // The ids of the leaves of which an opening may take something out. The error is want of memory.

@@ -9,6 +9,7 @@ ghost use Rattle.engine_store.specs.Found.{IsFound};
 ghost use Rattle.engine_store.specs.Opened.{IsOpened, IsOutset, IsReady, IsSurveyable, RefusesOpen, SpoilsAreThere};
 
 use crate::above::store_above;
+use crate::eviction::Clock;
 use crate::store::Store;
 use catalog::Catalog;
 use ckpt_step::{Ground, Parts};
@@ -74,5 +75,6 @@ fn store_on_nothing(alloc: Global, place: Place) -> Result<Store, NoMemory>
             parts: Parts::new(alloc),
             floor: Name { run: 0, id: 0 },
         },
+        clock: Clock::new(),
     })
 }

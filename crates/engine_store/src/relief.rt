@@ -6,14 +6,12 @@ ghost use Rattle.engine_world.specs.GivingWay.{IsIdle};
 ghost use Rattle.ckpt_step.specs.Rooms.{known_in};
 ghost use Rattle.engine_store.specs.Relieves.{LetsGo, has_to_go};
 
+use crate::eviction::FRAMES;
 use crate::store::Store;
 use ckpt_step::{entries_in_place, grounds_give_way};
 use disk_model::Disk;
 use std::alloc::Global;
 use tree_dir::Dir;
-
-// So many frames keep their leaves.
-const FRAMES: usize = 64;
 
 impl Store {
     /// While no session has a call, a transaction or a cursor on a leaf, leaves give way to what the

@@ -17,6 +17,7 @@ ghost use Rattle.engine_store.specs.Devices.{Installed};
 ghost use Rattle.engine_store.specs.Held.{Checkpoints, IsHeld, MayReopen, Shuts};
 ghost use Rattle.engine_store.specs.Opened.{IsAtFault, IsReady};
 
+use crate::eviction::Clock;
 use crate::opening::open_on;
 use ckpt_step::{Ground, checkpoint, checkpoints_have_newest, checkpoints_open, plain_stays};
 use disk_model::Disk;
@@ -32,6 +33,8 @@ pub struct Store {
     pub engine: Local,
     /// The last completed checkpoint of its device.
     pub ground: Ground,
+    // Which leaves go out of their frames.
+    pub(crate) clock: Clock,
 }
 
 impl Store {

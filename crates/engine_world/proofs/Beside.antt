@@ -1,6 +1,6 @@
 -- What an event of a session leaves to the other sessions.
-use Rattle.std.proofs.Common.{◌≡◌, ◌≢◌, ◌<◌, ◌≤◌, ℕ, true, List, length}
-use Rattle.std.specs.Prelude.{Some, None}
+use Rattle.std.proofs.Common.{◌≡◌, ◌≢◌, ◌<◌, ◌≤◌, ℕ, true, List, [], length}
+use Rattle.std.specs.Prelude.{Option, Some, None}
 use Rattle.std.specs.List.{Contains}
 use Rattle.item.specs.declared.Change.{Change}
 use Rattle.stamp.specs.declared.Name.{Name}
@@ -83,32 +83,33 @@ pub record Beside (session : ℕ) (m next : Machine) (hub later : Hub) (pieces p
   pub slots : SlotsStay pieces pieces'
   pub updates : OthersUpdates m session pieces pieces'
 
--- a leaf as it is later: one that has a frame stays in it
-pub record IsAlike (l now : Leaf) : Type 0 where
+-- a leaf as it is later: one that has a frame stays in it, but in the one that its leaf left (freed)
+pub record IsAlike (freed : Option ℕ) (l now : Leaf) : Type 0 where
   pub id : now.id ≡ l.id
   pub table : now.table ≡ l.table
   pub key : now.entry.key ≡ l.entry.key
-  pub frame : (f : Framed) → l.frame ≡ Some f → now.frame ≡ Some f
+  pub frame : (f : Framed) → l.frame ≡ Some f → freed ≢ Some f.frame → now.frame ≡ Some f
 
 -- a directory says of the leaves that were there what it said; to: what each has become
-pub record LeavesKept (leaves made : List Leaf) : Type 0 where
+pub record LeavesKept (freed : Option ℕ) (leaves made : List Leaf) : Type 0 where
   pub to : Leaf → Leaf
-  pub alike : (l : Leaf) → IsAlike l (to l)
+  pub alike : (l : Leaf) → IsAlike freed l (to l)
   pub there : (l : Leaf) → Contains leaves l → Contains made (to l)
   pub under : (table : ℕ) (key : List ℕ) (l : Leaf) → leaf_under table key leaves ≡ Some l → leaf_under table key made ≡ Some (to l)
   pub behind : (l : Leaf) → Contains leaves l → low_key (leaf_behind l.id made) ≡ low_key (leaf_behind l.id leaves)
   pub on : (way : Way) (l : Leaf) → Contains leaves l → leaves_on way l.table l.id made ≡ leaves_on way l.table l.id leaves
 
--- and a frame that has one of them stays with its table, and a key in it keeps its slot
-pub record LeavesStay (leaves made : List Leaf) (pieces later : List FramePiece) : Type 0 where
-  pub kept : LeavesKept leaves made
-  pub tables : (table : ℕ) (key : List ℕ) (frame : ℕ) → frame_of leaves table key ≡ Some frame → table_at later frame ≡ table_at pieces frame
+-- and a frame that has one of them stays with its table, and a key in it keeps its slot; the one that its leaf left has none
+pub record LeavesStay (freed : Option ℕ) (leaves made : List Leaf) (pieces later : List FramePiece) : Type 0 where
+  pub kept : LeavesKept freed leaves made
+  pub tables : (table : ℕ) (key : List ℕ) (frame : ℕ) → frame_of leaves table key ≡ Some frame → freed ≢ Some frame → table_at later frame ≡ table_at pieces frame
   pub slots : (table : ℕ) (key : List ℕ) (frame : ℕ) (other : List ℕ) (i : ℕ) → frame_of leaves table key ≡ Some frame → slot_of other (slots_in pieces frame) ≡ Some i → slot_of other (slots_in later frame) ≡ Some i
+  pub bare : (frame : ℕ) → freed ≡ Some frame → slots_in pieces frame ≡ []
 
 -- what is left to each session but this one, also while sessions are opened, stamps are raised and tables are made
-pub record Apart (session : ℕ) (m next : Machine) (hub later : Hub) (pieces pieces' : List FramePiece) : Type 0 where
+pub record Apart (freed : Option ℕ) (session : ℕ) (m next : Machine) (hub later : Hub) (pieces pieces' : List FramePiece) : Type 0 where
   pub machine : MachineApart session m next
-  pub leaves : LeavesStay hub.dir.leaves later.dir.leaves pieces pieces'
+  pub leaves : LeavesStay freed hub.dir.leaves later.dir.leaves pieces pieces'
   pub seats : length hub.txns.sessions ≤ length later.txns.sessions
   pub phases : (r : ℕ) → r ≢ session → phase_of later.txns r ≡ phase_of hub.txns r
   pub updates : OthersUpdates m session pieces pieces'

@@ -59,7 +59,7 @@ checkpoints-go chains e w st free none = record {
   table : TableStands e.hub.txns begun
   table = (calls-stand e.hub.txns w.machine st.valid st.txns).others CheckpointStart tt may
 
-  beside : Apart (length e.sessions) w.machine (checkpointed w.machine) e.hub e.hub e.pieces e.pieces
+  beside : Apart None (length e.sessions) w.machine (checkpointed w.machine) e.hub e.hub e.pieces e.pieces
   beside = record {
     machine = checkpointed-apart (length e.sessions) w.machine st.valid may;
     leaves = leaves-same e.hub.dir.leaves e.pieces;

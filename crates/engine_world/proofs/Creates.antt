@@ -119,10 +119,10 @@ module _ (chains : ChainsGoOn) (e : Engine) (w : World) (known : Known) (dir : D
   come : IsCome e.hub.dir.leaves dir.leaves (new_leaf t.number id frame)
   come = comes e.hub.dir dir t.number id frame c.stands.dir none-of c.leaf
 
-  kept : LeavesKept e.hub.dir.leaves dir.leaves
+  kept : LeavesKept None e.hub.dir.leaves dir.leaves
   kept = come-kept e.hub.dir dir.leaves (new_leaf t.number id frame) c.stands.dir come
 
-  new-stands : LeafInFrame next dir.leaves pieces states (new_leaf t.number id frame)
+  new-stands : LeafInFrame next w.shelf dir.leaves pieces states (new_leaf t.number id frame)
   new-stands = record {
     laid = record {
       framed = record { frame = frame; generation = 0 };
@@ -136,6 +136,7 @@ module _ (chains : ChainsGoOn) (e : Engine) (w : World) (known : Known) (dir : D
     keys = λ key under. chains w.machine (CreateTable t) t.number key [] None [] c.stands.valid c.may tt
         (absent-stands w.machine t.number key c.stands.valid (number-absent w.machine t c.may.0));
     bare = λ key outside. absurd (outside (under-come e.hub.dir dir.leaves (new_leaf t.number id frame) c.stands.dir come refl key));
+    lies = λ some. absurd (omega (arith, some));
   }
 
   old-stands : (l : Leaf) → Contains e.hub.dir.leaves l → LeafStands next w.shelf dir.leaves pieces states l
@@ -143,7 +144,7 @@ module _ (chains : ChainsGoOn) (e : Engine) (w : World) (known : Known) (dir : D
     same : (key : List ℕ) → leaf_under l.table key dir.leaves ≡ leaf_under l.table key e.hub.dir.leaves
     same key = under-same e.hub.dir dir.leaves (new_leaf t.number id frame) c.stands.dir come l.table key (come.apart l there)
 
-    apart : (old : LeafInFrame next e.hub.dir.leaves e.pieces e.states l) → old.laid.framed.frame ≢ frame
+    apart : (old : LeafInFrame next w.shelf e.hub.dir.leaves e.pieces e.states l) → old.laid.framed.frame ≢ frame
     apart old = not-empty e.pieces frame old.laid.framed.frame old.laid.frame c.empty old.laid.there
 
     by : LeafStands next w.shelf e.hub.dir.leaves e.pieces e.states l → LeafStands next w.shelf dir.leaves pieces states l
@@ -164,6 +165,7 @@ module _ (chains : ChainsGoOn) (e : Engine) (w : World) (known : Known) (dir : D
       };
       keys = λ key under. old.keys key (sym (same key) ∙ under);
       bare = λ key outside. old.bare key (λ under. outside (same key ∙ under));
+      lies = old.lies;
     })
 
   each-stands : LeavesStand next w.shelf dir.leaves pieces states
@@ -190,11 +192,12 @@ module _ (chains : ChainsGoOn) (e : Engine) (w : World) (known : Known) (dir : D
   home-apart table key f home = let h = home-at w.machine w.shelf e.hub.dir e.pieces e.states table key f c.stands.dir c.stands.leaves home in
       not-empty e.pieces frame f h.stands.laid.frame c.empty (ap (frame_in e.pieces) (sym h.at) ∙ h.stands.laid.there)
 
-  leaves-stay : LeavesStay e.hub.dir.leaves dir.leaves e.pieces pieces
+  leaves-stay : LeavesStay None e.hub.dir.leaves dir.leaves e.pieces pieces
   leaves-stay = record {
     kept = kept;
-    tables = λ table key f home. ap (λ (o : Option Frame). of_some 0 (λ (x : Frame). x.table) o) (old-frame e.pieces frame f (first_piece t id) (home-apart table key f home));
+    tables = λ table key f home other. ap (λ (o : Option Frame). of_some 0 (λ (x : Frame). x.table) o) (old-frame e.pieces frame f (first_piece t id) (home-apart table key f home));
     slots = λ table key f other i home slot. ap (λ (o : Option Frame). slot_of other (chains_in o)) (old-frame e.pieces frame f (first_piece t id) (home-apart table key f home)) ∙ slot;
+    bare = λ f none. absurd cc;
   }
 
   updates-stay : OthersUpdates w.machine (length e.sessions) e.pieces pieces
@@ -203,7 +206,7 @@ module _ (chains : ChainsGoOn) (e : Engine) (w : World) (known : Known) (dir : D
     | inr elsewhere ↦ subst (λ f. Member u (chain_at key (chains_in f))) (old-frame e.pieces frame at (first_piece t id) elsewhere) member
   ]
 
-  made-beside : Apart (length e.sessions) w.machine next e.hub (record e.hub { tables = known; dir = dir }) e.pieces pieces
+  made-beside : Apart None (length e.sessions) w.machine next e.hub (record e.hub { tables = known; dir = dir }) e.pieces pieces
   made-beside = record {
     machine = created-apart (length e.sessions) w.machine t c.stands.valid c.may;
     leaves = leaves-stay;
@@ -226,7 +229,7 @@ module _ (chains : ChainsGoOn) (e : Engine) (w : World) (known : Known) (dir : D
     leaves = each-stands;
     count = c.stands.count;
     doings = c.stands.doings;
-    doing = λ r b there. c.stands.doing r b there ∙ sym (doing-kept w.machine e.hub.dir.leaves dir.leaves e.pieces r b kept (c.stands.sessions r b there).stage);
+    doing = λ r b there. c.stands.doing r b there ∙ sym (doing-kept None w.machine e.hub.dir.leaves dir.leaves e.pieces r b kept (c.stands.sessions r b there).stage);
     sessions = λ r b there. others-stay (length e.sessions) w.machine next e.hub (record e.hub { tables = known; dir = dir }) e.pieces pieces r b
         made-beside (past-all e.sessions r b there) c.stands.valid (c.stands.sessions r b there);
     systems = c.stands.systems;

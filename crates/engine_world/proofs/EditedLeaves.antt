@@ -207,17 +207,17 @@ table-edited change p = by p.frame where
   by (Some f) = refl
 
 -- the frame of a leaf that stands
-pub leaf-framed : (m : Machine) (leaves : List Leaf) (pieces : List FramePiece) (states : List ℕ) (l : Leaf) (frame : ℕ) → (x : LeafInFrame m leaves pieces states l) → x.laid.framed.frame ≡ frame → frame_in pieces frame ≡ Some x.laid.frame
-leaf-framed m leaves pieces states l frame x at = ap (frame_in pieces) (sym at) ∙ x.laid.there
+pub leaf-framed : (m : Machine) (shelf : ℕ → List Row) (leaves : List Leaf) (pieces : List FramePiece) (states : List ℕ) (l : Leaf) (frame : ℕ) → (x : LeafInFrame m shelf leaves pieces states l) → x.laid.framed.frame ≡ frame → frame_in pieces frame ≡ Some x.laid.frame
+leaf-framed m shelf leaves pieces states l frame x at = ap (frame_in pieces) (sym at) ∙ x.laid.there
 
 -- a slot that was noted in the frame of a leaf is of a key that lies in it
 pub lies-in : (m : Machine) (shelf : ℕ → List Row) (d : Directory) (pieces : List FramePiece) (states : List ℕ) (l : Leaf) (frame : ℕ) (k : WrittenKey) (table : ℕ) (key : List ℕ) → IsDirectory d → LeavesStand m shelf d.leaves pieces states → Contains d.leaves l
-    → (x : LeafInFrame m d.leaves pieces states l) → x.laid.framed.frame ≡ frame → k.frame ≡ frame → IsSlotOf d.leaves pieces k table key → (table ≡ l.table) × (leaf_under l.table key d.leaves ≡ Some l)
+    → (x : LeafInFrame m shelf d.leaves pieces states l) → x.laid.framed.frame ≡ frame → k.frame ≡ frame → IsSlotOf d.leaves pieces k table key → (table ≡ l.table) × (leaf_under l.table key d.leaves ≡ Some l)
 lies-in m shelf d pieces states l frame k table key is stand there x at same s = (
   sym h.table_is ∙ ap (λ (n : Leaf). n.table) one,
   subst (λ (n : Leaf). leaf_under n.table key d.leaves ≡ Some n) one h.under,
 ) where
-  h : IsAt m d pieces states table key k.frame
+  h : IsAt m shelf d pieces states table key k.frame
   h = home-at m shelf d pieces states table key k.frame is stand s.home
 
   one : h.leaf ≡ l
@@ -229,7 +229,7 @@ pub leaf-edited : (e : Edit) (m : Machine) (t : Transaction) (shelf : ℕ → Li
 leaf-edited e m t shelf d pieces states keys zero p o at = absurd (let some = o.some in omega arith)
 leaf-edited e m t shelf d pieces states keys (suc n) p o at = record {
   leaves = leaves-on pieces frame p p' at m m shelf states d home.leaf (with_chains new home.stands.laid.frame) o.dir o.leaves home.there home.stands.laid home.at
-      (record { is = whole; table = home.stands.laid.table; id = home.stands.laid.id; keys = final.stands; bare = λ key outside. (final.bare key outside, (home.stands.bare key outside).1) })
+      (record { is = whole; table = home.stands.laid.table; id = home.stands.laid.id; keys = final.stands; bare = λ key outside. (final.bare key outside, (home.stands.bare key outside).1); lies = home.stands.lies })
       (λ l there other key chain row under k. k);
   slots = slots-stay pieces frame p p' at (table-edited change p) (λ key i there. ap (slot_of key) now ∙ (final.places key ∙ (ap (slot_of key) was ∙ there)));
   brings = brings-only pieces frame p p' at (name_of m t) (λ key u member other. subst (λ l. Member u (chain_at key l)) was (final.brings key u (subst (λ l. Member u (chain_at key l)) now member) other));
@@ -256,11 +256,11 @@ leaf-edited e m t shelf d pieces states keys (suc n) p o at = record {
   noted : (w : Write) × Member w t.writes × IsSlotOf d.leaves pieces last.0 w.table w.key
   noted = o.noted.wrote last.0 (got-member keys n last.0 last.1)
 
-  home : IsAt m d pieces states noted.0.table noted.0.key (frame_at keys (suc n))
+  home : IsAt m shelf d pieces states noted.0.table noted.0.key (frame_at keys (suc n))
   home = home-at m shelf d pieces states noted.0.table noted.0.key (frame_at keys (suc n)) o.dir o.leaves (noted.2.home ∙ ap Some here)
 
   there : frame_in pieces (frame_at keys (suc n)) ≡ Some home.stands.laid.frame
-  there = leaf-framed m d.leaves pieces states home.leaf (frame_at keys (suc n)) home.stands home.at
+  there = leaf-framed m shelf d.leaves pieces states home.leaf (frame_at keys (suc n)) home.stands home.at
 
   framed : p.frame ≡ Some home.stands.laid.frame
   framed = sym (frame-there pieces (frame_at keys (suc n)) p at) ∙ there

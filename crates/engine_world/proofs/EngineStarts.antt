@@ -74,6 +74,7 @@ leaf-starts alike c shelf leaves pieces states l regular (inl leaf) = inl (recor
   laid = leaf.laid;
   keys = λ key under. key-starts alike c l.table key (chain_at key leaf.laid.frame.leaf.chains) (shown_at key leaf.laid.frame.leaf.page) regular (leaf.keys key under);
   bare = leaf.bare;
+  lies = leaf.lies;
 })
 leaf-starts alike c shelf leaves pieces states l regular (inr leaf) = inr (record {
   none = leaf.none;

@@ -15,6 +15,7 @@ use Rattle.kv_model.specs.Reads.{own_write, is_own, IsEnding}
 use Rattle.kv_model.proofs.Newest.{find-member}
 use Rattle.kv_model.proofs.OwnWrites.{at-parts}
 use Rattle.rows_shown.specs.Shows.{shown_at}
+use Rattle.row_page.specs.Rows.{Row}
 use Rattle.tree_dir.specs.declared.leaf.Framed.{Framed}
 use Rattle.tree_dir.specs.declared.leaf.Leaf.{Leaf}
 use Rattle.tree_dir.specs.Leaves.{leaf_under}
@@ -156,14 +157,15 @@ abbrev pub row_at : List FramePiece → ℕ → List ℕ → Option (Version Cha
 row_at pieces place key = shown_at key (of_some [] (λ (f : Frame). f.leaf.page) (frame_in pieces place))
 
 -- what a leaf holds, key by key, with the frames as they are
-pub leaf-with : (m next : Machine) (leaves : List Leaf) (pieces : List FramePiece) (states : List ℕ) (l : Leaf) → (x : LeafInFrame m leaves pieces states l)
+pub leaf-with : (m next : Machine) (shelf : ℕ → List Row) (leaves : List Leaf) (pieces : List FramePiece) (states : List ℕ) (l : Leaf) → (x : LeafInFrame m shelf leaves pieces states l)
     → ((key : List ℕ) → leaf_under l.table key leaves ≡ Some l → StandsFor m l.table key (chain_at key (slots_in pieces x.laid.framed.frame)) (row_at pieces x.laid.framed.frame key) []
     → StandsFor next l.table key (chain_at key (slots_in pieces x.laid.framed.frame)) (row_at pieces x.laid.framed.frame key) [])
-    → LeafInFrame next leaves pieces states l
-leaf-with m next leaves pieces states l x on = record {
+    → LeafInFrame next shelf leaves pieces states l
+leaf-with m next shelf leaves pieces states l x on = record {
   laid = x.laid;
   keys = λ key under. subst (Holds next key) x.laid.there (on key under (subst (Holds m key) (sym x.laid.there) (x.keys key under)));
   bare = x.bare;
+  lies = x.lies;
 } where
   Holds : Machine → List ℕ → Option Frame → Type 0
   Holds m key o = StandsFor m l.table key (chain_at key (of_some [] (λ (f : Frame). f.leaf.chains) o)) (shown_at key (of_some [] (λ (f : Frame). f.leaf.page) o)) []
@@ -188,8 +190,8 @@ leaves-own chains-go-on e w s a x event st at there may alone on l here = by (st
   noted : AreNoted e.hub.dir.leaves e.pieces x.writes a.written
   noted = subst (λ o. AreNoted e.hub.dir.leaves e.pieces (of_some [] (λ (z : Transaction). z.writes) o) a.written) there (st.sessions s a at).noted
 
-  in-frame : LeafInFrame w.machine e.hub.dir.leaves e.pieces e.states l → LeafInFrame (after w.machine event) e.hub.dir.leaves e.pieces e.states l
-  in-frame leaf = leaf-with w.machine (after w.machine event) e.hub.dir.leaves e.pieces e.states l leaf (λ key under k. elim (own-cases (own_write x l.table key)) [
+  in-frame : LeafInFrame w.machine w.shelf e.hub.dir.leaves e.pieces e.states l → LeafInFrame (after w.machine event) w.shelf e.hub.dir.leaves e.pieces e.states l
+  in-frame leaf = leaf-with w.machine (after w.machine event) w.shelf e.hub.dir.leaves e.pieces e.states l leaf (λ key under k. elim (own-cases (own_write x l.table key)) [
     | inl none ↦ chains-go-on w.machine event l.table key (chain_at key (slots_in e.pieces leaf.laid.framed.frame)) (row_at e.pieces leaf.laid.framed.frame key) [] st.valid may (alone l.table key (did-not w.machine s x l.table key there none)) k
     | inr own ↦ on leaf.laid.framed.frame l.table key own.0 own.1 (own-slot e.hub.dir.leaves e.pieces e.states x a.written l key own.0 noted leaf.laid under own.1) k
   ])

@@ -51,20 +51,22 @@ module _ (e : Engine) (w : World) (st : Stands e w) where
     };
     keys = x.keys;
     bare = x.bare;
+    lies = x.lies;
   })
   by l (inr x) = inr x
 
-  leaves-stay : LeavesStay e.hub.dir.leaves e.hub.dir.leaves e.pieces pieces
+  leaves-stay : LeavesStay None e.hub.dir.leaves e.hub.dir.leaves e.pieces pieces
   leaves-stay = record {
     kept = kept-same e.hub.dir.leaves;
-    tables = λ table key f home. ap (λ (o : Option Frame). of_some 0 (λ (x : Frame). x.table) o) (frame-same e.pieces f);
+    tables = λ table key f home other. ap (λ (o : Option Frame). of_some 0 (λ (x : Frame). x.table) o) (frame-same e.pieces f);
     slots = λ table key f other i home slot. ap (λ (o : Option Frame). slot_of other (of_some [] (λ (x : Frame). x.leaf.chains) o)) (frame-same e.pieces f) ∙ slot;
+    bare = λ f none. absurd cc;
   }
 
   updates-stay : OthersUpdates w.machine (length e.sessions) e.pieces pieces
   updates-stay r x other there drawn at key u member named = subst (λ (o : Option Frame). Member u (chain_at key (of_some [] (λ (x : Frame). x.leaf.chains) o))) (frame-same e.pieces at) member
 
-  apart : Apart (length e.sessions) w.machine w.machine e.hub e.hub e.pieces pieces
+  apart : Apart None (length e.sessions) w.machine w.machine e.hub e.hub e.pieces pieces
   apart = record {
     machine = same-apart (length e.sessions) w.machine;
     leaves = leaves-stay;

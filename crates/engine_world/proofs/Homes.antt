@@ -22,7 +22,7 @@ abbrev pub LeavesStand : Machine → (ℕ → List Row) → List Leaf → List F
 LeavesStand m shelf leaves pieces states = (l : Leaf) → Contains leaves l → LeafStands m shelf leaves pieces states l
 
 -- one that has a frame stands in it
-pub in-its-frame : (m : Machine) (shelf : ℕ → List Row) (leaves : List Leaf) (pieces : List FramePiece) (states : List ℕ) (l : Leaf) (f : Framed) → l.frame ≡ Some f → LeafStands m shelf leaves pieces states l → LeafInFrame m leaves pieces states l
+pub in-its-frame : (m : Machine) (shelf : ℕ → List Row) (leaves : List Leaf) (pieces : List FramePiece) (states : List ℕ) (l : Leaf) (f : Framed) → l.frame ≡ Some f → LeafStands m shelf leaves pieces states l → LeafInFrame m shelf leaves pieces states l
 in-its-frame m shelf leaves pieces states l f placed (inl framed) = framed
 in-its-frame m shelf leaves pieces states l f placed (inr x) = let clash : None ≡ Some f = sym x.none ∙ placed in absurd cc
 
@@ -81,16 +81,16 @@ lies-or-not d l key is there = by (leaf_under l.table key d.leaves) refl where
 -- ---- the leaf of a slot
 
 -- the leaf under a key, where it is
-pub record IsAt (m : Machine) (d : Directory) (pieces : List FramePiece) (states : List ℕ) (table : ℕ) (key : List ℕ) (frame : ℕ) : Type 0 where
+pub record IsAt (m : Machine) (shelf : ℕ → List Row) (d : Directory) (pieces : List FramePiece) (states : List ℕ) (table : ℕ) (key : List ℕ) (frame : ℕ) : Type 0 where
   pub leaf : Leaf
   pub there : Contains d.leaves leaf
   pub table_is : leaf.table ≡ table
   pub under : leaf_under leaf.table key d.leaves ≡ Some leaf
-  pub stands : LeafInFrame m d.leaves pieces states leaf
+  pub stands : LeafInFrame m shelf d.leaves pieces states leaf
   pub at : stands.laid.framed.frame ≡ frame
 
 pub home-at : (m : Machine) (shelf : ℕ → List Row) (d : Directory) (pieces : List FramePiece) (states : List ℕ) (table : ℕ) (key : List ℕ) (frame : ℕ) → IsDirectory d → LeavesStand m shelf d.leaves pieces states → frame_of d.leaves table key ≡ Some frame
-    → IsAt m d pieces states table key frame
+    → IsAt m shelf d pieces states table key frame
 home-at m shelf d pieces states table key frame is stand e = record {
   leaf = h.leaf;
   there = has.there;
@@ -105,7 +105,7 @@ home-at m shelf d pieces states table key frame is stand e = record {
   has : HasKey d table key h.leaf
   has = under-has d is table key h.leaf h.under
 
-  stands : LeafInFrame m d.leaves pieces states h.leaf
+  stands : LeafInFrame m shelf d.leaves pieces states h.leaf
   stands = in-its-frame m shelf d.leaves pieces states h.leaf h.framed h.placed (stand h.leaf has.there)
 
 -- and the frame of a key of a leaf that stands

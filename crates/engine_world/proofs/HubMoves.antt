@@ -147,6 +147,7 @@ leaves-go-on law m event shelf leaves pieces states v may alone stand l there = 
     laid = x.laid;
     keys = λ key home. law m event l.table key (chain_at key x.laid.frame.leaf.chains) (shown_at key x.laid.frame.leaf.page) [] v may (alone l.table key) (x.keys key home);
     bare = x.bare;
+    lies = x.lies;
   })
   by (inr x) = inr (record {
     none = x.none;

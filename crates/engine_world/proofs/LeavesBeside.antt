@@ -52,7 +52,7 @@ module _ (e : Engine) (w : World) (l : Leaf) (framed : Framed) (dir : Directory)
   below : (x : Leaf) → Contains leaves x → x.id < e.hub.dir.next
   below x there = All-contains (λ (y : Leaf). y.id < e.hub.dir.next) leaves x g.stands.dir.below there
 
-  mine : LeafInFrame w.machine leaves e.pieces e.states l
+  mine : LeafInFrame w.machine w.shelf leaves e.pieces e.states l
   mine = in-its-frame w.machine w.shelf leaves e.pieces e.states l framed g.placed (g.stands.leaves l g.there)
 
   -- none of them is in its frame
@@ -93,6 +93,7 @@ module _ (e : Engine) (w : World) (l : Leaf) (framed : Framed) (dir : Directory)
       laid = still-laid x there other old.laid;
       keys = λ key now. old.keys key (under-then x there key now);
       bare = λ key outside. old.bare key (λ was. outside (g.gave.under_other x.table key x other was));
+      lies = λ some. old.lies some ∙ sym (g.shelved.others x.id (below x there));
     })
     by (inr old) = let same = sym (g.shelved.others x.id (below x there)) in inr (record {
       none = old.none;

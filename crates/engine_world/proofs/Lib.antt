@@ -22,6 +22,7 @@ pub mod Finds
 pub mod Finishing
 pub mod Found
 pub mod Filling
+pub mod GoingOut
 pub mod Growing
 pub mod KeepingOut
 pub mod Fronts
@@ -31,6 +32,7 @@ pub mod Homes
 pub mod HubMoves
 pub mod Leaving
 pub mod LeavesBeside
+pub mod LeavesChanged
 pub mod Looking
 pub mod LookingBelow
 pub mod MarkingLeaves

@@ -1,5 +1,5 @@
 -- What stands where a call looks at its leaf, and what its answer leaves of its session.
-use Rattle.std.proofs.Common.{◌≡◌, ◌<◌, ◌≤◌, ◌+◌, ℕ, zero, suc, refl, ap, sym, ◌∙◌, true, List, [], ◌∷◌, inl, inr, subst, arith, map}
+use Rattle.std.proofs.Common.{◌≡◌, ◌<◌, ◌≤◌, ◌+◌, ℕ, zero, suc, refl, ap, sym, ◌∙◌, true, List, [], ◌∷◌, length, inl, inr, subst, arith, map}
 use Rattle.std.specs.Prelude.{Option, Some, None, option_map, slice_get, slice_set}
 use Rattle.std.specs.List.{Contains}
 use Rattle.stamp.specs.declared.View.{View}
@@ -157,6 +157,7 @@ pub record AtLeaf (e : Engine) (w : World) (session frame : ℕ) (a : State) (p 
   pub id : was.id ≡ home.id
   pub keys : (key : List ℕ) → LiesIn e.hub.dir.leaves home key → StandsFor w.machine target.table key (chain_at key was.leaf.chains) (shown_at key was.leaf.page) []
   pub bare : (key : List ℕ) → (LiesIn e.hub.dir.leaves home key → ⊥) → (chain_at key was.leaf.chains ≡ []) × (shown_at key was.leaf.page ≡ None)
+  pub lies : 1 ≤ length was.leaf.page → was.leaf.page ≡ w.shelf home.id
   pub sees : ViewStands w.machine transaction view
   pub on : IsOnLeaf w.machine e.hub.dir.leaves session call target
   pub sought : IsSought w.machine e.hub.dir.leaves session a call home
@@ -191,6 +192,7 @@ module _ (e : Engine) (w : World) (session frame : ℕ) (a : State) (p : FramePi
     keys = λ key lies. subst (λ n. StandsFor w.machine n key (chain_at key stands.laid.frame.leaf.chains) (shown_at key stands.laid.frame.leaf.page) []) number
         (stands.keys key lies);
     bare = stands.bare;
+    lies = stands.lies;
     sees = view-stands e.hub w.machine session seeks.0.0.0 view st.txns v seeks.0.0.1;
     on = seeks.0;
     sought = seeks.1;
@@ -199,7 +201,7 @@ module _ (e : Engine) (w : World) (session frame : ℕ) (a : State) (p : FramePi
     seeks : Seeks w.machine e.hub.dir.leaves session call target a
     seeks = subst (λ g. StageStands g w.machine e.hub.dir.leaves e.pieces session a) is (st.sessions session a at).stage
 
-    stands : LeafInFrame w.machine e.hub.dir.leaves e.pieces e.states seeks.0.1.0
+    stands : LeafInFrame w.machine w.shelf e.hub.dir.leaves e.pieces e.states seeks.0.1.0
     stands = let is = target-is seeks.0.1.0 target seeks.0.1.2 in in-its-frame w.machine w.shelf e.hub.dir.leaves e.pieces e.states seeks.0.1.0 is.framed is.placed (st.leaves seeks.0.1.0 seeks.0.1.1)
 
     number : seeks.0.1.0.table ≡ target.table

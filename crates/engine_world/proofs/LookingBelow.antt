@@ -149,11 +149,11 @@ prev-ordered law e w session a p stamps left t o alive now = subst (λ f. Ordere
       wrote = noted.wrote last.0 last.1
 
       -- the leaf in the frame
-      home : IsAt w.machine e.hub.dir e.pieces e.states wrote.0.table wrote.0.key (frame_at a.written left)
+      home : IsAt w.machine w.shelf e.hub.dir e.pieces e.states wrote.0.table wrote.0.key (frame_at a.written left)
       home = home-at w.machine w.shelf e.hub.dir e.pieces e.states wrote.0.table wrote.0.key (frame_at a.written left) o.st.dir o.st.leaves (wrote.2.home ∙ ap Some last.2)
 
       there : frame_in e.pieces (frame_at a.written left) ≡ Some home.stands.laid.frame
-      there = leaf-framed w.machine e.hub.dir.leaves e.pieces e.states home.leaf (frame_at a.written left) home.stands home.at
+      there = leaf-framed w.machine w.shelf e.hub.dir.leaves e.pieces e.states home.leaf (frame_at a.written left) home.stands home.at
 
       framed : p.frame ≡ Some home.stands.laid.frame
       framed = sym (frame-there e.pieces (frame_at a.written left) p o.piece) ∙ there

@@ -129,10 +129,10 @@ module _ (d : Directory) (made : List Leaf) (n : Leaf) (is : IsDirectory d) (c :
   under-kept : (table : ℕ) (key : List ℕ) (l : Leaf) → leaf_under table key d.leaves ≡ Some l → leaf_under table key made ≡ Some l
   under-kept table key l e = let has = under-has d is table key l e in under-same table key (λ same. c.apart l has.there (same ∙ sym has.table)) ∙ e
 
-  pub come-kept : LeavesKept d.leaves made
+  pub come-kept : LeavesKept None d.leaves made
   come-kept = record {
     to = λ l. l;
-    alike = λ l. record { id = refl; table = refl; key = refl; frame = λ f e. e };
+    alike = λ l. record { id = refl; table = refl; key = refl; frame = λ f e other. e };
     there = come-there;
     under = under-kept;
     behind = λ l there. ap low_key (ap (leaf_behind l.id) c.new ∙ (behind-other l.id c.before c.behind n c.low c.high (c.fresh l there) ∙ ap (leaf_behind l.id) (sym c.old)));

@@ -1,5 +1,5 @@
 -- The slots that were noted for the writes of a transaction.
-use Rattle.std.proofs.Common.{◌≡◌, ◌<◌, ℕ, zero, suc, refl, ap, ◌∙◌, true, List, [], ◌∷◌, inl, inr, subst}
+use Rattle.std.proofs.Common.{◌≡◌, ◌≢◌, ◌<◌, ℕ, zero, suc, refl, ap, sym, ◌∙◌, true, List, [], ◌∷◌, inl, inr, subst}
 use Rattle.std.specs.Prelude.{Option, Some, None, find, slice_get}
 use Rattle.std.proofs.lemmas.Bool.{cases_Bool, both_ways}
 use Rattle.kv_model.specs.Holds.{Member}
@@ -62,34 +62,39 @@ pub slot-durable : (m : Machine) (leaves : List Leaf) (pieces : List FramePiece)
 slot-durable m leaves pieces k table key s = λ i. newest_durable (line m.history (s.number i) (slot-key key (slots_in pieces k.frame) k.slot s.slot i))
 
 -- where the directory is the same
-pub kept-same : (leaves : List Leaf) → LeavesKept leaves leaves
-kept-same leaves = record { to = λ l. l; alike = λ l. record { id = refl; table = refl; key = refl; frame = λ f e. e }; there = λ l there. there; under = λ table key l e. e; behind = λ l there. refl; on = λ way l there. refl }
+pub kept-same : (leaves : List Leaf) → LeavesKept None leaves leaves
+kept-same leaves = record { to = λ l. l; alike = λ l. record { id = refl; table = refl; key = refl; frame = λ f e other. e }; there = λ l there. there; under = λ table key l e. e; behind = λ l there. refl; on = λ way l there. refl }
 
-pub stay-same : (leaves : List Leaf) (pieces later : List FramePiece) → SlotsStay pieces later → LeavesStay leaves leaves pieces later
+pub stay-same : (leaves : List Leaf) (pieces later : List FramePiece) → SlotsStay pieces later → LeavesStay None leaves leaves pieces later
 stay-same leaves pieces later stays = record {
   kept = kept-same leaves;
-  tables = λ table key frame e. stays.tables frame;
+  tables = λ table key frame e other. stays.tables frame;
   slots = λ table key frame other i e at. stays.slots frame other i at;
+  bare = λ frame none. absurd cc;
 }
 
 -- a key stays in its frame
-pub home-stays : (leaves made : List Leaf) (table : ℕ) (key : List ℕ) (frame : ℕ) → LeavesKept leaves made → frame_of leaves table key ≡ Some frame → frame_of made table key ≡ Some frame
-home-stays leaves made table key frame kept e = frame-from made table key (kept.to h.leaf) h.framed (kept.under table key h.leaf h.under) ((kept.alike h.leaf).frame h.framed h.placed) ∙ ap Some h.at where
-  h : IsHome leaves table key frame
-  h = home-is leaves table key frame e
+pub home-stays : (freed : Option ℕ) (leaves made : List Leaf) (table : ℕ) (key : List ℕ) (frame : ℕ) → LeavesKept freed leaves made → frame_of leaves table key ≡ Some frame → freed ≢ Some frame → frame_of made table key ≡ Some frame
+home-stays freed leaves made table key frame kept e stays =
+    frame-from made table key (kept.to h.leaf) h.framed (kept.under table key h.leaf h.under) ((kept.alike h.leaf).frame h.framed h.placed (λ is. stays (is ∙ ap Some h.at))) ∙ ap Some h.at where
+      h : IsHome leaves table key frame
+      h = home-is leaves table key frame e
 
 -- where the leaves stay
-pub slot-stays : (leaves made : List Leaf) (pieces later : List FramePiece) (k : WrittenKey) (table : ℕ) (key : List ℕ) → LeavesStay leaves made pieces later
+pub slot-stays : (freed : Option ℕ) (leaves made : List Leaf) (pieces later : List FramePiece) (k : WrittenKey) (table : ℕ) (key : List ℕ) → LeavesStay freed leaves made pieces later
     → IsSlotOf leaves pieces k table key → IsSlotOf made later k table key
-slot-stays leaves made pieces later k table key stay s = record {
-  home = home-stays leaves made table key k.frame stay.kept s.home;
-  number = stay.tables table key k.frame s.home ∙ s.number;
+slot-stays freed leaves made pieces later k table key stay s = record {
+  home = home-stays freed leaves made table key k.frame stay.kept s.home stays;
+  number = stay.tables table key k.frame s.home stays ∙ s.number;
   slot = stay.slots table key k.frame key k.slot s.home s.slot;
-}
+} where
+  -- no slot is in the frame that its leaf left
+  stays : freed ≢ Some k.frame
+  stays is = let clash : None ≡ Some k.slot = sym (ap (slot_of key) (stay.bare k.frame is)) ∙ s.slot in absurd cc
 
-pub noted-stay : (leaves made : List Leaf) (pieces later : List FramePiece) (writes : List Write) (keys : List WrittenKey) → LeavesStay leaves made pieces later
+pub noted-stay : (freed : Option ℕ) (leaves made : List Leaf) (pieces later : List FramePiece) (writes : List Write) (keys : List WrittenKey) → LeavesStay freed leaves made pieces later
     → AreNoted leaves pieces writes keys → AreNoted made later writes keys
-noted-stay leaves made pieces later writes keys stay n = record {
-  noted = λ w member. let k = n.noted w member in (k.0, k.1, slot-stays leaves made pieces later k.0 w.table w.key stay k.2);
-  wrote = λ k member. let w = n.wrote k member in (w.0, w.1, slot-stays leaves made pieces later k w.0.table w.0.key stay w.2);
+noted-stay freed leaves made pieces later writes keys stay n = record {
+  noted = λ w member. let k = n.noted w member in (k.0, k.1, slot-stays freed leaves made pieces later k.0 w.table w.key stay k.2);
+  wrote = λ k member. let w = n.wrote k member in (w.0, w.1, slot-stays freed leaves made pieces later k w.0.table w.0.key stay w.2);
 }

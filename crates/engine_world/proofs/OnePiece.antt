@@ -1,5 +1,5 @@
 -- One piece of the frames changes, and the others stay.
-use Rattle.std.proofs.Common.{◌≡◌, ◌≢◌, ℕ, zero, suc, refl, ap, sym, ◌∙◌, Bool, true, List, [], ◌∷◌, ◌++◌, inl, inr, subst}
+use Rattle.std.proofs.Common.{◌≡◌, ◌≢◌, ◌≤◌, ℕ, zero, suc, refl, ap, sym, ◌∙◌, Bool, true, List, [], ◌∷◌, ◌++◌, length, inl, inr, subst}
 use Rattle.std.specs.Prelude.{Option, Some, None, ◌==◌, reverse, slice_get, slice_set, option_and_then}
 use Rattle.std.specs.List.{Contains, list_any}
 use Rattle.std.proofs.lemmas.Bool.{cases_eq, eq-eqb, or_left, or_right, cases_Bool}
@@ -55,12 +55,13 @@ module _ (pieces : List FramePiece) (frame : ℕ) (p : FramePiece) where
   table-there-at at = ap (λ o. of_some 0 (λ (f : Frame). f.table) o) (frame-there at)
 
 -- a piece has this frame, which stands for the leaf
-pub record IsNow (next : Machine) (leaves : List Leaf) (home : Leaf) (p : FramePiece) (f : Frame) : Type 0 where
+pub record IsNow (next : Machine) (shelf : ℕ → List Row) (leaves : List Leaf) (home : Leaf) (p : FramePiece) (f : Frame) : Type 0 where
   pub is : p.frame ≡ Some f
   pub table : f.table ≡ home.table
   pub id : f.id ≡ home.id
   pub keys : (key : List ℕ) → leaf_under home.table key leaves ≡ Some home → StandsFor next home.table key (chain_at key f.leaf.chains) (shown_at key f.leaf.page) []
   pub bare : (key : List ℕ) → leaf_under home.table key leaves ≢ Some home → (chain_at key f.leaf.chains ≡ []) × (shown_at key f.leaf.page ≡ None)
+  pub lies : 1 ≤ length f.leaf.page → f.leaf.page ≡ shelf home.id
 
 module _ (pieces : List FramePiece) (frame : ℕ) (p p' : FramePiece) (at : slice_get pieces frame ≡ Some p) where
   pub frame-set : frame_in (slice_set pieces frame p') frame ≡ p'.frame
@@ -109,9 +110,9 @@ module _ (pieces : List FramePiece) (frame : ℕ) (p p' : FramePiece) (at : slic
   abbrev laid-other : (states : List ℕ) (l : Leaf) → (x : IsLaid pieces states l) → x.framed.frame ≢ frame → IsLaid (slice_set pieces frame p') states l
   laid-other states l x other = record { framed = x.framed; placed = x.placed; frame = x.frame; there = frame-other x.framed.frame other ∙ x.there; table = x.table; id = x.id; word = x.word }
 
-  here-stands : (next : Machine) (states : List ℕ) (leaves : List Leaf) (home : Leaf) (f' : Frame) → (x : IsLaid pieces states home) → x.framed.frame ≡ frame → IsNow next leaves home p' f'
-      → LeafInFrame next leaves (slice_set pieces frame p') states home
-  here-stands next states leaves home f' x same now = record {
+  here-stands : (next : Machine) (shelf : ℕ → List Row) (states : List ℕ) (leaves : List Leaf) (home : Leaf) (f' : Frame) → (x : IsLaid pieces states home) → x.framed.frame ≡ frame → IsNow next shelf leaves home p' f'
+      → LeafInFrame next shelf leaves (slice_set pieces frame p') states home
+  here-stands next shelf states leaves home f' x same now = record {
     laid = record {
       framed = x.framed;
       placed = x.placed;
@@ -123,26 +124,28 @@ module _ (pieces : List FramePiece) (frame : ℕ) (p p' : FramePiece) (at : slic
     };
     keys = now.keys;
     bare = now.bare;
+    lies = now.lies;
   }
 
   -- the leaf in the piece stands, and so do the others
   pub leaves-on : (m next : Machine) (shelf : ℕ → List Row) (states : List ℕ) (d : Directory) (home : Leaf) (f' : Frame) → IsDirectory d → LeavesStand m shelf d.leaves pieces states → Contains d.leaves home → (x : IsLaid pieces states home) → x.framed.frame ≡ frame
-      → IsNow next d.leaves home p' f'
+      → IsNow next shelf d.leaves home p' f'
       → ((l : Leaf) → Contains d.leaves l → l ≢ home → (key : List ℕ) (chain : List Update) (row : Option (Version Change)) → leaf_under l.table key d.leaves ≡ Some l → StandsFor m l.table key chain row [] → StandsFor next l.table key chain row [])
       → LeavesStand next shelf d.leaves (slice_set pieces frame p') states
   leaves-on m next shelf states d home f' is stand home_there x same now elsewhere l there = by (stand l there) where
-    framed : (old : LeafInFrame m d.leaves pieces states l) → LeafInFrame next d.leaves (slice_set pieces frame p') states l
+    framed : (old : LeafInFrame m shelf d.leaves pieces states l) → LeafInFrame next shelf d.leaves (slice_set pieces frame p') states l
     framed old = elim (cases_eq old.laid.framed.frame frame) [
-      | inl here ↦ subst (λ (n : Leaf). LeafInFrame next d.leaves (slice_set pieces frame p') states n)
-          (one-leaf d pieces states home l is home_there there x old.laid (same ∙ sym here)) (here-stands next states d.leaves home f' x same now)
+      | inl here ↦ subst (λ (n : Leaf). LeafInFrame next shelf d.leaves (slice_set pieces frame p') states n)
+          (one-leaf d pieces states home l is home_there there x old.laid (same ∙ sym here)) (here-stands next shelf states d.leaves home f' x same now)
       | inr other ↦ record {
         laid = laid-other states l old.laid other;
         keys = λ key under. elsewhere l there (λ one. other (moved old one)) key (chain_at key old.laid.frame.leaf.chains) (shown_at key old.laid.frame.leaf.page) under (old.keys key under);
         bare = old.bare;
+        lies = old.lies;
       }
     ] where
       -- one leaf is in one frame
-      moved : (old : LeafInFrame m d.leaves pieces states l) → l ≡ home → old.laid.framed.frame ≡ frame
+      moved : (old : LeafInFrame m shelf d.leaves pieces states l) → l ≡ home → old.laid.framed.frame ≡ frame
       moved old one = ap (λ (f : Framed). f.frame) (same_Some old.laid.framed x.framed (sym old.laid.placed ∙ (ap (λ (n : Leaf). n.frame) one ∙ x.placed))) ∙ same
 
     by : LeafStands m shelf d.leaves pieces states l → LeafStands next shelf d.leaves (slice_set pieces frame p') states l

@@ -41,7 +41,7 @@ opened-apart session m valid last = record {
   absent = λ r t table key other there reads. value-goes-on m OpenSession r t table key None valid tt there tt reads;
 }
 
-opened-beside : (e : Engine) (w : World) → Stands e w → Apart (length e.sessions) w.machine (after w.machine OpenSession) e.hub (with_opened e).hub e.pieces e.pieces
+opened-beside : (e : Engine) (w : World) → Stands e w → Apart None (length e.sessions) w.machine (after w.machine OpenSession) e.hub (with_opened e).hub e.pieces e.pieces
 opened-beside e w st = record {
   machine = opened-apart (length e.sessions) w.machine st.valid st.count;
   leaves = leaves-same e.hub.dir.leaves e.pieces;

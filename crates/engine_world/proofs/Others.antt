@@ -36,6 +36,7 @@ use Rattle.call_steps.specs.Leaves.{chain_in}
 use Rattle.call_steps.specs.Stages.{is_write, cursor_in}
 use Rattle.call_steps.specs.State.{State}
 use Rattle.engine_world.specs.Doings.{call_in, doing_at, doing_in, further_from, further_left}
+use Rattle.engine_world.specs.GoingOut.{IsAside, frame_in_hand}
 use Rattle.engine_world.specs.Leaves.{AreNoted, EditedDownTo, IsSlotOf, durable_under, slots_in}
 use Rattle.engine_world.specs.Stages.{AreCommitted, Awaits, IsLeafAt, DecidesStand, DoneStands, EndsOnlyDown, ForTransaction, HasLooked, IsEdited, IsLeafOf, IsOnLeaf, IsOrdered, IsPassed, IsSought, MarksStand, NoneAmong, NoneStands, OrdersStand, ResolvesStand, Seeks, StageStands, StampsStand, UndoesStand, stamps_in, way_of}
 use Rattle.engine_world.specs.Stands.{SessionStands, writes_in}
@@ -47,15 +48,19 @@ use Rattle.engine_world.proofs.NotedSlots.{at-index, drawn-with, noted-stay, own
 use Rattle.engine_world.proofs.WalkKeys.{passed-kept, passed-with-kept}
 
 -- a session beside the one of which the event is, with the slots that were noted for it
-record IsOther (session : ℕ) (m next : Machine) (leaves made : List Leaf) (pieces later : List FramePiece) (r : ℕ) (b : State) : Type 0 where
+record IsOther (freed : Option ℕ) (session : ℕ) (m next : Machine) (leaves made : List Leaf) (pieces later : List FramePiece) (r : ℕ) (b : State) : Type 0 where
   machine : MachineApart session m next
-  stay : LeavesStay leaves made pieces later
+  stay : LeavesStay freed leaves made pieces later
   updates : OthersUpdates m session pieces later
   other : r ≢ session
   valid : Valid m
   noted : AreNoted leaves pieces (writes_in m r) b.written
 
-module _ (session : ℕ) (m next : Machine) (leaves made : List Leaf) (pieces later : List FramePiece) (r : ℕ) (b : State) (o : IsOther session m next leaves made pieces later r b) where
+-- a stage is not at the leaf that left
+abbrev StaysAside : Option ℕ → Stage → Type 0
+StaysAside freed at = (frame : ℕ) → freed ≡ Some frame → frame_in_hand at ≢ Some frame
+
+module _ (freed : Option ℕ) (session : ℕ) (m next : Machine) (leaves made : List Leaf) (pieces later : List FramePiece) (r : ℕ) (b : State) (o : IsOther freed session m next leaves made pieces later r b) where
   -- ---- its transaction
 
   same : transaction_of next r ≡ transaction_of m r
@@ -74,21 +79,21 @@ module _ (session : ℕ) (m next : Machine) (leaves made : List Leaf) (pieces la
   abbrev now : Leaf → Leaf
   now l = o.stay.kept.to l
 
-  alike : (l : Leaf) → IsAlike l (now l)
+  alike : (l : Leaf) → IsAlike freed l (now l)
   alike l = o.stay.kept.alike l
 
-  target-now : (l : Leaf) (target : Target) → IsTarget l target → target_in (now l) ≡ Some target
-  target-now l target t = target-from (now l) t.framed ((alike l).frame t.framed t.placed) ∙ ap (λ (x : Target). Some x)
+  target-now : (l : Leaf) (target : Target) → freed ≢ Some target.frame → IsTarget l target → target_in (now l) ≡ Some target
+  target-now l target stays t = target-from (now l) t.framed ((alike l).frame t.framed t.placed (λ is. stays (is ∙ ap (λ (x : Target). Some x.frame) t.is))) ∙ ap (λ (x : Target). Some x)
       (ap (λ n. target_of n (now l).id t.framed) (alike l).table ∙ (ap (λ n. target_of l.table n t.framed) (alike l).id ∙ t.is)) where
         target_of : ℕ → ℕ → Framed → Target
         target_of table id f = record { table = table; leaf = id; frame = f.frame; word = first_word }
 
-  abbrev leaf-stays : (target : Target) → IsLeafOf leaves target → IsLeafOf made target
-  leaf-stays target x = let t = target-is x.0 target x.2 in (now x.0, o.stay.kept.there x.0 x.1, target-now x.0 target t)
+  abbrev leaf-stays : (target : Target) → freed ≢ Some target.frame → IsLeafOf leaves target → IsLeafOf made target
+  leaf-stays target stays x = let t = target-is x.0 target x.2 in (now x.0, o.stay.kept.there x.0 x.1, target-now x.0 target stays t)
 
-  abbrev on-leaf : (call : KeyCall) (target : Target) → IsOnLeaf m leaves r call target → IsOnLeaf next made r call target
-  on-leaf call target x =
-      (still (λ t. (t.phase ≡ Running) × (is_write call ≡ true → 0 < t.id)) (λ t. (t.phase ≡ Running) × (is_write call ≡ true → 0 < t.id)) (λ t there p. p) x.0, leaf-stays target x.1)
+  abbrev on-leaf : (call : KeyCall) (target : Target) → freed ≢ Some target.frame → IsOnLeaf m leaves r call target → IsOnLeaf next made r call target
+  on-leaf call target stays x =
+      (still (λ t. (t.phase ≡ Running) × (is_write call ≡ true → 0 < t.id)) (λ t. (t.phase ≡ Running) × (is_write call ≡ true → 0 < t.id)) (λ t there p. p) x.0, leaf-stays target stays x.1)
 
   looked : (call : KeyCall) (target : Target) → HasLooked m r call → HasLooked next r call
   looked call target x = still Of Of (λ t there p. p) x where
@@ -108,17 +113,17 @@ module _ (session : ℕ) (m next : Machine) (leaves made : List Leaf) (pieces la
   sought-stays : (call : KeyCall) (l : Leaf) → Contains leaves l → IsSought m leaves r b call l → IsSought next made r b call (now l)
   sought-stays (key_call.Step cursor way) l there x = subst (λ n. NoneAmong next r n (way_in way) (passed (way_in way) made (now l) (way_of next r n cursor (way_in way)))) (sym (alike l).table)
       (none-stays l.table (way_in way) (passed (way_in way) leaves l (way_of m r l.table cursor (way_in way))) (passed (way_in way) made (now l) (way_of next r l.table cursor (way_in way)))
-      (λ k. passed-kept (way_in way) leaves made l (now l) (way_of next r l.table cursor (way_in way)) k (alike l) (o.stay.kept.behind l there)
+      (λ k. passed-kept freed (way_in way) leaves made l (now l) (way_of next r l.table cursor (way_in way)) k (alike l) (o.stay.kept.behind l there)
       ∙ ap (λ within. passed (way_in way) leaves l within k) (way-same l.table cursor (way_in way))) x)
   sought-stays call l there x = ap (λ n. leaf_under n b.key made) (alike l).table ∙ o.stay.kept.under l.table b.key l x
 
-  seeks-stay : (call : KeyCall) (target : Target) → Seeks m leaves r call target b → Seeks next made r call target b
-  seeks-stay call target x = (on-leaf call target x.0, sought-stays call x.0.1.0 x.0.1.1 x.1)
+  seeks-stay : (call : KeyCall) (target : Target) → freed ≢ Some target.frame → Seeks m leaves r call target b → Seeks next made r call target b
+  seeks-stay call target stays x = (on-leaf call target stays x.0, sought-stays call x.0.1.0 x.0.1.1 x.1)
 
   passed-stays : (call : KeyCall) (l : Leaf) → Contains leaves l → IsPassed m leaves r call l → IsPassed next made r call (now l)
   passed-stays (key_call.Step cursor way) l there x = subst (λ n. NoneAmong next r n (way_in way) (passed_with (way_in way) made (now l) (way_of next r n cursor (way_in way)))) (sym (alike l).table)
       (none-stays l.table (way_in way) (passed_with (way_in way) leaves l (way_of m r l.table cursor (way_in way))) (passed_with (way_in way) made (now l) (way_of next r l.table cursor (way_in way)))
-      (λ k. passed-with-kept (way_in way) leaves made l (now l) (way_of next r l.table cursor (way_in way)) k (alike l) (o.stay.kept.behind l there)
+      (λ k. passed-with-kept freed (way_in way) leaves made l (now l) (way_of next r l.table cursor (way_in way)) k (alike l) (o.stay.kept.behind l there)
       ∙ ap (λ within. passed_with (way_in way) leaves l within k) (way-same l.table cursor (way_in way))) x)
   passed-stays call l there x = x
 
@@ -159,7 +164,7 @@ module _ (session : ℕ) (m next : Machine) (leaves made : List Leaf) (pieces la
   } where
     under : (k : WrittenKey) → Member k b.written → durable_under next later k ≡ durable_under m pieces k
     under k member = let w = (of-writes t there).wrote k member in
-        slot-durable next made later k w.0.table w.0.key (slot-stays leaves made pieces later k w.0.table w.0.key o.stay w.2)
+        slot-durable next made later k w.0.table w.0.key (slot-stays freed leaves made pieces later k w.0.table w.0.key o.stay w.2)
         ∙ (ap newest_durable (line-held t there alive w.0 w.1) ∙ sym (slot-durable m leaves pieces k w.0.table w.0.key w.2))
 
   committed : (t : Transaction) (stamps : CommitStamps) → AreCommitted stamps m t → AreCommitted stamps next t
@@ -211,75 +216,80 @@ module _ (session : ℕ) (m next : Machine) (leaves made : List Leaf) (pieces la
 
   -- ---- by the stage
 
-  stays : (at : Stage) → StageStands at m leaves pieces r b → StageStands at next made later r b
-  stays stage.Rest x = ends-down x
-  stays (stage.Begin read) x = ends-down x
-  stays (stage.Find call) x = (ends-down x.0, x.1)
-  stays (stage.Fill call wanted) x = waits call wanted x
-  stays (stage.Publish call target) x = seeks-stay call target x
-  stays (stage.Validate call target) x = seeks-stay call target x
-  stays (stage.Look call target) x = seeks-stay call target x
-  stays (stage.Pass call target) x = (on-leaf call target x.0, passed-stays call x.0.1.0 x.0.1.1 x.1)
-  stays (stage.History call target) x = on-leaf call target x
-  stays (stage.ClearCursor call target) x = on-leaf call target x
-  stays (stage.Clear call target) x = looked call target x
-  stays (stage.Reset cursor) x = ends-down x
-  stays (stage.Mark stamp left) x = (
+  stays : (at : Stage) → StaysAside freed at → StageStands at m leaves pieces r b → StageStands at next made later r b
+  stays stage.Rest aside x = ends-down x
+  stays (stage.Begin read) aside x = ends-down x
+  stays (stage.Find call) aside x = (ends-down x.0, x.1)
+  stays (stage.Fill call wanted) aside x = waits call wanted x
+  stays (stage.Publish call target) aside x = seeks-stay call target (λ is. aside target.frame is refl) x
+  stays (stage.Validate call target) aside x = seeks-stay call target (λ is. aside target.frame is refl) x
+  stays (stage.Look call target) aside x = seeks-stay call target (λ is. aside target.frame is refl) x
+  stays (stage.Pass call target) aside x = (on-leaf call target (λ is. aside target.frame is refl) x.0, passed-stays call x.0.1.0 x.0.1.1 x.1)
+  stays (stage.History call target) aside x = on-leaf call target (λ is. aside target.frame is refl) x
+  stays (stage.ClearCursor call target) aside x = on-leaf call target (λ is. aside target.frame is refl) x
+  stays (stage.Clear call target) aside x = looked call target x
+  stays (stage.Reset cursor) aside x = ends-down x
+  stays (stage.Mark stamp left) aside x = (
     x.0,
     still (λ t. (t.phase ≡ Running) × IsEdited (edit.Mark stamp) m pieces t b left) (λ t. (t.phase ≡ Running) × IsEdited (edit.Mark stamp) next later t b left)
         (λ t there p. (p.0, edited t there (edit.Mark stamp) left p.1)) x.1,
   )
-  stays (stage.Release stamp) x =
+  stays (stage.Release stamp) aside x =
       (ends-down x.0, each (λ t. MarksStand t.phase stamp m pieces t b) (λ t. MarksStand t.phase stamp next later t b) (λ t there p. marks t there t.phase stamp p) x.1)
-  stays (stage.Order stamps left) x = (
+  stays (stage.Order stamps left) aside x = (
     x.0,
     still (λ t. OrdersStand t.phase stamps m pieces t b left) (λ t. OrdersStand t.phase stamps next later t b left)
         (λ t there p. orders t there t.phase refl stamps left p) x.1,
   )
-  stays (stage.Stamp stamps left) x = (
+  stays (stage.Stamp stamps left) aside x = (
     x.0,
     still (λ t. StampsStand t.phase stamps m pieces t b left) (λ t. StampsStand t.phase stamps next later t b left)
         (λ t there p. stamped t there t.phase refl stamps left p) x.1,
   )
-  stays (stage.Decide stamps) x = (
+  stays (stage.Decide stamps) aside x = (
     ends-down x.0,
     each (λ t. DecidesStand t.phase stamps m pieces t b) (λ t. DecidesStand t.phase stamps next later t b)
         (λ t there p. decides t there t.phase refl stamps p) x.1,
   )
-  stays stage.Resolve x = (ends-down x.0, each (λ t. ResolvesStand t.phase t) (λ t. ResolvesStand t.phase t) (λ t there p. p) x.1)
-  stays (stage.Undo left) x = (
+  stays stage.Resolve aside x = (ends-down x.0, each (λ t. ResolvesStand t.phase t) (λ t. ResolvesStand t.phase t) (λ t there p. p) x.1)
+  stays (stage.Undo left) aside x = (
     x.0,
     still (λ t. UndoesStand t.phase m pieces t b left) (λ t. UndoesStand t.phase next later t b left)
         (λ t there p. undone t there t.phase left p) x.1,
   )
-  stays stage.Done x = still (λ t. DoneStands t.phase m pieces t b) (λ t. DoneStands t.phase next later t b) (λ t there p. done t there t.phase p) x
-  stays (stage.Unpin cursor) x = (same ∙ x.0, x.1)
+  stays stage.Done aside x = still (λ t. DoneStands t.phase m pieces t b) (λ t. DoneStands t.phase next later t b) (λ t there p. done t there t.phase p) x
+  stays (stage.Unpin cursor) aside x = (same ∙ x.0, x.1)
 
-pub others-stay : (session : ℕ) (m next : Machine) (hub later : Hub) (pieces pieces' : List FramePiece) (r : ℕ) (b : State) → Apart session m next hub later pieces pieces' → r ≢ session → Valid m
-    → SessionStands m hub pieces r b → SessionStands next later pieces' r b
-others-stay session m next hub later pieces pieces' r b v other valid st = record {
+pub others-aside : (freed : Option ℕ) (session : ℕ) (m next : Machine) (hub later : Hub) (pieces pieces' : List FramePiece) (r : ℕ) (b : State) → Apart freed session m next hub later pieces pieces' → r ≢ session → Valid m
+    → ((frame : ℕ) → freed ≡ Some frame → IsAside frame b) → SessionStands m hub pieces r b → SessionStands next later pieces' r b
+others-aside freed session m next hub later pieces pieces' r b v other valid aside st = record {
   phase = st.phase ∙ sym (ap (option_map (λ (t : Transaction). t.phase)) same-one);
   seated = record { opened = (let before = st.seated.opened in let more = v.seats in omega arith); phase = v.phases r other ∙ st.seated.phase };
   cursors = st.cursors ∙ sym (v.machine.cursors r other);
   noted = subst (λ (x : Option Transaction). AreNoted later.dir.leaves pieces' (of_some [] (λ (t : Transaction). t.writes) x) b.written) (sym same-one)
-      (noted-stay hub.dir.leaves later.dir.leaves pieces pieces' (writes_in m r) b.written v.leaves st.noted);
-  stage = stays session m next hub.dir.leaves later.dir.leaves pieces pieces' r b (record {
+      (noted-stay freed hub.dir.leaves later.dir.leaves pieces pieces' (writes_in m r) b.written v.leaves st.noted);
+  stage = stays freed session m next hub.dir.leaves later.dir.leaves pieces pieces' r b (record {
     machine = v.machine;
     stay = v.leaves;
     updates = v.updates;
     other = other;
     valid = valid;
     noted = st.noted;
-  }) b.stage st.stage;
+  }) b.stage aside st.stage;
 } where
   same-one : transaction_of next r ≡ transaction_of m r
   same-one = v.machine.others r other
 
+-- where no leaf left its frame
+pub others-stay : (session : ℕ) (m next : Machine) (hub later : Hub) (pieces pieces' : List FramePiece) (r : ℕ) (b : State) → Apart None session m next hub later pieces pieces' → r ≢ session → Valid m
+    → SessionStands m hub pieces r b → SessionStands next later pieces' r b
+others-stay session m next hub later pieces pieces' r b v other valid st = others-aside None session m next hub later pieces pieces' r b v other valid (λ frame none. absurd cc) st
+
 -- an event of a session
-beside-apart : (session : ℕ) (m next : Machine) (hub later : Hub) (pieces pieces' : List FramePiece) → Beside session m next hub later pieces pieces' → Apart session m next hub later pieces pieces'
+beside-apart : (session : ℕ) (m next : Machine) (hub later : Hub) (pieces pieces' : List FramePiece) → Beside session m next hub later pieces pieces' → Apart None session m next hub later pieces pieces'
 beside-apart session m next hub later pieces pieces' v = record {
   machine = v.machine.apart;
-  leaves = subst (λ (d : Directory). LeavesStay hub.dir.leaves d.leaves pieces pieces') (sym v.dir) (stay-same hub.dir.leaves pieces pieces' v.slots);
+  leaves = subst (λ (d : Directory). LeavesStay None hub.dir.leaves d.leaves pieces pieces') (sym v.dir) (stay-same hub.dir.leaves pieces pieces' v.slots);
   seats = (let same = v.seats in omega arith);
   phases = v.phases;
   updates = v.updates;
@@ -291,23 +301,23 @@ others-go-on session m next hub later pieces pieces' r b v = others-stay session
 
 -- ---- what a session does, where leaves came to the directory
 
-further-kept : (leaves made : List Leaf) (call : KeyCall) (target : Target) → LeavesKept leaves made → IsLeafOf leaves target → further_left call target made ≡ further_left call target leaves
-further-kept leaves made (key_call.Step cursor way) target kept x = let t = target-is x.0 target x.2 in
+further-kept : (freed : Option ℕ) (leaves made : List Leaf) (call : KeyCall) (target : Target) → LeavesKept freed leaves made → IsLeafOf leaves target → further_left call target made ≡ further_left call target leaves
+further-kept freed leaves made (key_call.Step cursor way) target kept x = let t = target-is x.0 target x.2 in
     ap (λ n. 5 * n) (subst (λ (to : Target). leaves_on (way_in way) to.table to.leaf made ≡ leaves_on (way_in way) to.table to.leaf leaves) t.is (kept.on (way_in way) x.0 x.1))
-further-kept leaves made call target kept x = refl
+further-kept freed leaves made call target kept x = refl
 
-waited-kept : (leaves made : List Leaf) (call : KeyCall) (wanted : Wanted) → LeavesKept leaves made → IsLeafAt leaves wanted → further_from call wanted.table wanted.leaf made ≡ further_from call wanted.table wanted.leaf leaves
-waited-kept leaves made (key_call.Step cursor way) wanted kept x = ap (λ n. 5 * n)
+waited-kept : (freed : Option ℕ) (leaves made : List Leaf) (call : KeyCall) (wanted : Wanted) → LeavesKept freed leaves made → IsLeafAt leaves wanted → further_from call wanted.table wanted.leaf made ≡ further_from call wanted.table wanted.leaf leaves
+waited-kept freed leaves made (key_call.Step cursor way) wanted kept x = ap (λ n. 5 * n)
     (subst (λ n. leaves_on (way_in way) n wanted.leaf made ≡ leaves_on (way_in way) n wanted.leaf leaves) x.3 (subst (λ n. leaves_on (way_in way) x.0.table n made ≡ leaves_on (way_in way) x.0.table n leaves) x.2 (kept.on (way_in way) x.0 x.1)))
-waited-kept leaves made call wanted kept x = refl
+waited-kept freed leaves made call wanted kept x = refl
 
-doing-at-kept : (m : Machine) (leaves made : List Leaf) (pieces : List FramePiece) (session : ℕ) (a : State) (g : Stage) → LeavesKept leaves made → StageStands g m leaves pieces session a → doing_at g made session a ≡ doing_at g leaves session a
-doing-at-kept m leaves made pieces session a (stage.Fill call wanted) kept x = ap (λ n. Placed (call_in call a) wanted.table (7 + n)) (waited-kept leaves made call wanted kept x.1.0)
-doing-at-kept m leaves made pieces session a (stage.Publish call target) kept x = ap (λ n. Placed (call_in call a) target.table (6 + n)) (further-kept leaves made call target kept x.0.1)
-doing-at-kept m leaves made pieces session a (stage.Validate call target) kept x = ap (λ n. Placed (call_in call a) target.table (5 + n)) (further-kept leaves made call target kept x.0.1)
-doing-at-kept m leaves made pieces session a (stage.Look call target) kept x = ap (λ n. Placed (call_in call a) target.table (4 + n)) (further-kept leaves made call target kept x.0.1)
-doing-at-kept m leaves made pieces session a (stage.Pass call target) kept x = ap (λ n. Placed (call_in call a) target.table (3 + n)) (further-kept leaves made call target kept x.0.1)
-doing-at-kept m leaves made pieces session a g kept x = refl
+doing-at-kept : (freed : Option ℕ) (m : Machine) (leaves made : List Leaf) (pieces : List FramePiece) (session : ℕ) (a : State) (g : Stage) → LeavesKept freed leaves made → StageStands g m leaves pieces session a → doing_at g made session a ≡ doing_at g leaves session a
+doing-at-kept freed m leaves made pieces session a (stage.Fill call wanted) kept x = ap (λ n. Placed (call_in call a) wanted.table (7 + n)) (waited-kept freed leaves made call wanted kept x.1.0)
+doing-at-kept freed m leaves made pieces session a (stage.Publish call target) kept x = ap (λ n. Placed (call_in call a) target.table (6 + n)) (further-kept freed leaves made call target kept x.0.1)
+doing-at-kept freed m leaves made pieces session a (stage.Validate call target) kept x = ap (λ n. Placed (call_in call a) target.table (5 + n)) (further-kept freed leaves made call target kept x.0.1)
+doing-at-kept freed m leaves made pieces session a (stage.Look call target) kept x = ap (λ n. Placed (call_in call a) target.table (4 + n)) (further-kept freed leaves made call target kept x.0.1)
+doing-at-kept freed m leaves made pieces session a (stage.Pass call target) kept x = ap (λ n. Placed (call_in call a) target.table (3 + n)) (further-kept freed leaves made call target kept x.0.1)
+doing-at-kept freed m leaves made pieces session a g kept x = refl
 
-pub doing-kept : (m : Machine) (leaves made : List Leaf) (pieces : List FramePiece) (session : ℕ) (a : State) → LeavesKept leaves made → StageStands a.stage m leaves pieces session a → doing_in made session a ≡ doing_in leaves session a
-doing-kept m leaves made pieces session a kept x = doing-at-kept m leaves made pieces session a a.stage kept x
+pub doing-kept : (freed : Option ℕ) (m : Machine) (leaves made : List Leaf) (pieces : List FramePiece) (session : ℕ) (a : State) → LeavesKept freed leaves made → StageStands a.stage m leaves pieces session a → doing_in made session a ≡ doing_in leaves session a
+doing-kept freed m leaves made pieces session a kept x = doing-at-kept freed m leaves made pieces session a a.stage kept x

@@ -63,7 +63,7 @@ sets-go chains e w oldest stable st answer = record {
   may : Allowed w.machine event
   may = set-may w.machine oldest stable passes
 
-  beside : Apart (length e.sessions) w.machine (after w.machine event) e.hub (record e.hub { stamps = raised e.hub.stamps oldest stable }) e.pieces e.pieces
+  beside : Apart None (length e.sessions) w.machine (after w.machine event) e.hub (record e.hub { stamps = raised e.hub.stamps oldest stable }) e.pieces e.pieces
   beside = record {
     machine = raised-apart (length e.sessions) w.machine (stamp_of oldest) (stamp_of stable) st.valid may;
     leaves = leaves-same e.hub.dir.leaves e.pieces;

@@ -15,7 +15,7 @@ use Rattle.engine_world.proofs.NotedSlots.{stay-same}
 
 -- ---- the leaves
 
-pub leaves-same : (leaves : List Leaf) (pieces : List FramePiece) → LeavesStay leaves leaves pieces pieces
+pub leaves-same : (leaves : List Leaf) (pieces : List FramePiece) → LeavesStay None leaves leaves pieces pieces
 leaves-same leaves pieces = stay-same leaves pieces pieces (slots-same pieces)
 
 -- ---- the machine, as to any session

@@ -148,13 +148,13 @@ before-low way (Some l) (Some n) others within key same = ap (λ (low : List ℕ
 abbrev pub KeepsNext : List Leaf → List Leaf → Leaf → Type 0
 KeepsNext leaves made l = low_key (leaf_behind l.id made) ≡ low_key (leaf_behind l.id leaves)
 
-next-low : (leaves made : List Leaf) (l now : Leaf) → IsAlike l now → KeepsNext leaves made l → low_key (leaf_behind now.id made) ≡ low_key (leaf_behind l.id leaves)
-next-low leaves made l now alike next = ap (λ id. low_key (leaf_behind id made)) alike.id ∙ next
+next-low : (freed : Option ℕ) (leaves made : List Leaf) (l now : Leaf) → IsAlike freed l now → KeepsNext leaves made l → low_key (leaf_behind now.id made) ≡ low_key (leaf_behind l.id leaves)
+next-low freed leaves made l now alike next = ap (λ id. low_key (leaf_behind id made)) alike.id ∙ next
 
-pub passed-kept : (way : Way) (leaves made : List Leaf) (l now : Leaf) (within : List ℕ → Bool) (key : List ℕ) → IsAlike l now → KeepsNext leaves made l → passed way made now within key ≡ passed way leaves l within key
-passed-kept Up leaves made l now within key alike next = ap (λ (low : List ℕ). before_cut Up low within key) alike.key
-passed-kept Down leaves made l now within key alike next = before-low Down (leaf_behind now.id made) (leaf_behind l.id leaves) (λ k. false) within key (next-low leaves made l now alike next)
+pub passed-kept : (freed : Option ℕ) (way : Way) (leaves made : List Leaf) (l now : Leaf) (within : List ℕ → Bool) (key : List ℕ) → IsAlike freed l now → KeepsNext leaves made l → passed way made now within key ≡ passed way leaves l within key
+passed-kept freed Up leaves made l now within key alike next = ap (λ (low : List ℕ). before_cut Up low within key) alike.key
+passed-kept freed Down leaves made l now within key alike next = before-low Down (leaf_behind now.id made) (leaf_behind l.id leaves) (λ k. false) within key (next-low freed leaves made l now alike next)
 
-pub passed-with-kept : (way : Way) (leaves made : List Leaf) (l now : Leaf) (within : List ℕ → Bool) (key : List ℕ) → IsAlike l now → KeepsNext leaves made l → passed_with way made now within key ≡ passed_with way leaves l within key
-passed-with-kept Up leaves made l now within key alike next = before-low Up (leaf_behind now.id made) (leaf_behind l.id leaves) within within key (next-low leaves made l now alike next)
-passed-with-kept Down leaves made l now within key alike next = ap (λ (low : List ℕ). before_cut Down low within key) alike.key
+pub passed-with-kept : (freed : Option ℕ) (way : Way) (leaves made : List Leaf) (l now : Leaf) (within : List ℕ → Bool) (key : List ℕ) → IsAlike freed l now → KeepsNext leaves made l → passed_with way made now within key ≡ passed_with way leaves l within key
+passed-with-kept freed Up leaves made l now within key alike next = before-low Up (leaf_behind now.id made) (leaf_behind l.id leaves) within within key (next-low freed leaves made l now alike next)
+passed-with-kept freed Down leaves made l now within key alike next = ap (λ (low : List ℕ). before_cut Down low within key) alike.key

@@ -1,5 +1,5 @@
 -- The look of a put or a remove.
-use Rattle.std.proofs.Common.{◌≡◌, ◌≢◌, ◌⊎◌, ◌≤◌, ◌+◌, ℕ, refl, ap, sym, ◌∙◌, Bool, true, false, List, [], ◌∷◌, inl, inr, subst, arith}
+use Rattle.std.proofs.Common.{◌≡◌, ◌≢◌, ◌⊎◌, ◌≤◌, ◌+◌, ℕ, refl, ap, sym, ◌∙◌, Bool, true, false, List, [], ◌∷◌, length, inl, inr, subst, arith}
 use Rattle.std.specs.Prelude.{Option, Some, None, option_map, slice_get, slice_set, bytes_eq}
 use Rattle.std.proofs.lemmas.Bool.{cases_Bool, both_ways}
 use Rattle.std.proofs.lemmas.List.{get_or-set_same}
@@ -268,6 +268,7 @@ module _ (e : Engine) (w : World) (session frame : ℕ) (a : State) (p p' : Fram
         id = l.id;
         keys = here;
         bare = outside;
+        lies = subst (λ (h : HeldLeaf). 1 ≤ length h.page → h.page ≡ w.shelf l.home.id) (sym whole) l.lies;
       }) elsewhere;
       mine = subst (SessionStands next e.hub pieces session) (sym later) mine;
     }) where

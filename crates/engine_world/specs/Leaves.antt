@@ -1,5 +1,5 @@
 -- The leaves of an engine, and what stands in the slots that a transaction wrote.
-use Rattle.std.specs.Prelude.{◌≡◌, ◌≢◌, ◌⊎◌, ◌≤◌, ℕ, List, [], Option, Some, None, option_and_then, option_map, slice_get, slice_index_or}
+use Rattle.std.specs.Prelude.{◌≡◌, ◌≢◌, ◌⊎◌, ◌≤◌, ℕ, List, [], length, Option, Some, None, option_and_then, option_map, slice_get, slice_index_or}
 use Rattle.std.specs.List.{Contains}
 use Rattle.stamp.specs.declared.Name.{Name}
 use Rattle.kv_model.specs.History.{Table, Write, line}
@@ -51,10 +51,12 @@ pub record IsLaid (pieces : List FramePiece) (states : List ℕ) (l : Leaf) : Ty
   pub word : word_at states framed.frame ≡ first_word
 
 -- the leaf is in a frame: its chains and rows stand for the keys that lie in it, and it has none of others
-pub record LeafInFrame (m : Machine) (leaves : List Leaf) (pieces : List FramePiece) (states : List ℕ) (l : Leaf) : Type 0 where
+pub record LeafInFrame (m : Machine) (shelf : ℕ → List Row) (leaves : List Leaf) (pieces : List FramePiece) (states : List ℕ) (l : Leaf) : Type 0 where
   pub laid : IsLaid pieces states l
   pub keys : (key : List ℕ) → leaf_under l.table key leaves ≡ Some l → StandsFor m l.table key (chain_at key laid.frame.leaf.chains) (shown_at key laid.frame.leaf.page) []
   pub bare : (key : List ℕ) → leaf_under l.table key leaves ≢ Some l → (chain_at key laid.frame.leaf.chains ≡ []) × (shown_at key laid.frame.leaf.page ≡ None)
+  -- a page with rows is that of the leaf's block
+  pub lies : 1 ≤ length laid.frame.leaf.page → laid.frame.leaf.page ≡ shelf l.id
 
 -- it is in none: so do the rows of its block
 pub record LeafOnDevice (m : Machine) (shelf : ℕ → List Row) (leaves : List Leaf) (l : Leaf) : Type 0 where
@@ -63,7 +65,7 @@ pub record LeafOnDevice (m : Machine) (shelf : ℕ → List Row) (leaves : List 
   pub bare : (key : List ℕ) → leaf_under l.table key leaves ≢ Some l → shown_at key (shelf l.id) ≡ None
 
 abbrev pub LeafStands : Machine → (ℕ → List Row) → List Leaf → List FramePiece → List ℕ → Leaf → Type 0
-LeafStands m shelf leaves pieces states l = LeafInFrame m leaves pieces states l ⊎ LeafOnDevice m shelf leaves l
+LeafStands m shelf leaves pieces states l = LeafInFrame m shelf leaves pieces states l ⊎ LeafOnDevice m shelf leaves l
 
 -- each table has a leaf
 abbrev pub TablesBegun : List Table → List Leaf → Type 0

@@ -9,3 +9,4 @@ pub mod Laws
 pub mod Whole
 pub mod Systems
 pub mod GivingWay
+pub mod GoingOut

@@ -1,5 +1,5 @@
 -- What the opening of a session, a create, a set, a checkpoint in one go and a failed write of the device leave of an engine that stands for a world, and with what an engine starts.
-use Rattle.std.specs.Prelude.{◌≡◌, ◌≢◌, ◌<◌, ◌+◌, ℕ, List, [], ◌∷◌, ◌++◌, ◌⊎◌, length, map, reverse, Option, None, Some, Ok, slice_set}
+use Rattle.std.specs.Prelude.{◌≡◌, ◌≢◌, ◌<◌, ◌≤◌, ◌+◌, ℕ, List, [], ◌∷◌, ◌++◌, ◌⊎◌, length, map, reverse, Option, None, Some, Ok, slice_set}
 use Rattle.std.specs.List.{Contains}
 use Rattle.std.specs.Option.{option_to_list}
 use Rattle.failure.specs.declared.Fault.{Fault}
@@ -117,10 +117,12 @@ pub record IsFirstOf (versions : List (Version Change)) (chain : List Update) (r
   pub all : versions ≡ above ++ option_to_list row
 
 -- the leaf is in its frame, with the versions that the content keeps of the keys that lie in it, and none of others
-pub record StartsInFrame (c : Content) (leaves : List Leaf) (pieces : List FramePiece) (states : List ℕ) (l : Leaf) : Type 0 where
+pub record StartsInFrame (c : Content) (shelf : ℕ → List Row) (leaves : List Leaf) (pieces : List FramePiece) (states : List ℕ) (l : Leaf) : Type 0 where
   pub laid : IsLaid pieces states l
   pub keys : (key : List ℕ) → leaf_under l.table key leaves ≡ Some l → IsFirstOf (line (base c) l.table key) (chain_at key laid.frame.leaf.chains) (shown_at key laid.frame.leaf.page)
   pub bare : (key : List ℕ) → leaf_under l.table key leaves ≢ Some l → (chain_at key laid.frame.leaf.chains ≡ []) × (shown_at key laid.frame.leaf.page ≡ None)
+  -- a page with rows is that of the leaf's block
+  pub lies : 1 ≤ length laid.frame.leaf.page → laid.frame.leaf.page ≡ shelf l.id
 
 -- it is in none, and the rows of its block are those versions
 pub record StartsOnDevice (c : Content) (shelf : ℕ → List Row) (leaves : List Leaf) (l : Leaf) : Type 0 where
@@ -129,7 +131,7 @@ pub record StartsOnDevice (c : Content) (shelf : ℕ → List Row) (leaves : Lis
   pub bare : (key : List ℕ) → leaf_under l.table key leaves ≢ Some l → shown_at key (shelf l.id) ≡ None
 
 abbrev pub LeafStarts : Content → (ℕ → List Row) → List Leaf → List FramePiece → List ℕ → Leaf → Type 0
-LeafStarts c shelf leaves pieces states l = StartsInFrame c leaves pieces states l ⊎ StartsOnDevice c shelf leaves l
+LeafStarts c shelf leaves pieces states l = StartsInFrame c shelf leaves pieces states l ⊎ StartsOnDevice c shelf leaves l
 
 -- an engine that begins on this content, without a session
 pub record Begins (c : Content) (shelf : ℕ → List Row) (e : Engine) : Type 0 where

@@ -2,6 +2,7 @@
 //! that its proof rests on.
 
 ghost use Rattle.engine_world.specs.GivingWay.{LeavesGiveWay};
+ghost use Rattle.engine_world.specs.GoingOut.{LeavesGoOut};
 ghost use Rattle.engine_world.specs.Systems.{CheckpointsGo, CreatesGo, DownsGo, EnginesStart, FramesGrow, LeavesCome, OpensGo, SetsGo};
 
 use kv_model::frames_are_alike;
@@ -44,6 +45,11 @@ pub fn frames_grow()
 /// A leaf that is in no frame comes into one, with the rows of its block: nobody sees it.
 pub fn leaves_come()
     ensures { LeavesCome }
+{}
+
+/// A leaf goes out of its frame as it was read, while no call is at it: nobody sees it.
+pub fn leaves_go_out()
+    ensures { LeavesGoOut }
 {}
 
 /// While nobody is at work, a leaf that is in a frame gives way to others, which are in none and whose

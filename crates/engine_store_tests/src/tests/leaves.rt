@@ -168,3 +168,77 @@ fn a_leaf_that_grew_is_parted_by_a_checkpoint(rt: HostRuntime) {
         assert_eq!(rt; found, Ok(Some(b'a'.wrapping_add(row))));
     }
 }
+
+// So many rows of 12,000 bytes lie in twice as many leaves as frames keep.
+const MANY: u16 = 256;
+
+fn key_of(row: u16) -> [u8; 2] {
+    row.to_be_bytes()
+}
+
+// A device with so many rows.
+fn device_of_many(rt: &impl Abort, alloc: Global) -> PlainDisk {
+    let mut content = Vec::new(alloc);
+    content.resize(8_192, 0).expect(rt, "there is memory");
+    let medium = MemDisk::new(alloc, content, 1 << 23, Vec::new(alloc));
+    let medium = medium.expect(rt, "there is memory");
+    let mut bench = open(rt, alloc, PlainDisk { medium });
+    create(rt, alloc, &mut bench, b"a");
+    begin(rt, alloc, &mut bench, 0);
+    for row in 0..MANY {
+        let mut value = Vec::new(alloc);
+        value.resize(12_000, 7).expect(rt, "there is memory");
+        put(rt, alloc, &mut bench, 0, (b"a", &key_of(row), &value));
+    }
+    commit(rt, alloc, &mut bench, 0);
+    close(rt, alloc, &mut bench);
+    bench.disk
+}
+
+// The key of the row to which a cursor comes; the second byte is told.
+fn key_at(rt: &impl Abort, alloc: Global, bench: &mut Bench, cursor: u32, way: Way) -> Option<u8> {
+    let next = SessionCall::Step {
+        cursor,
+        table: item(rt, alloc, b"a"),
+        way,
+    };
+    match ask(rt, alloc, bench, 0, next) {
+        Answer::Row(key, _) => key.as_bytes().get(1).copied(),
+        _ => None,
+    }
+}
+
+// A walk over more leaves than there are frames for, both ways. Those that nobody is at go out of their
+// frames; the one that another cursor stands on stays, and one whose row was changed.
+#[test]
+fn leaves_go_out_as_others_are_read(rt: HostRuntime) {
+    let alloc = rt.alloc();
+    let disk = device_of_many(&rt, alloc);
+    let mut bench = open(&rt, alloc, disk);
+    begin(&rt, alloc, &mut bench, 0);
+    assert_eq!(rt; key_at(&rt, alloc, &mut bench, 1, Way::Up), Some(0));
+    put(&rt, alloc, &mut bench, 0, (b"a", &key_of(3), b"new"));
+    for way in [Way::Up, Way::Down, Way::Up] {
+        for row in 0..MANY {
+            let wanted = match way {
+                Way::Up => row,
+                Way::Down => MANY - 1 - row,
+            };
+            let found = key_at(&rt, alloc, &mut bench, 0, way);
+            assert_eq!(rt; found, Some(wanted as u8));
+            assert!(rt; framed(&bench) <= 65);
+        }
+        assert_eq!(rt; key_at(&rt, alloc, &mut bench, 0, way), None);
+    }
+    assert!(rt; framed(&bench) >= 64);
+    let get = SessionCall::Get {
+        table: item(&rt, alloc, b"a"),
+        key: item(&rt, alloc, &key_of(3)),
+    };
+    let answer = ask(&rt, alloc, &mut bench, 0, get);
+    match answer {
+        Answer::Value(value) => assert!(rt; value.as_bytes() == b"new".as_slice()),
+        _ => assert!(rt; false),
+    }
+    assert_eq!(rt; key_at(&rt, alloc, &mut bench, 1, Way::Up), Some(1));
+}

@@ -20,9 +20,11 @@ use Rattle.engine_start.specs.Entries.{IsShelf, IsUnread, tables_of, whole_table
 use Rattle.engine_start.proofs.Placing.{leaves_owned}
 use Rattle.engine_store.specs.declared.store.Store.{Store}
 use Rattle.engine_store.specs.ByPlace.{places_in}
-use Rattle.engine_store.specs.Marked.{IsLeafKept, IsUnmarked}
+use Rattle.engine_store.specs.Marked.{IsLeafKept, IsUnmarked, KeepMarked}
 use Rattle.engine_store.specs.Places.{AreOver}
 use Rattle.engine_store.specs.Tables.{AreWithEntries}
+use Rattle.ckpt_step.specs.Rooms.{known_in}
+use Rattle.engine_store.proofs.AllOut.{hub_out}
 use Rattle.engine_store.proofs.BorneTables.{climb_with, many_with, tables_with}
 use Rattle.engine_store.proofs.Founds.{found_above}
 use Rattle.engine_store.proofs.HubsGo.{goes_same, owned_then, spoils_back}
@@ -71,8 +73,8 @@ bring_marked-requires g c =
     let e = c.in_ok-engine.engine in
     record { owned = leaves_owned c.in_ok-tables.tables.items e.hub.tables.tables e.hub.dir c.in_ok-engine.ensures.unread.tables_are c.in_ok-engine.ensures.unread.added }
 
-pub returns-in-Ok-clause-found : goal.returns-in-Ok-clause-found
-returns-in-Ok-clause-found g c = λ honest surveyed content reads.
+pub returns-in_ok-parts-in-Ok-clause-found : goal.returns-in_ok-parts-in-Ok-clause-found
+returns-in_ok-parts-in-Ok-clause-found g c = λ honest surveyed content reads.
     let a = c.args.above in
     let bytes = g.D.Disk.seen c.args.disk.now in
     let m = marks_of a.record in
@@ -96,14 +98,15 @@ returns-in-Ok-clause-found g c = λ honest surveyed content reads.
     (subst (λ (xs : List ℕ). IsLeafKept bytes e.hub.dir m xs on_shelf l) (sym names) (begun_kept bytes c.args.place a of both with recorded e unread l there)) in
     let now = c.in-Ok.ensures.stands honest (begun bytes c.args.place a of both with recorded e unread) first kept in
     let unmarked = λ (l : Leaf) (there : Contains c.bring_marked.new.engine.hub.dir.leaves l) (none : l.frame ≡ None). subst (λ (n : Marks). IsUnmarked n l) c.marks_of-marks.ensures (c.in-Ok.ensures.unmarked l there none) in
-    let s : Store = record { engine = c.bring_marked.new.engine; ground = record { place = c.args.place; number = c.number_of-number.result; trees = c.in_ok-trees-2.trees; parts = c.new.result; floor = no_name } } in
+    let keep = subst (λ (n : Marks). KeepMarked c.bring_marked.new.engine.hub.tables.tables c.bring_marked.new.engine.hub.dir.leaves n (known_in c.in_ok-parts-in-Ok.parts)) c.marks_of-marks.ensures c.in_ok-parts-in-Ok.ensures in
+    let s : Store = record { engine = c.bring_marked.new.engine; ground = record { place = c.args.place; number = c.number_of-number.result; trees = c.in_ok-trees-2.trees; parts = c.in_ok-parts-in-Ok.parts; floor = no_name }; clock = c.new.result } in
     let trees_are : s.ground.trees.items ≡ places_in a.record.tables ps = c.in_ok-trees-2.ensures ∙ ap (λ (l : List TableRoot). places_in l ps) c.tables_of-2.ensures in
     let yes : c.has_numbers.result ≡ true = cc in
     let run : a.record.run < last_number = omega (arith, c.run_of.ensures, c.if-run_of-ge-NUMBER_MAX.false) in
-    found_above a c.requires.is_record both with e unread s c.bring_marked.ensures.goes ps over trees_are c.number_of-number.ensures bytes c.args.place c.requires.bare of recorded first now unmarked refl c.new.ensures refl run (c.has_numbers.ensures.yes yes)
+    found_above a c.requires.is_record both with e unread s c.bring_marked.ensures.goes ps over trees_are c.number_of-number.ensures bytes c.args.place c.requires.bare of recorded first now unmarked keep refl refl run (c.has_numbers.ensures.yes yes)
 
-pub returns-in-Ok-clause-spoils : goal.returns-in-Ok-clause-spoils
-returns-in-Ok-clause-spoils g c = λ honest surveyed id at want found spoils.
+pub returns-in_ok-parts-in-Ok-clause-spoils : goal.returns-in_ok-parts-in-Ok-clause-spoils
+returns-in_ok-parts-in-Ok-clause-spoils g c = λ honest surveyed id at want found spoils.
     let a = c.args.above in
     let bytes = g.D.Disk.seen c.args.disk.now in
     let both = c.in_ok-tables.tables.items in
@@ -119,15 +122,15 @@ returns-in-Ok-clause-spoils g c = λ honest surveyed id at want found spoils.
       leaf = spoils_of both d unread.dir apart unread.added bytes a.record.tables a.uppers.items with id at want found before;
     }
 
-pub returns-in-Ok-clause-outset : goal.returns-in-Ok-clause-outset
-returns-in-Ok-clause-outset g c =
+pub returns-in_ok-parts-in-Ok-clause-outset : goal.returns-in_ok-parts-in-Ok-clause-outset
+returns-in_ok-parts-in-Ok-clause-outset g c =
     let e = c.in_ok-engine.engine.hub in
     let now = c.bring_marked.new.engine.hub in
     let owned = leaves_owned c.in_ok-tables.tables.items e.tables.tables e.dir c.in_ok-engine.ensures.unread.tables_are c.in_ok-engine.ensures.unread.added in
-    (subst IsDirectory c.leaves.ensures.are c.leaves.ensures.stand, goes_same now (owned_then e now owned c.in-Ok.ensures.leaves c.bring_marked.ensures.goes))
+    (subst IsDirectory c.leaves.ensures.are c.leaves.ensures.stand, hub_out now now (goes_same now (owned_then e now owned c.in-Ok.ensures.leaves c.bring_marked.ensures.goes)))
 
-pub returns-in-Ok-clause-ready : goal.returns-in-Ok-clause-ready
-returns-in-Ok-clause-ready g c =
+pub returns-in_ok-parts-in-Ok-clause-ready : goal.returns-in_ok-parts-in-Ok-clause-ready
+returns-in_ok-parts-in-Ok-clause-ready g c =
     let a = c.args.above in
     let ps = c.in_ok-trees.trees.items in
     let both = c.in_ok-tables.tables.items in
@@ -135,7 +138,7 @@ returns-in-Ok-clause-ready g c =
     let over : AreOver ps a.record.tables a.uppers.items = subst (λ (l : List TableRoot). AreOver ps l a.uppers.items) c.tables_of.ensures (subst (λ (l : List Upper). AreOver ps c.tables_of.result.now l) c.deref.ensures.value c.in_ok-trees.ensures) in
     let e = c.in_ok-engine.engine in
     let unread : IsUnread (marks_of a.record) both e = subst (λ (n : Marks). IsUnread n both e) c.marks_of-marks.ensures c.in_ok-engine.ensures.unread in
-    let s : Store = record { engine = c.bring_marked.new.engine; ground = record { place = c.args.place; number = c.number_of-number.result; trees = c.in_ok-trees-2.trees; parts = c.new.result; floor = no_name } } in
+    let s : Store = record { engine = c.bring_marked.new.engine; ground = record { place = c.args.place; number = c.number_of-number.result; trees = c.in_ok-trees-2.trees; parts = c.in_ok-parts-in-Ok.parts; floor = no_name }; clock = c.new.result } in
     let trees_are : s.ground.trees.items ≡ places_in a.record.tables ps = c.in_ok-trees-2.ensures ∙ ap (λ (l : List TableRoot). places_in l ps) c.tables_of-2.ensures in
     ready_above a c.requires.is_record both with e unread s c.bring_marked.ensures.goes ps over trees_are c.number_of-number.ensures
 

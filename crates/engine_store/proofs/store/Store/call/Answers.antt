@@ -1,32 +1,18 @@
 use Rattle.wt_calls.specs.Calls.{session_call_in}
-use Rattle.wt_calls.specs.declared.call.Call.TheVariants as calls
-use Rattle.ckpt_step.proofs.Ordinary.{fits_are}
-use Rattle.engine_store.proofs.Calling.{Ended, calls_held, calls_keep, calls_told}
-use Rattle.engine_store.proofs.store.Store.call.Given as given
+use Rattle.std.proofs.Common.{◌∙◌, ap, length, List}
+use Rattle.call_steps.specs.State.{State}
+use Rattle.engine_store.specs.Calls.{MayAnswerSo}
+use Rattle.engine_store.proofs.GoingOut.{called_out, keeps_out, told_out}
 use Rattle.engine_store.proofs.store.Store.call.Goals as goal
 
-ended : (g : given.Over) → (c : goal.After-end g) → Ended g.D.Disk c.args.self.now c.call-called.new.self c.end.new.self c.call-called.result c.args.disk.now c.end.new.disk c.args.session (session_call_in c.args.call) c.end.result
-ended g c = record {
-  calls = λ h w there fault backed by. c.end.ensures.calls h w (session_call_in c.args.call) there fault backed by;
-  begun = c.call-called.ensures.answer;
-  goes = c.call-called.ensures.goes;
-  on = c.end.ensures.goes;
-  ground = c.end.ensures.ground;
-  looked = c.end.ensures.looked;
-  home = c.end.ensures.home;
-  told = c.end.ensures.told;
-  own = c.call-called.ensures.own;
-  tells = c.call-called.ensures.tells;
-  there = c.requires;
-  built = c.actors.ensures.built;
-  ordinary = (fits_are c.args.self.now.engine).1 (calls.Session c.args.session c.args.call) c.requires;
-}
-
 pub returns-clause-called : goal.returns-clause-called
-returns-clause-called g c = calls_held g.D.Disk c.args.self.now c.call-called.new.self c.end.new.self c.call-called.result c.args.disk.now c.end.new.disk c.args.session (session_call_in c.args.call) c.end.result (ended g c)
+returns-clause-called g c = called_out g.D.Disk c.call_through-told.new.self c.make_way.new.self c.make_way.ensures c.args.self.now c.args.disk.now c.call_through-told.new.disk c.args.session (session_call_in c.args.call) c.call_through-told.result c.call_through-told.ensures.called
 
 pub returns-clause-told : goal.returns-clause-told
-returns-clause-told g c = calls_told g.D.Disk c.args.self.now c.call-called.new.self c.end.new.self c.call-called.result c.args.disk.now c.end.new.disk c.args.session (session_call_in c.args.call) c.end.result (ended g c)
+returns-clause-told g c = told_out g.D.Disk c.call_through-told.new.self c.make_way.new.self c.make_way.ensures c.args.self.now c.args.disk.now c.call_through-told.new.disk (λ basis start. MayAnswerSo g.D.Disk basis start c.call_through-told.new.disk c.call_through-told.result) c.call_through-told.ensures.told
 
 pub returns-clause-keeps : goal.returns-clause-keeps
-returns-clause-keeps g c = calls_keep g.D.Disk c.args.self.now c.call-called.new.self c.end.new.self c.call-called.result c.args.disk.now c.end.new.disk c.args.session (session_call_in c.args.call) c.end.result (ended g c)
+returns-clause-keeps g c = keeps_out g.D.Disk c.call_through-told.new.self c.make_way.new.self c.make_way.ensures c.args.self.now c.args.disk.now c.call_through-told.new.disk c.call_through-told.ensures.keeps
+
+pub returns-clause-sessions : goal.returns-clause-sessions
+returns-clause-sessions g c = ap (λ (l : List State). length l) c.make_way.ensures.sessions ∙ c.call_through-told.ensures.sessions

@@ -22,7 +22,7 @@ returns-clause-closes g c = λ h w st free old on follows.
     let may = may_roll before.engine c.may_close.result c.in-Ok.field-0 c.may_close.ensures.told c.in-Ok.is w st free in
     let stands = c.roll_back_all.ensures.rolled_back w st may in
     let r = is_rolled (D.seen c.args.disk.now) (D.may_leave c.args.disk.now) old w before.ground before.engine middle c.roll_back_all.ensures.goes st stands on follows in
-    closes_last D old w before (record { engine = c.checkpoint.new.engine; ground = c.checkpoint.new.ground }) c.args.disk.now c.checkpoint.new.disk c.checkpoint.result
+    closes_last D old w before (record c.args.self.now { engine = c.checkpoint.new.engine; ground = c.checkpoint.new.ground }) c.args.disk.now c.checkpoint.new.disk c.checkpoint.result
     (record {
       may = may;
       middle = middle;
@@ -40,7 +40,7 @@ returns-clause-shuts g c = λ h first_disk w first made held plain.
     let goes = c.plain_stays.ensures.rolls_back w.machine held.stands.valid plain in
     shuts_by D first_disk c.args.disk.now (g.met.D.Disk.reads_an_image c.args.disk.now h) before w first made held plain may goes middle stands c.roll_back_all.ensures.goes
     c.checkpoint.new.disk (λ later d left. g.met.D.Disk.counts_now _ _ d later left) (λ d left. g.met.D.Disk.only_now _ d left) c.checkpoint.ensures.disk.later c.checkpoint.ensures.disk.room c.checkpoints_open.ensures c.downs_go.ensures
-    (record { engine = c.checkpoint.new.engine; ground = c.checkpoint.new.ground }) c.checkpoint.result
+    (record c.args.self.now { engine = c.checkpoint.new.engine; ground = c.checkpoint.new.ground }) c.checkpoint.result
     (λ old on follows. c.checkpoint.ensures.takes h (rolled w) stands (checkpoint_rolled w.machine ∙ held.idle) old on follows)
 
 pub returns-clause-told : goal.returns-clause-told

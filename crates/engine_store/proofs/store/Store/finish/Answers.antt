@@ -1,61 +1,17 @@
-use Rattle.std.proofs.Common.{sym, subst}
-use Rattle.engine.specs.declared.step.Actor.{Actor}
-use Rattle.engine.specs.declared.step.Actor.TheVariants as by
-use Rattle.engine.specs.declared.step.Step.TheVariants as step
-use Rattle.call_steps.specs.declared.reply.Reply.TheVariants as reply
-use Rattle.ckpt_step.proofs.Ordinary.{engines_are}
-use Rattle.engine_store.specs.Calls.{Finished}
-use Rattle.engine_store.proofs.Bases.{basis_here}
-use Rattle.engine_store.proofs.Finishing.{EndedLater, finish_held, finish_keeps, finish_told}
-use Rattle.engine_store.proofs.Going.{goes_step}
-use Rattle.engine_store.proofs.SystemCalls.{event_held, event_keeps}
-use Rattle.engine_store.proofs.Telling.{always_told, keep_told}
-use Rattle.engine_store.proofs.store.Store.finish.Given as given
+use Rattle.std.proofs.Common.{◌∙◌, ap, length, List}
+use Rattle.call_steps.specs.State.{State}
+use Rattle.engine_store.specs.Calls.{MayAnswerSo}
+use Rattle.engine_store.proofs.GoingOut.{finished_out, keeps_out, told_out}
 use Rattle.engine_store.proofs.store.Store.finish.Goals as goal
 
-ended : (g : given.Over) → (c : goal.After-end g) → EndedLater g.D.Disk c.args.self.now c.resume-called.new.self c.end.new.self c.resume-called.result c.args.disk.now c.end.new.disk c.in-Session.session c.end.result
-ended g c = record {
-  steps = c.end.ensures.steps;
-  ends = c.resume-called.ensures.ends;
-  goes = c.resume-called.ensures.goes;
-  on = c.end.ensures.goes;
-  ground = c.end.ensures.ground;
-  looked = c.end.ensures.looked;
-  home = c.end.ensures.home;
-  told = c.end.ensures.told;
-  own = c.resume-called.ensures.own;
-  tells = c.resume-called.ensures.tells;
-  built = c.actors.ensures.built;
-}
+pub returns-clause-finished : goal.returns-clause-finished
+returns-clause-finished g c = finished_out g.D.Disk c.finish_through-told.new.self c.make_way.new.self c.make_way.ensures c.args.self.now c.args.disk.now c.finish_through-told.new.disk c.args.actor c.finish_through-told.result c.finish_through-told.ensures.finished
 
-pub returns-in-Session-clause-finished : goal.returns-in-Session-clause-finished
-returns-in-Session-clause-finished g c = λ h start w first made held.
-    subst (λ (who : Actor). Finished g.D.Disk start w first made c.args.self.now c.end.new.self c.args.disk.now c.end.new.disk who c.end.result) (sym c.in-Session.is)
-    (finish_held g.D.Disk c.args.self.now c.resume-called.new.self c.end.new.self c.resume-called.result c.args.disk.now c.end.new.disk c.in-Session.session c.end.result (ended g c) h start w first made held)
+pub returns-clause-told : goal.returns-clause-told
+returns-clause-told g c = told_out g.D.Disk c.finish_through-told.new.self c.make_way.new.self c.make_way.ensures c.args.self.now c.args.disk.now c.finish_through-told.new.disk (λ basis start. MayAnswerSo g.D.Disk basis start c.finish_through-told.new.disk c.finish_through-told.result) c.finish_through-told.ensures.told
 
-pub returns-in-Session-clause-told : goal.returns-in-Session-clause-told
-returns-in-Session-clause-told g c = finish_told g.D.Disk c.args.self.now c.resume-called.new.self c.end.new.self c.resume-called.result c.args.disk.now c.end.new.disk c.in-Session.session c.end.result (ended g c)
+pub returns-clause-keeps : goal.returns-clause-keeps
+returns-clause-keeps g c = keeps_out g.D.Disk c.finish_through-told.new.self c.make_way.new.self c.make_way.ensures c.args.self.now c.args.disk.now c.finish_through-told.new.disk c.finish_through-told.ensures.keeps
 
-pub returns-in-Session-clause-keeps : goal.returns-in-Session-clause-keeps
-returns-in-Session-clause-keeps g c = finish_keeps g.D.Disk c.args.self.now c.resume-called.new.self c.end.new.self c.resume-called.result c.args.disk.now c.end.new.disk c.in-Session.session c.end.result (ended g c)
-
-pub returns-in-System-clause-finished : goal.returns-in-System-clause-finished
-returns-in-System-clause-finished g c = λ h start w first made held.
-    let x = c.finish_system.ensures.steps w held.stands in
-    subst (λ (who : Actor). Finished g.D.Disk start w first made c.args.self.now (record { engine = c.finish_system.new.self; ground = c.args.self.now.ground }) c.args.disk.now c.args.disk.now who c.finish_system.result) (sym c.in-System.is)
-    (record {
-      later = x.0;
-      ended = x.1;
-      held = event_held g.D.Disk c.args.disk.now c.args.self.now c.finish_system.new.self c.finish_system.ensures.goes start w x.0 first made x.2
-          (goes_step w x.0 (step.Go (by.System c.in-System.number)) (reply.Answer c.finish_system.result) (engines_are c.args.self.now.engine w held.stands c.actors.ensures.built) tt x.1) held;
-    })
-
-pub returns-in-System-clause-told : goal.returns-in-System-clause-told
-returns-in-System-clause-told g c = λ basis start le on told. (
-  always_told g.D.Disk basis start c.args.disk.now c.finish_system.result c.finish_system.ensures.tells,
-  keep_told g.D.Disk basis start c.args.disk.now c.args.self.now.engine c.finish_system.new.self c.finish_system.ensures.own told,
-  basis_here g.D.Disk basis c.args.self.now.engine c.finish_system.new.self c.args.disk.now c.finish_system.ensures.goes on,
-)
-
-pub returns-in-System-clause-keeps : goal.returns-in-System-clause-keeps
-returns-in-System-clause-keeps g c = event_keeps g.D.Disk c.args.disk.now c.args.self.now c.finish_system.new.self c.finish_system.ensures.goes
+pub returns-clause-sessions : goal.returns-clause-sessions
+returns-clause-sessions g c = ap (λ (l : List State). length l) c.make_way.ensures.sessions ∙ c.finish_through-told.ensures.sessions

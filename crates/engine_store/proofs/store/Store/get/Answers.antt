@@ -1,33 +1,19 @@
 use Rattle.wt_calls.specs.Calls.{session_call_in}
-use Rattle.wt_calls.specs.declared.call.Call.TheVariants as calls
 use Rattle.wt_calls.specs.declared.session_call.SessionCall.TheVariants as session_call
-use Rattle.ckpt_step.proofs.Ordinary.{fits_are}
-use Rattle.engine_store.proofs.Calling.{Ended, calls_held, calls_keep, calls_told}
-use Rattle.engine_store.proofs.store.Store.get.Given as given
+use Rattle.std.proofs.Common.{◌∙◌, ap, length, List}
+use Rattle.call_steps.specs.State.{State}
+use Rattle.engine_store.specs.Calls.{MayAnswerSo}
+use Rattle.engine_store.proofs.GoingOut.{called_out, keeps_out, told_out}
 use Rattle.engine_store.proofs.store.Store.get.Goals as goal
 
-ended : (g : given.Over) → (c : goal.After-end g) → Ended g.D.Disk c.args.self.now c.get-called.new.self c.end.new.self c.get-called.result c.args.disk.now c.end.new.disk c.args.session (session_call_in (session_call.Get c.args.table.now c.args.key.now)) c.end.result
-ended g c = record {
-  calls = λ h w there fault backed by. c.end.ensures.calls h w (session_call_in (session_call.Get c.args.table.now c.args.key.now)) there fault backed by;
-  begun = c.get-called.ensures.answer;
-  goes = c.get-called.ensures.goes;
-  on = c.end.ensures.goes;
-  ground = c.end.ensures.ground;
-  looked = c.end.ensures.looked;
-  home = c.end.ensures.home;
-  told = c.end.ensures.told;
-  own = c.get-called.ensures.own;
-  tells = c.get-called.ensures.tells;
-  there = c.requires;
-  built = c.actors.ensures.built;
-  ordinary = (fits_are c.args.self.now.engine).1 (calls.Session c.args.session (session_call.Get c.args.table.now c.args.key.now)) c.requires;
-}
-
 pub returns-clause-called : goal.returns-clause-called
-returns-clause-called g c = calls_held g.D.Disk c.args.self.now c.get-called.new.self c.end.new.self c.get-called.result c.args.disk.now c.end.new.disk c.args.session (session_call_in (session_call.Get c.args.table.now c.args.key.now)) c.end.result (ended g c)
+returns-clause-called g c = called_out g.D.Disk c.get_through-told.new.self c.make_way.new.self c.make_way.ensures c.args.self.now c.args.disk.now c.get_through-told.new.disk c.args.session (session_call_in (session_call.Get c.args.table.now c.args.key.now)) c.get_through-told.result c.get_through-told.ensures.called
 
 pub returns-clause-told : goal.returns-clause-told
-returns-clause-told g c = calls_told g.D.Disk c.args.self.now c.get-called.new.self c.end.new.self c.get-called.result c.args.disk.now c.end.new.disk c.args.session (session_call_in (session_call.Get c.args.table.now c.args.key.now)) c.end.result (ended g c)
+returns-clause-told g c = told_out g.D.Disk c.get_through-told.new.self c.make_way.new.self c.make_way.ensures c.args.self.now c.args.disk.now c.get_through-told.new.disk (λ basis start. MayAnswerSo g.D.Disk basis start c.get_through-told.new.disk c.get_through-told.result) c.get_through-told.ensures.told
 
 pub returns-clause-keeps : goal.returns-clause-keeps
-returns-clause-keeps g c = calls_keep g.D.Disk c.args.self.now c.get-called.new.self c.end.new.self c.get-called.result c.args.disk.now c.end.new.disk c.args.session (session_call_in (session_call.Get c.args.table.now c.args.key.now)) c.end.result (ended g c)
+returns-clause-keeps g c = keeps_out g.D.Disk c.get_through-told.new.self c.make_way.new.self c.make_way.ensures c.args.self.now c.args.disk.now c.get_through-told.new.disk c.get_through-told.ensures.keeps
+
+pub returns-clause-sessions : goal.returns-clause-sessions
+returns-clause-sessions g c = ap (λ (l : List State). length l) c.make_way.ensures.sessions ∙ c.get_through-told.ensures.sessions

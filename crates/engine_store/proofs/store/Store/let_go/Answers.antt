@@ -33,4 +33,4 @@ returns-in-Ok g c =
 pub returns-in_default-give_way : goal.returns-in_default-give_way
 returns-in_default-give_way g c =
     let s = c.args.self.now in
-    subst (λ (e : Engine). LetsGo g.D.Disk s (record { engine = e; ground = s.ground })) (sym c.in_default-give_way.ensures.kept) (stays g.D.Disk s)
+    subst (λ (e : Engine). LetsGo g.D.Disk s (record s { engine = e })) (sym c.in_default-give_way.ensures.kept) (stays g.D.Disk s)
