@@ -30,8 +30,8 @@ use std::mem::forget;
 use wt_code::{Invalid, Refusal};
 use wt_io::{Sink, write_all};
 
-// The text is written once it has so many bytes; with the row that reaches them it has 64 KB at most.
-const PIECE: usize = 8_192;
+// The text is written once it has so many bytes.
+const PIECE: usize = 65_536;
 
 // How rows are printed.
 #[derive(Clone, Copy, Debug, PartialEq, Eq)]
