@@ -207,10 +207,6 @@ fn a_leaf_at_fault_is_met_where_it_is_needed(rt: HostRuntime) {
     let told = told.expect(&rt, "there is memory");
     let absent_told = format!(in alloc; "-31803 not found\n{told}").expect(&rt, "there is memory");
     let value = format!(in alloc; "{x}\n").expect(&rt, "there is memory");
-    let front = format!(in alloc;
-        "WiredTiger Dump (row store 1)\nFormat=print\nHeader\ntable:t\nkey_format=S,value_format=S\nData\na\\00\n{x}\\00\nb\\00\n{y}\\00\n"
-    );
-    let front = front.expect(&rt, "there is memory");
     let other =
         "WiredTiger Dump (row store 1)\nFormat=print\nHeader\ntable:u\nkey_format=S,value_format=S\nData\nk\\00\n7\\00\n";
     let rows = [
@@ -222,7 +218,8 @@ fn a_leaf_at_fault_is_met_where_it_is_needed(rt: HostRuntime) {
         // up to the key whose leaf it is
         ("read|t|a|A|c|b", 1, absent_told.as_str(), value.as_str()),
         ("read|u|k", 0, "", "7\n"),
-        ("dump|t", 1, told.as_str(), front.as_str()),
+        // the rows before it waited for a piece to be full
+        ("dump|t", 1, told.as_str(), ""),
         ("dump|-r|t", 1, told.as_str(), ""),
         ("dump|u", 0, "", other),
         ("list", 0, "", "table:t\ntable:u\n"),
