@@ -36,6 +36,7 @@ pub record EndedLater {D : Type 0} (g : Ghosts D) (s : Store) (e : Engine) (s' :
   pub goes : HubGoesOn s.engine.hub e.hub
   pub on : (h : Hub) → HubGoesOn h e.hub → HubGoesOn h s'.engine.hub
   pub ground : s'.ground ≡ s.ground
+  pub frames : s'.frames ≡ s.frames
   pub looked : Looked g before after
   pub home : g.home after ≡ g.home before
   pub told : (basis : Option Basis) (start : D) → g.faults start ≤ g.faults before → IsBasis g basis e before → CalledSo g basis start before made → AreToldSo g basis start e before → MayAnswerSo g basis start after answer × AreToldSo g basis start s'.engine after
@@ -87,6 +88,7 @@ module _ {D : Type 0} (g : Ghosts D) (s : Store) (e : Engine) (s' : Store) (made
   finish_keeps = record {
     ready = ready_goes s s' hub x.ground;
     ground = x.ground;
+    frames = x.frames;
     looked = x.looked;
     home = x.home;
   }

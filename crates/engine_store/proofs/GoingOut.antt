@@ -35,9 +35,10 @@ use Rattle.engine_store.proofs.Telling.{told_on}
 module _ {D : Type 0} (g : Ghosts D) where
   -- ---- none, some, and then others
 
-  pub none_out : (s s' : Store) → s'.engine ≡ s.engine → s'.ground ≡ s.ground → GoOut g s s'
-  none_out s s' engine ground = record {
+  pub none_out : (s s' : Store) → s'.engine ≡ s.engine → s'.ground ≡ s.ground → s'.frames ≡ s.frames → GoOut g s s'
+  none_out s s' engine ground frames = record {
     ground = ground;
+    frames = frames;
     sessions = ap (λ (e : Engine). e.sessions) engine;
     hub = subst (λ (e : Engine). e.hub ≡ record s.engine.hub { dir = e.hub.dir }) (sym engine) refl;
     stands = λ w stands. subst (λ (e : Engine). Stands e w) (sym engine) stands;
@@ -51,6 +52,7 @@ module _ {D : Type 0} (g : Ghosts D) where
   pub out_then : (a b c : Store) → GoOut g a b → GoOut g b c → GoOut g a c
   out_then a b c one two = record {
     ground = two.ground ∙ one.ground;
+    frames = two.frames ∙ one.frames;
     sessions = two.sessions ∙ one.sessions;
     hub = two.hub ∙ ap (λ (h : Hub). record h { dir = c.engine.hub.dir }) one.hub;
     stands = λ w stands. two.stands w (one.stands w stands);
@@ -77,6 +79,7 @@ module _ {D : Type 0} (g : Ghosts D) where
     pub has_gone : GoOut g s (record s { engine = e })
     has_gone = record {
       ground = refl;
+      frames = refl;
       sessions = ap (λ (x : Engine). x.sessions) gone.is;
       hub = subst (λ (x : Engine). x.hub ≡ record s.engine.hub { dir = x.hub.dir }) (sym gone.is) refl;
       stands = stands;
@@ -92,8 +95,8 @@ module _ {D : Type 0} (g : Ghosts D) where
   pub gone_or_not : (law : (disk : D) → GroundsLetGo (g.seen disk) (g.may_leave disk)) (s : Store) (e : Engine) (id : ℕ) (whole : IsWhole s id) (dir : IsDirectory s.engine.hub.dir) (stands : (w : World) → Stands s.engine w → Stands e w) (result : Result Bool NoMemory)
       → IfOk result (λ out. IsTrue out → HasGoneOut s.engine e id) → IfOk result (λ out. out ≡ false → (MayGoOut s.engine id → ⊥) × (e ≡ s.engine)) → OnErr result (e ≡ s.engine) → GoOut g s (record s { engine = e })
   gone_or_not law s e id whole dir stands (Ok true) out not kept = has_gone law s e id whole (out refl) dir stands
-  gone_or_not law s e id whole dir stands (Ok false) out not kept = none_out s (record s { engine = e }) (not refl).1 refl
-  gone_or_not law s e id whole dir stands (Err none) out not kept = none_out s (record s { engine = e }) kept refl
+  gone_or_not law s e id whole dir stands (Ok false) out not kept = none_out s (record s { engine = e }) (not refl).1 refl refl
+  gone_or_not law s e id whole dir stands (Err none) out not kept = none_out s (record s { engine = e }) kept refl refl
 
   -- ---- what holds between two calls
 
@@ -134,6 +137,7 @@ module _ {D : Type 0} (g : Ghosts D) where
       keeps_out keeps = record {
         ready = λ ready. ready_out (keeps.ready ready);
         ground = out.ground ∙ keeps.ground;
+        frames = out.frames ∙ keeps.frames;
         looked = keeps.looked;
         home = keeps.home;
       }

@@ -20,7 +20,7 @@ module _ {D : Type 0} (g : Ghosts D) where
   -- none does
   pub stays : (s : Store) → LetsGo g s s
   stays s = record {
-    alike = record { sessions = refl; tables = refl; txns = refl; number = refl; trees = refl };
+    alike = record { frames = refl; sessions = refl; tables = refl; txns = refl; number = refl; trees = refl };
     relieves = λ disk old w stands idle on follows newest. record { shelf = w.shelf; stands = stands; on = on; follows = follows };
   }
 
@@ -28,6 +28,7 @@ module _ {D : Type 0} (g : Ghosts D) where
   pub goes_then : (a b c : Store) → LetsGo g a b → LetsGo g b c → LetsGo g a c
   goes_then a b c one two = record {
     alike = record {
+      frames = two.alike.frames ∙ one.alike.frames;
       sessions = two.alike.sessions ∙ one.alike.sessions;
       tables = two.alike.tables ∙ one.alike.tables;
       txns = two.alike.txns ∙ one.alike.txns;
@@ -51,6 +52,7 @@ module _ {D : Type 0} (g : Ghosts D) where
     pub gave : LetsGo g s (record s { engine = e; ground = ground })
     gave = record {
       alike = record {
+        frames = refl;
         sessions = ap (λ (x : Engine). x.sessions) way.is;
         tables = ap (λ (x : Engine). x.hub.tables) way.is;
         txns = ap (λ (x : Engine). x.hub.txns) way.is;

@@ -35,6 +35,7 @@ pub record GoneOn {D : Type 0} (g : Ghosts D) (first disk : D) (s s' : Store) (m
   pub goes : (h : Hub) → HubGoesOn h s.engine.hub → HubGoesOn h s'.engine.hub
   pub fault : s'.engine.hub.fault ≡ s.engine.hub.fault
   pub ground : s'.ground ≡ s.ground
+  pub frames : s'.frames ≡ s.frames
   pub sessions : length s'.engine.sessions ≡ length s.engine.sessions
   pub looked : Looked g first disk
   pub home : g.home disk ≡ g.home first
@@ -48,6 +49,7 @@ gone_none g disk s made session waits = record {
   goes = λ h on. on;
   fault = refl;
   ground = refl;
+  frames = refl;
   sessions = refl;
   looked = looked_none g disk;
   home = refl;
@@ -61,6 +63,7 @@ pub record OneRound {D : Type 0} (g : Ghosts D) (disk disk' : D) (s s' : Store) 
   pub waits : WaitsAs now s'.engine session
   pub goes : HubGoesOn s.engine.hub s'.engine.hub
   pub ground : s'.ground ≡ s.ground
+  pub frames : s'.frames ≡ s.frames
   pub sessions : length s'.engine.sessions ≡ length s.engine.sessions
   pub looked : Looked g disk disk'
   pub home : g.home disk' ≡ g.home disk
@@ -109,6 +112,7 @@ module _ {D : Type 0} (g : Ghosts D) (first disk disk' : D) (s s' s'' : Store) (
     goes = λ h on. goes-then h s'.engine.hub s''.engine.hub (gone.goes h on) one.goes;
     fault = one.goes.fault ∙ gone.fault;
     ground = one.ground ∙ gone.ground;
+    frames = one.frames ∙ gone.frames;
     sessions = one.sessions ∙ gone.sessions;
     looked = looked_then g first disk disk' gone.looked one.looked;
     home = one.home ∙ gone.home;

@@ -31,6 +31,7 @@ pub record StepsOn {D : Type 0} (g : Ghosts D) (s s' : Store) (before after : D)
   pub led : IsTrue (g.honest before) → (w : World) → IsReached g s before w w → (later : World) × MayStepOn (CauseSince g before after w) w made told later × Stands s'.engine later × Goes w later
   pub hub : HubGoesOn s.engine.hub s'.engine.hub
   pub ground : s'.ground ≡ s.ground
+  pub frames : s'.frames ≡ s.frames
   pub looked : Looked g before after
   pub home : g.home after ≡ g.home before
 
@@ -81,6 +82,7 @@ module _ {D : Type 0} (g : Ghosts D) (s s' : Store) (before after : D) (made : S
   step_keeps = record {
     ready = ready_goes s s' x.hub x.ground;
     ground = x.ground;
+    frames = x.frames;
     looked = x.looked;
     home = x.home;
   }

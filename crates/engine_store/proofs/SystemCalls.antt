@@ -19,4 +19,4 @@ module _ {D : Type 0} (g : Ghosts D) (disk : D) (s : Store) (e : Engine) (goes :
   event_held start w later first made stands on held = held_goes g s (with_engine s e) disk disk (looked_none g disk) goes refl start w later first made stands on held
 
   pub event_keeps : CallKeeps g s (with_engine s e) disk disk
-  event_keeps = record { ready = ready_goes s (with_engine s e) goes refl; ground = refl; looked = looked_none g disk; home = refl }
+  event_keeps = record { ready = ready_goes s (with_engine s e) goes refl; ground = refl; frames = refl; looked = looked_none g disk; home = refl }

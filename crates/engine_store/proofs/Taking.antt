@@ -287,9 +287,9 @@ module _ {D : Type 0} (g : Ghosts D) (start_disk disk : D) (image : g.may_leave 
   pub number_held : (n : ℕ) × IsNumberOf (g.seen disk) n
   number_held = let any = held.images (g.seen disk) image in number_read (g.seen disk) any.2.0 any.2.1
 
-  -- which leaves go out says nothing of what is held
-  clock_held : (k : Clock) → IsHeld g start_disk (record s { clock = k }) disk w first made
-  clock_held k = record {
+  -- how many frames there are, and which leaves go out, says nothing of what is held
+  clock_held : (n : ℕ) (k : Clock) → IsHeld g start_disk (record s { frames = n; clock = k }) disk w first made
+  clock_held n k = record {
     stands = held.stands;
     idle = held.idle;
     on = λ up. let x = held.on up in record { old = x.old; on = x.on; follows = x.follows; opens = x.opens; one = x.one };
@@ -300,32 +300,32 @@ module _ {D : Type 0} (g : Ghosts D) (start_disk disk : D) (image : g.may_leave 
     past = held.past;
   }
 
-  refused_down : (k : Clock) (fault : Fault) → w.machine.fault ≡ Some fault → IsPlain w.machine → CheckpointsOn g start_disk w first made s (record s { clock = k }) disk disk w.shelf (Err (Panic fault))
-  refused_down k fault down plain = record {
+  refused_down : (n : ℕ) (k : Clock) (fault : Fault) → w.machine.fault ≡ Some fault → IsPlain w.machine → CheckpointsOn g start_disk w first made s (record s { frames = n; clock = k }) disk disk w.shelf (Err (Panic fault))
+  refused_down n k fault down plain = record {
     next = w.machine;
     now = made;
     behind = record { later = record { faults = omega arith; moment = omega arith }; capacity = refl; has = λ up. absurd (not_both up) };
     takes = inr (number_held.0, Err (Panic fault), number_held.1, decided-down w.machine 0 (StartCall number_held.0) fault down refl, (refl, refl));
     installs = inl refl;
-    held = clock_held k;
+    held = clock_held n k;
     plain = plain;
   }
     where
       not_both : w.machine.fault ≡ None → ⊥
       not_both up = let e : None ≡ Some fault = sym up ∙ down in cc
 
-  pub by_down : (s' : Store) (after : D) (result : Result (Unit {0}) Refusal) (fault : Fault) → w.machine.fault ≡ Some fault → IsPlain w.machine → result ≡ Err (Panic fault) → s' ≡ record s { clock = s'.clock } → after ≡ disk
+  pub by_down : (s' : Store) (after : D) (result : Result (Unit {0}) Refusal) (fault : Fault) → w.machine.fault ≡ Some fault → IsPlain w.machine → result ≡ Err (Panic fault) → s' ≡ record s { frames = s'.frames; clock = s'.clock } → after ≡ disk
       → CheckpointsOn g start_disk w first made s s' disk after w.shelf result
   by_down s' after result fault down plain is same still =
       subst (λ (d : D). CheckpointsOn g start_disk w first made s s' disk d w.shelf result) (sym still)
       (subst (λ (x : Store). CheckpointsOn g start_disk w first made s x disk disk w.shelf result) (sym same)
-      (subst (λ (r : Result (Unit {0}) Refusal). CheckpointsOn g start_disk w first made s (record s { clock = s'.clock }) disk disk w.shelf r) (sym is)
-      (refused_down s'.clock fault down plain)))
+      (subst (λ (r : Result (Unit {0}) Refusal). CheckpointsOn g start_disk w first made s (record s { frames = s'.frames; clock = s'.clock }) disk disk w.shelf r) (sym is)
+      (refused_down s'.frames s'.clock fault down plain)))
 
 -- ---- of either
 
--- but for which leaves go out
-same_store : (s s' : Store) → s'.engine ≡ s.engine → s'.ground ≡ s.ground → s' ≡ record s { clock = s'.clock }
+-- but for how many frames there are, and which leaves go out
+same_store : (s s' : Store) → s'.engine ≡ s.engine → s'.ground ≡ s.ground → s' ≡ record s { frames = s'.frames; clock = s'.clock }
 same_store s s' engine place =
     ap (λ (e : Engine). let x : Store = record s' { engine = e } in x) engine
     ∙ ap (λ (p : Ground). let x : Store = record s' { engine = s.engine; ground = p } in x) place
@@ -359,7 +359,7 @@ module _ {D : Type 0} (g : Ghosts D) (start_disk before after : D)
     (image : g.may_leave before (g.seen before)) (s s' : Store) (w : World) (first : Completed) (made : List Installed) (held : IsHeld g start_disk s before w first made)
     (count : g.faults before ≤ g.faults after) (room : g.capacity after ≡ g.capacity before) (law : CheckpointsOpen) (downs : DownsGo) (plain : IsPlain w.machine) (have : CheckpointsHaveNewest) (stand : Ground) (e : Engine)
     (takes : (old : Option Stored) → StandsOn (g.seen before) (g.may_leave before) s.engine.hub s.ground old → Follows old s.engine.hub s.ground w → Taken g old w s.ground stand s.engine e before after)
-    (up : (fault : Fault) → s.engine.hub.fault ≡ Some fault → ⊥) (k : Clock) (goes : LetsGo g (record { engine = e; ground = stand; clock = k }) s') where
+    (up : (fault : Fault) → s.engine.hub.fault ≡ Some fault → ⊥) (n : ℕ) (k : Clock) (goes : LetsGo g (record { engine = e; ground = stand; frames = n; clock = k }) s') where
   by_up : (f : Option Fault) → w.machine.fault ≡ f → Checkpoints g start_disk w first made s s' before after (Ok tt)
   by_up (Some fault) is = absurd (up fault (held.stands.fault ∙ is))
   by_up None is =

@@ -11,13 +11,14 @@ use Rattle.ckpt_step.specs.Giving.{HasNewest}
 use Rattle.ckpt_step.specs.Grounds.{StandsOn}
 use Rattle.engine_store.specs.declared.store.Store.{Store}
 
--- of a leaf in this frame, of which the checkpoint has this: it is in a frame behind the first 64, or there are several entries of it
-abbrev pub has_to_go : ℕ → Option (List Entry) → Bool
-has_to_go frame None = nat_le 64 frame
-has_to_go frame (Some part) = nat_le 64 frame || nat_lt 1 (length part)
+-- of a leaf in this frame, of which the checkpoint has this: it is in a frame behind the first ones, of which there are so many, or there are several entries of it
+abbrev pub has_to_go : (frames frame : ℕ) → Option (List Entry) → Bool
+has_to_go frames frame None = nat_le frames frame
+has_to_go frames frame (Some part) = nat_le frames frame || nat_lt 1 (length part)
 
 -- sessions, tables and transactions are the same, and of the checkpoint what each disk tells alike
 pub record StaysAlike (s s' : Store) : Type 0 where
+  pub frames : s'.frames ≡ s.frames
   pub sessions : s'.engine.sessions ≡ s.engine.sessions
   pub tables : s'.engine.hub.tables ≡ s.engine.hub.tables
   pub txns : s'.engine.hub.txns ≡ s.engine.hub.txns

@@ -38,12 +38,14 @@ pub(crate) fn store_above<D: Disk>(
     disk: &mut D,
     place: Place,
     above: Above,
+    frames: u32,
 ) -> Result<Store, Refusal>
     requires { AboveInForm above }
     ensures found { IsTrue (D.honest disk.old) → Surveys (D.seen disk.old) place above → (content : Content) → Reads (D.seen disk.old) content → IfOk result (IsFound (D.seen disk.old)) }
     ensures spoils { IsTrue (D.honest disk.old) → Surveys (D.seen disk.old) place above → IfOk result (SpoilsAreThere (D.seen disk.old)) }
     ensures outset { IfOk result (λ s. IsOutset s.engine.hub) }
     ensures ready { IfOk result IsReady }
+    ensures frames { IfOk result (λ s. s.frames ≡ frames) }
     ensures sessions { IfOk result (λ s. length s.engine.sessions ≡ 0) }
     ensures err { IfErr result (RefusesBegin D.Disk above disk.old disk.new) }
     ensures looked { Looked D.Disk disk.old disk.new }
@@ -79,6 +81,7 @@ pub(crate) fn store_above<D: Disk>(
                     parts,
                     floor: Name { run: 0, id: 0 },
                 },
+                frames,
                 clock: Clock::new(),
             })
         }

@@ -279,6 +279,7 @@ impl Store {
         ensures goes { (h : AHub) → HubGoesOn h self.old.engine.hub → HubGoesOn h self.new.engine.hub }
         ensures fault { self.new.engine.hub.fault ≡ self.old.engine.hub.fault }
         ensures ground { self.new.ground ≡ self.old.ground }
+        ensures frames { self.new.frames ≡ self.old.frames }
         ensures sessions { length self.new.engine.sessions ≡ length self.old.engine.sessions }
         ensures looked { Looked D.Disk disk.old disk.new }
         ensures home { D.home disk.new ≡ D.home disk.old }
@@ -307,6 +308,7 @@ impl Store {
         ensures fewer { rounds_left result self.new.engine session < turns_in self.old.engine session + 1 }
         ensures goes { HubGoesOn self.old.engine.hub self.new.engine.hub }
         ensures ground { self.new.ground ≡ self.old.ground }
+        ensures frames { self.new.frames ≡ self.old.frames }
         ensures sessions { length self.new.engine.sessions ≡ length self.old.engine.sessions }
         ensures looked { Looked D.Disk disk.old disk.new }
         ensures home { D.home disk.new ≡ D.home disk.old }
@@ -331,6 +333,7 @@ impl Store {
         ensures then { OnOk result ((next : AHub) → HubGoesOn self.new.engine.hub next → HubGoesOn self.old.engine.hub next) }
         ensures goes { OnErr result (HubGoesOn self.old.engine.hub self.new.engine.hub) }
         ensures ground { self.new.ground ≡ self.old.ground }
+        ensures frames { self.new.frames ≡ self.old.frames }
         ensures sessions { length self.new.engine.sessions ≡ length self.old.engine.sessions }
         ensures looked { Looked D.Disk disk.old disk.new }
         ensures home { D.home disk.new ≡ D.home disk.old }
@@ -362,6 +365,7 @@ impl Store {
         ensures turns { turns_in self.new.engine session ≤ turns_in self.old.engine session }
         ensures goes { HubGoesOn self.old.engine.hub self.new.engine.hub }
         ensures ground { self.new.ground ≡ self.old.ground }
+        ensures frames { self.new.frames ≡ self.old.frames }
         ensures sessions { length self.new.engine.sessions ≡ length self.old.engine.sessions }
         ensures looked { Looked D.Disk disk.old disk.new }
         ensures home { D.home disk.new ≡ D.home disk.old }
@@ -387,6 +391,7 @@ impl Store {
         ensures kept { OnErr result (self.new.engine ≡ self.old.engine) }
         ensures goes { OnOk result (HubGoesOn self.old.engine.hub self.new.engine.hub) }
         ensures ground { self.new.ground ≡ self.old.ground }
+        ensures frames { self.new.frames ≡ self.old.frames }
         ensures sessions { self.new.engine.sessions ≡ self.old.engine.sessions }
         ensures looked { Looked D.Disk disk.old disk.new }
         ensures home { D.home disk.new ≡ D.home disk.old }

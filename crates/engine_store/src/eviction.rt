@@ -8,8 +8,8 @@ use ckpt_step::grounds_let_go;
 use disk_model::Disk;
 use tree_dir::Dir;
 
-// So many frames may have leaves that a call may read again.
-pub(crate) const FRAMES: usize = 64;
+/// So many frames an engine has where nobody says how many.
+pub const FRAMES: u32 = 64;
 
 // At most so many frames are looked at for a leaf that goes out, each time that one came in.
 const TRIES: usize = 4;
@@ -46,7 +46,7 @@ impl Clock {
 }
 
 impl Store {
-    /// Behind a call for which leaves were read: while more than `FRAMES` frames have leaves, some go
+    /// Behind a call for which leaves were read: while more than `self.frames` frames have leaves, some go
     /// out of theirs that no call has in hand and no cursor stands on, whose keys were never written
     /// since they were read, and which no checkpoint of this engine wrote. They are read again when a
     /// call needs them. `O(1)` where no leaf was read, else `O(n)` in the frames and sessions.
@@ -65,7 +65,7 @@ impl Store {
         ensures { GoOut D.Disk self.old self.new }
     {
         self.clock.is_due = false;
-        let over = self.filled().saturating_sub(FRAMES);
+        let over = self.filled().saturating_sub(self.frames as usize);
         for _ in 0..over.min(TRIES) {
             let frame = self.clock.next(self.engine.frames());
             self.let_out::<D>(frame);

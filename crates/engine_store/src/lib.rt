@@ -6,9 +6,10 @@
 //! (`ckpt_step`). Where no commit had a stamp, a checkpoint, a close and an opening anew keep what
 //! holds between two calls (`IsHeld`): at each moment a crash leaves what opens to a checkpoint that
 //! was done, or was being installed since. So do the calls of actors, whose leaves are read from the
-//! device when they need them, and leave memory behind a call that read others, or behind a checkpoint. Of a device where a leaf is at
-//! fault it promises that damage is told of such a leaf alone, where a call needs it. Leaves to the
-//! caller to attach the disk.
+//! device when they need them, and leave memory behind a call that read others, or behind a
+//! checkpoint. Of a device where a leaf is at fault it promises that damage is told of such a leaf
+//! alone, where a call needs it. Leaves to the caller to attach the disk, and to say how many frames
+//! there are.
 #![tactic(auto)]
 
 mod above;
@@ -23,5 +24,6 @@ mod relief;
 mod store;
 mod tables;
 
+pub use eviction::FRAMES;
 pub use opening::open_on;
 pub use store::Store;

@@ -23,20 +23,21 @@ use std::alloc::Global;
 use tree_dir::Dir;
 use wt_code::Refusal;
 
-/// An engine on what a device holds, without a session. The record and the inner pages are read, and
-/// of the leaves those alone of which an opening may take something out: any other is read when a call
+/// An engine with so many frames on what a device holds, without a session. The record and the inner
+/// pages are read, and of the leaves those alone of which an opening may take something out: any other is read when a call
 /// needs it, and damage of it told then. Nothing is written.
 ///
 /// Refused as `recover_open::survey` says, since such a leaf is at fault, as `75 limit checkpoints`
 /// where no run may follow that of the record, and as `75 limit tables` where its next number leaves
 /// none for as many tables as an engine may have. `O(bytes)` of what is read, `O(n)` in the leaves and
 /// blocks, and `O(n^2)` in the tables at most.
-pub fn open_on<D: Disk>(alloc: Global, disk: &mut D) -> Result<Store, Refusal>
+pub fn open_on<D: Disk>(alloc: Global, disk: &mut D, frames: u32) -> Result<Store, Refusal>
     ensures ok { IsTrue (D.honest disk.old) → (content : Content) → Reads (D.seen disk.old) content → IfOk result (IsOpened (D.seen disk.new) (D.may_leave disk.new)) }
     ensures surveyed { IsTrue (D.honest disk.old) → OnOk result (IsSurveyable (D.seen disk.old)) }
     ensures spoils { IsTrue (D.honest disk.old) → IfOk result (SpoilsAreThere (D.seen disk.old)) }
     ensures basis { IfOk result (λ s. IsBasis D.Disk (Some (basis_of D.Disk s disk.new)) s.engine disk.new) }
     ensures ready { IfOk result IsReady }
+    ensures frames { IfOk result (λ s. s.frames ≡ frames) }
     ensures sessions { IfOk result (λ s. length s.engine.sessions ≡ 0) }
     ensures err { IfErr result (RefusesOpen D.Disk (IsTrue (D.honest disk.old)) disk.old disk.new) }
     ensures looked { Looked D.Disk disk.old disk.new }
@@ -47,8 +48,8 @@ pub fn open_on<D: Disk>(alloc: Global, disk: &mut D) -> Result<Store, Refusal>
         Err(refusal) => return Err(refusal),
     };
     match above {
-        Some(above) => store_above(alloc, disk, place, above),
-        None => match store_on_nothing(alloc, place) {
+        Some(above) => store_above(alloc, disk, place, above, frames),
+        None => match store_on_nothing(alloc, place, frames) {
             Ok(store) => Ok(store),
             Err(NoMemory) => Err(Refusal::NoMemory),
         },
@@ -56,11 +57,12 @@ pub fn open_on<D: Disk>(alloc: Global, disk: &mut D) -> Result<Store, Refusal>
 }
 
 // An engine on a device on which no checkpoint was completed.
-fn store_on_nothing(alloc: Global, place: Place) -> Result<Store, NoMemory>
+fn store_on_nothing(alloc: Global, place: Place, frames: u32) -> Result<Store, NoMemory>
     ensures found { (bytes : List ℕ) → KeepsNone bytes place → IfOk result (IsFound bytes) }
     ensures bare { IfOk result (λ s. s.engine.hub.dir.leaves ≡ []) }
     ensures outset { IfOk result (λ s. IsOutset s.engine.hub) }
     ensures ready { IfOk result IsReady }
+    ensures frames { IfOk result (λ s. s.frames ≡ frames) }
     ensures sessions { IfOk result (λ s. length s.engine.sessions ≡ 0) }
 {
     let engine = Local::open(alloc, 1, 0, 0, Catalog::new(alloc), Dir::new(alloc))?;
@@ -75,6 +77,7 @@ fn store_on_nothing(alloc: Global, place: Place) -> Result<Store, NoMemory>
             parts: Parts::new(alloc),
             floor: Name { run: 0, id: 0 },
         },
+        frames,
         clock: Clock::new(),
     })
 }

@@ -6,7 +6,6 @@ ghost use Rattle.engine_world.specs.GivingWay.{IsIdle};
 ghost use Rattle.ckpt_step.specs.Rooms.{known_in};
 ghost use Rattle.engine_store.specs.Relieves.{LetsGo, has_to_go};
 
-use crate::eviction::FRAMES;
 use crate::store::Store;
 use ckpt_step::{entries_in_place, grounds_give_way};
 use disk_model::Disk;
@@ -15,8 +14,8 @@ use tree_dir::Dir;
 
 impl Store {
     /// While no session has a call, a transaction or a cursor on a leaf, leaves give way to what the
-    /// last completed checkpoint has of them: each one that is in a frame behind the first `FRAMES`,
-    /// and each of which it has several images, so that a leaf which grew is parted. A leaf stays of
+    /// last completed checkpoint has of them: each one that is in a frame behind the first
+    /// `self.frames`, and each of which it has several images, so that a leaf which grew is parted. A leaf stays of
     /// which it has no rows, or where memory is short. They are read again when a call needs them.
     /// `O(n)` in the frames and sessions, and `O(log n)` in the leaves for each image of those.
     pub(crate) fn relieve<D: Disk>(&mut self, alloc: Global)
@@ -34,7 +33,7 @@ impl Store {
 
     // The leaf in a frame, where it is one that gives way.
     fn leaf_to_go(&self, frame: usize) -> Option<u64>
-        ensures { IfSome result (λ leaf. has_to_go frame (known_in self.now.ground.parts leaf) ≡ true) }
+        ensures { IfSome result (λ leaf. has_to_go self.now.frames frame (known_in self.now.ground.parts leaf) ≡ true) }
     {
         let number = u32::try_from(frame).ok()?;
         let leaf = self.engine.id_in(number)?;
@@ -47,11 +46,11 @@ impl Store {
 
     // Whether a leaf in this frame is one that gives way.
     fn has_to_go(&self, frame: usize, leaf: u64) -> bool
-        ensures { result ≡ has_to_go frame (known_in self.now.ground.parts leaf) }
+        ensures { result ≡ has_to_go self.now.frames frame (known_in self.now.ground.parts leaf) }
     {
         match self.ground.parts.of(leaf) {
-            None => frame >= FRAMES,
-            Some(entries) => frame >= FRAMES || entries.len() > 1,
+            None => frame >= self.frames as usize,
+            Some(entries) => frame >= self.frames as usize || entries.len() > 1,
         }
     }
 

@@ -33,6 +33,9 @@ pub struct Store {
     pub engine: Local,
     /// The last completed checkpoint of its device.
     pub ground: Ground,
+    /// How many frames it has: so many leaves stay in memory that were only read, while calls need
+    /// others. A leaf whose keys were written stays beside them up to the next checkpoint.
+    pub frames: u32,
     // Which leaves go out of their frames.
     pub(crate) clock: Clock,
 }
@@ -41,7 +44,7 @@ impl Store {
     /// Takes a checkpoint in one event (`ckpt_step::checkpoint`). Where no commit had a stamp, the
     /// device opens as the checkpoint that the machine takes. Once it is taken, and while no session
     /// has a call, a transaction or a cursor on a leaf, leaves leave their frames: those behind the
-    /// first 64, and those of which it has several images.
+    /// first ones, as many as there are frames, and those of which it has several images.
     pub fn checkpoint<D: Disk>(&mut self, alloc: Global, disk: &mut D) -> Result<(), Refusal>
         requires ready { IsReady self.old }
         ensures takes { IsTrue (D.honest disk.old) → (first_disk : D) → (w : World) → (first : Completed) → (made : List Installed) → IsHeld D.Disk first_disk self.old disk.old w first made → IsPlain w.machine
@@ -49,6 +52,7 @@ impl Store {
         ensures refusals { IfErr result IsOfCheckpoint }
         ensures fault { IfErr result (λ r. r ≡ Refusal.DiskFault → Rose (D.faults disk.old) (D.faults disk.new)) }
         ensures sessions { length self.new.engine.sessions ≡ length self.old.engine.sessions }
+        ensures frames { self.new.frames ≡ self.old.frames }
         ensures ready { IsReady self.new }
         ensures told { StaysTold D.Disk self.old self.new disk.old disk.new }
         ensures disk { SameDisk D.Disk disk.old disk.new }
@@ -77,6 +81,7 @@ impl Store {
         ensures refusals { IfErr result IsOfCheckpoint }
         ensures fault { IfErr result (λ r. r ≡ Refusal.DiskFault → Rose (D.faults disk.old) (D.faults disk.new)) }
         ensures sessions { length self.new.engine.sessions ≡ length self.old.engine.sessions }
+        ensures frames { self.new.frames ≡ self.old.frames }
         ensures ready { IsReady self.new }
         ensures told { StaysTold D.Disk self.old self.new disk.old disk.new }
         ensures disk { SameDisk D.Disk disk.old disk.new }
@@ -92,22 +97,28 @@ impl Store {
         checkpoint(alloc, disk, &mut self.ground, &mut self.engine)
     }
 
-    /// Forgets memory, and opens the device anew (`open_on`), without a session. Where that is
-    /// refused, the store stays as it was.
-    pub fn reopen<D: Disk>(&mut self, alloc: Global, disk: &mut D) -> Result<(), Refusal>
+    /// Forgets memory, and opens the device anew with so many frames (`open_on`), without a session.
+    /// Where that is refused, the store stays as it was.
+    pub fn reopen<D: Disk>(
+        &mut self,
+        alloc: Global,
+        disk: &mut D,
+        frames: u32,
+    ) -> Result<(), Refusal>
         requires ready { IsReady self.old }
         ensures opens { IsTrue (D.honest disk.old) → (first_disk : D) → (w : World) → (first : Completed) → (made : List Installed) → IsHeld D.Disk first_disk self.old disk.old w first made
             → MayReopen D.Disk first_disk w first made self.old self.new disk.old disk.new result }
         ensures same { OnErr result (self.new ≡ self.old) }
         ensures damage { IfErr result (λ r. (at want found : ℕ) → r ≡ Corrupt at want found → IsTrue (D.honest disk.old) → IsAtFault (D.seen disk.new) at want found) }
         ensures fault { IfErr result (λ r. r ≡ Refusal.DiskFault → Rose (D.faults disk.old) (D.faults disk.new)) }
+        ensures frames { OnOk result (self.new.frames ≡ frames) }
         ensures sessions { OnOk result (length self.new.engine.sessions ≡ 0) }
         ensures ready { IsReady self.new }
         ensures told { StaysTold D.Disk self.old self.new disk.old disk.new }
         ensures disk { SameDisk D.Disk disk.old disk.new }
     {
         plain_stays();
-        match open_on(alloc, disk) {
+        match open_on(alloc, disk, frames) {
             Ok(opened) => {
                 *self = opened;
                 Ok(())

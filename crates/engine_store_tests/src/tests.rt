@@ -9,7 +9,7 @@ mod spoilt;
 
 use block_sum::sum;
 use disk_model::MemDisk;
-use engine_store::{Store, open_on};
+use engine_store::{FRAMES, Store, open_on};
 use item::Item;
 use std::alloc::Global;
 use std::process::Abort;
@@ -143,7 +143,7 @@ fn offset_at(trees: &[TreePlace], place: usize) -> u64 {
 fn each_table_has_its_own_rows(rt: HostRuntime) {
     let alloc = rt.alloc();
     let mut disk = device(&rt, alloc, content(&rt, alloc));
-    let mut store = open_on(alloc, &mut disk).expect(&rt, "there is memory");
+    let mut store = open_on(alloc, &mut disk, FRAMES).expect(&rt, "there is memory");
     assert_eq!(rt; offset_at(&store.ground.trees, 0), 16_384);
     assert_eq!(rt; offset_at(&store.ground.trees, 1), 12_288);
     assert!(&rt; store.open_session::<MemDisk>(alloc).is_ok());

@@ -188,7 +188,7 @@ fn finish_checkpoint(alloc: Global, m: Machine) -> Result<Machine, NoMemory>
 }
 
 /// The machine after the event. The machine that was there is gone where memory is wanted.
-pub(crate) fn apply(alloc: Global, m: Machine, event: Event) -> Result<Machine, NoMemory>
+pub fn apply(alloc: Global, m: Machine, event: Event) -> Result<Machine, NoMemory>
     ensures { IfOk result (λ r. machine_in r ≡ model.after (machine_in m) (event_in event)) }
 {
     match event {

@@ -8,7 +8,7 @@ use wt_code::{Answer, Fault};
 
 /// What can happen. A session's number comes first.
 #[derive(Drop)]
-pub(crate) enum Event {
+pub enum Event {
     OpenSession,
     /// At a read stamp, 0 for none.
     Begin(usize, u64),

@@ -16,7 +16,7 @@ pub struct Table {
 
 /// One key's change by a transaction, with its own stamps, 0 for none.
 #[derive(Drop)]
-pub(crate) struct Write {
+pub struct Write {
     pub table: u32,
     pub key: Item,
     pub change: Change,
@@ -26,7 +26,7 @@ pub(crate) struct Write {
 
 /// An entry of a history.
 #[derive(Drop)]
-pub(crate) enum Entry {
+pub enum Entry {
     /// A new table.
     Create(Table),
     /// The commit of a transaction that was not prepared.

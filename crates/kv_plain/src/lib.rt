@@ -8,8 +8,6 @@
 
 mod after;
 mod calls;
-#[cfg(test)]
-mod case_tests;
 mod checks;
 mod closing;
 mod cursor_calls;
@@ -21,22 +19,19 @@ mod key_calls;
 mod looks;
 mod machine;
 mod opening;
-#[cfg(test)]
-mod opening_tests;
 mod outcome;
 mod reads;
 mod seats;
 mod settling;
 mod standing;
 mod walk;
-#[cfg(test)]
-mod worked_cases;
 mod writes;
 
+pub use after::apply;
 pub use calls::{Around, Unfinished, open_session, run};
 pub use decisions::Storing;
-pub use event::Answered;
-pub use history::{Placed, Table};
-pub use machine::Machine;
+pub use event::{Answered, Event};
+pub use history::{Entry, Placed, Table, Write};
+pub use machine::{Checkpoint, Completed, Machine, Phase, Position, Transaction};
 pub use opening::{Content, Snapshot, new_device, open};
-pub use standing::standing_versions;
+pub use standing::{standing_at, standing_versions};

@@ -6,7 +6,7 @@ use wt_code::Fault;
 
 /// The state of a transaction.
 #[derive(Clone, Copy, PartialEq, Eq, Debug)]
-pub(crate) enum Phase {
+pub enum Phase {
     /// It may read and write.
     Running,
     /// A write was refused by a conflict.
@@ -21,61 +21,61 @@ pub(crate) enum Phase {
 
 /// A transaction that has not ended.
 #[derive(Drop)]
-pub(crate) struct Transaction {
+pub struct Transaction {
     /// 0 until the first write.
-    pub(crate) id: u64,
+    pub id: u64,
     /// The length of the history when it began.
-    pub(crate) start: usize,
+    pub start: usize,
     /// The read stamp, 0 for none.
-    pub(crate) read: u64,
+    pub read: u64,
     /// The own writes, one at most of each key, newest first.
-    pub(crate) writes: Vec<Write>,
-    pub(crate) phase: Phase,
+    pub writes: Vec<Write>,
+    pub phase: Phase,
 }
 
 /// Where a cursor stands.
 #[derive(Drop)]
-pub(crate) struct Position {
-    pub(crate) table: u32,
-    pub(crate) key: Item,
+pub struct Position {
+    pub table: u32,
+    pub key: Item,
 }
 
 /// A checkpoint that runs: of the first entries of the history, with the stamps that it recorded.
 #[derive(Clone, Copy)]
-pub(crate) struct Checkpoint {
-    pub(crate) prefix: usize,
-    pub(crate) oldest: u64,
-    pub(crate) stable: u64,
+pub struct Checkpoint {
+    pub prefix: usize,
+    pub oldest: u64,
+    pub stable: u64,
 }
 
 /// What the last complete checkpoint holds.
 #[derive(Drop)]
-pub(crate) struct Completed {
+pub struct Completed {
     /// Newest first.
-    pub(crate) content: Vec<Entry>,
-    pub(crate) oldest: u64,
-    pub(crate) stable: u64,
+    pub content: Vec<Entry>,
+    pub oldest: u64,
+    pub stable: u64,
 }
 
 /// The whole machine.
 #[derive(Drop)]
 pub struct Machine {
     /// Newest entry first.
-    pub(crate) history: Vec<Entry>,
-    pub(crate) run: u64,
+    pub history: Vec<Entry>,
+    pub run: u64,
     /// The next id of this run.
-    pub(crate) next: u64,
+    pub next: u64,
     /// 0 for none, of stable too.
-    pub(crate) oldest: u64,
-    pub(crate) stable: u64,
+    pub oldest: u64,
+    pub stable: u64,
     /// By session.
-    pub(crate) sessions: Vec<Option<Transaction>>,
+    pub sessions: Vec<Option<Transaction>>,
     /// By session, then by cursor.
-    pub(crate) cursors: Vec<Vec<Option<Position>>>,
-    pub(crate) checkpoint: Option<Checkpoint>,
-    pub(crate) completed: Completed,
+    pub cursors: Vec<Vec<Option<Position>>>,
+    pub checkpoint: Option<Checkpoint>,
+    pub completed: Completed,
     /// The rollbacks to stable that were done.
-    pub(crate) rollbacks: u64,
+    pub rollbacks: u64,
     /// The fault that took the machine down.
-    pub(crate) fault: Option<Fault>,
+    pub fault: Option<Fault>,
 }

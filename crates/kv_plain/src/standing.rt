@@ -105,11 +105,7 @@ fn bound_of(stable: u64) -> Option<u64>
 
 /// The versions of all keys that stand and are durable at the stable stamp, or all that stand
 /// where it is 0. It may always answer want of memory.
-pub(crate) fn standing_at(
-    alloc: Global,
-    history: &[Entry],
-    stable: u64,
-) -> Result<Vec<Placed>, NoMemory>
+pub fn standing_at(alloc: Global, history: &[Entry], stable: u64) -> Result<Vec<Placed>, NoMemory>
     ensures { IfOk result (λ r. map placed_in r.items ≡ filter (λ p. is_stable stable p.version) (standing (history_in history.now))) }
 {
     let mut out = Vec::new(alloc);

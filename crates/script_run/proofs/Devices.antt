@@ -16,7 +16,7 @@ use Rattle.kv_model.specs.Decisions.{is_there}
 use Rattle.kv_model.specs.Machine.{Machine}
 use Rattle.stored.specs.Stored.{Reads}
 use Rattle.script_text.specs.declared.line.Control.{Control}
-use Rattle.script_text.specs.declared.line.Control.TheVariants.{Checkpoint, Close, Crash}
+use Rattle.script_text.specs.declared.line.Control.TheVariants.{Checkpoint, Close, Crash, Frames}
 use Rattle.script_text.specs.declared.line.Line.TheVariants.{Control as OfAll}
 use Rattle.script_text.specs.declared.replies.Reply.{Reply}
 use Rattle.script_text.specs.declared.replies.Reply.TheVariants.{Answered}
@@ -252,3 +252,8 @@ module _ {D : Type 0} (g : Ghosts D) (first : D) (s : Script) (store : Store) (d
       → (IsAt g first false store disk s → RepliedAs g first false (OfAll Close) s store' disk' kept result) → RepliedAs g first stamped (OfAll Close) s store' disk' kept result
   close_plain false other at store' disk' kept result replied = replied at
   close_plain true other at store' disk' kept result replied = absurd (other refl)
+
+-- an opening with another number of frames is told as one after a crash
+pub frames_told : {D : Type 0} (g : Ghosts D) (first : D) (stamped : Bool) (s : Script) (store : Store) (disk : D) (kept : List Formats) (count : ℕ) (result : Result Told Refusal) → RepliedAs g first stamped (OfAll Crash) s store disk kept result → RepliedAs g first stamped (OfAll (Frames count)) s store disk kept result
+frames_told g first stamped s store disk kept count (Ok told) x = record { later = x.later; replies = x.replies; at = x.at; start = x.start; kept_is = x.kept_is }
+frames_told g first stamped s store disk kept count (Err r) x = record { later = x.later; stops = x.stops; at = x.at; start = x.start }

@@ -14,6 +14,8 @@ use Rattle.ckpt_step.specs.Calm.{IsCalm}
 use Rattle.wt_io.specs.Streams.{Gave, Took}
 use Rattle.wt_calls.specs.declared.call.Call.{Call}
 use Rattle.wt_calls.specs.declared.call.Call.TheVariants as call
+use Rattle.script_text.specs.declared.line.Control.{Control}
+use Rattle.script_text.specs.declared.line.Control.TheVariants.{Frames}
 use Rattle.script_text.specs.declared.line.Line.{Line}
 use Rattle.script_text.specs.declared.line.Line.TheVariants.{Whole, Start, Step, Finish, Control as OfAll}
 use Rattle.script_text.specs.declared.replies.Reply.{Reply}
@@ -133,6 +135,11 @@ Standing {D} g store disk Goes = IsTrue (g.honest disk) → (first : D) (s : Scr
 -- whatever the disk, a fault that is replied rose since any earlier moment
 abbrev pub RepliesSo : {D : Type 0} → Ghosts D → (store store' : Store) → (disk disk' : D) → Told → Type 0
 RepliesSo {D} g store store' disk disk' told = TellsFaults g store store' disk disk' (λ rose. RepliesFault (Ok told) → rose)
+
+-- how many frames there are behind a line that is asked of the device
+abbrev pub frames_after : Control → Result Told Refusal → ℕ → ℕ
+frames_after (Frames count) (Ok told) before = count
+frames_after _ result before = before
 
 -- what is printed of a line
 pub record IsPrintedOf (asked : Line) (formats : Formats) (reply : Reply) (printed : Printed) : Type 0 where

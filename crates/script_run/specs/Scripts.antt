@@ -80,7 +80,7 @@ abbrev pub IsLaterControl : Bool → Control → Type 0
 IsLaterControl stamped Checkpoint = IsTrue stamped
 IsLaterControl stamped Close = IsTrue stamped
 IsLaterControl stamped Crash = ⊥
-IsLaterControl stamped (Frames count) = Unit {0}
+IsLaterControl stamped (Frames count) = ⊥
 
 abbrev pub IsLater : Bool → Line → Type 0
 IsLater stamped (Whole made) = IsLaterCall made
@@ -238,7 +238,7 @@ pub record Closes (s : Script) (answer : Answer (List ℕ)) (later : Script) : T
   pub installs : Installs answer (checkpointed (rolled_back s.world.machine)).completed device next s.made made
   pub leaves : later ≡ on_device s next device made
 
--- Memory is forgotten and the device opened: to one of the checkpoints to which it may open, with no session.
+-- Memory is forgotten and the device opened: to one of the checkpoints to which it may open, with no session. How many frames there are then is told by no reply.
 pub record Reopens (s later : Script) : Type 0 where
   pub content : Content
   pub reads : Reads s.device.seen content
@@ -266,12 +266,13 @@ ControlReplies Close s reply later =
     (((r : Refusal) × Closes s (answers.Refused r) later × (reply ≡ Answered (answers.Refused r)))
     ⊎ ((middle : Script) × Closes s answers.Done middle × Reopens middle later × (reply ≡ Answered answers.Done)))
 ControlReplies Crash s reply later = Reopens s later × (reply ≡ Answered answers.Done)
-ControlReplies (Frames count) s reply later = ⊥
+ControlReplies (Frames count) s reply later = Reopens s later × (reply ≡ Answered answers.Done)
 
 -- An opening that is refused ends the script.
 abbrev pub StopsBy : Line → Script → Refusal → Script → Type 0
 StopsBy (OfAll Close) s r later = (slice_index_or s.world.systems 0 None ≡ None) × ((middle : Script) × Closes s answers.Done middle × NotReopened middle r later)
 StopsBy (OfAll Crash) s r later = NotReopened s r later
+StopsBy (OfAll (Frames count)) s r later = NotReopened s r later
 StopsBy _ s r later = ⊥
 
 -- ---- the reply to a line, in these formats, and what it leaves

@@ -1,12 +1,12 @@
 // Lines that are asked of the device: a checkpoint, a close, and an opening anew.
-ghost use Rattle.std.specs.Prelude.{◌≡◌, ℕ, Bool, false, Ok, IfErr, IsTrue};
+ghost use Rattle.std.specs.Prelude.{◌≡◌, ℕ, Bool, false, Ok, IfErr, OnErr, OnOk, IsTrue};
 ghost use Rattle.disk_model.specs.Crash.{SameDisk};
 ghost use Rattle.engine_store.specs.Opened.{IsAtFault, IsReady};
 ghost use Rattle.wt_code.specs.declared.refusals.Refusal.TheVariants.{Corrupt};
 ghost use Rattle.script_text.specs.declared.line.Line.TheVariants.{Control as ControlLine};
 ghost use Rattle.script_text.specs.declared.line.Control.TheVariants.{Checkpoint as CheckpointLine, Close as CloseLine, Crash as CrashLine};
 ghost use Rattle.script_run.specs.Faults.{RepliesFault, TellsFaults};
-ghost use Rattle.script_run.specs.Runs.{IsAt, IsTold, RepliedAs};
+ghost use Rattle.script_run.specs.Runs.{IsAt, IsTold, RepliedAs, frames_after};
 ghost use Rattle.script_run.specs.Scripts.{Script, IsLaterControl};
 
 use crate::told::{PLAIN, Told, done, refused};
@@ -33,14 +33,15 @@ pub(crate) fn control<D: Disk>(
         → RepliedAs D.Disk first_disk stamped (ControlLine asked) s store.new disk.new formats.new result }
     ensures told { TellsFaults D.Disk store.old store.new disk.old disk.new (λ rose. RepliesFault result → rose) }
     ensures damage { IfErr result (λ r. (at want found : ℕ) → r ≡ Corrupt at want found → IsTrue (D.honest disk.old) → IsAtFault (D.seen disk.new) at want found) }
+    ensures frames { store.new.frames ≡ frames_after asked result store.old.frames }
     ensures ready { IsReady store.new }
     ensures disk { SameDisk D.Disk disk.old disk.new }
 {
     match asked {
         Control::Checkpoint => Ok(checkpoint(alloc, store, disk)),
         Control::Close => close(alloc, store, disk, formats),
-        Control::Crash => reopen(alloc, store, disk, formats),
-        Control::Frames(_) => Ok(refused(Refusal::NoMemory)),
+        Control::Crash => reopen(alloc, store, disk, formats, store.frames),
+        Control::Frames(frames) => reopen(alloc, store, disk, formats, frames),
     }
 }
 
@@ -48,6 +49,7 @@ fn checkpoint<D: Disk>(alloc: Global, store: &mut Store, disk: &mut D) -> Told
     requires ready { IsReady store.old }
     ensures replies { IsTrue (D.honest disk.old) → (first_disk : D) → (s : Script) → IsAt D.Disk first_disk false store.old disk.old s → IsTold D.Disk first_disk false (ControlLine CheckpointLine) s store.new disk.new s.formats result }
     ensures told { TellsFaults D.Disk store.old store.new disk.old disk.new (λ rose. RepliesFault (Ok result) → rose) }
+    ensures frames { store.new.frames ≡ store.old.frames }
     ensures ready { IsReady store.new }
     ensures disk { SameDisk D.Disk disk.old disk.new }
 {
@@ -72,6 +74,7 @@ fn close<D: Disk>(
         → RepliedAs D.Disk first_disk false (ControlLine CloseLine) s store.new disk.new formats.new result }
     ensures told { TellsFaults D.Disk store.old store.new disk.old disk.new (λ rose. RepliesFault result → rose) }
     ensures damage { IfErr result (λ r. (at want found : ℕ) → r ≡ Corrupt at want found → IsTrue (D.honest disk.old) → IsAtFault (D.seen disk.new) at want found) }
+    ensures frames { store.new.frames ≡ store.old.frames }
     ensures ready { IsReady store.new }
     ensures disk { SameDisk D.Disk disk.old disk.new }
 {
@@ -79,26 +82,29 @@ fn close<D: Disk>(
         return Ok(refused(Refusal::Invalid(Invalid::InCall)));
     }
     match store.close(alloc, disk) {
-        Ok(()) => reopen(alloc, store, disk, formats),
+        Ok(()) => reopen(alloc, store, disk, formats, store.frames),
         Err(refusal) => Ok(refused(refusal)),
     }
 }
 
-// Memory is forgotten, and the device opened anew, without a session.
+// Memory is forgotten, and the device opened anew with so many frames, without a session.
 fn reopen<D: Disk>(
     alloc: Global,
     store: &mut Store,
     disk: &mut D,
     formats: &mut [Formats; SESSIONS_MAX],
+    frames: u32,
 ) -> Result<Told, Refusal>
     requires ready { IsReady store.old }
     ensures replies { IsTrue (D.honest disk.old) → (first_disk : D) → (stamped : Bool) → (s : Script) → IsAt D.Disk first_disk stamped store.old disk.old s → RepliedAs D.Disk first_disk stamped (ControlLine CrashLine) s store.new disk.new formats.new result }
+    ensures frames { OnOk result (store.new.frames ≡ frames) }
+    ensures kept { OnErr result (store.new.frames ≡ store.old.frames) }
     ensures told { TellsFaults D.Disk store.old store.new disk.old disk.new (λ rose. RepliesFault result → rose) }
     ensures damage { IfErr result (λ r. (at want found : ℕ) → r ≡ Corrupt at want found → IsTrue (D.honest disk.old) → IsAtFault (D.seen disk.new) at want found) }
     ensures ready { IsReady store.new }
     ensures disk { SameDisk D.Disk disk.old disk.new }
 {
-    match store.reopen(alloc, disk) {
+    match store.reopen(alloc, disk, frames) {
         Err(refusal) => Err(refusal),
         Ok(()) => {
             calm_stays();

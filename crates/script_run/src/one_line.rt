@@ -143,8 +143,7 @@ fn is_later_control(asked: &Control, stamped: bool) -> bool
     match asked {
         Control::Checkpoint => stamped,
         Control::Close => stamped,
-        Control::Crash => false,
-        Control::Frames(_) => true,
+        Control::Crash | Control::Frames(_) => false,
     }
 }
 

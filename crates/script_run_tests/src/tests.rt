@@ -7,7 +7,7 @@ mod stories;
 use bad_lines::NO_LINES;
 use devices::{DEVICES, FAILING, STAMPED};
 use disk_model::MemDisk;
-use engine_store::open_on;
+use engine_store::{FRAMES, open_on};
 use failure::NoMemory;
 use plain_disk::PlainDisk;
 use script_run::{Lines, NoLine, ScriptRun, run_script};
@@ -54,7 +54,7 @@ fn device(alloc: Global, script: Script<'_>) -> Result<PlainDisk, NoMemory> {
 // What a script prints, and behind it how it ends.
 fn outcome(rt: &impl Abort, alloc: Global, script: Script<'_>) -> Result<String, Fail> {
     let mut disk = device(alloc, script)?;
-    let mut store = open_on(alloc, &mut disk).expect(rt, "it opens");
+    let mut store = open_on(alloc, &mut disk, FRAMES).expect(rt, "it opens");
     let mut input = MemSource::new(alloc, script.text.as_bytes(), script.reads)?;
     let mut out = MemSink::new(alloc, script.writes)?;
     let ScriptRun { end, met } = run_script(alloc, &mut store, &mut disk, &mut input, &mut out);

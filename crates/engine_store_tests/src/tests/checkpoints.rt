@@ -1,7 +1,7 @@
 // What an opening finds of what two checkpoints left, where a call of the disk fails.
 use super::closings::{Bench, ask, begin, commit, create, new_device, put};
 use super::{are_low, item};
-use engine_store::open_on;
+use engine_store::{FRAMES, open_on};
 use plain_disk::PlainDisk;
 use std::alloc::Global;
 use std::process::Abort;
@@ -9,7 +9,7 @@ use wt_calls::SessionCall;
 use wt_code::{Answer, Refusal};
 
 fn open(rt: &impl Abort, alloc: Global, mut disk: PlainDisk) -> Bench {
-    let mut store = open_on(alloc, &mut disk).expect(rt, "it opens");
+    let mut store = open_on(alloc, &mut disk, FRAMES).expect(rt, "it opens");
     assert!(rt; store.open_session::<PlainDisk>(alloc) == Ok(0));
     Bench { store, disk }
 }
@@ -50,7 +50,7 @@ fn open_anew(rt: &impl Abort, alloc: Global, bench: &mut Bench) {
     assert!(rt; marks.run.saturating_sub(1) <= bench.store.ground.number);
     assert!(rt; bench.store.ground.trees.len() <= bench.store.engine.tables().len());
     assert!(rt; are_low(&bench.store.ground.trees));
-    assert!(rt; bench.store.reopen(alloc, &mut bench.disk) == Ok(()));
+    assert!(rt; bench.store.reopen(alloc, &mut bench.disk, FRAMES) == Ok(()));
     assert!(rt; bench.store.open_session::<PlainDisk>(alloc) == Ok(0));
 }
 

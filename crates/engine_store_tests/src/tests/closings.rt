@@ -1,7 +1,7 @@
 // What an opening finds of what a close left, on a disk in memory.
 use super::{are_low, item};
 use disk_model::MemDisk;
-use engine_store::{Store, open_on};
+use engine_store::{FRAMES, Store, open_on};
 use item::{Format, Formats, Item};
 use plain_disk::PlainDisk;
 use std::alloc::Global;
@@ -102,7 +102,7 @@ fn gives(
 
 // Opens the device, with two sessions.
 pub(super) fn open(rt: &impl Abort, alloc: Global, mut disk: PlainDisk) -> Bench {
-    let mut store = open_on(alloc, &mut disk).expect(rt, "it opens");
+    let mut store = open_on(alloc, &mut disk, FRAMES).expect(rt, "it opens");
     assert!(rt; store.open_session::<PlainDisk>(alloc) == Ok(0));
     assert!(rt; store.open_session::<PlainDisk>(alloc) == Ok(1));
     Bench { store, disk }

@@ -3,7 +3,7 @@ use super::checkpoints::take;
 use super::closings::{Bench, ask, begin, close, commit, create, new_device, open, put};
 use super::item;
 use disk_model::{Disk, MemDisk};
-use engine_store::open_on;
+use engine_store::{FRAMES, open_on};
 use plain_disk::PlainDisk;
 use std::alloc::Global;
 use std::process::Abort;
@@ -105,7 +105,7 @@ fn a_leaf_that_is_not_read_is_read_again(rt: HostRuntime) {
             let mut disk = PlainDisk {
                 medium: medium.expect(&rt, "there is memory"),
             };
-            let Ok(mut store) = open_on(alloc, &mut disk) else {
+            let Ok(mut store) = open_on(alloc, &mut disk, FRAMES) else {
                 openings = openings.wrapping_add(1);
                 continue;
             };
@@ -208,6 +208,14 @@ fn key_at(rt: &impl Abort, alloc: Global, bench: &mut Bench, cursor: u32, way: W
     }
 }
 
+// The device is opened anew with so many frames.
+fn open_with(rt: &impl Abort, alloc: Global, bench: &mut Bench, frames: u32) {
+    let Bench { store, disk } = bench;
+    assert!(rt; store.reopen(alloc, disk, frames) == Ok(()));
+    assert!(rt; store.open_session::<PlainDisk>(alloc) == Ok(0));
+    assert_eq!(rt; framed(bench), 0);
+}
+
 // A walk over more leaves than there are frames for, both ways. Those that nobody is at go out of their
 // frames; the one that another cursor stands on stays, and one whose row was changed.
 #[test]
@@ -215,30 +223,37 @@ fn leaves_go_out_as_others_are_read(rt: HostRuntime) {
     let alloc = rt.alloc();
     let disk = device_of_many(&rt, alloc);
     let mut bench = open(&rt, alloc, disk);
-    begin(&rt, alloc, &mut bench, 0);
-    assert_eq!(rt; key_at(&rt, alloc, &mut bench, 1, Way::Up), Some(0));
-    put(&rt, alloc, &mut bench, 0, (b"a", &key_of(3), b"new"));
+    for frames in [FRAMES, 4] {
+        open_with(&rt, alloc, &mut bench, frames);
+        walk_with(&rt, alloc, &mut bench, frames as usize);
+    }
+}
+
+// The same with so many frames.
+fn walk_with(rt: &impl Abort, alloc: Global, bench: &mut Bench, frames: usize) {
+    begin(rt, alloc, bench, 0);
+    assert_eq!(rt; key_at(rt, alloc, bench, 1, Way::Up), Some(0));
+    put(rt, alloc, bench, 0, (b"a", &key_of(3), b"new"));
     for way in [Way::Up, Way::Down, Way::Up] {
         for row in 0..MANY {
             let wanted = match way {
                 Way::Up => row,
                 Way::Down => MANY - 1 - row,
             };
-            let found = key_at(&rt, alloc, &mut bench, 0, way);
+            let found = key_at(rt, alloc, bench, 0, way);
             assert_eq!(rt; found, Some(wanted as u8));
-            assert!(rt; framed(&bench) <= 65);
+            assert!(rt; framed(bench) <= frames.saturating_add(1));
         }
-        assert_eq!(rt; key_at(&rt, alloc, &mut bench, 0, way), None);
+        assert_eq!(rt; key_at(rt, alloc, bench, 0, way), None);
     }
-    assert!(rt; framed(&bench) >= 64);
+    assert!(rt; framed(bench) >= frames);
     let get = SessionCall::Get {
-        table: item(&rt, alloc, b"a"),
-        key: item(&rt, alloc, &key_of(3)),
+        table: item(rt, alloc, b"a"),
+        key: item(rt, alloc, &key_of(3)),
     };
-    let answer = ask(&rt, alloc, &mut bench, 0, get);
-    match answer {
+    match ask(rt, alloc, bench, 0, get) {
         Answer::Value(value) => assert!(rt; value.as_bytes() == b"new".as_slice()),
         _ => assert!(rt; false),
     }
-    assert_eq!(rt; key_at(&rt, alloc, &mut bench, 1, Way::Up), Some(1));
+    assert_eq!(rt; key_at(rt, alloc, bench, 1, Way::Up), Some(1));
 }

@@ -1,7 +1,7 @@
 // The same two tables, where a leaf is at fault.
 use super::{ask, content, device, item, put, told};
 use disk_model::MemDisk;
-use engine_store::{Store, open_on};
+use engine_store::{FRAMES, Store, open_on};
 use item::Item;
 use std::alloc::Global;
 use std::process::Abort;
@@ -33,7 +33,10 @@ fn get(
 fn a_leaf_at_fault_is_told_where_a_call_needs_it(rt: HostRuntime) {
     let alloc = rt.alloc();
     let mut disk = spoilt(&rt, alloc, 12_288);
-    let mut store = open_on(alloc, &mut disk).expect(&rt, "no leaf is read that is at fault");
+    let mut store = open_on(alloc, &mut disk, FRAMES).expect(
+        &rt,
+        "no leaf is read that is at fault",
+    );
     assert!(&rt; store.open_session::<MemDisk>(alloc).is_ok());
     let _begun = ask(alloc, &mut store, &mut disk, SessionCall::Begin(None));
     let fault = Refusal::Corrupt {
@@ -59,7 +62,7 @@ fn a_marked_leaf_at_fault_is_told_by_the_opening(rt: HostRuntime) {
         want: 9_022,
         found: 9_428,
     };
-    let refused = match open_on(alloc, &mut disk) {
+    let refused = match open_on(alloc, &mut disk, FRAMES) {
         Ok(_store) => None,
         Err(refusal) => Some(refusal),
     };

@@ -23,6 +23,19 @@ pub(super) const DEVICES: &[Story<'static>] = &[
         ],
     },
     Story {
+        shows: "with other frames the device is opened anew, as after a crash",
+        rows: &[
+            SET_A,
+            ("sys ckpt\n", "ok\n"),
+            SET_B,
+            ("s1! begin\n", "started\n"),
+            ("sys frames 4\ns1.\n", "ok\n22 no call\n"),
+            ("s1 begin\ns1 get t a\n", "ok\nok 1\n"),
+            ("s1 get t b\nsys frames 1024\n", "-31803 not found\nok\n"),
+            ("s1 get t a\n", "22 no transaction\n"),
+        ],
+    },
+    Story {
         shows: "what a checkpoint after a crash has, the next crash leaves",
         rows: &[
             ("sys ckpt\nsys crash\n", OK2),

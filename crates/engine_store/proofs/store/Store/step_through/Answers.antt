@@ -16,6 +16,7 @@ made g c = record {
       led_step (CauseSince g.D.Disk c.args.disk.now c.make_ready.new.disk w) c.args.self.now c.step.new.self w c.args.step c.step.result reached.stands c.actors.ensures.built c.requires (c.step.ensures.step w (c.in-Ok.ensures.steps h w w reached));
   hub = c.in-Ok.ensures.then c.step.new.self.hub c.step.ensures.goes;
   ground = c.make_ready.ensures.ground;
+  frames = c.make_ready.ensures.frames;
   looked = c.make_ready.ensures.looked;
   home = c.make_ready.ensures.home;
 }
@@ -44,6 +45,7 @@ returns-in-Err-clause-stepped g c = step_held g.D.Disk c.args.self.now c.make_re
       led = λ h w reached. led_out (CauseSince g.D.Disk c.args.disk.now c.make_ready.new.disk w) c.args.self.now c.make_ready.new.self.engine w c.args.step c.in-Err._refusal reached.stands c.actors.ensures.built (c.in-Err.ensures.steps h w w reached);
       hub = c.in-Err.ensures.goes;
       ground = c.make_ready.ensures.ground;
+      frames = c.make_ready.ensures.frames;
       looked = c.make_ready.ensures.looked;
       home = c.make_ready.ensures.home;
     })
@@ -61,6 +63,7 @@ returns-in-Err-clause-keeps g c = step_keeps g.D.Disk c.args.self.now c.make_rea
       led = λ h w reached. led_out (CauseSince g.D.Disk c.args.disk.now c.make_ready.new.disk w) c.args.self.now c.make_ready.new.self.engine w c.args.step c.in-Err._refusal reached.stands c.actors.ensures.built (c.in-Err.ensures.steps h w w reached);
       hub = c.in-Err.ensures.goes;
       ground = c.make_ready.ensures.ground;
+      frames = c.make_ready.ensures.frames;
       looked = c.make_ready.ensures.looked;
       home = c.make_ready.ensures.home;
     })

@@ -1,15 +1,12 @@
 // Worked cases: calls one after the other, and what each answers, written out by hand.
 
-use crate::after::apply;
-use crate::cuts::copy_table;
-use crate::event::{Answered, Event};
-use crate::history::{Entry, Placed};
-use crate::machine::Machine;
-use crate::standing::standing_at;
 use crate::worked_cases::{CHECKPOINTS, CLOSES, CURSORS, RULES, SNAPSHOTS};
-use crate::{Around, Content, Storing, Unfinished, new_device, open, open_session, run};
 use failure::NoMemory;
 use item::{Format, Formats, Item};
+use kv_plain::{
+    Answered, Around, Content, Entry, Event, Machine, Placed, Storing, Table, Unfinished, apply,
+    new_device, open, open_session, run, standing_at,
+};
 use std::alloc::Global;
 use std::process::Abort;
 use wt_calls::{Call, Demand, SessionCall, SystemCall, Way};
@@ -156,6 +153,14 @@ fn device_of(alloc: Global, m: &Machine) -> Result<Content, NoMemory> {
         }
     }
     Ok(content)
+}
+
+fn copy_table(table: &Table) -> Result<Table, NoMemory> {
+    Ok(Table {
+        number: table.number,
+        name: table.name.copy()?,
+        formats: table.formats,
+    })
 }
 
 pub(crate) fn keep(versions: &mut Vec<Placed>, version: Placed) -> Result<(), NoMemory> {

@@ -1,8 +1,8 @@
 // The worked cases: who makes each step, and what it answers.
 
-use crate::Storing;
 use crate::case_tests::{Case, Made};
 use item::Format;
+use kv_plain::Storing;
 use wt_code::Fault;
 
 /// Snapshots, read stamps, prepare.

@@ -1,0 +1,10 @@
+//! What `kv_plain` does, tested through what it offers. A crate with tests is proved once more with
+//! them, so these stand in a crate of their own, which has nothing else.
+#![tactic(auto)]
+
+#[cfg(test)]
+mod case_tests;
+#[cfg(test)]
+mod opening_tests;
+#[cfg(test)]
+mod worked_cases;
