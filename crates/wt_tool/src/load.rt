@@ -83,7 +83,7 @@ fn run_load<D: Disk, S: Source>(
         store,
         overwrite,
         renamed,
-        &taken.text,
+        taken.text,
         taken.ended,
     );
     end_for(loaded)
@@ -99,29 +99,30 @@ fn end_for(loaded: Result<(), Refusal>) -> End
     }
 }
 
-// Loads the dump that a text is.
+// Loads the dump that a text is. The text goes once its rows are put: the checkpoint takes its memory
+// again.
 fn load_text<D: Disk>(
     alloc: Global,
     disk: &mut D,
     store: Store,
     overwrite: bool,
     renamed: Option<&str>,
-    text: &[u8],
+    text: Vec<u8>,
     ended: bool,
 ) -> Result<(), Refusal>
     requires ready { IsReady store }
     requires none { length store.engine.sessions ≡ 0 }
     requires on { IsTrue (D.honest disk.old) → IsOpenedOn D.Disk disk.old store }
-    requires short { length text.now < 2 ^ 63 }
-    requires some { ended ≡ false → 0 < length text.now }
-    ensures run { LeavesFrom D.Disk (LoadsText overwrite (option_map (λ x. x.now) renamed.entry) ended text.now) disk.old disk.new result }
+    requires short { length text.items < 2 ^ 63 }
+    requires some { ended ≡ false → 0 < length text.items }
+    ensures run { LeavesFrom D.Disk (LoadsText overwrite (option_map (λ x. x.now) renamed.entry) ended text.items) disk.old disk.new result }
     ensures sound { IfErr result (TellsSpoilt (IsTrue (D.honest disk.old)) (D.seen disk.old)) }
     ensures fault { IfErr result (λ r. r ≡ Refusal.DiskFault → Rose (D.faults disk.old) (D.faults disk.new)) }
     ensures disk { SameDisk D.Disk disk.old disk.new }
 {
     plain_stays();
     let mut store = store;
-    let dumped = match read_dump(alloc, text, ended) {
+    let dumped = match read_dump(alloc, &text, ended) {
         Ok(dumped) => dumped,
         Err(refusal) => return Err(refusal),
     };
@@ -136,7 +137,10 @@ fn load_text<D: Disk>(
         table.formats,
         dumped.rows,
     ) {
-        Ok(()) => close(alloc, disk, store),
+        Ok(()) => {
+            drop(text);
+            close(alloc, disk, store)
+        }
         Err(refusal) => Err(refusal),
     }
 }

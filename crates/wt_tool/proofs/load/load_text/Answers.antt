@@ -1,9 +1,11 @@
 use Rattle.std.specs.Option.{option_map}
-use Rattle.std.proofs.Common.{Err, List, ℕ, Bool, Bor, Option}
+use Rattle.std.proofs.Common.{Err, List, ℕ, Bool, Bor, Option, subst}
 use Rattle.disk_model.proofs.Crash.{looked_same, same_disk_then}
 use Rattle.device_leaf.proofs.Opens.{err_map, rose_sooner}
 use Rattle.kv_model.specs.Content.{start}
 use Rattle.dump_text.specs.declared.whole.Dumped.{Dumped}
+use Rattle.dump_text.specs.Cuts.{lines_in}
+use Rattle.dump_text.specs.Texts.{IsDumped, IsRefused}
 use Rattle.wt_tool.specs.Points.{Closes, Point, Ran, point_of}
 use Rattle.wt_tool.specs.Loads.{LoadsRows, LoadsText}
 use Rattle.wt_tool.specs.Writes.{demand_of}
@@ -23,14 +25,14 @@ close-requires g c = record { ready = c.in-Ok-put_all.ensures.went.ready c.requi
 
 pub returns-in-Err-clause-run : goal.returns-in-Err-clause-run
 returns-in-Err-clause-run g c h content each =
-    untouched g.D.Disk content (LoadsText c.args.overwrite (Renamed c.args.renamed) c.args.ended c.args.text.now) c.args.disk.now (Err c.in-Err.refusal) (λ d left. g.met.D.Disk.only_now _ d left) each
-    (refused_text c.args.overwrite (Renamed c.args.renamed) c.args.ended c.args.text.now (point_of g.D.Disk (start content) c.args.disk.now) c.in-Err.refusal c.in-Err.ensures.refused)
+    untouched g.D.Disk content (LoadsText c.args.overwrite (Renamed c.args.renamed) c.args.ended c.args.text.items) c.args.disk.now (Err c.in-Err.refusal) (λ d left. g.met.D.Disk.only_now _ d left) each
+    (refused_text c.args.overwrite (Renamed c.args.renamed) c.args.ended c.args.text.items (point_of g.D.Disk (start content) c.args.disk.now) c.in-Err.refusal (subst (λ (l : List ℕ). IsRefused c.args.ended l c.in-Err.refusal) c.deref.ensures.value c.in-Err.ensures.refused))
 
 pub returns-in-Err-clause-sound : goal.returns-in-Err-clause-sound
-returns-in-Err-clause-sound g c = refused_sound _ _ c.args.ended c.args.text.now c.in-Err.refusal c.in-Err.ensures.refused
+returns-in-Err-clause-sound g c = refused_sound _ _ c.args.ended c.args.text.items c.in-Err.refusal (subst (λ (l : List ℕ). IsRefused c.args.ended l c.in-Err.refusal) c.deref.ensures.value c.in-Err.ensures.refused)
 
 pub returns-in-Err-clause-fault : goal.returns-in-Err-clause-fault
-returns-in-Err-clause-fault g c is = absurd (refused_calm c.args.ended c.args.text.now c.in-Err.refusal c.in-Err.ensures.refused is)
+returns-in-Err-clause-fault g c is = absurd (refused_calm c.args.ended c.args.text.items c.in-Err.refusal (subst (λ (l : List ℕ). IsRefused c.args.ended l c.in-Err.refusal) c.deref.ensures.value c.in-Err.ensures.refused) is)
 
 pub returns-in-Ok-put_all-clause-run : goal.returns-in-Ok-put_all-clause-run
 returns-in-Ok-put_all-clause-run g c h content each =
@@ -41,8 +43,8 @@ returns-in-Ok-put_all-clause-run g c h content each =
     let w = first_of D disk c.args.store on content each reads in
     let holds = first_holds D disk c.args.store on content each reads c.plain_stays.ensures.starts (λ d left. g.met.D.Disk.only_now _ d left) in
     let Run : Point → Ran → Type 0 = Loads c.args.overwrite c.loaded_name-name.result.now c.in-Ok.dumped in
-    left_as D disk (start content).completed Run (LoadsText c.args.overwrite (Renamed c.args.renamed) c.args.ended c.args.text.now) (point_of D (start content) disk) c.close.new.disk c.close.result
-    (λ ran run. dumped_text c.args.overwrite (Renamed c.args.renamed) c.args.ended c.args.text.now c.in-Ok.dumped c.loaded_name-name.result.now (point_of D (start content) disk) ran c.in-Ok.ensures.ended c.in-Ok.ensures.dump c.loaded_name-name.ensures run)
+    left_as D disk (start content).completed Run (LoadsText c.args.overwrite (Renamed c.args.renamed) c.args.ended c.args.text.items) (point_of D (start content) disk) c.close.new.disk c.close.result
+    (λ ran run. dumped_text c.args.overwrite (Renamed c.args.renamed) c.args.ended c.args.text.items c.in-Ok.dumped c.loaded_name-name.result.now (point_of D (start content) disk) ran c.in-Ok.ensures.ended (subst (λ (l : List ℕ). IsDumped (lines_in l) c.in-Ok.dumped) c.deref.ensures.value c.in-Ok.ensures.dump) c.loaded_name-name.ensures run)
     (left_behind D disk (start content).completed Run w c.put_all.new.store disk c.put_all.new.disk c.close.new.disk c.close.result (c.in-Ok-put_all.ensures.led h disk (start content).completed w holds)
     (λ v held. c.close.ensures.run (still_honest D disk c.put_all.new.disk c.in-Ok-put_all.ensures.went.looked h) disk (start content).completed v held))
 
@@ -64,8 +66,8 @@ returns-in-Err-put_all-clause-run g c h content each =
     let w = first_of D disk c.args.store on content each reads in
     let holds = first_holds D disk c.args.store on content each reads c.plain_stays.ensures.starts (λ d left. g.met.D.Disk.only_now _ d left) in
     let Run : Point → Ran → Type 0 = Loads c.args.overwrite c.loaded_name-name.result.now c.in-Ok.dumped in
-    left_as D disk (start content).completed Run (LoadsText c.args.overwrite (Renamed c.args.renamed) c.args.ended c.args.text.now) (point_of D (start content) disk) c.put_all.new.disk (Err c.in-Err-put_all.refusal)
-    (λ ran run. dumped_text c.args.overwrite (Renamed c.args.renamed) c.args.ended c.args.text.now c.in-Ok.dumped c.loaded_name-name.result.now (point_of D (start content) disk) ran c.in-Ok.ensures.ended c.in-Ok.ensures.dump c.loaded_name-name.ensures run)
+    left_as D disk (start content).completed Run (LoadsText c.args.overwrite (Renamed c.args.renamed) c.args.ended c.args.text.items) (point_of D (start content) disk) c.put_all.new.disk (Err c.in-Err-put_all.refusal)
+    (λ ran run. dumped_text c.args.overwrite (Renamed c.args.renamed) c.args.ended c.args.text.items c.in-Ok.dumped c.loaded_name-name.result.now (point_of D (start content) disk) ran c.in-Ok.ensures.ended (subst (λ (l : List ℕ). IsDumped (lines_in l) c.in-Ok.dumped) c.deref.ensures.value c.in-Ok.ensures.dump) c.loaded_name-name.ensures run)
     (left_refused D disk (start content).completed Run w c.put_all.new.store disk c.put_all.new.disk Closes c.in-Err-put_all.refusal (c.in-Err-put_all.ensures.led h disk (start content).completed w holds))
 
 pub returns-in-Err-put_all-clause-sound : goal.returns-in-Err-put_all-clause-sound

@@ -23,21 +23,21 @@ returns-in-Err-clause-ends g c = untaken_end _ _ _ _ c.in-Err.end c.in-Err.ensur
 pub load_text-loaded-requires-clause-short : goal.load_text-loaded-requires-clause-short
 load_text-loaded-requires-clause-short g c =
     let t = c.in-Ok.ensures.taken in
-    subst (λ (l : List ℕ). length l < 2 ^ 63) (sym (c.deref.ensures.value ∙ t.2.0)) (whole_short _ c.in-Ok.taken.ended t.0 t.2.1)
+    subst (λ (l : List ℕ). length l < 2 ^ 63) (sym t.2.0) (whole_short _ c.in-Ok.taken.ended t.0 t.2.1)
 
 pub load_text-loaded-requires-clause-some : goal.load_text-loaded-requires-clause-some
 load_text-loaded-requires-clause-some g c is =
     let t = c.in-Ok.ensures.taken in
-    subst (λ (l : List ℕ). 0 < length l) (sym (c.deref.ensures.value ∙ t.2.0)) (whole_some _ c.in-Ok.taken.ended t.0 t.2.1 is)
+    subst (λ (l : List ℕ). 0 < length l) (sym t.2.0) (whole_some _ c.in-Ok.taken.ended t.0 t.2.1 is)
 
 pub returns-clause-run : goal.returns-clause-run
 returns-clause-run g c h content each =
     let t = c.in-Ok.ensures.taken in
-    let same = c.deref.ensures.value ∙ t.2.0 in
+    let same = t.2.0 in
     let ended = AtEnd (g.S.Source.left c.take_input.new.input) in
     subst (λ (e : End). LoadEnds g.D.Disk (load_allowed g.S.Source c.args.input.now c.take_input.new.input c.args.overwrite (Renamed c.args.renamed)) (start content) (g.S.Source.left c.args.input.now) (g.S.Source.left c.take_input.new.input) c.args.disk.now c.load_text-loaded.new.disk e) (sym c.end_for.ensures)
     (taken_ends g.D.Disk (Rose (g.S.Source.fault_count c.args.input.now) (g.S.Source.fault_count c.take_input.new.input)) ended c.args.overwrite (Renamed c.args.renamed) content (g.S.Source.left c.args.input.now) (g.S.Source.left c.take_input.new.input)
-    c.args.disk.now c.load_text-loaded.new.disk c.in-Ok.taken.ended c.deref.result.now c.load_text-loaded.result
+    c.args.disk.now c.load_text-loaded.new.disk c.in-Ok.taken.ended c.in-Ok.taken.text.items c.load_text-loaded.result
     (subst (λ (l : List ℕ). Gave (g.S.Source.left c.args.input.now) (g.S.Source.left c.take_input.new.input) l) (sym same) t.1)
     (subst (λ (l : List ℕ). IsWhole ended c.in-Ok.taken.ended l) (sym same) t.2.1)
     (c.load_text-loaded.ensures.run h content each))
