@@ -208,12 +208,11 @@ fn key_at(rt: &impl Abort, alloc: Global, bench: &mut Bench, cursor: u32, way: W
     }
 }
 
-// The device is opened anew with so many frames.
-fn open_with(rt: &impl Abort, alloc: Global, bench: &mut Bench, frames: u32) {
-    let Bench { store, disk } = bench;
-    assert!(rt; store.reopen(alloc, disk, frames) == Ok(()));
+// Opens the device with so many frames, and one session.
+fn open_with(rt: &impl Abort, alloc: Global, mut disk: PlainDisk, frames: u32) -> Bench {
+    let mut store = open_on(alloc, &mut disk, frames).expect(rt, "it opens");
     assert!(rt; store.open_session::<PlainDisk>(alloc) == Ok(0));
-    assert_eq!(rt; framed(bench), 0);
+    Bench { store, disk }
 }
 
 // A walk over more leaves than there are frames for, both ways. Those that nobody is at go out of their
@@ -222,11 +221,10 @@ fn open_with(rt: &impl Abort, alloc: Global, bench: &mut Bench, frames: u32) {
 fn leaves_go_out_as_others_are_read(rt: HostRuntime) {
     let alloc = rt.alloc();
     let disk = device_of_many(&rt, alloc);
-    let mut bench = open(&rt, alloc, disk);
-    for frames in [FRAMES, 4] {
-        open_with(&rt, alloc, &mut bench, frames);
-        walk_with(&rt, alloc, &mut bench, frames as usize);
-    }
+    let mut bench = open_with(&rt, alloc, disk, FRAMES);
+    walk_with(&rt, alloc, &mut bench, FRAMES as usize);
+    let mut bench = open_with(&rt, alloc, bench.disk, 4);
+    walk_with(&rt, alloc, &mut bench, 4);
 }
 
 // The same with so many frames.
