@@ -4,5 +4,6 @@ mod Names
 mod Newest
 mod RowWalk
 mod SlotWrites
+pub mod StateWords
 mod Targets
 mod WriteFinds

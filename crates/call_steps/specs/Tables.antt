@@ -1,5 +1,5 @@
 -- Where the leaf of a call is.
-use Rattle.std.specs.Prelude.{ℕ, List, [], Option, Some, None, option_map, option_and_then, slice_get}
+use Rattle.std.specs.Prelude.{ℕ, ◌+◌, ◌*◌, ◌%◌, ◌^◌, List, [], Option, Some, None, option_map, option_and_then, slice_get}
 use Rattle.kv_model.specs.History.{Table}
 use Rattle.kv_model.specs.Machine.{of_some}
 use Rattle.kv_model.specs.Rows.{Way, Up, Down}
@@ -16,13 +16,16 @@ use Rattle.call_steps.specs.declared.stage.Target.{Target}
 use Rattle.call_steps.specs.Looks.{start_in}
 use Rattle.call_steps.specs.State.{State}
 
--- the state word of a frame that has the first leaf that it ever had
-abbrev pub first_word : ℕ
-first_word = 1
+-- the state words of a frame at a generation, which is below 2 ^ 62: without a leaf, and with one
+abbrev pub empty : ℕ → ℕ
+empty generation = 4 * (generation % 2 ^ 62)
+
+abbrev pub filled : ℕ → ℕ
+filled generation = 4 * (generation % 2 ^ 62) + 1
 
 -- a leaf that is in a frame
 abbrev pub target_in : Leaf → Option Target
-target_in l = option_map (λ (f : Framed). record { table = l.table; leaf = l.id; frame = f.frame; word = first_word }) l.frame
+target_in l = option_map (λ (f : Framed). record { table = l.table; leaf = l.id; frame = f.frame; word = filled f.generation }) l.frame
 
 -- the key at which a row is sought on this way: from the start on, or from the end of the table
 abbrev pub row_sought : Way → Option (List ℕ) → Option (List ℕ)

@@ -5,6 +5,7 @@ ghost use Rattle.tree_dir.specs.Leaves.{leaf_named};
 ghost use Rattle.wt_calls.specs.Calls.{way_in};
 ghost use Rattle.call_steps.specs.Tables.{leaf_sought, next_for, number_of, row_sought, sought, stage_for, stage_of};
 
+use crate::frame::filled;
 use crate::looks::start_of;
 use crate::stage::{KeyCall, Stage, Target, Wanted};
 use crate::state::SessionState;
@@ -29,9 +30,6 @@ pub struct Hub {
     /// The write or sync that failed; none where the engine is up.
     pub fault: Option<Fault>,
 }
-
-// The state word of a frame that has the first leaf that it ever had.
-const FIRST_WORD: u64 = 1;
 
 /// The stage of the session's call at the leaf at which it begins; none where there is no table of its
 /// name. `O(log n)` in the tables and in the leaves.
@@ -103,7 +101,7 @@ fn stage_at(call: KeyCall, leaf: &Leaf) -> Stage
                 table: leaf.table,
                 leaf: leaf.id,
                 frame: framed.frame,
-                word: FIRST_WORD,
+                word: filled(framed.generation),
             },
         ),
     }

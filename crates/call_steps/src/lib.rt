@@ -29,7 +29,7 @@ mod written;
 
 pub use cursor::{Cursor, Position};
 pub use edit::Edit;
-pub use frame::{Frame, FramePiece};
+pub use frame::{Frame, FramePiece, empty, filled};
 pub use frame_events::frame_event;
 pub use hub::{Hub, stage_of};
 pub use hub_events::hub_event;

@@ -16,7 +16,7 @@ use Rattle.call_steps.specs.declared.stage.KeyCall.TheVariants as key_call
 use Rattle.call_steps.specs.declared.stage.Stage.{Stage}
 use Rattle.call_steps.specs.declared.stage.Target.{Target}
 use Rattle.call_steps.specs.State.{State}
-use Rattle.call_steps.specs.Tables.{first_word, leaf_on, leaf_sought, next_for, stage_by, stage_for}
+use Rattle.call_steps.specs.Tables.{filled, leaf_on, leaf_sought, next_for, stage_by, stage_for}
 use Rattle.call_turns.specs.Turns.{all_ahead, all_behind, fill_turns, find_turns, further, leaves_left, leaves_on, turns_at}
 
 -- no two leaves have one id
@@ -163,7 +163,7 @@ left-less call id leaves n once e = absurd cc
 
 -- where a leaf is in this frame
 abbrev pub target_at : Leaf → Framed → Target
-target_at l f = record { table = l.table; leaf = l.id; frame = f.frame; word = first_word }
+target_at l f = record { table = l.table; leaf = l.id; frame = f.frame; word = filled f.generation }
 
 -- the stage of a call at a leaf that would be in this frame, if in any
 abbrev pub stage_in : KeyCall → Leaf → Option Framed → Stage

@@ -99,7 +99,7 @@ module _ (seen now image : List ℕ) (books : Books) (after : Space) (capacity :
     is = subst (λ k. range now a.offset k ≡ block_of image) (sym is.size) (ap (λ (l : List ℕ). range l a.offset (length (block_of image))) written ∙ range_put_same seen (block_of image) a.offset low) ∙ fills;
   }
 
-  keeps : Keeps (Has books.cells) seen now
+  pub keeps : Keeps (Has books.cells) seen now
   keeps = spot_keeps books.cells books.space a.size capacity a.offset seen now units some taken.0 (subst (λ (l : List ℕ). Torn a.offset a.size seen l) (sym written) (subst (λ k. Torn a.offset k seen (put seen a.offset (block_of image))) (sym is.size) (torn_put a.offset (block_of image) seen)))
 
   pub holds_now : Holds now (stored_blocks placed)

@@ -1,6 +1,6 @@
 -- What the finish of a checkpoint leaves.
 use Rattle.std.specs.Prelude.{◌≡◌, ◌⊎◌, ℕ, ◌+◌, ◌*◌, ◌/◌, ◌≤◌, List, Option, Result, Ok, Err, IsTrue, length}
-use Rattle.disk_model.specs.Crash.{Each, LeavesOnly}
+use Rattle.disk_model.specs.Crash.{Each, Keeps, LeavesOnly}
 use Rattle.disk_model.specs.declared.disk.Disk.{Ghosts}
 use Rattle.extent_list.specs.Space.{Space, Taken, HasNoRoom, end_of}
 use Rattle.wt_code.specs.declared.store_error.StoreError.{StoreError}
@@ -9,7 +9,7 @@ use Rattle.device_layout.specs.declared.addr.Addr.{Addr}
 use Rattle.device_layout.specs.declared.slot.Slot.{Slot}
 use Rattle.turtle.specs.Slots.{IsNext}
 use Rattle.block_mgr.specs.Cells.{AreUnits, cell_at, captured, freed, done}
-use Rattle.block_mgr.specs.Blocks.{Books, unit_of}
+use Rattle.block_mgr.specs.Blocks.{Books, Has, unit_of}
 use Rattle.block_mgr.specs.Writes.{Added}
 use Rattle.stored.specs.Stored.{Stored, IsOn}
 use Rattle.checkpoint_core.specs.Stands.{HasStill, chosen_of, placed_at, Stands, IsReady, IsWritten}
@@ -88,6 +88,12 @@ abbrev pub ReadsAfter : {D : Type 0} (g : Ghosts D) → Books → Option Stored 
 ReadsAfter g books old new after (Ok a) = IsOn (g.seen after) (placed_at new a) × (end_of books.space ≤ length (g.seen after))
 ReadsAfter g books old new after (Err (Down fault)) = Unit {0}
 ReadsAfter g books old new after (Err e) = Stands (g.seen after) (g.may_leave after) books old × (end_of books.space ≤ length (g.seen after))
+
+-- after an error that leaves the device up each block in use is read as it was
+abbrev pub KeepsAfter : {D : Type 0} (g : Ghosts D) → Books → D → D → Result Addr StoreError → Type 0
+KeepsAfter g books before after (Ok a) = Unit {0}
+KeepsAfter g books before after (Err (Down fault)) = Unit {0}
+KeepsAfter g books before after (Err e) = Keeps (Has books.cells) (g.seen before) (g.seen after)
 
 -- the blocks are those from before, cell by cell
 pub record AreBack (before after : Books) : Type 0 where

@@ -6,7 +6,7 @@ ghost use Rattle.disk_model.specs.Crash.{SameDisk};
 ghost use Rattle.extent_list.specs.Space.{end_of};
 ghost use Rattle.block_mgr.specs.Blocks.{HasLive, unit_of};
 ghost use Rattle.block_mgr.specs.Cells.{AreUnits, captured, freed};
-ghost use Rattle.checkpoint_core.specs.Finishes.{FinishesFor, WhereReady, WhereWritten, Installs, ReadsAfter, ReadsThen, IsLastNow, AreBack};
+ghost use Rattle.checkpoint_core.specs.Finishes.{AreBack, FinishesFor, Installs, IsLastNow, KeepsAfter, ReadsAfter, ReadsThen, WhereReady, WhereWritten};
 
 use block_mgr::{Addr, Blocks};
 use disk_model::Disk;
@@ -39,6 +39,7 @@ pub fn finish<D: Disk>(
     requires ready { IsTrue (D.honest disk.old) → (8192 ≤ length (D.seen disk.old)) × (end_of blocks.old.space ≤ length (D.seen disk.old)) }
     ensures finishes { FinishesFor D.Disk blocks.old image.items sequence disk.old disk.new result }
     ensures reads { WhereReady D.Disk blocks.old image.items sequence disk.old (λ old new. ReadsAfter D.Disk blocks.new old new disk.new result) }
+    ensures keeps { WhereReady D.Disk blocks.old image.items sequence disk.old (λ old new. KeepsAfter D.Disk blocks.old disk.old disk.new result) }
     ensures last { IfOk result (IsLastNow blocks.old blocks.new) }
     ensures units { OnOk result (AreUnits blocks.new.cells blocks.new.space) }
     ensures back { OnErr result (AreBack blocks.old blocks.new) }

@@ -18,8 +18,10 @@ use Rattle.tree_open.specs.Trees.{HasTree, IsPlaceOf, root_own}
 use Rattle.tree_write.specs.Drafts.{HasLeaves}
 use Rattle.tree_write.specs.Steps.{links_in}
 use Rattle.tree_write.specs.Writes.{LeadApart}
-use Rattle.ckpt_step.specs.Parts.{IsParted, has_rows, part_leaves, part_of, parts_of, rows_behind}
+use Rattle.ckpt_step.specs.Parts.{IsPart, IsParted, has_rows, part_leaves, part_of, parts_of, rows_behind}
+use Rattle.ckpt_step.specs.Lives.{NoneLive, is_live}
 use Rattle.ckpt_step.specs.Rooms.{Written}
+use Rattle.ckpt_step.specs.declared.lives.Lone.{Lone}
 use Rattle.ckpt_step.proofs.Apart.{filtered_member, links_both}
 use Rattle.ckpt_step.proofs.Links.{rows_stand, some_rows}
 use Rattle.ckpt_step.proofs.Members.{all_of, flat_member, map_member}
@@ -113,13 +115,22 @@ part_links leaves table had place joined l there own e of =
     (subst (λ (links : List Link). Member e.link links) (sym joined) (map_member {A = Entry} {B = Link} (λ x. x.link) e (parts_of had (leaves_of table leaves))
     (flat_member {A = Leaf} {B = Entry} (λ m. part_of had m) l (leaves_of table leaves) e (table_in table leaves l (member_of leaves l there) own) of)))
 
-module _ (leaves : List Leaf) (table : ℕ) (had : Written) (place : TreePlace) (tree : TableTree) (is : IsPlaceOf place tree) (apart : LeadApart place.leaves.items) (parted : IsParted leaves table had place tree) where
+-- a tree that is the parts of the table's leaves, of which none was written since
+pub parted_whole : (leaves : List Leaf) (table : ℕ) (had : Written) (place : TreePlace) (tree : TableTree) → filter has_rows place.leaves.items ≡ links_in (parts_of had (leaves_of table leaves))
+    → ((l : Leaf) → Contains leaves l → l.table ≡ table → IsPart leaves table l (part_of had l) (part_leaves place tree (part_of had l))) → IsParted [] leaves table had place tree
+parted_whole leaves table had place tree joined parts = record {
+  joined = λ none. joined;
+  among = λ l there own dead e mine. part_links leaves table had place joined l there own e mine;
+  parts = λ l there own dead. parts l there own;
+}
+
+module _ (lives : List Lone) (leaves : List Leaf) (table : ℕ) (had : Written) (place : TreePlace) (tree : TableTree) (is : IsPlaceOf place tree) (apart : LeadApart place.leaves.items) (parted : IsParted lives leaves table had place tree) where
   es_apart : LeadApart (links_in (bottom (root_own place.root) tree.layers))
   es_apart = subst LeadApart is.leaves apart
 
   -- the device has the leaves of a part where it has the tree
-  pub part_has : (bytes : List ℕ) → HasTree bytes place.root tree → (l : Leaf) → Contains leaves l → l.table ≡ table → HasLeaves bytes (part_of had l) (part_leaves place tree (part_of had l))
-  part_has bytes has l there own = all (part_of had l) (λ e of. part_links leaves table had place parted.joined l there own e of)
+  pub part_has : (bytes : List ℕ) → HasTree bytes place.root tree → (l : Leaf) → Contains leaves l → l.table ≡ table → is_live lives l ≡ false → HasLeaves bytes (part_of had l) (part_leaves place tree (part_of had l))
+  part_has bytes has l there own dead = all (part_of had l) (λ e of. parted.among l there own dead e of)
     where
       back : (P : Block → Type 0) (xs ys : List Block) → AllByRecursion P (xs ++ ys) → AllByRecursion P ys
       back P [] ys all = all
@@ -140,12 +151,12 @@ module _ (leaves : List Leaf) (table : ℕ) (had : Written) (place : TreePlace) 
       all [] each = tt
       all (e ∷ part) each = (one e (each e (inl refl)), all part (λ x of. each x (inr of)))
 
-  -- its rows are those of the parts, one behind the other
-  pub rows_by_parts : IsTree table_kind place.root.level (root_entry place.root.link) tree → join tree.leaves ≡ join (join (map {A = Leaf} (λ l. part_leaves place tree (part_of had l)) (leaves_of table leaves)))
-  rows_by_parts tree_is =
+  -- its rows are those of the parts, one behind the other, where none was written since
+  pub rows_by_parts : NoneLive lives leaves table → IsTree table_kind place.root.level (root_entry place.root.link) tree → join tree.leaves ≡ join (join (map {A = Leaf} (λ l. part_leaves place tree (part_of had l)) (leaves_of table leaves)))
+  rows_by_parts none tree_is =
       sym (all_behind (bottom (root_own place.root) tree.layers) tree.leaves tree_is.bear es_apart)
       ∙ (ap (λ (links : List Link). join (leaves_behind links tree.leaves (filter has_rows links))) (sym is.leaves)
-      ∙ ap (λ (l : List (List Row)). join l) (ap (λ (own : List Link). leaves_behind place.leaves.items tree.leaves own) parted.joined ∙ each (leaves_of table leaves)))
+      ∙ ap (λ (l : List (List Row)). join l) (ap (λ (own : List Link). leaves_behind place.leaves.items tree.leaves own) (parted.joined none) ∙ each (leaves_of table leaves)))
     where
       both : (xs ys : List Link) → leaves_behind place.leaves.items tree.leaves (xs ++ ys) ≡ leaves_behind place.leaves.items tree.leaves xs ++ leaves_behind place.leaves.items tree.leaves ys
       both [] ys = refl

@@ -1,10 +1,10 @@
--- The cells of the books: while a checkpoint runs, once it is given up, and once it is settled.
+-- The cells of the books: while a checkpoint runs, and as an opening finds them.
 use Rattle.std.specs.Prelude.{◌≡◌, ◌⊎◌, ℕ, ◌+◌, ◌*◌, ◌/◌, ◌==◌, Bool, true, false, List, [], ◌∷◌, map, Option, Some, None, refl}
 use Rattle.std.specs.List.{fold}
-use Rattle.std.proofs.Common.{inl, inr, sym, ◌∙◌, ap, subst, arith}
+use Rattle.std.proofs.Common.{inl, inr, ◌∙◌, ap, subst, arith}
 use Rattle.std.proofs.lemmas.Bool.{cases_Bool, cases_eq, eq-eqb, ne_eqb}
 use Rattle.block_mgr.specs.declared.cell.Cell.{Cell}
-use Rattle.block_mgr.specs.Cells.{done_cell, dropped_cell, nothing}
+use Rattle.block_mgr.specs.Cells.{nothing}
 use Rattle.block_mgr.specs.Open.{found_cell, with_found}
 use Rattle.block_mgr.proofs.OpenLemmas.{here, elsewhere as found_elsewhere}
 use Rattle.device_layout.specs.declared.addr.Addr.{Addr}
@@ -15,19 +15,17 @@ use Rattle.stored.specs.Stored.{Stored, tables_blocks}
 use Rattle.device_leaf.specs.Damage.{record_found}
 use Rattle.recover_open.specs.Damage.{found_there}
 use Rattle.tree_write.specs.Captures.{with_addr, with_addrs}
-use Rattle.ckpt_step.specs.Frees.{without_all}
 use Rattle.ckpt_step.specs.Grounds.{found_in}
-use Rattle.ckpt_step.specs.Halves.{AreOwn, IsOldBlock, body_cell, done_at, half_cell, record_cell, settled_at, with_last}
-use Rattle.ckpt_step.proofs.Frees.{all_dead, all_last, all_stay, elsewhere, one_goes}
+use Rattle.ckpt_step.specs.Halves.{body_cell, record_cell, with_last}
 
 -- the block at an address begins at a unit
 abbrev pub Begins : ℕ → Addr → Type 0
 Begins u a = a.offset ≡ 8192 + 4096 * u
 
-begins_or_not : (u : ℕ) (a : Addr) → Begins u a ⊎ (Begins u a → ⊥)
+pub begins_or_not : (u : ℕ) (a : Addr) → Begins u a ⊎ (Begins u a → ⊥)
 begins_or_not u a = cases_eq a.offset (8192 + 4096 * u)
 
-whole_units : (n : ℕ) → (4096 * n) / 4096 ≡ n
+pub whole_units : (n : ℕ) → (4096 * n) / 4096 ≡ n
 whole_units n = omega arith
 
 -- ---- the block that was captured last at a unit
@@ -169,81 +167,3 @@ module _ (u : ℕ) where
       | inr is ↦ inr (inl (addr_in s.slot, found_is s ∙ (none.cell ∙ is)))
     ]
   ]
-
--- ---- given up, and settled
-
--- the addresses are blocks of the checkpoint before, and with the captured ones they are all of them but that of its record
-pub record AreLeft (old : Option Stored) (captured addrs : List Addr) : Type 0 where
-  pub each : (a : Addr) → Member a addrs → IsOldBlock old a
-  pub all : (u : ℕ) → (found_cell (found_in old) u).is_live ≡ true → ((a : Addr) → Member a captured → Begins u a → ⊥) → (a : Addr) × Member a addrs × (a.offset ≡ 8192 + 4096 * u)
-
-dropped_old : (c : Cell) → OldCell c → dropped_cell c ≡ c
-dropped_old c (inl none) = rw none refl
-dropped_old c (inr (inl (a, is))) = rw is refl
-dropped_old c (inr (inr (n, is))) = rw is refl
-
-module _ (old : Option Stored) (captured : List Addr) (own : AreOwn old captured) (u : ℕ) where
-  abbrev found : Cell
-  found = found_cell (found_in old) u
-
-  -- a captured address that leads to the unit
-  pub record OldHere (a : Addr) : Type 0 where
-    pub units : ℕ
-    pub size : a.size ≡ 4096 * units
-    pub cell : found ≡ body_cell units
-
-  pub record NewHere (a : Addr) : Type 0 where
-    pub units : ℕ
-    pub size : a.size ≡ 4096 * units
-    pub none : found ≡ nothing
-
-  pub owned : (a : Addr) → Member a captured → Begins u a → OldHere a ⊎ NewHere a
-  owned a there at = elim (own a there) [
-    | inl o ↦ inl (record { units = o.units; size = o.size; cell = subst (λ (v : ℕ). found_cell (found_in old) v ≡ body_cell o.units) (let same : o.unit ≡ u = omega (arith, at, o.offset) in same) o.cell })
-    | inr n ↦ inr (record { units = n.units; size = n.size; none = subst (λ (v : ℕ). found_cell (found_in old) v ≡ nothing) (let same : n.unit ≡ u = omega (arith, at, n.offset) in same) n.none })
-  ]
-
-  pub given_up : dropped_cell (without_all u (half_cell old captured u) captured) ≡ found
-  given_up = elim (which u captured) [
-    | inr none ↦
-        ap (λ (c : Cell). dropped_cell (without_all u c captured)) (none.half found)
-        ∙ (ap dropped_cell (all_stay u found captured (λ a there. elsewhere u found a (none.none a there))) ∙ dropped_old found (old_cell u old))
-    | inl one ↦ elim (owned one.addr one.there one.at) [
-      | inl o ↦
-          let cell : half_cell old captured u ≡ taken_cell o.units true = one.half found ∙ rw (o.cell, o.size, whole_units o.units) refl in
-          ap (λ (c : Cell). dropped_cell (without_all u c captured)) cell ∙ (ap dropped_cell (all_last u (taken_cell o.units true) captured refl) ∙ sym o.cell)
-      | inr n ↦
-          let cell : half_cell old captured u ≡ taken_cell n.units false = one.half found ∙ rw (n.none, n.size, whole_units n.units) refl in
-          ap (λ (c : Cell). dropped_cell (without_all u c captured)) cell ∙ (ap dropped_cell (one_goes u (taken_cell n.units false) captured one.addr one.there one.at refl refl n.size) ∙ sym n.none)
-    ]
-  ]
-
-  module _ (was : List Addr) (are : AreLeft old captured was) where
-    -- beside the record
-    body_settled : without_all u (done_cell (half_cell old captured u)) was ≡ fold (with_last u) nothing captured
-    body_settled = elim (which u captured) [
-      | inl one ↦
-          ap (λ (c : Cell). without_all u (done_cell c) was) (one.half found) ∙ (all_last u (body_cell (one.addr.size / 4096)) was refl ∙ sym (one.body nothing))
-      | inr none ↦ ap (λ (c : Cell). without_all u (done_cell c) was) (none.half found) ∙ (goes none.none (old_cell u old) ∙ sym (none.body nothing))
-    ]
-      where
-        goes : ((a : Addr) → Member a captured → Begins u a → ⊥) → OldCell found → without_all u (done_cell found) was ≡ nothing
-        goes nobody (inl is) = ap (λ (c : Cell). without_all u (done_cell c) was) is ∙ all_dead u nothing was refl
-        goes nobody (inr (inl (a, is))) = ap (λ (c : Cell). without_all u (done_cell c) was) is ∙ all_dead u nothing was refl
-        goes nobody (inr (inr (n, is))) =
-            let there = are.all u (ap (λ (c : Cell). c.is_live) is) nobody in
-            let block = are.each there.0 there.1 in
-            let unit : block.unit ≡ u = omega (arith, block.offset, there.2) in
-            let cell : found ≡ body_cell block.units = subst (λ (v : ℕ). found_cell (found_in old) v ≡ body_cell block.units) unit block.cell in
-            let same : n ≡ block.units = ap (λ (c : Cell). c.units) (sym is ∙ cell) in
-            ap (λ (c : Cell). without_all u (done_cell c) was) is ∙ one_goes u (record { units = n; is_live = true; is_running = false; is_last = false; names = 0 }) was there.0 there.1 there.2 refl refl (block.size ∙ ap (λ (k : ℕ). 4096 * k) (sym same))
-
-    pub settled : (a : Addr) → without_all u (done_at old captured a u) was ≡ settled_at captured a u
-    settled a = elim (begins_or_not u a) [
-      | inl at ↦
-          let is = eq-eqb a.offset (8192 + 4096 * u) at in
-          rw is (all_dead u (record_cell a) was refl)
-      | inr far ↦
-          let isnt = ne_eqb a.offset (8192 + 4096 * u) far in
-          rw isnt body_settled
-    ]

@@ -1,5 +1,5 @@
 -- What a checkpoint answers, from how it went.
-use Rattle.std.specs.Prelude.{◌≡◌, ◌⊎◌, ℕ, List, Option, Some, Result, Ok, Err, IfErr, OnOk, refl}
+use Rattle.std.specs.Prelude.{◌≡◌, ◌⊎◌, ℕ, List, Option, Some, Result, Ok, Err, IfErr, OnErr, OnOk, refl}
 use Rattle.std.proofs.Common.{inl, inr, sym, subst}
 use Rattle.failure.specs.Counts.{Rose}
 use Rattle.failure.specs.declared.Fault.{Fault}
@@ -15,7 +15,7 @@ use Rattle.engine_world.specs.Systems.{checkpointed, with_fault}
 use Rattle.engine_world.specs.Worlds.{World}
 use Rattle.engine.specs.Checkpoints.{MayStart}
 use Rattle.ckpt_step.specs.declared.ground.Ground.{Ground}
-use Rattle.ckpt_step.specs.Floors.{Follows}
+use Rattle.ckpt_step.specs.Floors.{AreLivesOn, Follows}
 use Rattle.ckpt_step.specs.Grounds.{StandsOn, number_of}
 use Rattle.wt_code.specs.StoreErrors.{IsOfDisk}
 use Rattle.ckpt_step.specs.Rooms.{known_in}
@@ -33,25 +33,27 @@ module _ {D : Type 0} (g : Ghosts D) (old : Option Stored) (w : World) (stand st
     leaves = wrote.left;
     each = wrote.each;
     on = wrote.on;
-    follows = follows_goes (Some wrote.new) e.hub.tables.tables e.hub.dir.leaves (known_in stand'.parts) stand'.trees.items stand'.floor w (record w { machine = checkpointed w.machine }) (checkpointed_goes w.machine) refl wrote.follows;
+    none = wrote.none;
+    follows = follows_goes (Some wrote.new) e.hub.tables.tables stand'.lives e.hub.dir.leaves (known_in stand'.parts) stand'.trees.items stand'.floor w (record w { machine = checkpointed w.machine }) (checkpointed_goes w.machine) refl wrote.follows;
     had_room = wrote.had_room;
     kept = wrote.kept;
     may = may;
     same = same;
     stands = stands is;
   })
-  concluded (Err NoMemory) answer wrote failed (is, same) stands = subst (λ (r : Result (Unit {0}) Refusal). Takes g old w stand stand' e e' before after r) (sym is) (inl (record { why = inr (inl refl); leaves = wrote.kept tt; on = wrote.on tt; follows = wrote.follows; same = same }))
-  concluded (Err NoSpace) answer wrote failed (is, same) stands = subst (λ (r : Result (Unit {0}) Refusal). Takes g old w stand stand' e e' before after r) (sym is) (inl (record { why = inr (inr (may, inl (refl, wrote.full refl))); leaves = wrote.kept tt; on = wrote.on tt; follows = wrote.follows; same = same }))
-  concluded (Err Read) answer wrote failed (is, same) stands = subst (λ (r : Result (Unit {0}) Refusal). Takes g old w stand stand' e e' before after r) (sym is) (inl (record { why = inr (inr (may, inr (refl, failed tt))); leaves = wrote.kept tt; on = wrote.on tt; follows = wrote.follows; same = same }))
+  concluded (Err NoMemory) answer wrote failed (is, same) stands = subst (λ (r : Result (Unit {0}) Refusal). Takes g old w stand stand' e e' before after r) (sym is) (inl (record { why = inr (inl refl); leaves = wrote.kept tt; on = wrote.on tt; follows = wrote.follows; since = wrote.since tt; same = same }))
+  concluded (Err NoSpace) answer wrote failed (is, same) stands = subst (λ (r : Result (Unit {0}) Refusal). Takes g old w stand stand' e e' before after r) (sym is) (inl (record { why = inr (inr (may, inl (refl, wrote.full refl))); leaves = wrote.kept tt; on = wrote.on tt; follows = wrote.follows; since = wrote.since tt; same = same }))
+  concluded (Err Read) answer wrote failed (is, same) stands = subst (λ (r : Result (Unit {0}) Refusal). Takes g old w stand stand' e e' before after r) (sym is) (inl (record { why = inr (inr (may, inr (refl, failed tt))); leaves = wrote.kept tt; on = wrote.on tt; follows = wrote.follows; since = wrote.since tt; same = same }))
   concluded (Err (Down fault)) answer wrote failed (is, same) stands = subst (λ (r : Result (Unit {0}) Refusal). Takes g old w stand stand' e e' before after r) (sym is) (inr (record { is = refl; may = may; rose = failed tt; fault = fault; down = same; leaves = wrote.left }))
 
 -- it was refused before anything was done
-pub refused : {D : Type 0} (g : Ghosts D) (old : Option Stored) (w : World) (stand : Ground) (e : Engine) (disk : D) (r : Refusal) → ((c : List ℕ) → g.left_since disk (g.moment disk) c → g.may_leave disk c) → MayStart w.machine stand.number (Err r) → StandsOn (g.seen disk) (g.may_leave disk) e.hub stand old → Follows old e.hub stand w → NotTaken g old w stand stand e e disk disk r
-refused g old w stand e disk r only may on follows = record {
+pub refused : {D : Type 0} (g : Ghosts D) (old : Option Stored) (w : World) (stand : Ground) (e : Engine) (disk : D) (r : Refusal) → ((c : List ℕ) → g.left_since disk (g.moment disk) c → g.may_leave disk c) → MayStart w.machine stand.number (Err r) → StandsOn (g.seen disk) (g.may_leave disk) e.hub stand old → Follows old e.hub stand w → AreLivesOn (g.seen disk) e.hub stand w → NotTaken g old w stand stand e e disk disk r
+refused g old w stand e disk r only may on follows device = record {
   why = inl (subst (λ (n : ℕ). MayStart w.machine n (Err r)) on.number may);
   leaves = started g disk (IsOld (g.may_leave disk) old) (λ c left. inl (only c left));
   on = on;
   follows = follows;
+  since = device;
   same = refl;
 }
 
@@ -62,6 +64,14 @@ engine_after e e' (Err NoMemory) answer (is, same) = inl same
 engine_after e e' (Err NoSpace) answer (is, same) = inl same
 engine_after e e' (Err Read) answer (is, same) = inl same
 engine_after e e' (Err (Down fault)) answer (is, same) = inr (fault, same)
+
+-- what holds once it was not written holds once it is refused
+pub err_after : (A : Type 0) (e e' : Engine) (outcome : Result (Unit {0}) StoreError) (answer : Result (Unit {0}) Refusal) → Concludes e e' outcome answer → OnErr outcome A → OnErr answer A
+err_after A e e' (Ok done) answer (is, same) held = subst (λ (r : Result (Unit {0}) Refusal). OnErr r A) (sym is) tt
+err_after A e e' (Err NoMemory) answer (is, same) held = subst (λ (r : Result (Unit {0}) Refusal). OnErr r A) (sym is) held
+err_after A e e' (Err NoSpace) answer (is, same) held = subst (λ (r : Result (Unit {0}) Refusal). OnErr r A) (sym is) held
+err_after A e e' (Err Read) answer (is, same) held = subst (λ (r : Result (Unit {0}) Refusal). OnErr r A) (sym is) held
+err_after A e e' (Err (Down fault)) answer (is, same) held = subst (λ (r : Result (Unit {0}) Refusal). OnErr r A) (sym is) held
 
 pub on_ok_of : {A : Type 0} (r : Result (Unit {0}) Refusal) → OnOk r A → r ≡ Ok tt → A
 on_ok_of {A} r is same = subst (λ (x : Result (Unit {0}) Refusal). OnOk x A) same is

@@ -1,5 +1,5 @@
 -- The tree of a table, once the pages above its leaves are captured.
-use Rattle.std.specs.Prelude.{◌≡◌, ◌⊎◌, ℕ, ◌≤◌, List, [], ◌∷◌, ◌++◌, length, filter, map, Option, Some, None, slice_get, refl}
+use Rattle.std.specs.Prelude.{◌≡◌, ◌⊎◌, ℕ, ◌≤◌, List, [], ◌∷◌, ◌++◌, length, filter, map, Option, Some, slice_get, refl}
 use Rattle.std.specs.List.{AllByRecursion, Contains}
 use Rattle.std.proofs.Common.{inl, inr, sym, ◌∙◌, ap, subst, append_assoc}
 use Rattle.disk_model.specs.declared.disk.Disk.{Ghosts}
@@ -28,34 +28,26 @@ use Rattle.engine_world.specs.Stands.{Engine, Stands}
 use Rattle.engine_world.specs.Worlds.{World}
 use Rattle.ckpt_step.specs.Checkpoints.{IsRowsOf}
 use Rattle.ckpt_step.specs.Drafting.{Drafting, DraftStopped}
-use Rattle.ckpt_step.specs.Goings.{BeginsIn, HasPartsAt, MayGo, NotOneMore, OneMore}
+use Rattle.ckpt_step.specs.Goings.{BeginsIn, HasPartsAt, NotOneMore, OneMore}
+use Rattle.ckpt_step.specs.Lives.{live_addrs}
 use Rattle.ckpt_step.specs.Parts.{IsPart, IsParted, has_rows, links_over, part_leaves, part_of, parts_of, rows_behind, with_parts}
 use Rattle.ckpt_step.specs.Rooms.{Written}
-use Rattle.ckpt_step.specs.Trees.{leaves_at}
+use Rattle.ckpt_step.specs.declared.lives.Lone.{Lone}
 use Rattle.ckpt_step.specs.declared.parts.LeafPart.{LeafPart}
 use Rattle.ckpt_step.proofs.CapturedOrder.{both_listed, tree_apart}
-use Rattle.ckpt_step.proofs.OldTrees.{leaves_there}
-use Rattle.ckpt_step.proofs.Apart.{filter_apart, over_apart}
+use Rattle.ckpt_step.proofs.Apart.{over_apart}
+use Rattle.ckpt_step.proofs.Behind.{parted_whole}
 use Rattle.ckpt_step.proofs.DraftingMore.{fit_of, newest_of}
 use Rattle.ckpt_step.proofs.Links.{all_rows}
 use Rattle.ckpt_step.proofs.OrderedByName.{all_front}
 use Rattle.ckpt_step.proofs.PartRows.{rows_of_parts}
 use Rattle.ckpt_step.proofs.RowsByLink.{IsDraftedAt, drafted_at, drafted_leaves, drafted_within, tree_leaves}
-use Rattle.ckpt_step.proofs.TableLeaves.{contains_of, in_table, member_of, once_of, table_in}
-use Rattle.ckpt_step.proofs.WithParts.{part_none}
+use Rattle.ckpt_step.proofs.TableLeaves.{member_of, once_of, table_in}
 
 -- ---- the links of before lead apart
 
-none_of_parts : (had : Written) (front : List Leaf) → ((l : Leaf) → Member l front → part_of had l ≡ []) → parts_of had front ≡ []
-none_of_parts had [] none = refl
-none_of_parts had (l ∷ front) none = ap (λ (m : List Entry). m ++ parts_of had front) (none l (inl refl)) ∙ none_of_parts had front (λ x there. none x (inr there))
-
-pub links_apart : (old : Option Stored) (leaves : List Leaf) (had : Written) (was : List TreePlace) (t : Table) (i : ℕ) (parts : List (List (List Row))) → LeadApart (leaves_at was i) → HasPartsAt old leaves had was t i → LeadApart (links_over had (leaves_of t.number leaves) parts)
-links_apart old leaves had was t i parts apart has = over_apart had (leaves_of t.number leaves) parts (by (slice_get was i) refl)
-  where
-    by : (o : Option TreePlace) → slice_get was i ≡ o → LeadApart (links_in (parts_of had (leaves_of t.number leaves)))
-    by (Some place) at = subst LeadApart (has.tree place at).2.joined (filter_apart has_rows place.leaves.items (subst LeadApart (leaves_there was i place at) apart))
-    by None at = subst (λ (es : List Entry). LeadApart (links_in es)) (sym (none_of_parts had (leaves_of t.number leaves) (λ l there. let in_it = in_table t.number leaves l there in part_none had l (has.none at l (contains_of leaves l in_it.0) in_it.1).0))) tt
+pub links_apart : (old : Option Stored) (lives : List Lone) (leaves : List Leaf) (had : Written) (was : List TreePlace) (t : Table) (i : ℕ) (parts : List (List (List Row))) → HasPartsAt old lives leaves had was t i → LeadApart (links_over had (leaves_of t.number leaves) parts)
+links_apart old lives leaves had was t i parts has = over_apart had (leaves_of t.number leaves) parts has.apart
 
 -- ---- the whole tree
 
@@ -67,7 +59,7 @@ leaf_links_rows : (es : List Entry) (leaves : List (List Row)) → AllBear table
 leaf_links_rows [] leaves bear some = refl
 leaf_links_rows (e ∷ es) leaves bear some = all_rows (e ∷ es) leaves bear some
 
-module _ {D : Type 0} (g : Ghosts D) (old : Option Stored) (first : Books) (was : List TreePlace) (e : Engine) (had : Written) (w : World) (stands : Stands e w) (t : Table) (i : ℕ) (known_at : slice_get e.hub.tables.tables i ≡ Some t)
+module _ {D : Type 0} (g : Ghosts D) (old : Option Stored) (first : Books) (was : List TreePlace) (lives : List Lone) (e : Engine) (had : Written) (w : World) (stands : Stands e w) (t : Table) (i : ℕ) (known_at : slice_get e.hub.tables.tables i ≡ Some t)
     (books mid books' : Books) (places places' : List TreePlace) (more more' : List LeafPart) (captured mid_captured captured' : List Addr) (before between after : D)
     (es : List Entry) (drafting : Drafting g old first e.hub.dir.leaves had w t.number books mid more more' captured mid_captured before between (leaves_of t.number e.hub.dir.leaves) es)
     (addrs : List Addr) (captured_are : captured' ≡ mid_captured ++ addrs) where
@@ -96,9 +88,9 @@ module _ {D : Type 0} (g : Ghosts D) (old : Option Stored) (first : Books) (was 
   captured_all = captured_are ∙ (ap (λ (m : List Addr). m ++ addrs) drafting.captured_are ∙ append_assoc captured drafting.addrs addrs)
 
   module _ (place : TreePlace) (wrote : PartsWritten g old first (links_over had all drafting.parts) drafting.parts (join cut) (drafting.addrs ++ addrs) books books' before after place) (links_are : place.leaves.items ≡ leaf_links es)
-      (may : MayGo (g.seen before) (g.may_leave before) first books old was i) (has : HasPartsAt old leaves had was t i) where
+      (has : HasPartsAt old lives leaves had was t i) where
     distinct : AreDistinct (drafting.addrs ++ addrs)
-    distinct = wrote.distinct (links_apart old leaves had was t i drafting.parts may.apart has)
+    distinct = wrote.distinct (links_apart old lives leaves had was t i drafting.parts has)
 
     parts_distinct : AreDistinct (addrs_to (parts_of written all))
     parts_distinct = subst (λ (m : List Entry). AreDistinct (addrs_to m)) drafting.entries_are (subst AreDistinct (drafting.drafted.written.listed ∙ places_leaves es cut bear drafting.drafted.written.stored) (front_distinct drafting.addrs addrs distinct))
@@ -117,13 +109,13 @@ module _ {D : Type 0} (g : Ghosts D) (old : Option Stored) (first : Books) (was 
         ∙ (ap (λ (m : List Entry). map {A = Entry} (λ x. rows_behind (links_in m) cut x.link) part) drafting.entries_are
         ∙ drafted_leaves (g.seen before) leaves had w t.number written all drafting.parts l parts_distinct one)))
 
-    parted : IsParted leaves t.number written place wrote.tree
-    parted = record {
-      joined = ap (filter has_rows) links_are ∙ (leaf_links_rows es cut bear drafting.stand.some ∙ ap links_in drafting.entries_are);
-      parts = λ l there own. subst (λ (m : List (List Row)). IsPart leaves t.number l (part_of written l) m) (sym (behind l there own)) (at l there own).is.is;
-    }
+    joined : filter has_rows place.leaves.items ≡ links_in (parts_of written all)
+    joined = ap (filter has_rows) links_are ∙ (leaf_links_rows es cut bear drafting.stand.some ∙ ap links_in drafting.entries_are)
 
-    pub finishes_one : ((a : Addr) → Member a (drafting.addrs ++ addrs) → IsPlaced books a ⊎ BeginsIn was i a) → places' ≡ places ++ place ∷ [] → OneMore g old first was leaves had w t i books books' places places' more more' captured captured' before after
+    parted : IsParted [] leaves t.number written place wrote.tree
+    parted = parted_whole leaves t.number written place wrote.tree joined (λ l there own. subst (λ (m : List (List Row)). IsPart leaves t.number l (part_of written l) m) (sym (behind l there own)) (at l there own).is.is)
+
+    pub finishes_one : ((a : Addr) → Member a (drafting.addrs ++ addrs) → IsPlaced books a ⊎ BeginsIn was (live_addrs lives (leaves_of t.number leaves)) i a) → places' ≡ places ++ place ∷ [] → OneMore g old first was lives leaves had w t i books books' places places' more more' captured captured' before after
     finishes_one own places_are = record {
       place = place;
       tree = wrote.tree;
@@ -157,7 +149,7 @@ module _ {D : Type 0} (g : Ghosts D) (old : Option Stored) (first : Books) (was 
     }
 
   -- it is not whole
-  pub finishes_none : (x : StoreError) → PartsStopped g old first (links_over had all drafting.parts) drafting.parts (join cut) (drafting.addrs ++ addrs) books books' before after x → NotOneMore g old first was leaves had w t i books books' places places' more more' captured captured' before after x
+  pub finishes_none : (x : StoreError) → PartsStopped g old first (links_over had all drafting.parts) drafting.parts (join cut) (drafting.addrs ++ addrs) books books' before after x → NotOneMore g old first was lives leaves had w t i books books' places places' more more' captured captured' before after x
   finishes_none x stopped = record {
     rows = join cut;
     blocks = stopped.blocks;
@@ -172,9 +164,9 @@ module _ {D : Type 0} (g : Ghosts D) (old : Option Stored) (first : Books) (was 
 
 -- ---- its leaves are not all captured
 
-pub drafts_none : {D : Type 0} (g : Ghosts D) (old : Option Stored) (first : Books) (was : List TreePlace) (listed : List Leaf) (had : Written) (w : World) (t : Table) (i : ℕ) (books books' : Books) (places places' : List TreePlace) (more more' : List LeafPart) (captured captured' : List Addr) (before after : D) (x : StoreError)
-    → DraftStopped g old first listed had w t.number books books' more more' captured captured' before after x → NotOneMore g old first was listed had w t i books books' places places' more more' captured captured' before after x
-drafts_none g old first was listed had w t i books books' places places' more more' captured captured' before after x stopped = record {
+pub drafts_none : {D : Type 0} (g : Ghosts D) (old : Option Stored) (first : Books) (was : List TreePlace) (lives : List Lone) (listed : List Leaf) (had : Written) (w : World) (t : Table) (i : ℕ) (books books' : Books) (places places' : List TreePlace) (more more' : List LeafPart) (captured captured' : List Addr) (before after : D) (x : StoreError)
+    → DraftStopped g old first listed had w t.number books books' more more' captured captured' before after x → NotOneMore g old first was lives listed had w t i books books' places places' more more' captured captured' before after x
+drafts_none g old first was lives listed had w t i books books' places places' more more' captured captured' before after x stopped = record {
   rows = [];
   blocks = stopped.blocks;
   sizes = stopped.sizes;

@@ -3,7 +3,7 @@ use Rattle.std.proofs.Common.{◌≡◌, ◌⊎◌, ◌∙◌, ◌+◌, ◌<◌,
 use Rattle.std.specs.Prelude.{MatchOption, ◌==◌, ◌&&◌, ◌||◌, filter, nat_lt, option_map, slice_get}
 use Rattle.std.specs.List.{Contains}
 use Rattle.std.proofs.Math.Bool.{and-false}
-use Rattle.std.proofs.lemmas.Bool.{and_parts, cases_eq, cases_lt, eqb-true, le-ltb, ltb-true, ne_eqb}
+use Rattle.std.proofs.lemmas.Bool.{and_parts, cases_eq, cases_lt, eqb-true, false≢true, le-ltb, ltb-true, ne_eqb}
 use Rattle.tree_open.specs.declared.place.TreePlace.{TreePlace}
 use Rattle.item.specs.declared.Change.{Change}
 use Rattle.stamp.specs.declared.Name.{Name}
@@ -18,13 +18,15 @@ use Rattle.stored.specs.Stored.{Stored}
 use Rattle.engine_world.specs.Systems.{checkpointed}
 use Rattle.engine_world.specs.Worlds.{World}
 use Rattle.row_page.specs.Rows.{Row}
+use Rattle.rows_shown.specs.Shows.{shown_at}
 use Rattle.stored.specs.TableTree.{Entry as TreeEntry, TableTree}
 use Rattle.stored.specs.Tree.{join}
 use Rattle.tree_dir.specs.declared.leaf.Leaf.{Leaf}
-use Rattle.ckpt_step.specs.Floors.{AreNewestBefore, FollowsFrom, GoesOn, IsAsItLies, Respects, is_before, newest_before}
-use Rattle.ckpt_step.specs.Parts.{AreBelowFloor, part_leaves, part_of}
+use Rattle.ckpt_step.specs.Floors.{AreNewestBefore, FollowsFrom, GoesOn, IsAsItLies, IsLeafBefore, Respects, is_before, newest_before}
+use Rattle.ckpt_step.specs.Parts.{AreBelowFloor, part_in, part_leaves, part_of}
 use Rattle.ckpt_step.specs.Rooms.{Written}
 use Rattle.ckpt_step.specs.Trees.{HasTreeAt}
+use Rattle.ckpt_step.specs.declared.lives.Lone.{Lone}
 use Rattle.ckpt_step.specs.Keeps.{IsOrdinaryEvent}
 
 -- ---- names
@@ -234,17 +236,22 @@ goes_rolled m = rolls_on m 0 m.sessions
 
 -- ---- over what goes on
 
-pub follows_goes : (old : Option Stored) (known : List Table) (leaves : List Leaf) (written : Written) (places : List TreePlace) (floor : Name) (w v : World) → GoesOn w.machine v.machine → v.shelf ≡ w.shelf → FollowsFrom old known leaves written places floor w → FollowsFrom old known leaves written places floor v
-follows_goes old known leaves written places floor w v goes shelf follows =
+before_goes : (leaves : List Leaf) (written : Written) (floor : Name) (w v : World) (table : ℕ) (l : Leaf) (rows : List Row) → ((table : ℕ) (key : List ℕ) → newest_before floor (line v.machine.history table key) ≡ newest_before floor (line w.machine.history table key)) → v.shelf ≡ w.shelf
+    → IsLeafBefore w.machine w.shelf floor leaves written table l rows → IsLeafBefore v.machine v.shelf floor leaves written table l rows
+before_goes leaves written floor w v table l rows newest shelf own = record {
+  before = λ part is below key under. newest table key ∙ own.before part is below key under;
+  same = λ lies. own.same lies ∙ ap (λ (s : ℕ → List Row). s l.id) (sym shelf);
+}
+
+pub follows_goes : (old : Option Stored) (known : List Table) (lives : List Lone) (leaves : List Leaf) (written : Written) (places : List TreePlace) (floor : Name) (w v : World) → GoesOn w.machine v.machine → v.shelf ≡ w.shelf → FollowsFrom old known lives leaves written places floor w → FollowsFrom old known lives leaves written places floor v
+follows_goes old known lives leaves written places floor w v goes shelf follows =
     let on = goes floor follows.respects in
     record {
       respects = on.0;
-      leaf = λ i t place tree l at stands has there its.
-          let own = follows.leaf i t place tree l at stands has there its in
-          record {
-            before = λ part is below key under. on.1 t.number key ∙ own.before part is below key under;
-            same = λ lies. own.same lies ∙ ap (λ (s : ℕ → List Row). s l.id) (sym shelf);
-          };
+      leaf = λ i t place tree l at stands has there its dead. before_goes leaves written floor w v t.number l _ on.1 shelf (follows.leaf i t place tree l at stands has there its dead);
+      since = λ l there live.
+          subst (λ (rows : List Row). IsLeafBefore v.machine v.shelf floor leaves written l.table l rows) (ap (λ (s : ℕ → List Row). s l.id) (sym shelf))
+          (before_goes leaves written floor w v l.table l (w.shelf l.id) on.1 shelf (follows.since l there live));
     }
 
 -- the floor with which an engine begins
@@ -264,13 +271,14 @@ AreShelved old known leaves written places w =
     (i : ℕ) (t : Table) (place : TreePlace) (tree : TableTree) (l : Leaf) → slice_get known i ≡ Some t → slice_get places i ≡ Some place → HasTreeAt old t place tree → Contains leaves l → l.table ≡ t.number → IsAsItLies written l → join (part_leaves place tree (part_of written l)) ≡ w.shelf l.id
 
 -- no leaf in a frame is clean before the first checkpoint
-pub follows_none : (old : Option Stored) (known : List Table) (leaves : List Leaf) (written : Written) (places : List TreePlace) (w : World) → AreShelved old known leaves written places w → FollowsFrom old known leaves written places no_floor w
+pub follows_none : (old : Option Stored) (known : List Table) (leaves : List Leaf) (written : Written) (places : List TreePlace) (w : World) → AreShelved old known leaves written places w → FollowsFrom old known [] leaves written places no_floor w
 follows_none old known leaves written places w shelved = record {
   respects = record { next = elim (cases_lt 0 w.machine.run) [ inl more ↦ inl more | inr none ↦ inr (omega (arith, none), omega arith) ]; living = λ session. each (transaction_of w.machine session) };
-  leaf = λ i t place tree l at stands has there its. record {
-    before = λ part is below. nothing t.number l place tree part below;
+  leaf = λ i t place tree l at stands has there its dead. record {
+    before = λ part is below. nothing t.number l place tree part (part_is written l part is) below;
     same = shelved i t place tree l at stands has there its;
   };
+  since = λ l there live. absurd (false≢true live);
 }
   where
     each : (o : Option Transaction) → MatchOption o (Unit {0}) (λ t. is_before no_floor (name_of w.machine t) ≡ false)
@@ -281,9 +289,12 @@ follows_none old known leaves written places w shelved = record {
     under x (inl less) = omega (arith, less)
     under x (inr less) = omega (arith, less.1)
 
-    nothing : (table : ℕ) (l : Leaf) (place : TreePlace) (tree : TableTree) (part : List TreeEntry) → AreBelowFloor no_floor part → AreNewestBefore w.machine no_floor leaves table l (join (part_leaves place tree part))
-    nothing table l place tree [] below key found = none_newest (line w.machine.history table key)
-    nothing table l place tree (e ∷ part) below key found = absurd (under e.link.greatest (lower_of e.link.greatest no_floor below.0))
+    part_is : (written : Written) (l : Leaf) (part : List TreeEntry) → part_in written l ≡ Some part → part_of written l ≡ part
+    part_is written l part is = ap (λ (o : Option (List TreeEntry)). of_some [] (λ (es : List TreeEntry). es) o) is
+
+    nothing : (table : ℕ) (l : Leaf) (place : TreePlace) (tree : TableTree) (part : List TreeEntry) → part_of written l ≡ part → AreBelowFloor no_floor part → AreNewestBefore w.machine no_floor leaves table l (join (part_leaves place tree (part_of written l)))
+    nothing table l place tree [] is below key found = none_newest (line w.machine.history table key) ∙ ap (λ (es : List TreeEntry). shown_at key (join (part_leaves place tree es))) (sym is)
+    nothing table l place tree (e ∷ part) is below key found = absurd (under e.link.greatest (lower_of e.link.greatest no_floor below.0))
 
 pub checkpointed_goes : (m : Machine) → GoesOn m (checkpointed m)
 checkpointed_goes m = same_machine m (checkpointed m) refl refl refl refl

@@ -2,7 +2,7 @@
 use Rattle.std.proofs.Common.{◌≡◌, ◌⊎◌, ◌∙◌, ◌+◌, ◌≤◌, ℕ, true, false, List, [], ◌∷◌, length, Option, Some, None, refl, ap, sym, subst, inl, inr, arith}
 use Rattle.std.specs.List.{Contains}
 use Rattle.std.specs.Prelude.{◌==◌, zero, suc, MatchOption, slice_get}
-use Rattle.std.proofs.lemmas.Bool.{cases_eq, ne_eqb}
+use Rattle.std.proofs.lemmas.Bool.{cases_eq, false≢true, ne_eqb}
 use Rattle.device_layout.specs.declared.addr.Addr.{Addr}
 use Rattle.kv_model.specs.History.{Table}
 use Rattle.kv_model.specs.Machine.{Machine, Transaction, name_of, of_some, transaction_of}
@@ -46,18 +46,19 @@ rows_at m (u ∷ known) (x ∷ trees) (suc i) t tree are at also = rows_at m kno
 module _ (known : List Table) (next : ℕ) (ascend : NumbersAscend 1 known next) (places : List TreePlace) (trees : List TableTree) (count : length places ≡ length known) (bytes : List ℕ) (there : AreTreesAt bytes places trees) (r : Record) (a : Addr) (bare : IsBare r) (tables : r.tables ≡ roots_by_name known (roots_of places))
     (leaves : List Leaf) (written : Written) (w : World) (are : AreRowsOf w.machine known trees) (parted : AreParted known leaves written places trees) (shelved : AreOnShelf known leaves written places trees w.shelf) (lead : (i : ℕ) (p : TreePlace) → slice_get places i ≡ Some p → LeadApart p.leaves.items) where
   -- a leaf that is as it lies has the rows of its block, and the part of one whose names are below a floor has the newest before it
-  pub follows_new : (floor : Name) → Respects w.machine floor → FollowsFrom (Some (made_of r known trees a)) known leaves written places floor w
+  pub follows_new : (floor : Name) → Respects w.machine floor → FollowsFrom (Some (made_of r known trees a)) known [] leaves written places floor w
   follows_new floor respects = record {
     respects = respects;
-    leaf = λ i t p tree l at stands has mine its.
+    leaf = λ i t p tree l at stands has mine its dead.
         let here = made_at known next ascend places trees count bytes there r a bare tables i t p tree at stands has in
         record {
           before = λ part found below. before floor i t p tree l part at stands here mine its found below;
           same = shelved i t p tree l at stands here mine its;
         };
+    since = λ l mine live. absurd (false≢true live);
   } where
     before : (floor : Name) (i : ℕ) (t : Table) (p : TreePlace) (tree : TableTree) (l : Leaf) (part : List Entry) → slice_get known i ≡ Some t → slice_get places i ≡ Some p → slice_get trees i ≡ Some tree → Contains leaves l → l.table ≡ t.number → part_in written l ≡ Some part → AreBelowFloor floor part
-        → AreNewestBefore w.machine floor leaves t.number l (join (part_leaves p tree part))
+        → AreNewestBefore w.machine floor leaves t.number l (join (part_leaves p tree (part_of written l)))
     before floor i t p tree l part at stands here mine its found below =
         let one = tree_there bytes places trees i p there stands in
         let same : one.0 ≡ tree = some_same (sym one.1 ∙ here) in
@@ -67,10 +68,9 @@ module _ (known : List Table) (next : ℕ) (ascend : NumbersAscend 1 known next)
         let apart = lead i p stands in
         let own : part_of written l ≡ part = ap (λ (o : Option (List Entry)). of_some [] (λ (es : List Entry). es) o) found in
         let rows = rows_at w.machine known trees i t tree are at here in
-        subst (λ (es : List Entry). AreNewestBefore w.machine floor leaves t.number l (join (part_leaves p tree es))) own
-        (newest_under w.machine t.number leaves l floor (join (part_leaves p tree (part_of written l))) (by_parts.parts l mine its).rows_fit
-        (part_low bytes leaves t.number written p tree on_device is apart by_parts floor l mine its (subst (λ (es : List Entry). AreBelowFloor floor es) (sym own) below))
-        (part_newest bytes leaves t.number written p tree on_device is apart by_parts w.machine l mine its rows.newest))
+        newest_under w.machine t.number leaves l floor (join (part_leaves p tree (part_of written l))) (by_parts.parts l mine its refl).rows_fit
+        (part_low bytes [] leaves t.number written p tree on_device is apart by_parts floor l mine its refl (subst (λ (es : List Entry). AreBelowFloor floor es) (sym own) below))
+        (part_newest bytes [] leaves t.number written p tree on_device is apart by_parts (λ x there_too its_too. refl) w.machine l mine its rows.newest)
 
 -- ---- the floor of a checkpoint
 

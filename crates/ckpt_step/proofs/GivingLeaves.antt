@@ -1,8 +1,7 @@
 -- A leaf gave way to entries: the leaves that there are then, and what a checkpoint has of each.
-use Rattle.std.proofs.Common.{◌≡◌, ◌≢◌, ◌∙◌, ◌<◌, ◌≤◌, ℕ, true, false, List, [], ◌∷◌, ◌++◌, length, Option, Some, None, refl, ap, sym, subst, inl, inr, arith}
-use Rattle.std.specs.Prelude.{◌==◌}
+use Rattle.std.proofs.Common.{◌≡◌, ◌≢◌, ◌∙◌, ◌<◌, ◌≤◌, ℕ, true, List, [], ◌∷◌, ◌++◌, length, Option, Some, None, refl, ap, sym, subst, inl, inr, arith}
 use Rattle.std.specs.List.{Contains}
-use Rattle.std.proofs.lemmas.Bool.{cases_Bool, cases_eq}
+use Rattle.std.proofs.lemmas.Bool.{cases_eq}
 use Rattle.engine_world.proofs.Homes.{same-id}
 use Rattle.kv_model.specs.Holds.{Member}
 use Rattle.kv_model.specs.Machine.{of_some}
@@ -11,12 +10,12 @@ use Rattle.tree_dir.specs.declared.leaf.Leaf.{Leaf}
 use Rattle.tree_dir.specs.GivingWay.{StandFor}
 use Rattle.tree_dir.specs.Leaves.{Directory, GaveWay, IsDirectory, TakePlace, leaf_under, leaves_with}
 use Rattle.tree_dir.specs.Slots.{new_leaf}
-use Rattle.ckpt_step.specs.Parts.{has_rows, own_part, part_in, part_of, parts_of}
+use Rattle.ckpt_step.specs.Parts.{has_rows, part_in, part_of, parts_of}
 use Rattle.ckpt_step.specs.Rooms.{Written}
 use Rattle.ckpt_step.proofs.Members.{none_some, some_same}
 use Rattle.ckpt_step.proofs.TableLeaves.{begins_parts, contains_of, under_in}
 use Rattle.ckpt_step.proofs.UnderMade.{made_entry}
-use Rattle.ckpt_step.proofs.WithParts.{in_alike, part_alike}
+use Rattle.ckpt_step.proofs.WithParts.{in_alike, own_some, part_alike}
 
 -- The leaf gave way to others with the entries that the checkpoint had of it. had: what was written of leaves. has: the same, but of this one.
 pub record IsGiving (d n : Directory) (l : Leaf) (entries : List Entry) (ids : List ℕ) (had has : Written) : Type 0 where
@@ -40,12 +39,6 @@ parts_made has table (id ∷ ids) [] many each = absurd (omega (arith, many))
 parts_made has table (id ∷ ids) (e ∷ entries) many each =
     ap (λ (part : List Entry). part ++ parts_of has (leaves_with table ids entries)) (each (new_leaf table id e) (inl refl))
     ∙ ap (λ (rest : List Entry). e ∷ rest) (parts_made has table ids entries (omega (arith, many)) (λ m there. each m (inr there)))
-
-pub own_some : (e : Entry) → has_rows e.link ≡ true → own_part e ≡ Some (e ∷ [])
-own_some e has = elim (cases_Bool (e.link.greatest.id == 0)) [
-  | inl is ↦ absurd (let clash : false ≡ true = rw is at has in cc)
-  | inr isnt ↦ rw isnt refl
-]
 
 module _ (d n : Directory) (l : Leaf) (entries : List Entry) (ids : List ℕ) (had has : Written) (g : IsGiving d n l entries ids had has) where
   abbrev pub made : List Leaf

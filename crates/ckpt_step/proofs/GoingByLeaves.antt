@@ -23,6 +23,7 @@ use Rattle.ckpt_step.specs.Parts.{IsParted, part_leaves, part_of, with_parts}
 use Rattle.ckpt_step.specs.Rooms.{Written}
 use Rattle.ckpt_step.specs.Trees.{AreTreesAt}
 use Rattle.ckpt_step.specs.declared.parts.LeafPart.{LeafPart}
+use Rattle.ckpt_step.specs.declared.lives.Lone.{Lone}
 use Rattle.ckpt_step.proofs.Members.{some_same}
 use Rattle.ckpt_step.proofs.Moving.{back_all, keeps_moved}
 use Rattle.ckpt_step.proofs.TableParts.{others_alike, own_alike, parted_alike}
@@ -30,8 +31,8 @@ use Rattle.ckpt_step.proofs.WithParts.{lies_alike, part_alike}
 use Rattle.ckpt_step.proofs.Goings.{IsAtTable}
 use Rattle.ckpt_step.proofs.GoingLinks.{part_there}
 
-module _ {D : Type 0} {g : Ghosts D} {old : Option Stored} {was : List TreePlace} {d : Directory} {had : Written} {w : World} {known : List Table} {next : ℕ} {first : Books} {start : D} {i : ℕ} {t : Table} {books : Books} {places : List TreePlace} {more : List LeafPart} {taken : List Addr} {mid : D} (on : IsAtTable g old was d had w known next first start i t books places more taken mid)
-    {books' : Books} {places' : List TreePlace} {more' : List LeafPart} {taken' : List Addr} {end : D} (one : OneMore g old first was d.leaves had w t i books books' places places' more more' taken taken' mid end) where
+module _ {D : Type 0} {g : Ghosts D} {old : Option Stored} {was : List TreePlace} {lives : List Lone} {d : Directory} {had : Written} {w : World} {known : List Table} {next : ℕ} {first : Books} {start : D} {i : ℕ} {t : Table} {books : Books} {places : List TreePlace} {more : List LeafPart} {taken : List Addr} {mid : D} (on : IsAtTable g old was lives d had w known next first start i t books places more taken mid)
+    {books' : Books} {places' : List TreePlace} {more' : List LeafPart} {taken' : List Addr} {end : D} (one : OneMore g old first was lives d.leaves had w t i books books' places places' more more' taken taken' mid end) where
   abbrev place : TreePlace
   place = one.place
 
@@ -82,9 +83,9 @@ module _ {D : Type 0} {g : Ghosts D} {old : Option Stored} {was : List TreePlace
   pub leaves_more : ByLeaves (g.seen start) known d.leaves had w.shelf (places ++ place ∷ []) (on.going.trees ++ tree ∷ []) (with_parts had all_parts)
   leaves_more = record {
     parted = λ j u p x known_at place_at tree_at. elim (which_tree j u p x known_at place_at tree_at) [
-      | inl before ↦ parted_alike d.leaves u.number (with_parts had more) (with_parts had all_parts) p x (was_alike j u known_at before.other) (on.going.by_leaves.parted j u p x known_at before.place_at before.tree_at)
-      | inr last ↦ subst (λ (v : Table). IsParted d.leaves v.number (with_parts had all_parts) p x) last.table (subst (λ (q : TreePlace). IsParted d.leaves t.number (with_parts had all_parts) q x) last.place_is (subst (λ (y : TableTree). IsParted d.leaves t.number (with_parts had all_parts) place y) last.tree_is
-          (parted_alike d.leaves t.number (with_parts had one.own_more) (with_parts had all_parts) place tree now_alike one.parted)))
+      | inl before ↦ parted_alike [] d.leaves u.number (with_parts had more) (with_parts had all_parts) p x (was_alike j u known_at before.other) (on.going.by_leaves.parted j u p x known_at before.place_at before.tree_at)
+      | inr last ↦ subst (λ (v : Table). IsParted [] d.leaves v.number (with_parts had all_parts) p x) last.table (subst (λ (q : TreePlace). IsParted [] d.leaves t.number (with_parts had all_parts) q x) last.place_is (subst (λ (y : TableTree). IsParted [] d.leaves t.number (with_parts had all_parts) place y) last.tree_is
+          (parted_alike [] d.leaves t.number (with_parts had one.own_more) (with_parts had all_parts) place tree now_alike one.parted)))
     ];
     same = λ j u p x l known_at place_at tree_at in_it own. elim (which_tree j u p x known_at place_at tree_at) [
       | inl before ↦ subst (λ (part : List Entry). KeepSame (g.seen start) (links_in (part_of had l)) (links_in part) (part_leaves p x part)) (part_alike (with_parts had more) (with_parts had all_parts) l (was_alike j u known_at before.other l in_it own)) (on.going.by_leaves.same j u p x l known_at before.place_at before.tree_at in_it own)

@@ -2,8 +2,8 @@
 use Rattle.std.specs.Prelude.{ℕ, List, Option}
 use Rattle.std.proofs.Common.{inl, inr, subst, sym}
 use Rattle.disk_model.specs.declared.disk.Disk.{Ghosts}
-use Rattle.disk_model.proofs.Crash.{joined}
-use Rattle.block_mgr.specs.Blocks.{Books}
+use Rattle.disk_model.proofs.Crash.{joined, keeps_fewer, keeps_trans}
+use Rattle.block_mgr.specs.Blocks.{Books, Has}
 use Rattle.device_layout.specs.declared.addr.Addr.{Addr}
 use Rattle.wt_code.specs.declared.store_error.StoreError.{StoreError}
 use Rattle.kv_model.specs.Holds.{Member}
@@ -21,6 +21,7 @@ use Rattle.ckpt_step.specs.Sizes.{LacksTables}
 use Rattle.ckpt_step.specs.Parts.{links_over}
 use Rattle.ckpt_step.specs.Rooms.{Written}
 use Rattle.ckpt_step.specs.declared.parts.LeafPart.{LeafPart}
+use Rattle.ckpt_step.specs.declared.lives.Lone.{Lone}
 use Rattle.ckpt_step.proofs.Members.{in_front}
 use Rattle.ckpt_step.proofs.Moving.{leaves_moved, writes_moved}
 use Rattle.ckpt_step.proofs.Goings.{IsAtTable, old_mid, own_leaf}
@@ -28,12 +29,13 @@ use Rattle.ckpt_step.proofs.PlacedTrees.{drop_at}
 use Rattle.ckpt_step.proofs.GoingLinks.{over_back}
 use Rattle.ckpt_step.proofs.GoingRuns.{runs_more}
 
-module _ {D : Type 0} {g : Ghosts D} {old : Option Stored} {was : List TreePlace} {d : Directory} {had : Written} {w : World} {known : List Table} {next : ℕ} {first : Books} {start : D} {i : ℕ} {t : Table} {books : Books} {places : List TreePlace} {more : List LeafPart} {taken : List Addr} {mid : D} (on : IsAtTable g old was d had w known next first start i t books places more taken mid) (books' : Books) (places' : List TreePlace) (more' : List LeafPart) (taken' : List Addr) (end : D) where
+module _ {D : Type 0} {g : Ghosts D} {old : Option Stored} {was : List TreePlace} {lives : List Lone} {d : Directory} {had : Written} {w : World} {known : List Table} {next : ℕ} {first : Books} {start : D} {i : ℕ} {t : Table} {books : Books} {places : List TreePlace} {more : List LeafPart} {taken : List Addr} {mid : D} (on : IsAtTable g old was lives d had w known next first start i t books places more taken mid) (books' : Books) (places' : List TreePlace) (more' : List LeafPart) (taken' : List Addr) (end : D) where
   -- it fails
-  pub failed : (e : StoreError) → NotOneMore g old first was d.leaves had w t i books books' places places' more more' taken taken' mid end e → SomeWritten g old w known d.leaves had first books' places' more' taken' start end e
+  pub failed : (e : StoreError) → NotOneMore g old first was lives d.leaves had w t i books books' places places' more more' taken taken' mid end e → SomeWritten g old lives w known d.leaves had first books' places' more' taken' start end e
   failed e fail = record {
-    runs = λ safe. subst (λ (l : List Addr). Runs (g.seen end) (g.may_leave end) books' old l) (sym fail.captured_are) (runs_more on fail.blocks fail.sizes books' end (fail.captures safe));
+    runs = λ safe. subst (λ (l : List Addr). Runs (g.seen end) (g.may_leave end) books' old lives l) (sym fail.captured_are) (runs_more on fail.blocks fail.sizes books' end (fail.captures safe));
     left = joined g start mid end _ _ on.going.left fail.left (old_mid on);
+    keeps = λ safe. keeps_trans (Has first.cells) (g.seen start) (g.seen mid) (g.seen end) on.going.keeps (keeps_fewer (Has books.cells) (Has first.cells) (g.seen mid) (g.seen end) on.going.used (fail.captures safe).keeps);
     lacks = λ is. on.going.lacks (subst (λ (l : List Table). LacksTables (g.seen start) (g.capacity start) old d.leaves had w.machine books.space l) (sym (drop_at known i t on.at)) (elim (fail.lacks is) [
       | inl front ↦ inl (
         front.0,

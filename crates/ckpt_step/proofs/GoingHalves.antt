@@ -6,7 +6,6 @@ use Rattle.disk_model.specs.declared.disk.Disk.{Ghosts}
 use Rattle.block_mgr.specs.declared.cell.Cell.{Cell}
 use Rattle.block_mgr.specs.Blocks.{Books, Has}
 use Rattle.block_mgr.specs.Cells.{cell_at, is_used}
-use Rattle.block_mgr.specs.Open.{found_cell}
 use Rattle.device_layout.specs.declared.addr.Addr.{Addr}
 use Rattle.kv_model.specs.Holds.{Member}
 use Rattle.kv_model.specs.History.{Table}
@@ -19,21 +18,22 @@ use Rattle.engine_world.specs.Worlds.{World}
 use Rattle.checkpoint_core.specs.Stands.{AreInUse}
 use Rattle.tree_open.specs.declared.place.TreePlace.{TreePlace}
 use Rattle.tree_write.specs.Captures.{places_of}
-use Rattle.ckpt_step.specs.Goings.{BeginsIn, IsFrom, OneMore}
-use Rattle.ckpt_step.specs.Grounds.{found_in}
+use Rattle.ckpt_step.specs.Goings.{IsFrom, OneMore}
+use Rattle.ckpt_step.specs.Grounds.{start_cell}
 use Rattle.ckpt_step.specs.Halves.{Half, Runs}
 use Rattle.ckpt_step.specs.Rooms.{Written}
 use Rattle.ckpt_step.specs.Trees.{trees_blocks}
 use Rattle.ckpt_step.specs.declared.parts.LeafPart.{LeafPart}
+use Rattle.ckpt_step.specs.declared.lives.Lone.{Lone}
 use Rattle.ckpt_step.proofs.Members.{all_made, all_of, in_back, in_either, in_front, map_member, member_map}
-use Rattle.ckpt_step.proofs.OldTrees.{one_begins}
 use Rattle.ckpt_step.proofs.CapturedOrder.{apart_join}
 use Rattle.ckpt_step.proofs.Goings.{IsAtTable, old_of}
+use Rattle.ckpt_step.proofs.GoingOnce.{one_table}
 use Rattle.ckpt_step.proofs.PlacedTrees.{addrs_more, all_both, block_addr, blocks_more, has_apart, trees_kept, trees_more}
 use Rattle.ckpt_step.proofs.GoingRuns.{own_new, runs_more}
 
-module _ {D : Type 0} {g : Ghosts D} {old : Option Stored} {was : List TreePlace} {d : Directory} {had : Written} {w : World} {known : List Table} {next : ℕ} {first : Books} {start : D} {i : ℕ} {t : Table} {books : Books} {places : List TreePlace} {more : List LeafPart} {taken : List Addr} {mid : D} (on : IsAtTable g old was d had w known next first start i t books places more taken mid)
-    {books' : Books} {places' : List TreePlace} {more' : List LeafPart} {taken' : List Addr} {end : D} (one : OneMore g old first was d.leaves had w t i books books' places places' more more' taken taken' mid end) (held : books'.is_held ≡ true) where
+module _ {D : Type 0} {g : Ghosts D} {old : Option Stored} {was : List TreePlace} {lives : List Lone} {d : Directory} {had : Written} {w : World} {known : List Table} {next : ℕ} {first : Books} {start : D} {i : ℕ} {t : Table} {books : Books} {places : List TreePlace} {more : List LeafPart} {taken : List Addr} {mid : D} (on : IsAtTable g old was lives d had w known next first start i t books places more taken mid)
+    {books' : Books} {places' : List TreePlace} {more' : List LeafPart} {taken' : List Addr} {end : D} (one : OneMore g old first was lives d.leaves had w t i books books' places places' more more' taken taken' mid end) (held : books'.is_held ≡ true) where
   abbrev place : TreePlace
   place = one.place
 
@@ -46,7 +46,7 @@ module _ {D : Type 0} {g : Ghosts D} {old : Option Stored} {was : List TreePlace
   abbrev all_blocks : List Block
   all_blocks = trees_blocks places on.going.trees
 
-  runs : Runs (g.seen end) (g.may_leave end) books' old (taken ++ places_of one.blocks)
+  runs : Runs (g.seen end) (g.may_leave end) books' old lives (taken ++ places_of one.blocks)
   runs = runs_more on one.blocks one.sizes books' end one.captures
 
   -- a block of the tree is one of those that were captured
@@ -70,19 +70,17 @@ module _ {D : Type 0} {g : Ghosts D} {old : Option Stored} {was : List TreePlace
         false≢true (sym (ap is_used (ap (cell_at books.cells) unit ∙ placed.none)) ∙ used.3)
     | inr begins ↦ elim (on.going.from b.place ((on.going.half.listed b.place).1 (block_addr (g.seen mid) places on.going.trees b on.going.half.there before))) [
       | inl new ↦
-          let o = old_of on begins.0 begins.1 begins.2 begins.3 in
-          let unit : o.unit ≡ new.unit = omega (arith, o.offset, new.offset, begins.4, same) in
-          false≢true (sym (ap (λ (c : Cell). c.is_live) (sym o.cell ∙ (ap (found_cell (found_in old)) unit ∙ new.none))))
-      | inr (j, lt, earlier) ↦
-          let also : BeginsIn was j c.place = (earlier.0, earlier.1, earlier.2, earlier.3, earlier.4 ∙ same) in
-          omega (arith, lt, one_begins (g.seen start) (g.may_leave start) first known next on.begun.ascend d.leaves had was old on.begun.half.runs.stands on.begun.roots on.begun.half.runs.cells on.begun.half.runs.units j i c.place also begins)
+          let o = old_of on begins.0 begins.1 in
+          let unit : o.unit ≡ new.unit = omega (arith, o.offset, new.offset, begins.2, same) in
+          false≢true (sym (ap (λ (c : Cell). c.is_live) (sym o.cell ∙ (ap (start_cell old lives) unit ∙ new.none))))
+      | inr (j, u, lt, at, earlier) ↦ omega (arith, lt, one_table on j u at earlier.0 begins.0 earlier.1 begins.1 (earlier.2 ∙ (same ∙ sym begins.2)))
     ]
   ]
 
   blocks_are : trees_blocks (places ++ place ∷ []) (on.going.trees ++ tree ∷ []) ≡ all_blocks ++ own_blocks
   blocks_are = blocks_more (g.seen mid) places on.going.trees place tree on.going.half.there
 
-  pub half_more : Half (g.seen end) (g.may_leave end) books' old (taken ++ places_of one.blocks) (places ++ place ∷ []) (on.going.trees ++ tree ∷ [])
+  pub half_more : Half (g.seen end) (g.may_leave end) books' old lives (taken ++ places_of one.blocks) (places ++ place ∷ []) (on.going.trees ++ tree ∷ [])
   half_more = record {
     runs = runs;
     held = held;
@@ -105,8 +103,8 @@ module _ {D : Type 0} {g : Ghosts D} {old : Option Stored} {was : List TreePlace
     );
   }
 
-  pub from_more : (a : Addr) → Member a (taken ++ places_of one.blocks) → IsFrom old was (suc i) a
+  pub from_more : (a : Addr) → Member a (taken ++ places_of one.blocks) → IsFrom old was lives d.leaves known (suc i) a
   from_more a among = elim (in_either taken (places_of one.blocks) a among) [
-    | inl before ↦ elim (on.going.from a before) [ inl new ↦ inl new | inr (j, lt, begins) ↦ inr (j, omega (arith, lt), begins) ]
-    | inr mine ↦ elim (one.own a mine) [ inl placed ↦ inl (own_new on one.blocks one.sizes books' end one.captures a placed) | inr begins ↦ inr (i, omega arith, begins) ]
+    | inl before ↦ elim (on.going.from a before) [ inl new ↦ inl new | inr (j, u, lt, at, begins) ↦ inr (j, u, omega (arith, lt), at, begins) ]
+    | inr mine ↦ elim (one.own a mine) [ inl placed ↦ inl (own_new on one.blocks one.sizes books' end one.captures a placed) | inr begins ↦ inr (i, t, omega arith, on.at, begins) ]
   ]

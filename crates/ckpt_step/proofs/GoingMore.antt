@@ -22,6 +22,7 @@ use Rattle.ckpt_step.specs.Parts.{links_over}
 use Rattle.ckpt_step.specs.Rooms.{Written}
 use Rattle.ckpt_step.specs.Trees.{HasTreeAt, table_root}
 use Rattle.ckpt_step.specs.declared.parts.LeafPart.{LeafPart}
+use Rattle.ckpt_step.specs.declared.lives.Lone.{Lone}
 use Rattle.ckpt_step.proofs.Moving.{writes_moved}
 use Rattle.ckpt_step.proofs.TableParts.{of_more}
 use Rattle.ckpt_step.proofs.Goings.{IsAtTable, old_mid, own_leaf}
@@ -30,8 +31,8 @@ use Rattle.ckpt_step.proofs.GoingHalves.{from_more, half_more}
 use Rattle.ckpt_step.proofs.GoingByLeaves.{leaves_more}
 use Rattle.ckpt_step.proofs.GoingLinks.{over_back}
 
-module _ {D : Type 0} {g : Ghosts D} {old : Option Stored} {was : List TreePlace} {d : Directory} {had : Written} {w : World} {known : List Table} {next : ℕ} {first : Books} {start : D} {i : ℕ} {t : Table} {books : Books} {places : List TreePlace} {more : List LeafPart} {taken : List Addr} {mid : D} (on : IsAtTable g old was d had w known next first start i t books places more taken mid)
-    {books' : Books} {places' : List TreePlace} {more' : List LeafPart} {taken' : List Addr} {end : D} (one : OneMore g old first was d.leaves had w t i books books' places places' more more' taken taken' mid end) (held : books'.is_held ≡ true) where
+module _ {D : Type 0} {g : Ghosts D} {old : Option Stored} {was : List TreePlace} {lives : List Lone} {d : Directory} {had : Written} {w : World} {known : List Table} {next : ℕ} {first : Books} {start : D} {i : ℕ} {t : Table} {books : Books} {places : List TreePlace} {more : List LeafPart} {taken : List Addr} {mid : D} (on : IsAtTable g old was lives d had w known next first start i t books places more taken mid)
+    {books' : Books} {places' : List TreePlace} {more' : List LeafPart} {taken' : List Addr} {end : D} (one : OneMore g old first was lives d.leaves had w t i books books' places places' more more' taken taken' mid end) (held : books'.is_held ≡ true) where
   abbrev place : TreePlace
   place = one.place
 
@@ -65,7 +66,7 @@ module _ {D : Type 0} {g : Ghosts D} {old : Option Stored} {was : List TreePlace
   abbrev all_parts : List LeafPart
   all_parts = more ++ one.own_more
 
-  going_more : Going g old was d.leaves had w known first books' (places ++ place ∷ []) all_parts (taken ++ places_of one.blocks) (suc i) start end
+  going_more : Going g old was lives d.leaves had w known first books' (places ++ place ∷ []) all_parts (taken ++ places_of one.blocks) (suc i) start end
   going_more = record {
     trees = on.going.trees ++ tree ∷ [];
     many = omega (arith, length-append places (place ∷ []), on.going.many);
@@ -83,9 +84,9 @@ module _ {D : Type 0} {g : Ghosts D} {old : Option Stored} {was : List TreePlace
     live = λ n k has. one.captures.live n k (on.going.live n k has);
   }
 
-  pub one_more : (n : ℕ) → n ≡ suc i → Going g old was d.leaves had w known first books' places' more' taken' n start end
+  pub one_more : (n : ℕ) → n ≡ suc i → Going g old was lives d.leaves had w known first books' places' more' taken' n start end
   one_more n is =
-      subst (λ (k : ℕ). Going g old was d.leaves had w known first books' places' more' taken' k start end) (sym is)
-      (subst (λ (l : List TreePlace). Going g old was d.leaves had w known first books' l more' taken' (suc i) start end) (sym one.places_are)
-      (subst (λ (l : List LeafPart). Going g old was d.leaves had w known first books' (places ++ place ∷ []) l taken' (suc i) start end) (sym one.more_are)
-      (subst (λ (l : List Addr). Going g old was d.leaves had w known first books' (places ++ place ∷ []) all_parts l (suc i) start end) (sym one.captured_are) going_more)))
+      subst (λ (k : ℕ). Going g old was lives d.leaves had w known first books' places' more' taken' k start end) (sym is)
+      (subst (λ (l : List TreePlace). Going g old was lives d.leaves had w known first books' l more' taken' (suc i) start end) (sym one.places_are)
+      (subst (λ (l : List LeafPart). Going g old was lives d.leaves had w known first books' (places ++ place ∷ []) l taken' (suc i) start end) (sym one.more_are)
+      (subst (λ (l : List Addr). Going g old was lives d.leaves had w known first books' (places ++ place ∷ []) all_parts l (suc i) start end) (sym one.captured_are) going_more)))

@@ -26,7 +26,7 @@ entries_in (Some room) = option_map (λ (es : Vec Entry Global). es.items) room
 
 -- ---- a key and a query
 
-same_test : (id k : ℕ) → is_eq (nat_cmp id k) ≡ (k == id)
+pub same_test : (id k : ℕ) → is_eq (nat_cmp id k) ≡ (k == id)
 same_test id k = elim (cases_eq k id) [
   | inl same ↦ ap is_eq (sym (nat_cmp_is id k Equal (sym same))) ∙ sym (eq-eqb k id same)
   | inr differ ↦ elim (cases_lt id k) [

@@ -26,29 +26,30 @@ use Rattle.tree_open.specs.declared.place.TreePlace.{TreePlace}
 use Rattle.tree_write.specs.Drafts.{AreLiveLeaves, Drafted, addrs_to, aligned}
 use Rattle.tree_write.specs.Keeps.{KeepsAll}
 use Rattle.tree_write.specs.Steps.{links_in}
-use Rattle.tree_write.specs.Writes.{KeepSame, LeadApart}
+use Rattle.tree_write.specs.Writes.{KeepSame}
 use Rattle.tree_write.proofs.Aligning.{aligned_same, bear_length}
 use Rattle.tree_write.proofs.Drafting.{draft_kept}
 use Rattle.tree_write.proofs.Parts.{RowsBelow}
 use Rattle.engine_world.specs.Stands.{Engine, Stands}
 use Rattle.engine_world.specs.Worlds.{World}
 use Rattle.ckpt_step.specs.Drafting.{AreCutOf, Drafting, DraftStopped, Drafts, MakesLeaf, StopsLeaf, WritesLeaf}
-use Rattle.ckpt_step.specs.Floors.{FollowsFrom}
+use Rattle.ckpt_step.specs.Floors.{AreOnDevice, FollowsFrom}
 use Rattle.ckpt_step.specs.Goings.{HasPartsAt, MayGo}
-use Rattle.ckpt_step.specs.Parts.{links_over, part_leaves, part_of, with_parts}
+use Rattle.ckpt_step.specs.Lives.{live_addrs}
+use Rattle.ckpt_step.specs.Parts.{links_over, part_of, with_parts}
 use Rattle.ckpt_step.specs.Rooms.{Written}
 use Rattle.ckpt_step.specs.Steps.{IsKept, IsLoaded}
+use Rattle.ckpt_step.specs.declared.lives.Lone.{Lone}
 use Rattle.ckpt_step.specs.declared.parts.LeafPart.{LeafPart}
 use Rattle.ckpt_step.proofs.TakenLeaves.{kept_drafted, written_drafted, written_newest}
 use Rattle.ckpt_step.proofs.DraftingMore.{AreImagesOf, drafting_failed, drafting_more, drafting_stopped}
 use Rattle.ckpt_step.proofs.LoadedLeaves.{captured_lie, stands_in}
 use Rattle.ckpt_step.proofs.KeptPlaces.{kept_long, links_long, same_behind, same_unaligned}
 use Rattle.ckpt_step.proofs.Members.{in_back, none_some}
-use Rattle.ckpt_step.proofs.OldParts.{addrs_live, part_at, part_live}
-use Rattle.ckpt_step.proofs.Behind.{part_has}
+use Rattle.ckpt_step.proofs.LeafImages.{leaf_images}
+use Rattle.ckpt_step.proofs.LeavesNow.{leaves_now}
+use Rattle.ckpt_step.proofs.OldParts.{addrs_live, part_live}
 use Rattle.ckpt_step.proofs.LowKeys.{front_below}
-use Rattle.ckpt_step.proofs.OldTrees.{leaves_there}
-use Rattle.ckpt_step.proofs.StillTrees.{is_place, on_still}
 use Rattle.ckpt_step.proofs.TableLeaves.{AreOnce, contains_of, in_table, member_of, once_of, once_split, once_table}
 use Rattle.ckpt_step.proofs.WithParts.{part_written, with_last}
 
@@ -63,7 +64,8 @@ leaf_next table leaves front l rest all =
 module _ {D : Type 0} (g : Ghosts D) (old : Option Stored) (first : Books) (e : Engine) (w : World) (s : Sight) (stands : Stands e w) (none : NoneResolves w.machine) (sees : SeesCommitted w.machine (length w.machine.history) s) (law : CapturesAreNewest)
     (had : Written) (floor : Name) (was : List TreePlace) (t : Table) (i : ℕ) (known_at : slice_get e.hub.tables.tables i ≡ Some t)
     (books mid books' : Books) (more between_more more' : List LeafPart) (captured between_captured captured' : List Addr) (before between after : D)
-    (may : MayGo (g.seen before) (g.may_leave before) first books old was i) (parts : HasPartsAt old e.hub.dir.leaves had was t i) (follows : FollowsFrom old e.hub.tables.tables e.hub.dir.leaves had was floor w)
+    (lives : List Lone) (may : MayGo (g.seen before) (g.may_leave before) first books old was (live_addrs lives (leaves_of t.number e.hub.dir.leaves)) i) (parts : HasPartsAt old lives e.hub.dir.leaves had was t i) (follows : FollowsFrom old e.hub.tables.tables lives e.hub.dir.leaves had was floor w)
+    (on_device : AreOnDevice (g.seen before) lives e.hub.dir.leaves w.shelf)
     (l : Leaf) (there : Contains e.hub.dir.leaves l) (own : l.table ≡ t.number) (front rest : List Leaf) (all : leaves_of t.number e.hub.dir.leaves ≡ front ++ l ∷ rest) (es : List Entry)
     (drafting : Drafting g old first e.hub.dir.leaves had w t.number books mid more between_more captured between_captured before between front es) where
   abbrev leaves : List Leaf
@@ -76,24 +78,22 @@ module _ {D : Type 0} (g : Ghosts D) (old : Option Stored) (first : Books) (e : 
   below = front_below leaves t.number front l rest drafting.parts (once_of leaves stands.dir.once) all drafting.parted
 
   live : AreLiveLeaves first (links_in (part_of had l))
-  live = part_live first old leaves had was t i l may.over.leaves parts there own
+  live = part_live (g.seen before) (g.may_leave before) first books old lives leaves had was t i l may parts there own
 
   -- it is captured as it stands
   pub takes_kept : ((c : List ℕ) → g.left_since between (g.moment between) c → g.may_leave between c) → IsKept e had floor l → KeepsAll mid books' (addrs_to (part_of had l)) → more' ≡ between_more → captured' ≡ between_captured ++ addrs_to (part_of had l)
       → Drafting g old first leaves had w t.number books books' more more' captured captured' before between (front ++ l ∷ []) (es ++ part_of had l)
-  takes_kept only kept keeps more_are captured_are = elim (part_at old leaves had was t i l parts there own) [
+  takes_kept only kept keeps more_are captured_are = elim (leaf_images (g.seen before) old e.hub.tables.tables lives leaves had was floor w t i known_at may.over.may.stands.seen_has may.apart parts follows on_device l there own) [
     | inr lacks ↦ absurd (elim kept [ inl unloaded ↦ lacks.framed (unloaded w stands there) | inr clean ↦ none_some (sym lacks.none ∙ clean.there) ])
     | inl one ↦
         let part = part_of had l in
-        let images = part_leaves one.place one.tree part in
-        let tree = on_still old (g.seen between) t one.place one.tree drafting.drafted.written.captures.may.stands.seen_has one.has in
-        let apart : LeadApart one.place.leaves.items = subst LeadApart (leaves_there was i one.place one.at) may.apart in
-        let has = part_has leaves t.number had one.place one.tree (is_place old t one.place one.tree one.has) apart one.parted (g.seen between) tree l there own in
+        let images = one.0 in
+        let has = leaves_now (g.seen before) (g.seen between) first books may.over.live may.over.may.units drafting.drafted.ready drafting.drafted.written.captures.keeps part images one.1.on live in
         let links = links_over had front drafting.parts in
         let kept_draft = draft_kept g old first books mid before between links (join drafting.parts) drafting.addrs es drafting.drafted only part images books' has (addrs_live first (g.seen between) part images has live) keeps in
         drafting_more g old first leaves had w t.number books mid books' more between_more more' captured between_captured captured' before between between front es drafting l images part [] (addrs_to part)
         differs tt refl below (more_are ∙ sym (append-nil between_more)) captured_are
-        (kept_drafted law e w s stands none sees had floor t.number l there own (g.seen before) one.place one.tree kept (follows.leaf i t one.place one.tree l known_at one.at one.has there own) (one.parted.parts l there own))
+        (kept_drafted law e w s stands none sees had floor t.number l there own (g.seen before) images kept one.1)
         (subst (λ (m : List Link). Drafted g old first books books' before between (links ++ m) (join drafting.parts ++ images) (drafting.addrs ++ addrs_to part) (es ++ part)) (sym (aligned_same (links_in part) images (kept_long (g.seen between) part images has))) kept_draft)
   ]
 

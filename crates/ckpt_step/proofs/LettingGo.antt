@@ -9,6 +9,7 @@ use Rattle.engine.specs.Directories.{LeafGoesOn, LeavesGoOn}
 use Rattle.engine_world.proofs.Homes.{same-id}
 use Rattle.engine_world.proofs.LeavesChanged.{IsMild, contains-source, under-from, under-to}
 use Rattle.engine_world.specs.Worlds.{World}
+use Rattle.kv_model.specs.Holds.{Member}
 use Rattle.row_page.specs.Rows.{Row}
 use Rattle.stored.specs.Stored.{Stored}
 use Rattle.stored.specs.TableTree.{Entry, TableTree, first_key}
@@ -17,16 +18,19 @@ use Rattle.tree_dir.specs.declared.leaf.Leaf.{Leaf}
 use Rattle.tree_dir.specs.Leaves.{IsDirectory, changed, in_frame, leaf_named, leaf_under, leaves_of}
 use Rattle.tree_open.specs.declared.place.TreePlace.{TreePlace}
 use Rattle.tree_write.specs.Steps.{links_in}
-use Rattle.ckpt_step.specs.Floors.{Follows, IsAsItLies}
-use Rattle.ckpt_step.specs.Grounds.{AreRoots, AreWritten, StandsOn}
-use Rattle.ckpt_step.specs.Parts.{IsPart, IsParted, LieIn, has_rows, part_in, part_leaves, part_of}
+use Rattle.tree_write.specs.Writes.{LeadApart}
+use Rattle.ckpt_step.specs.Floors.{AreLivesOn, Follows, IsAsItLies, IsLeafBefore}
+use Rattle.ckpt_step.specs.Grounds.{AreRoots, AreSince, AreWritten, StandsOn}
+use Rattle.ckpt_step.specs.Lives.{is_live}
+use Rattle.ckpt_step.specs.Parts.{IsPart, IsParted, LieIn, has_rows, part_in, part_leaves, part_of, parts_of}
 use Rattle.ckpt_step.specs.Rooms.{Written, known_in}
 use Rattle.ckpt_step.specs.Stays.{GroundsLetGo, let_go}
 use Rattle.ckpt_step.specs.declared.ground.Ground.{Ground}
-use Rattle.ckpt_step.proofs.GivingLeaves.{own_some}
+use Rattle.ckpt_step.specs.declared.lives.Lone.{Lone}
 use Rattle.ckpt_step.proofs.GoingLeaves.{part_of_same, part_same, parts_same}
+use Rattle.ckpt_step.proofs.LivesGoOn.{live_on, none_live_now, on_device}
 use Rattle.ckpt_step.proofs.Members.{none_some}
-use Rattle.ckpt_step.proofs.WithParts.{in_alike}
+use Rattle.ckpt_step.proofs.WithParts.{in_alike, own_some}
 
 -- ---- a leaf, once the one of an id is in no frame
 
@@ -112,22 +116,48 @@ module _ (hub : Hub) (l : Leaf) (dir : IsDirectory hub.dir) (named : leaf_named 
     lie = lie_now table n b (join images) is.lie;
   }
 
-  parted_now : (written : Written) (table : ℕ) (place : TreePlace) (tree : TableTree) → IsParted leaves table written place tree → IsParted after table written place tree
-  parted_now written table place tree parted = record {
-    joined = parted.joined ∙ ap links_in (parts_same written (leaves_of table after) (leaves_of table leaves) (out_of l.id table leaves));
-    parts = λ n there its.
+  dead_then : (lives : List Lone) (n : Leaf) (b : Was n) → is_live lives n ≡ false → is_live lives b.leaf ≡ false
+  dead_then lives n b dead = live_on lives n b.leaf b.back ∙ dead
+
+  live_then : (lives : List Lone) (n : Leaf) (b : Was n) → is_live lives n ≡ true → is_live lives b.leaf ≡ true
+  live_then lives n b live = live_on lives n b.leaf b.back ∙ live
+
+  parted_now : (lives : List Lone) (written : Written) (table : ℕ) (place : TreePlace) (tree : TableTree) → IsParted lives leaves table written place tree → IsParted lives after table written place tree
+  parted_now lives written table place tree parted = record {
+    joined = λ none. parted.joined (none_live_now lives after leaves table (out_of l.id table leaves) none) ∙ ap links_in (parts_same written (leaves_of table after) (leaves_of table leaves) (out_of l.id table leaves));
+    among = λ n there its dead e mine.
+        let b = was n there in
+        parted.among b.leaf b.there (b.back.table ∙ its) (dead_then lives n b dead) e (subst (λ (part : List Entry). Member e part) (sym (part_of_same written n b.leaf b.back)) mine);
+    parts = λ n there its dead.
         let b = was n there in
         subst (λ (part : List Entry). IsPart after table n part (part_leaves place tree part)) (part_of_same written n b.leaf b.back)
-        (part_now table n b (part_of written b.leaf) (part_leaves place tree (part_of written b.leaf)) (parted.parts b.leaf b.there (b.back.table ∙ its)));
+        (part_now table n b (part_of written b.leaf) (part_leaves place tree (part_of written b.leaf)) (parted.parts b.leaf b.there (b.back.table ∙ its) (dead_then lives n b dead)));
   }
 
-  roots_now : (written : Written) (places : List TreePlace) (old : Option Stored) → AreRoots hub.tables.tables leaves written places old → AreRoots hub.tables.tables after written places old
-  roots_now written places None none = none
-  roots_now written places (Some s) roots = record {
+  roots_now : (lives : List Lone) (written : Written) (places : List TreePlace) (old : Option Stored) → AreRoots hub.tables.tables lives leaves written places old → AreRoots hub.tables.tables lives after written places old
+  roots_now lives written places None none = none
+  roots_now lives written places (Some s) roots = record {
     bare = roots.bare;
     few = roots.few;
     count = roots.count;
-    trees = λ i t place at stands. let tree = roots.trees i t place at stands in (tree.0, tree.1, parted_now written t.number place tree.0 tree.2);
+    trees = λ i t place at stands. let tree = roots.trees i t place at stands in (tree.0, tree.1, parted_now lives written t.number place tree.0 tree.2);
+  }
+
+  since_now : (old : Option Stored) (lives : List Lone) (written : Written) → AreSince old lives hub.dir written → AreSince old lives (let_go hub l.id).dir written
+  since_now old lives written since = record {
+    lone = since.lone;
+    given = since.given;
+    leaf = λ n there live.
+        let b = was n there in
+        let own = since.leaf b.leaf b.there (live_then lives n b live) in
+        record {
+          there = subst (λ (k : ℕ). Member (record { leaf = k; addr = n.entry.link.addr }) lives) b.back.id (subst (λ (e : Entry). Member (record { leaf = b.leaf.id; addr = e.link.addr }) lives) b.back.entry own.there);
+          none = ap (λ (k : ℕ). written k) (sym b.back.id) ∙ own.none;
+        };
+    apart = λ n there live.
+        let b = was n there in
+        subst (λ (k : ℕ). LeadApart (links_in (parts_of written (leaves_of k after)))) b.back.table
+        (subst (λ (es : List Entry). LeadApart (links_in es)) (parts_same written (leaves_of b.leaf.table after) (leaves_of b.leaf.table leaves) (out_of l.id b.leaf.table leaves)) (since.apart b.leaf b.there (live_then lives n b live)));
   }
 
   -- ---- what is written of leaves
@@ -141,12 +171,12 @@ module _ (hub : Hub) (l : Leaf) (dir : IsDirectory hub.dir) (named : leaf_named 
       | inr other ↦ inl (frame_of n b other ∙ free)
     ]
 
-    written_now : (places : List TreePlace) → has_rows l.entry.link ≡ true → AreWritten hub.tables.tables hub.dir written places → AreWritten hub.tables.tables (let_go hub l.id).dir written places
-    written_now places rows are = record {
+    written_now : (lives : List Lone) (places : List TreePlace) → has_rows l.entry.link ≡ true → AreWritten hub.tables.tables lives hub.dir written places → AreWritten hub.tables.tables lives (let_go hub l.id).dir written places
+    written_now lives places rows are = record {
       later = are.later;
-      made_since = λ i t n at none there its.
+      made_since = λ i t n at none there its dead.
           let b = was n there in
-          let own = are.made_since i t b.leaf at none b.there (b.back.table ∙ its) in (
+          let own = are.made_since i t b.leaf at none b.there (b.back.table ∙ its) (dead_then lives n b dead) in (
             sym (part_same written n b.leaf b.back) ∙ own.0,
             λ free. elim (cases_eq b.leaf.id l.id) [
               | inl same ↦ none_some (sym own.0 ∙ (ap (λ (x : Leaf). part_in written x) (it b.leaf b.there same) ∙ (in_alike written (λ id. None) l unwritten ∙ own_some l.entry rows)))
@@ -157,19 +187,32 @@ module _ (hub : Hub) (l : Leaf) (dir : IsDirectory hub.dir) (named : leaf_named 
 
   -- ---- the ground
 
+  leaf_now : (g : Ground) (w : World) (table : ℕ) (n : Leaf) (b : Was n) (rows : List Row) → known_in g.parts l.id ≡ None → IsLeafBefore w.machine w.shelf g.floor leaves (known_in g.parts) table b.leaf rows → IsLeafBefore w.machine w.shelf g.floor after (known_in g.parts) table n rows
+  leaf_now g w table n b rows unwritten own = record {
+    before = λ part is below key under. own.before part (part_same (known_in g.parts) n b.leaf b.back ∙ is) below key (under_then table key n b under);
+    same = λ lies. own.same (lies_then (known_in g.parts) unwritten n b lies) ∙ ap (λ (id : ℕ). w.shelf id) b.back.id;
+  }
+
   follows_now : (old : Option Stored) (g : Ground) (w : World) → known_in g.parts l.id ≡ None → Follows old hub g w → Follows old (let_go hub l.id) g w
   follows_now old g w unwritten follows = record {
     respects = follows.respects;
-    leaf = λ i t place tree n at stands has there its.
+    leaf = λ i t place tree n at stands has there its dead.
         let b = was n there in
-        let own = follows.leaf i t place tree b.leaf at stands has b.there (b.back.table ∙ its) in
-        record {
-          before = λ part is below key under. own.before part (part_same (known_in g.parts) n b.leaf b.back ∙ is) below key (under_then t.number key n b under);
-          same = λ lies.
-              ap (λ (part : List Entry). join (part_leaves place tree part)) (sym (part_of_same (known_in g.parts) n b.leaf b.back))
-              ∙ (own.same (lies_then (known_in g.parts) unwritten n b lies) ∙ ap (λ (id : ℕ). w.shelf id) b.back.id);
-        };
+        leaf_now g w t.number n b (join (part_leaves place tree (part_of (known_in g.parts) n))) unwritten
+        (subst (λ (part : List Entry). IsLeafBefore w.machine w.shelf g.floor leaves (known_in g.parts) t.number b.leaf (join (part_leaves place tree part))) (part_of_same (known_in g.parts) n b.leaf b.back)
+        (follows.leaf i t place tree b.leaf at stands has b.there (b.back.table ∙ its) (dead_then g.lives n b dead)));
+    since = λ n there live.
+        let b = was n there in
+        let own = follows.since b.leaf b.there (live_then g.lives n b live) in
+        subst (λ (k : ℕ). IsLeafBefore w.machine w.shelf g.floor after (known_in g.parts) k n (w.shelf n.id)) b.back.table
+        (leaf_now g w b.leaf.table n b (w.shelf n.id) unwritten (subst (λ (k : ℕ). IsLeafBefore w.machine w.shelf g.floor leaves (known_in g.parts) b.leaf.table b.leaf (w.shelf k)) b.back.id own));
   }
+
+  lives_now : (seen : List ℕ) (g : Ground) (w : World) → AreLivesOn seen hub g w → AreLivesOn seen (let_go hub l.id) g w
+  lives_now seen g w device n there live =
+      let b = was n there in
+      on_device seen leaves after w.shelf b.leaf n (sym b.back.id) (sym b.back.entry) (sym b.back.table)
+      (λ part. part_now b.leaf.table n b (b.leaf.entry ∷ []) (w.shelf b.leaf.id ∷ []) part) (device b.leaf b.there (live_then g.lives n b live))
 
   stands_now : (seen : List ℕ) (images : List ℕ → Type 0) (g : Ground) (old : Option Stored) → known_in g.parts l.id ≡ None → has_rows l.entry.link ≡ true → StandsOn seen images hub g old → StandsOn seen images (let_go hub l.id) g old
   stands_now seen images g old unwritten rows on = record {
@@ -181,12 +224,14 @@ module _ (hub : Hub) (l : Leaf) (dir : IsDirectory hub.dir) (named : leaf_named 
     idle = on.idle;
     long = on.long;
     within = on.within;
-    roots = roots_now (known_in g.parts) g.trees.items old on.roots;
-    written = written_now (known_in g.parts) unwritten g.trees.items rows on.written;
+    roots = roots_now g.lives (known_in g.parts) g.trees.items old on.roots;
+    written = written_now (known_in g.parts) unwritten g.lives g.trees.items rows on.written;
+    since = since_now old g.lives (known_in g.parts) on.since;
   }
 
 pub grounds_let_go : (seen : List ℕ) (images : List ℕ → Type 0) → GroundsLetGo seen images
 grounds_let_go seen images hub g old l dir named unwritten rows on = (
   stands_now hub l dir named seen images g old unwritten rows on,
   (λ w follows. follows_now hub l dir named old g w unwritten follows),
+  (λ w device. lives_now hub l dir named seen g w device),
 )

@@ -17,6 +17,8 @@ pub mod ByName
 pub mod RecordsFit
 pub mod Frees
 pub mod Cells
+pub mod Lones
+mod SettledCells
 mod Left
 pub mod Pairs
 pub mod OldTrees
@@ -36,6 +38,7 @@ mod HalfCells
 mod Goings
 mod GoingLinks
 mod GoingRuns
+mod GoingOnce
 mod GoingFails
 mod GoingHalves
 mod GoingByLeaves
@@ -52,6 +55,7 @@ pub mod Links
 pub mod Apart
 pub mod Behind
 pub mod KnownRooms
+mod LonesIn
 pub mod Unwritten
 pub mod NewParts
 pub mod PartedRows
@@ -63,6 +67,8 @@ mod TakenLeaves
 mod DraftingMore
 mod LeafWrites
 mod OldParts
+mod LeafImages
+mod LeavesNow
 mod StillTrees
 mod LeafTaken
 mod RowsByLink
@@ -76,6 +82,7 @@ mod WrittenTables
 mod LeafNoted
 pub mod GoingLeaves
 pub mod Staying
+mod LivesGoOn
 mod LeadingLeaves
 mod PartNames
 mod PartRooms
@@ -94,3 +101,18 @@ mod PartStamps
 mod EntryImages
 mod UnderMade
 mod InPlace
+mod LonesMore
+mod LonesPut
+mod HeldLives
+mod LowUnder
+mod OutCuts
+mod OutLives
+mod OutShelf
+mod OutParts
+mod OutFollows
+mod OutBlocks
+mod DeadLones
+mod OldBlocks
+mod OutWay
+mod OutSteps
+mod OutEnds

@@ -15,7 +15,7 @@ use Rattle.call_steps.specs.declared.hub.Hub.{Hub}
 use Rattle.engine_world.specs.Worlds.{World}
 use Rattle.kv_model.specs.Machine.{Machine}
 use Rattle.ckpt_step.specs.declared.ground.Ground.{Ground}
-use Rattle.ckpt_step.specs.Floors.{Follows}
+use Rattle.ckpt_step.specs.Floors.{AreLivesOn, Follows}
 use Rattle.ckpt_step.specs.Grounds.{StandsOn}
 use Rattle.ckpt_step.specs.Rooms.{known_in}
 use Rattle.ckpt_step.specs.Runs.{LeavesOne, NewStands, OldStands}
@@ -38,6 +38,7 @@ stands_looked bytes seen was images hub g old same fewer on = record {
   within = subst (λ (l : List ℕ). end_of g.place.blocks.space ≤ length l) (sym same) on.within;
   roots = on.roots;
   written = on.written;
+  since = on.since;
 }
 
 module _ {D : Type 0} (g : Ghosts D) (before mid : D) (looked : Looked g before mid) (only : (c : List ℕ) → g.left_since before (g.moment before) c → g.may_leave before c) (old : Option Stored) where
@@ -64,12 +65,13 @@ module _ {D : Type 0} (g : Ghosts D) (before mid : D) (looked : Looked g before 
 
   module _ (w : World) (hub : Hub) (stand : Ground) where
     -- nothing was written
-    pub not_begun : StandsOn (g.seen before) (g.may_leave before) hub stand old → Follows old hub stand w → OldStands g old w hub stand stand before mid Read
-    not_begun on follows = record {
+    pub not_begun : StandsOn (g.seen before) (g.may_leave before) hub stand old → Follows old hub stand w → AreLivesOn (g.seen before) hub stand w → OldStands g old w hub stand stand before mid Read
+    not_begun on follows device = record {
       left = inl only_old;
       kept = λ safe. only_old;
       on = λ safe. stands_looked (g.seen before) (g.seen mid) (g.may_leave before) (g.may_leave mid) hub stand old looked.content looked.images on;
       follows = follows;
+      since = λ safe. subst (λ (bytes : List ℕ). AreLivesOn bytes hub stand w) (sym looked.content) device;
       full = λ is. absurd (cc);
     }
 
@@ -83,9 +85,10 @@ module _ {D : Type 0} (g : Ghosts D) (before mid : D) (looked : Looked g before 
         each = wrote.each;
         on = wrote.on;
         follows = wrote.follows;
+        none = wrote.none;
         had_room =
-            subst (λ (n : ℕ). HasRoomFor (g.seen before) n hub.dir.leaves (known_in stand.parts) w.machine) looked.capacity
-            (subst (λ (l : List ℕ). HasRoomFor l (g.capacity mid) hub.dir.leaves (known_in stand.parts) w.machine) looked.content wrote.had_room);
+            subst (λ (n : ℕ). HasRoomFor (g.seen before) n stand.lives hub.dir.leaves (known_in stand.parts) w.machine) looked.capacity
+            (subst (λ (l : List ℕ). HasRoomFor l (g.capacity mid) stand.lives hub.dir.leaves (known_in stand.parts) w.machine) looked.content wrote.had_room);
         kept = subst (λ (l : List ℕ). KeepsLeaves l hub.tables.tables hub.dir.leaves (known_in stand.parts) wrote.new stand'.trees.items (known_in stand'.parts)) looked.content wrote.kept;
       }
 
@@ -96,7 +99,8 @@ module _ {D : Type 0} (g : Ghosts D) (before mid : D) (looked : Looked g before 
         kept = λ safe. keeps after (wrote.kept safe);
         on = wrote.on;
         follows = wrote.follows;
+        since = wrote.since;
         full = λ is.
-            subst (λ (n : ℕ). IsFullFor (g.seen before) n hub.dir.leaves (known_in stand.parts) w.machine) looked.capacity
-            (subst (λ (l : List ℕ). IsFullFor l (g.capacity mid) hub.dir.leaves (known_in stand.parts) w.machine) looked.content (wrote.full is));
+            subst (λ (n : ℕ). IsFullFor (g.seen before) n stand.lives hub.dir.leaves (known_in stand.parts) w.machine) looked.capacity
+            (subst (λ (l : List ℕ). IsFullFor l (g.capacity mid) stand.lives hub.dir.leaves (known_in stand.parts) w.machine) looked.content (wrote.full is));
       }

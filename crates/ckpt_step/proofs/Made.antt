@@ -211,7 +211,7 @@ module _ (known : List Table) (next : ℕ) (ascend : NumbersAscend 1 known next)
         let one = tree_there bytes places trees i p there stands in
         one.1 ∙ ap (λ (y : TableTree). Some y) (sym (tree_is i t one.0 at one.1) ∙ (ap tree_at same ∙ x.2))
 
-    pub made_roots : (leaves : List Leaf) (written : Written) → AreParted known leaves written places trees → HasRoots known leaves written places (made_of r known trees a)
+    pub made_roots : (leaves : List Leaf) (written : Written) → AreParted known leaves written places trees → HasRoots known [] leaves written places (made_of r known trees a)
     made_roots leaves written parted = record {
       bare = bare;
       few = omega (arith, count);

@@ -29,7 +29,7 @@ AllThere bytes later links = (link : Link) → Member link links → (link.addr.
 pub back_all : (bytes later : List ℕ) (links : List Link) → AllThere bytes later links → AllThere later bytes links
 back_all bytes later links all link there some = back_there bytes later link (all link there some)
 
-same_leaf : (bytes later : List ℕ) (link : Link) (rows : List Row) → ((link.addr.offset ≡ 0 → ⊥) → SameThere bytes later link) → LeafIs bytes link rows → LeafIs later link rows
+pub same_leaf : (bytes later : List ℕ) (link : Link) (rows : List Row) → ((link.addr.offset ≡ 0 → ⊥) → SameThere bytes later link) → LeafIs bytes link rows → LeafIs later link rows
 same_leaf bytes later link rows there leaf = elim (cases_eq link.addr.offset 0) [
   | inl zero ↦ record { bears = leaf.bears; addressed = leaf.addressed; holds = subst (λ (l : List Block). Holds later l) (sym (no_block link rows zero)) tt }
   | inr some ↦

@@ -9,6 +9,7 @@ use Rattle.ckpt_step.specs.Goings.{AreOfTables}
 use Rattle.ckpt_step.specs.Grounds.{AreWritten}
 use Rattle.ckpt_step.specs.Parts.{AreOfLeaves, with_parts}
 use Rattle.ckpt_step.specs.Rooms.{Written}
+use Rattle.ckpt_step.specs.declared.lives.Lone.{Lone}
 use Rattle.ckpt_step.specs.declared.parts.LeafPart.{LeafPart}
 use Rattle.ckpt_step.proofs.GoingLeaves.{of_there}
 use Rattle.ckpt_step.proofs.Members.{get_within, none_some}
@@ -32,8 +33,8 @@ later_none d (p ∷ more) id is of late = (
   later_none d more id is of.1 late,
 )
 
-pub new_written : (d : Directory) (known : List Table) (places : List TreePlace) (had : Written) (more : List LeafPart) → IsDirectory d → length places ≡ length known → AreOfLeaves d.leaves more → ((id : ℕ) → d.next ≤ id → had id ≡ None) → AreWritten known d (with_parts had more) places
-new_written d known places had more is count of later = record {
+pub new_written : (d : Directory) (known : List Table) (places : List TreePlace) (had : Written) (more : List LeafPart) (lives : List Lone) → IsDirectory d → length places ≡ length known → AreOfLeaves d.leaves more → ((id : ℕ) → d.next ≤ id → had id ≡ None) → AreWritten known lives d (with_parts had more) places
+new_written d known places had more lives is count of later = record {
   later = λ id late. with_none had more id (later_none d more id is of late) ∙ later id late;
-  made_since = λ i t l at none there its. absurd (let p = get_within places i (omega (arith, count, slice_get_within known i t at)) in none_some (sym none ∙ p.1));
+  made_since = λ i t l at none there its dead. absurd (let p = get_within places i (omega (arith, count, slice_get_within known i t at)) in none_some (sym none ∙ p.1));
 }

@@ -1,5 +1,5 @@
 -- The trees of the checkpoint before, by place.
-use Rattle.std.specs.Prelude.{◌≡◌, ℕ, zero, suc, ◌+◌, ◌*◌, ◌/◌, ◌≤◌, List, [], ◌∷◌, length, map, Option, Some, None, option_map, slice_get, refl}
+use Rattle.std.specs.Prelude.{◌≡◌, ℕ, zero, suc, ◌+◌, ◌*◌, ◌/◌, ◌≤◌, true, List, [], ◌∷◌, ◌++◌, length, map, Option, Some, None, option_map, slice_get, refl}
 use Rattle.std.specs.List.{AllByRecursion}
 use Rattle.std.proofs.Common.{inl, inr, sym, ◌∙◌, ap, subst, arith}
 use Rattle.std.proofs.lemmas.Bool.{cases_eq, cases_lt, false≢true}
@@ -7,7 +7,7 @@ use Rattle.std.proofs.lemmas.List.{get_or_past, length-map}
 use Rattle.std.proofs.lemmas.Option.{get_or_from_slice_get, slice_get-map, slice_get_within}
 use Rattle.block_mgr.specs.declared.cell.Cell.{Cell}
 use Rattle.block_mgr.specs.Blocks.{Books, Has, HasLive}
-use Rattle.block_mgr.specs.Cells.{AreUnits, cell_at}
+use Rattle.block_mgr.specs.Cells.{AreUnits, cell_at, nothing}
 use Rattle.block_mgr.specs.Open.{found_cell}
 use Rattle.block_mgr.proofs.HasLemmas.{used_some}
 use Rattle.device_layout.specs.declared.addr.Addr.{Addr}
@@ -24,15 +24,17 @@ use Rattle.checkpoint_core.specs.Stands.{Stands}
 use Rattle.tree_open.specs.declared.place.TreePlace.{TreePlace}
 use Rattle.tree_open.specs.Trees.{HasTree, IsPlaceOf, places as places_in, root_own}
 use Rattle.tree_write.specs.Writes.{IsLiveLeaf, LeadApart}
-use Rattle.ckpt_step.specs.Goings.{BeginsIn}
-use Rattle.ckpt_step.specs.Grounds.{AreRoots, HasRoots, found_in}
+use Rattle.ckpt_step.specs.Grounds.{AreLone, AreRoots, HasRoots, found_in, start_cell}
 use Rattle.ckpt_step.specs.Halves.{AreOldBlocks, IsOldBlock, body_cell}
+use Rattle.ckpt_step.specs.Lives.{addrs_in}
+use Rattle.ckpt_step.specs.declared.lives.Lone.{Lone}
 use Rattle.ckpt_step.specs.Trees.{HasTreeAt, IsPair, addrs_of, leaves_at, table_root}
 use Rattle.ckpt_step.specs.Rooms.{Written}
 use Rattle.tree_dir.specs.declared.leaf.Leaf.{Leaf}
 use Rattle.ckpt_step.proofs.ByPlace.{place_one}
 use Rattle.ckpt_step.proofs.Cells.{found_is, found_of, start_dead}
-use Rattle.ckpt_step.proofs.Members.{all_made, all_met, all_of, flat_member, get_member, get_within, in_back, in_front, map_member, member_at, member_flat, member_map, none_some, some_same}
+use Rattle.ckpt_step.proofs.Lones.{body_stays, lone_old, which_lone}
+use Rattle.ckpt_step.proofs.Members.{all_made, all_met, all_of, flat_member, get_member, get_within, in_back, in_either, in_front, map_member, member_at, member_flat, member_map, none_some, some_same}
 use Rattle.ckpt_step.proofs.Pairs.{apart_back, apart_front, block_of, lead_apart, leaf_listed, one_index, pair_apart, pair_blocks, pair_on, pair_tree, pairs_apart, root_blocks}
 
 -- ---- the roots of the first tables
@@ -69,10 +71,24 @@ leaves_there places i p at = get_or_from_slice_get (map {A = TreePlace} (λ q. q
 pub leaves_past : (places : List TreePlace) (i : ℕ) → length places ≤ i → leaves_at places i ≡ []
 leaves_past places i past = get_or_past (map {A = TreePlace} (λ q. q.leaves.items) places) i [] (omega (arith, past, length-map places (λ (q : TreePlace). q.leaves.items)))
 
+-- a block of the checkpoint, which is not that of its record
+pub record IsBody (old : Option Stored) (a : Addr) : Type 0 where
+  pub unit : ℕ
+  pub units : ℕ
+  pub offset : a.offset ≡ 8192 + 4096 * unit
+  pub size : a.size ≡ 4096 * units
+  pub cell : found_cell (found_in old) unit ≡ body_cell units
+
+body_old : (old : Option Stored) (lives : List Lone) → AreLone old lives → (a : Addr) → IsBody old a → IsOldBlock old lives a
+body_old old lives lone a is = record { unit = is.unit; units = is.units; is_last = true; offset = is.offset; size = is.size; cell = body_stays old lives lone is.unit is.units is.cell }
+
+since_old : (old : Option Stored) (lives : List Lone) → AreLone old lives → (a : Addr) → Member a (addrs_in lives) → IsOldBlock old lives a
+since_old old lives lone a there = let x = member_map {A = Lone} (λ y. y.addr) a lives there in subst (λ (b : Addr). IsOldBlock old lives b) (sym x.2) (lone_old old lives lone x.0 x.1)
+
 -- ---- the checkpoint before
 
-module _ (seen : List ℕ) (images : List ℕ → Type 0) (books : Books) (known : List Table) (next : ℕ) (ascend : NumbersAscend 1 known next) (leaves : List Leaf) (written : Written) (places : List TreePlace) (s : Stored) (stands : Stands seen images books (Some s)) (roots : HasRoots known leaves written places s)
-    (cells : (u : ℕ) → cell_at books.cells u ≡ found_cell (found_in (Some s)) u) (units : AreUnits books.cells books.space) where
+module _ (seen : List ℕ) (images : List ℕ → Type 0) (books : Books) (known : List Table) (next : ℕ) (ascend : NumbersAscend 1 known next) (lives : List Lone) (leaves : List Leaf) (written : Written) (places : List TreePlace) (s : Stored) (stands : Stands seen images books (Some s)) (roots : HasRoots known lives leaves written places s)
+    (lone : AreLone (Some s) lives) (cells : (u : ℕ) → cell_at books.cells u ≡ start_cell (Some s) lives u) (units : AreUnits books.cells books.space) where
   abbrev tables : List TableRoot
   tables = s.kept.tables
 
@@ -135,8 +151,8 @@ module _ (seen : List ℕ) (images : List ℕ → Type 0) (books : Books) (known
 
   -- ---- each is an old block
 
-  old_block : (b : Block) → Member b blocks → IsOldBlock (Some s) b.place
-  old_block b there =
+  old_body : (b : Block) → Member b blocks → IsBody (Some s) b.place
+  old_body b there =
       let used = has b there in
       elim (found_of used.0 s) [
         | inr none ↦ absurd (none.none b there used.1)
@@ -146,18 +162,21 @@ module _ (seen : List ℕ) (images : List ℕ → Type 0) (books : Books) (known
               unit = used.0;
               units = one.block.place.size / 4096;
               offset = used.1;
-              size = used.2 ∙ ap (λ (c : Cell). 4096 * c.units) (cells used.0 ∙ cell);
+              size = used.2 ∙ ap (λ (c : Cell). 4096 * c.units) (cells used.0 ∙ body_stays (Some s) lives lone used.0 (one.block.place.size / 4096) cell);
               cell = cell;
             }
       ]
 
-  old_addr : (i : ℕ) (p : TreePlace) (a : Addr) → slice_get places i ≡ Some p → Member a p.addrs.items → IsOldBlock (Some s) a
-  old_addr i p a is there = let one = listed i p a is there in subst (λ (x : Addr). IsOldBlock (Some s) x) (sym one.place) (old_block one.block (in_blocks i p a one))
+  body_addr : (i : ℕ) (p : TreePlace) (a : Addr) → slice_get places i ≡ Some p → Member a p.addrs.items → IsBody (Some s) a
+  body_addr i p a is there = let one = listed i p a is there in subst (λ (x : Addr). IsBody (Some s) x) (sym one.place) (old_body one.block (in_blocks i p a one))
+
+  old_addr : (i : ℕ) (p : TreePlace) (a : Addr) → slice_get places i ≡ Some p → Member a p.addrs.items → IsOldBlock (Some s) lives a
+  old_addr i p a is there = body_old (Some s) lives lone a (body_addr i p a is there)
 
   within_addr : (i : ℕ) (p : TreePlace) (a : Addr) → slice_get places i ≡ Some p → Member a p.addrs.items → a.offset + a.size ≤ length seen
   within_addr i p a is there = let one = listed i p a is there in subst (λ (x : Addr). x.offset + x.size ≤ length seen) (sym one.place) (holds one.block (in_blocks i p a one)).within
 
-  live_old : (a : Addr) → IsOldBlock (Some s) a → HasLive books.cells a.offset a.size
+  live_old : (a : Addr) → IsOldBlock (Some s) lives a → HasLive books.cells a.offset a.size
   live_old a o = let cell = cells o.unit ∙ o.cell in (o.unit, o.offset, o.size ∙ ap (λ (c : Cell). 4096 * c.units) (sym cell), ap (λ (c : Cell). c.is_live) cell)
 
   -- ---- each pair stands at a place
@@ -200,21 +219,32 @@ module _ (seen : List ℕ) (images : List ℕ → Type 0) (books : Books) (known
         is = subst (λ (x : TableTree). IsPlaceOf z.place x) same other.1.1;
       }
 
-  pub old_blocks : AreOldBlocks (Some s) (addrs_of places)
+  tree_at_unit : (u : ℕ) → (found_cell (found_in (Some s)) u).is_live ≡ true → (a : Addr) × Member a (addrs_of places) × (a.offset ≡ 8192 + 4096 * u)
+  tree_at_unit u live = elim (found_of u s) [
+    | inr none ↦ absurd (false≢true (sym (start_dead u s) ∙ (ap (λ (c : Cell). c.is_live) (sym (found_is u s ∙ none.cell)) ∙ live)))
+    | inl one ↦
+        let of = block_of tables s.trees one.block one.there in
+        let where_it = stood of.root of.tree of.pair in
+        let own : Member one.block.place where_it.place.addrs.items =
+        subst (λ (l : List Addr). Member one.block.place l) (sym where_it.is.addrs)
+        (map_member {A = Block} (λ b. b.place) one.block (tree_blocks table_kind (root_entry where_it.place.root.link) of.tree) (subst (λ (x : TableRoot). Member one.block (root_blocks x of.tree)) where_it.root of.own)) in
+        (one.block.place, flat_member {A = TreePlace} (λ q. q.addrs.items) where_it.place places one.block.place (get_member places where_it.index where_it.place where_it.place_at) own, one.at)
+  ]
+
+  pub old_blocks : AreOldBlocks (Some s) lives (addrs_of places ++ addrs_in lives)
   old_blocks = record {
-    each = λ a there.
-        let p = member_flat {A = TreePlace} (λ q. q.addrs.items) places a there in
-        let i = member_at p.0 places p.1 in
-        old_addr i.0 p.0 a i.1 p.2;
-    all = λ u live. elim (found_of u s) [
-      | inr none ↦ absurd (false≢true (sym (start_dead u s) ∙ (ap (λ (c : Cell). c.is_live) (sym (found_is u s ∙ none.cell)) ∙ live)))
-      | inl one ↦
-          let of = block_of tables s.trees one.block one.there in
-          let where_it = stood of.root of.tree of.pair in
-          let own : Member one.block.place where_it.place.addrs.items =
-          subst (λ (l : List Addr). Member one.block.place l) (sym where_it.is.addrs)
-          (map_member {A = Block} (λ b. b.place) one.block (tree_blocks table_kind (root_entry where_it.place.root.link) of.tree) (subst (λ (x : TableRoot). Member one.block (root_blocks x of.tree)) where_it.root of.own)) in
-          (one.block.place, flat_member {A = TreePlace} (λ q. q.addrs.items) where_it.place places one.block.place (get_member places where_it.index where_it.place where_it.place_at) own, one.at)
+    each = λ a there. elim (in_either (addrs_of places) (addrs_in lives) a there) [
+      | inl before ↦
+          let p = member_flat {A = TreePlace} (λ q. q.addrs.items) places a before in
+          let i = member_at p.0 places p.1 in
+          old_addr i.0 p.0 a i.1 p.2
+      | inr since ↦ since_old (Some s) lives lone a since
+    ];
+    all = λ u live. elim (which_lone u lives) [
+      | inl one ↦ (one.lone.addr, in_back (addrs_of places) (addrs_in lives) one.lone.addr (map_member {A = Lone} (λ x. x.addr) one.lone lives one.there), one.at)
+      | inr none ↦
+          let one = tree_at_unit u (ap (λ (c : Cell). c.is_live) (sym (none.cell (found_cell (found_in (Some s)) u))) ∙ live) in
+          (one.0, in_front (addrs_of places) (addrs_in lives) one.0 one.1, one.2)
     ];
   }
 
@@ -258,8 +288,8 @@ module _ (seen : List ℕ) (images : List ℕ → Type 0) (books : Books) (known
   ]
 
   -- blocks of two places begin elsewhere
-  begins_once : (i j : ℕ) (a : Addr) → BeginsIn places i a → BeginsIn places j a → i ≡ j
-  begins_once i j a (p, x, is, there, same) (q, y, also, its, too) =
+  begins_once : (i j : ℕ) (p q : TreePlace) (x y : Addr) → slice_get places i ≡ Some p → Member x p.addrs.items → slice_get places j ≡ Some q → Member y q.addrs.items → x.offset ≡ y.offset → i ≡ j
+  begins_once i j p q x y is there also its same =
       let one = listed i p x is there in
       let two = listed j q y also its in
       elim (cases_eq one.there.pair.0 two.there.pair.0) [
@@ -268,7 +298,7 @@ module _ (seen : List ℕ) (images : List ℕ → Type 0) (books : Books) (known
             place_one 1 known next i j one.there.table two.there.table ascend one.there.known_at two.there.known_at (ap (λ (r : TableRoot). r.table.number) equal)
         | inr differ ↦
             let away = pairs_apart (table_root one.there.table p.root) (table_root two.there.table q.root) one.there.tree two.there.tree tables s.trees one.block two.block one.there.pair two.there.pair differ apart one.own two.own in
-            absurd (meets one.block.place two.block.place away (some_size one.block (in_blocks i p x one)) (some_size two.block (in_blocks j q y two)) (ap (λ (z : Addr). z.offset) (sym one.place) ∙ (same ∙ (sym too ∙ ap (λ (z : Addr). z.offset) two.place))))
+            absurd (meets one.block.place two.block.place away (some_size one.block (in_blocks i p x one)) (some_size two.block (in_blocks j q y two)) (ap (λ (z : Addr). z.offset) (sym one.place) ∙ (same ∙ ap (λ (z : Addr). z.offset) two.place)))
       ]
     where
       meets : (a b : Addr) → AreApart a b → 1 ≤ a.size → 1 ≤ b.size → a.offset ≡ b.offset → ⊥
@@ -277,44 +307,55 @@ module _ (seen : List ℕ) (images : List ℕ → Type 0) (books : Books) (known
 
 -- ---- the same where there may be none
 
-module _ (seen : List ℕ) (images : List ℕ → Type 0) (books : Books) (known : List Table) (next : ℕ) (ascend : NumbersAscend 1 known next) (leaves : List Leaf) (written : Written) (places : List TreePlace) where
+module _ (seen : List ℕ) (images : List ℕ → Type 0) (books : Books) (known : List Table) (next : ℕ) (ascend : NumbersAscend 1 known next) (lives : List Lone) (leaves : List Leaf) (written : Written) (places : List TreePlace) where
   nothing_at : places ≡ [] → (i : ℕ) (p : TreePlace) → slice_get places i ≡ Some p → ⊥
   nothing_at none i p is = none_some (subst (λ (l : List TreePlace). slice_get l i ≡ Some p) none is)
 
   nowhere_at : places ≡ [] → (i : ℕ) → leaves_at places i ≡ []
   nowhere_at none i = leaves_past places i (omega (arith, ap length none))
 
-  pub are_old_blocks : (old : Option Stored) → Stands seen images books old → AreRoots known leaves written places old → ((u : ℕ) → cell_at books.cells u ≡ found_cell (found_in old) u) → AreUnits books.cells books.space → AreOldBlocks old (addrs_of places)
-  are_old_blocks None stands none cells units = record {
-    each = λ a there. absurd (subst (λ (l : List TreePlace). Member a (addrs_of l)) none there);
-    all = λ u live. absurd (false≢true live);
+  pub are_old_blocks : (old : Option Stored) → Stands seen images books old → AreRoots known lives leaves written places old → AreLone old lives → ((u : ℕ) → cell_at books.cells u ≡ start_cell old lives u) → AreUnits books.cells books.space → AreOldBlocks old lives (addrs_of places ++ addrs_in lives)
+  are_old_blocks None stands none lone cells units = record {
+    each = λ a there. elim (in_either (addrs_of places) (addrs_in lives) a there) [
+      | inl before ↦ absurd (subst (λ (l : List TreePlace). Member a (addrs_of l)) none before)
+      | inr since ↦ since_old None lives lone a since
+    ];
+    all = λ u live. elim (which_lone u lives) [
+      | inl one ↦ (one.lone.addr, in_back (addrs_of places) (addrs_in lives) one.lone.addr (map_member {A = Lone} (λ x. x.addr) one.lone lives one.there), one.at)
+      | inr nobody ↦ absurd (false≢true (ap (λ (c : Cell). c.is_live) (sym (nobody.cell nothing)) ∙ live))
+    ];
   }
-  are_old_blocks (Some s) stands roots cells units = old_blocks seen images books known next ascend leaves written places s stands roots cells units
+  are_old_blocks (Some s) stands roots lone cells units = old_blocks seen images books known next ascend lives leaves written places s stands roots lone cells units
 
-  pub are_live_leaves : (old : Option Stored) → Stands seen images books old → AreRoots known leaves written places old → ((u : ℕ) → cell_at books.cells u ≡ found_cell (found_in old) u) → AreUnits books.cells books.space → (i : ℕ) → AllByRecursion (λ (link : Link). IsLiveLeaf books link) (leaves_at places i)
-  are_live_leaves None stands none cells units i = subst (λ (l : List Link). AllByRecursion (λ (link : Link). IsLiveLeaf books link) l) (sym (nowhere_at none i)) tt
-  are_live_leaves (Some s) stands roots cells units i = live_leaves seen images books known next ascend leaves written places s stands roots cells units books (λ n k live. live) i
+  pub are_live_leaves : (old : Option Stored) → Stands seen images books old → AreRoots known lives leaves written places old → AreLone old lives → ((u : ℕ) → cell_at books.cells u ≡ start_cell old lives u) → AreUnits books.cells books.space → (i : ℕ) → AllByRecursion (λ (link : Link). IsLiveLeaf books link) (leaves_at places i)
+  are_live_leaves None stands none lone cells units i = subst (λ (l : List Link). AllByRecursion (λ (link : Link). IsLiveLeaf books link) l) (sym (nowhere_at none i)) tt
+  are_live_leaves (Some s) stands roots lone cells units i = live_leaves seen images books known next ascend lives leaves written places s stands roots lone cells units books (λ n k live. live) i
 
-  pub leaves_apart : (old : Option Stored) → Stands seen images books old → AreRoots known leaves written places old → ((u : ℕ) → cell_at books.cells u ≡ found_cell (found_in old) u) → AreUnits books.cells books.space → (i : ℕ) → LeadApart (leaves_at places i)
-  leaves_apart None stands none cells units i = subst LeadApart (sym (nowhere_at none i)) tt
-  leaves_apart (Some s) stands roots cells units i = lead seen images books known next ascend leaves written places s stands roots cells units i
+  pub leaves_apart : (old : Option Stored) → Stands seen images books old → AreRoots known lives leaves written places old → AreLone old lives → ((u : ℕ) → cell_at books.cells u ≡ start_cell old lives u) → AreUnits books.cells books.space → (i : ℕ) → LeadApart (leaves_at places i)
+  leaves_apart None stands none lone cells units i = subst LeadApart (sym (nowhere_at none i)) tt
+  leaves_apart (Some s) stands roots lone cells units i = lead seen images books known next ascend lives leaves written places s stands roots lone cells units i
 
-  pub leaf_listed_at : (old : Option Stored) → Stands seen images books old → AreRoots known leaves written places old → ((u : ℕ) → cell_at books.cells u ≡ found_cell (found_in old) u) → AreUnits books.cells books.space
+  pub leaf_listed_at : (old : Option Stored) → Stands seen images books old → AreRoots known lives leaves written places old → AreLone old lives → ((u : ℕ) → cell_at books.cells u ≡ start_cell old lives u) → AreUnits books.cells books.space
       → (i : ℕ) (p : TreePlace) (link : Link) → slice_get places i ≡ Some p → Member link p.leaves.items → (link.addr.offset ≡ 0 → ⊥) → Member link.addr p.addrs.items
-  leaf_listed_at None stands none cells units i p link is there some = absurd (nothing_at none i p is)
-  leaf_listed_at (Some s) stands roots cells units i p link is there some = leaf_in seen images books known next ascend leaves written places s stands roots cells units i p link is there some
+  leaf_listed_at None stands none lone cells units i p link is there some = absurd (nothing_at none i p is)
+  leaf_listed_at (Some s) stands roots lone cells units i p link is there some = leaf_in seen images books known next ascend lives leaves written places s stands roots lone cells units i p link is there some
 
-  pub one_begins : (old : Option Stored) → Stands seen images books old → AreRoots known leaves written places old → ((u : ℕ) → cell_at books.cells u ≡ found_cell (found_in old) u) → AreUnits books.cells books.space → (i j : ℕ) (a : Addr) → BeginsIn places i a → BeginsIn places j a → i ≡ j
-  one_begins None stands none cells units i j a (p, x, is, there, begins) also = absurd (nothing_at none i p is)
-  one_begins (Some s) stands roots cells units i j a one two = begins_once seen images books known next ascend leaves written places s stands roots cells units i j a one two
+  pub one_begins : (old : Option Stored) → Stands seen images books old → AreRoots known lives leaves written places old → AreLone old lives → ((u : ℕ) → cell_at books.cells u ≡ start_cell old lives u) → AreUnits books.cells books.space
+      → (i j : ℕ) (p q : TreePlace) (x y : Addr) → slice_get places i ≡ Some p → Member x p.addrs.items → slice_get places j ≡ Some q → Member y q.addrs.items → x.offset ≡ y.offset → i ≡ j
+  one_begins None stands none lone cells units i j p q x y is there also its same = absurd (nothing_at none i p is)
+  one_begins (Some s) stands roots lone cells units i j p q x y is there also its same = begins_once seen images books known next ascend lives leaves written places s stands roots lone cells units i j p q x y is there also its same
 
-  pub begins_old : (old : Option Stored) → Stands seen images books old → AreRoots known leaves written places old → ((u : ℕ) → cell_at books.cells u ≡ found_cell (found_in old) u) → AreUnits books.cells books.space → (i : ℕ) (p : TreePlace) (a : Addr) → slice_get places i ≡ Some p → Member a p.addrs.items → IsOldBlock old a
-  begins_old None stands none cells units i p a is there = absurd (nothing_at none i p is)
-  begins_old (Some s) stands roots cells units i p a is there = old_addr seen images books known next ascend leaves written places s stands roots cells units i p a is there
+  pub begins_body : (old : Option Stored) → Stands seen images books old → AreRoots known lives leaves written places old → AreLone old lives → ((u : ℕ) → cell_at books.cells u ≡ start_cell old lives u) → AreUnits books.cells books.space → (i : ℕ) (p : TreePlace) (a : Addr) → slice_get places i ≡ Some p → Member a p.addrs.items → IsBody old a
+  begins_body None stands none lone cells units i p a is there = absurd (nothing_at none i p is)
+  begins_body (Some s) stands roots lone cells units i p a is there = body_addr seen images books known next ascend lives leaves written places s stands roots lone cells units i p a is there
 
-  pub begins_within : (old : Option Stored) → Stands seen images books old → AreRoots known leaves written places old → ((u : ℕ) → cell_at books.cells u ≡ found_cell (found_in old) u) → AreUnits books.cells books.space → (i : ℕ) (p : TreePlace) (a : Addr) → slice_get places i ≡ Some p → Member a p.addrs.items → a.offset + a.size ≤ length seen
-  begins_within None stands none cells units i p a is there = absurd (nothing_at none i p is)
-  begins_within (Some s) stands roots cells units i p a is there = within_addr seen images books known next ascend leaves written places s stands roots cells units i p a is there
+  pub begins_old : (old : Option Stored) → Stands seen images books old → AreRoots known lives leaves written places old → AreLone old lives → ((u : ℕ) → cell_at books.cells u ≡ start_cell old lives u) → AreUnits books.cells books.space → (i : ℕ) (p : TreePlace) (a : Addr) → slice_get places i ≡ Some p → Member a p.addrs.items → IsOldBlock old lives a
+  begins_old None stands none lone cells units i p a is there = absurd (nothing_at none i p is)
+  begins_old (Some s) stands roots lone cells units i p a is there = old_addr seen images books known next ascend lives leaves written places s stands roots lone cells units i p a is there
 
-pub live_of_old : (old : Option Stored) (books : Books) (a : Addr) → ((u : ℕ) → cell_at books.cells u ≡ found_cell (found_in old) u) → IsOldBlock old a → HasLive books.cells a.offset a.size
-live_of_old old books a cells o = let cell = cells o.unit ∙ o.cell in (o.unit, o.offset, o.size ∙ ap (λ (c : Cell). 4096 * c.units) (sym cell), ap (λ (c : Cell). c.is_live) cell)
+  pub begins_within : (old : Option Stored) → Stands seen images books old → AreRoots known lives leaves written places old → AreLone old lives → ((u : ℕ) → cell_at books.cells u ≡ start_cell old lives u) → AreUnits books.cells books.space → (i : ℕ) (p : TreePlace) (a : Addr) → slice_get places i ≡ Some p → Member a p.addrs.items → a.offset + a.size ≤ length seen
+  begins_within None stands none lone cells units i p a is there = absurd (nothing_at none i p is)
+  begins_within (Some s) stands roots lone cells units i p a is there = within_addr seen images books known next ascend lives leaves written places s stands roots lone cells units i p a is there
+
+pub live_of_old : (old : Option Stored) (lives : List Lone) (books : Books) (a : Addr) → ((u : ℕ) → cell_at books.cells u ≡ start_cell old lives u) → IsOldBlock old lives a → HasLive books.cells a.offset a.size
+live_of_old old lives books a cells o = let cell = cells o.unit ∙ o.cell in (o.unit, o.offset, o.size ∙ ap (λ (c : Cell). 4096 * c.units) (sym cell), ap (λ (c : Cell). c.is_live) cell)

@@ -1,5 +1,5 @@
 -- The names and the newest versions in the rows of a part of a tree.
-use Rattle.std.specs.Prelude.{◌≡◌, ℕ, ◌==◌, true, List, [], ◌∷◌, ◌++◌, map, Option, Some, None, option_map, refl}
+use Rattle.std.specs.Prelude.{◌≡◌, ℕ, ◌==◌, true, false, List, [], ◌∷◌, ◌++◌, map, Option, Some, None, option_map, refl}
 use Rattle.std.specs.List.{Contains}
 use Rattle.std.specs.Prelude.{bytes_eq}
 use Rattle.std.proofs.Common.{inl, inr, sym, ◌∙◌, ap, subst, append_assoc}
@@ -28,11 +28,13 @@ use Rattle.tree_write.specs.Steps.{links_in}
 use Rattle.tree_write.specs.Writes.{LeadApart}
 use Rattle.ckpt_step.specs.Floors.{AreNewestIn}
 use Rattle.ckpt_step.specs.Parts.{AreBelowFloor, IsParted, LieIn, has_rows, part_leaves, part_of, rows_behind}
+use Rattle.ckpt_step.specs.Lives.{NoneLive, is_live}
 use Rattle.ckpt_step.specs.Rooms.{Written}
+use Rattle.ckpt_step.specs.declared.lives.Lone.{Lone}
 use Rattle.ckpt_step.proofs.Below.{RowsLow, joined_low, low_rows}
 use Rattle.ckpt_step.proofs.GoingLeaves.{there_of}
 use Rattle.ckpt_step.proofs.Members.{all_of, none_some, some_same}
-use Rattle.ckpt_step.proofs.Behind.{part_links, rows_by_parts}
+use Rattle.ckpt_step.proofs.Behind.{rows_by_parts}
 use Rattle.ckpt_step.proofs.TableLeaves.{contains_of, in_table, member_of}
 
 -- ---- names below a floor
@@ -71,12 +73,12 @@ module _ (floor : Name) where
   low_part links leaves [] each = tt
   low_part links leaves (e ∷ part) each = joined_low floor (rows_behind links leaves e.link) (join (map {A = Entry} (λ x. rows_behind links leaves x.link) part)) (each e (inl refl)) (low_part links leaves part (λ x there. each x (inr there)))
 
-module _ (bytes : List ℕ) (leaves : List Leaf) (table : ℕ) (written : Written) (place : TreePlace) (tree : TableTree) (has : HasTree bytes place.root tree) (is : IsPlaceOf place tree) (apart : LeadApart place.leaves.items) (parted : IsParted leaves table written place tree) where
+module _ (bytes : List ℕ) (lives : List Lone) (leaves : List Leaf) (table : ℕ) (written : Written) (place : TreePlace) (tree : TableTree) (has : HasTree bytes place.root tree) (is : IsPlaceOf place tree) (apart : LeadApart place.leaves.items) (parted : IsParted lives leaves table written place tree) where
   -- where the names that a part says are below the floor, those of its rows are
-  pub part_low : (floor : Name) (l : Leaf) → Contains leaves l → l.table ≡ table → AreBelowFloor floor (part_of written l) → RowsLow floor (join (part_leaves place tree (part_of written l)))
-  part_low floor l there its below =
+  pub part_low : (floor : Name) (l : Leaf) → Contains leaves l → l.table ≡ table → is_live lives l ≡ false → AreBelowFloor floor (part_of written l) → RowsLow floor (join (part_leaves place tree (part_of written l)))
+  part_low floor l there its dead below =
       low_part floor place.leaves.items tree.leaves (part_of written l) (λ e mine.
-      let link = part_links leaves table written place parted.joined l there its e mine in
+      let link = parted.among l there its dead e mine in
       subst (λ (m : List Link). RowsLow floor (rows_behind m tree.leaves e.link)) (sym is.leaves)
       (said floor (bottom (root_own place.root) tree.layers) tree.leaves e.link has.is.bear (subst LeadApart is.leaves apart) (subst (λ (m : List Link). Member e.link m) is.leaves link.0) link.1
       (all_of (λ (x : Entry). is_below x.link.greatest floor ≡ true) (part_of written l) e below mine)))
@@ -139,11 +141,11 @@ module _ (leaves : List Leaf) (table : ℕ) (key : List ℕ) (l : Leaf) (under :
         let empty : Shown ≡ None = subst (λ (y : Leaf). version_at key (join (rows_of y)) ≡ None) (sym same) none in
         (one_more x front None none).0 refl ∙ (rest (version_at key (all_rows front)) refl empty ∙ sym empty)
 
-module _ (bytes : List ℕ) (leaves : List Leaf) (table : ℕ) (written : Written) (place : TreePlace) (tree : TableTree) (has : HasTree bytes place.root tree) (is : IsPlaceOf place tree) (apart : LeadApart place.leaves.items) (parted : IsParted leaves table written place tree) where
-  -- where a tree has the newest of each key, a part has the newest of the keys of its leaf
-  pub part_newest : (m : Machine) (l : Leaf) → Contains leaves l → l.table ≡ table → ((key : List ℕ) → head_of (line m.history table key) ≡ shown_at key (tree_rows tree)) → AreNewestIn m leaves table l (join (part_leaves place tree (part_of written l)))
-  part_newest m l there its newest key under =
-      newest key ∙ (ap (λ (rows : List Row). shown_at key rows) (rows_by_parts leaves table written place tree is apart parted has.is)
+module _ (bytes : List ℕ) (lives : List Lone) (leaves : List Leaf) (table : ℕ) (written : Written) (place : TreePlace) (tree : TableTree) (has : HasTree bytes place.root tree) (is : IsPlaceOf place tree) (apart : LeadApart place.leaves.items) (parted : IsParted lives leaves table written place tree) where
+  -- where a tree has the newest of each key, a part has the newest of the keys of its leaf, if none was written since
+  pub part_newest : NoneLive lives leaves table → (m : Machine) (l : Leaf) → Contains leaves l → l.table ≡ table → ((key : List ℕ) → head_of (line m.history table key) ≡ shown_at key (tree_rows tree)) → AreNewestIn m leaves table l (join (part_leaves place tree (part_of written l)))
+  part_newest none m l there its newest key under =
+      newest key ∙ (ap (λ (rows : List Row). shown_at key rows) (rows_by_parts lives leaves table written place tree is apart parted none has.is)
       ∙ ap (option_map version_in) (all_show leaves table key l under (λ x. part_leaves place tree (part_of written x)) (leaves_of table leaves) lie (member_of (leaves_of table leaves) l (there_of table leaves l there its)))) where
         lie : (x : Leaf) → Member x (leaves_of table leaves) → LieIn leaves table x (join (part_leaves place tree (part_of written x)))
-        lie x mine = let own = in_table table leaves x mine in (parted.parts x (contains_of leaves x own.0) own.1).lie
+        lie x mine = let own = in_table table leaves x mine in (parted.parts x (contains_of leaves x own.0) own.1 (none x (contains_of leaves x own.0) own.1)).lie

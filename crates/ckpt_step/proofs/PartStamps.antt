@@ -16,7 +16,7 @@ use Rattle.ckpt_step.proofs.OrderedByName.{all_join}
 abbrev pub RowsDurable : ℕ → List Row → Type 0
 RowsDurable oldest rows = AllByRecursion (λ (r : Row). r.1.window.durable ≤ oldest) rows
 
-durable_rows : (oldest : ℕ) (rows : List Row) → most_in (durables_of rows) ≤ oldest → RowsDurable oldest rows
+pub durable_rows : (oldest : ℕ) (rows : List Row) → most_in (durables_of rows) ≤ oldest → RowsDurable oldest rows
 durable_rows oldest [] low = tt
 durable_rows oldest (r ∷ rows) low = (omega (arith, low), durable_rows oldest rows (omega (arith, low)))
 

@@ -23,7 +23,7 @@ use Rattle.ckpt_step.proofs.Behind.{rows_by_parts}
 use Rattle.ckpt_step.proofs.PartRows.{rows_of_parts}
 use Rattle.ckpt_step.proofs.TableLeaves.{AreOnce, contains_of, in_table}
 
-module _ (m : Machine) (t : Table) (all : List Leaf) (had : Written) (place : TreePlace) (tree : TableTree) (parted : IsParted all t.number had place tree) where
+module _ (m : Machine) (t : Table) (all : List Leaf) (had : Written) (place : TreePlace) (tree : TableTree) (parted : IsParted [] all t.number had place tree) where
   -- by leaf, the leaves of its part
   abbrev pub parts_in : List Leaf → List (List (List Row))
   parts_in leaves = map {A = Leaf} (λ l. part_leaves place tree (part_of had l)) leaves
@@ -34,11 +34,11 @@ module _ (m : Machine) (t : Table) (all : List Leaf) (had : Written) (place : Tr
 
   pub parted_in : (leaves : List Leaf) → AreOwnLeaves leaves → ArePartedBy all t.number leaves (parts_in leaves)
   parted_in [] own = tt
-  parted_in (l ∷ leaves) own = let here = own l (inl refl) in ((parted.parts l here.0 here.1).lie, parted_in leaves (λ x there. own x (inr there)))
+  parted_in (l ∷ leaves) own = let here = own l (inl refl) in ((parted.parts l here.0 here.1 refl).lie, parted_in leaves (λ x there. own x (inr there)))
 
   pub fit_in : (leaves : List Leaf) → AreOwnLeaves leaves → AllByRecursion (λ (images : List (List Row)). AreFit (join images)) (parts_in leaves)
   fit_in [] own = tt
-  fit_in (l ∷ leaves) own = let here = own l (inl refl) in ((parted.parts l here.0 here.1).rows_fit, fit_in leaves (λ x there. own x (inr there)))
+  fit_in (l ∷ leaves) own = let here = own l (inl refl) in ((parted.parts l here.0 here.1 refl).rows_fit, fit_in leaves (λ x there. own x (inr there)))
 
   pub newest_in : ((l : Leaf) → Contains all l → l.table ≡ t.number → AreNewestIn m all t.number l (join (part_leaves place tree (part_of had l)))) → (leaves : List Leaf) → AreOwnLeaves leaves → AreNewestOf m all t.number leaves (parts_in leaves)
   newest_in each [] own = tt
@@ -48,7 +48,7 @@ module _ (m : Machine) (t : Table) (all : List Leaf) (had : Written) (place : Tr
   pub parted_rows : IsPlaceOf place tree → LeadApart place.leaves.items → IsTree table_kind place.root.level (root_entry place.root.link) tree → AreOnce all → TablesBegin all → (first : Leaf) → Member first all → first.table ≡ t.number
       → ((l : Leaf) → Contains all l → l.table ≡ t.number → AreNewestIn m all t.number l (join (part_leaves place tree (part_of had l)))) → IsRowsOf m t (join tree.leaves)
   parted_rows is apart tree_is once begins first there own each =
-      subst (λ (rows : List Row). IsRowsOf m t rows) (sym (rows_by_parts all t.number had place tree is apart parted tree_is))
+      subst (λ (rows : List Row). IsRowsOf m t rows) (sym (rows_by_parts [] all t.number had place tree is apart parted (λ l there_too its. refl) tree_is))
       (rows_of_parts m t all first (parts_in (leaves_of t.number all)) once begins there own (parted_in (leaves_of t.number all) owned) (fit_in (leaves_of t.number all) owned) (newest_in each (leaves_of t.number all) owned))
     where
       owned : AreOwnLeaves (leaves_of t.number all)

@@ -4,12 +4,12 @@ use Rattle.std.proofs.Common.{inl, inr, sym, ◌∙◌, ap, subst, arith}
 use Rattle.std.proofs.lemmas.Bool.{cases_eq, eq-eqb, ne_eqb}
 use Rattle.std.proofs.lemmas.List.{get_or-set_same, get_or-set_other}
 use Rattle.disk_model.specs.declared.disk.Disk.{Ghosts}
-use Rattle.disk_model.specs.Crash.{LeavesOnly}
-use Rattle.disk_model.proofs.Crash.{joined, widened}
+use Rattle.disk_model.specs.Crash.{Keeps, LeavesOnly}
+use Rattle.disk_model.proofs.Crash.{joined, keeps_fewer, keeps_trans, widened}
 use Rattle.extent_list.specs.Space.{Taken, HasNoRoom, end_of}
 use Rattle.le_codec.specs.Images.{block_size}
 use Rattle.block_mgr.specs.declared.cell.Cell.{Cell}
-use Rattle.block_mgr.specs.Blocks.{Books, unit_of}
+use Rattle.block_mgr.specs.Blocks.{Books, Has, unit_of}
 use Rattle.block_mgr.specs.Cells.{AreUnits, cell_at, captured, done_cell, freed, fresh, kept, nothing}
 use Rattle.block_mgr.proofs.HolderLemmas.{at_map, is_there}
 use Rattle.device_layout.specs.declared.addr.Addr.{Addr}
@@ -27,13 +27,14 @@ use Rattle.stored.specs.Stored.{Stored}
 use Rattle.device_leaf.proofs.Opens.{record_bytes}
 use Rattle.checkpoint_core.specs.Stands.{HasStill, IsReady, Stands, chosen_of}
 use Rattle.checkpoint_core.proofs.Holding.{still_long}
-use Rattle.checkpoint_core.specs.Finishes.{IsOld, IsEither, Finishes, Fails, IsLastNow, ReadsAfter, AreBack, units_of}
+use Rattle.checkpoint_core.specs.Finishes.{IsOld, IsEither, Finishes, Fails, IsLastNow, KeepsAfter, ReadsAfter, AreBack, units_of}
 use Rattle.ckpt_step.specs.Checkpoints.{IsCheckpointOf, IsRecordOf}
 use Rattle.ckpt_step.specs.Grounds.{number_of}
 use Rattle.ckpt_step.specs.Halves.{AllWritten, SomeWritten, IsFresh, Runs, done_at, half_cell, record_cell}
 use Rattle.ckpt_step.specs.Runs.{AllPut, IsImageOf, SomePut, made_of}
 use Rattle.ckpt_step.specs.Parts.{with_parts}
 use Rattle.ckpt_step.specs.Rooms.{Written}
+use Rattle.ckpt_step.specs.declared.lives.Lone.{Lone}
 use Rattle.ckpt_step.specs.declared.parts.LeafPart.{LeafPart}
 use Rattle.ckpt_step.proofs.Following.{follows_new}
 use Rattle.ckpt_step.proofs.LeadingLeaves.{leaves_lead}
@@ -56,8 +57,8 @@ done_nothing = refl
 pub freed_there : (cells : List Cell) (v : ℕ) → v < length cells → cell_at (freed cells v) v ≡ kept (record (cell_at cells v) { is_live = false })
 freed_there cells v lt = get_or-set_same cells v (kept (record (cell_at cells v) { is_live = false })) nothing lt
 
-pub last_cells : (before after : Books) (a : Addr) (old : Option Stored) (captured_ : List Addr) → 1 ≤ a.size → ((u : ℕ) → cell_at before.cells u ≡ half_cell old captured_ u) → IsLastNow before after a → (u : ℕ) → cell_at after.cells u ≡ done_at old captured_ a u
-last_cells before after a old captured_ some half (mid, added, is) u =
+pub last_cells : (before after : Books) (a : Addr) (old : Option Stored) (lives : List Lone) (captured_ : List Addr) → 1 ≤ a.size → ((u : ℕ) → cell_at before.cells u ≡ half_cell old lives captured_ u) → IsLastNow before after a → (u : ℕ) → cell_at after.cells u ≡ done_at old lives captured_ a u
+last_cells before after a old lives captured_ some half (mid, added, is) u =
     ap (λ (l : List Cell). cell_at l u) is ∙ (at_map done_cell (freed (captured mid.cells v) v) u done_nothing ∙ elim (cases_eq a.offset (8192 + 4096 * u)) [
       | inl here ↦
           let same : u ≡ v = omega (arith, here) in
@@ -90,30 +91,32 @@ last_cells before after a old captured_ some half (mid, added, is) u =
     sized : done_cell (record { units = added.units; is_live = false; is_running = true; is_last = false; names = 0 }) ≡ record_cell a
     sized = ap (λ (n : ℕ). let c : Cell = record { units = n; is_live = false; is_running = false; is_last = true; names = 0 } in c) (omega (arith, added.size))
 
-pub fresh_there : (before after : Books) (a : Addr) (old : Option Stored) (captured_ : List Addr) → ((u : ℕ) → cell_at before.cells u ≡ half_cell old captured_ u) → IsLastNow before after a → IsFresh old captured_ a
-fresh_there before after a old captured_ half (mid, added, is) = (added.unit, added.offset, sym (half added.unit) ∙ added.none)
+pub fresh_there : (before after : Books) (a : Addr) (old : Option Stored) (lives : List Lone) (captured_ : List Addr) → ((u : ℕ) → cell_at before.cells u ≡ half_cell old lives captured_ u) → IsLastNow before after a → IsFresh old lives captured_ a
+fresh_there before after a old lives captured_ half (mid, added, is) = (added.unit, added.offset, sym (half added.unit) ∙ added.none)
 
 pub whole_there : (before after : Books) (a : Addr) → IsLastNow before after a → a.size ≡ 4096 * (a.size / 4096)
 whole_there before after a (mid, added, is) = omega (arith, added.size)
 
 -- ---- the steps
 
-module _ {D : Type 0} (g : Ghosts D) (old : Option Stored) (w : World) (known : List Table) (leaves : List Leaf) (had : Written) (books : Books) (places : List TreePlace) (more : List LeafPart) (taken : List Addr) (before : D) where
+module _ {D : Type 0} (g : Ghosts D) (old : Option Stored) (lives : List Lone) (w : World) (known : List Table) (leaves : List Leaf) (had : Written) (books : Books) (places : List TreePlace) (more : List LeafPart) (taken : List Addr) (before : D) where
   -- the trees were not all written
-  pub trees_failed : (books' : Books) (after : D) (e : StoreError) → SomeWritten g old w known leaves had books books' places more taken before after e → SomePut g old w known leaves had books books' places more taken before after e
+  pub trees_failed : (books' : Books) (after : D) (e : StoreError) → SomeWritten g old lives w known leaves had books books' places more taken before after e → SomePut g old lives w known leaves had books books' places more taken before after e
   trees_failed books' after e some = record {
     left = inl some.left;
     kept = λ safe. some.left;
+    keeps = some.keeps;
     runs = some.runs;
     lacks = λ is. inl (some.lacks is);
   }
 
-  module _ (mid : D) (books' : Books) (all : AllWritten g old w known leaves had books books' places more taken before mid) where
+  module _ (mid : D) (books' : Books) (all : AllWritten g old lives w known leaves had books books' places more taken before mid) where
     -- there was no memory for the record
-    pub no_image : SomePut g old w known leaves had books books' places more taken before mid NoMemory
+    pub no_image : SomePut g old lives w known leaves had books books' places more taken before mid NoMemory
     no_image = record {
       left = inl all.left;
       kept = λ safe. all.left;
+      keeps = λ safe. all.keeps;
       runs = λ safe. all.half.runs;
       lacks = λ is. absurd (cc);
     }
@@ -152,7 +155,7 @@ module _ {D : Type 0} (g : Ghosts D) (old : Option Stored) (w : World) (known : 
       record_size = (img.r, subst (λ (n : ℕ). IsRecordOf w.machine n img.r) is_number img.is, refl)
 
       pub all_put : (last : Books) (after : D) (a : Addr) → g.capacity mid ≡ g.capacity before → Finishes g books'.space (length image) (g.capacity mid) old (made a) mid after (Ok a) → ReadsAfter g last old (made a) after (Ok a) → IsLastNow books' last a → AreUnits last.cells last.space → last.is_held ≡ false
-          → AllPut g old w known leaves had books last places more taken before after a
+          → AllPut g old lives w known leaves had books last places more taken before after a
       all_put last after a room (left, each, (space, at, got)) (on, within) now units idle = record {
         r = img.r;
         trees = all.trees;
@@ -172,9 +175,9 @@ module _ {D : Type 0} (g : Ghosts D) (old : Option Stored) (w : World) (known : 
           half_use = all.half.in_use;
           listed = all.half.listed;
           own = all.half.runs.own;
-          fresh = fresh_there books' last a old taken all.half.runs.cells now;
+          fresh = fresh_there books' last a old lives taken all.half.runs.cells now;
           sized = whole_there books' last a now;
-          cells = last_cells books' last a old taken (omega (arith, on.whole.addressed.0.size, record_bytes img.r)) all.half.runs.cells now;
+          cells = last_cells books' last a old lives taken (omega (arith, on.whole.addressed.0.size, record_bytes img.r)) all.half.runs.cells now;
           units = units;
           idle = idle;
           within = within;
@@ -182,32 +185,40 @@ module _ {D : Type 0} (g : Ghosts D) (old : Option Stored) (w : World) (known : 
         follows = follows_new known next ascend places all.trees count (g.seen mid) all.half.there img.r a img.is.bare img.tables leaves (with_parts had more) w all.rows all.by_leaves.parted all.by_leaves.shelved (leaves_lead (g.seen mid) books' all.half.runs.units places all.trees all.half.there all.half.apart all.half.in_use);
       }
 
-      runs_back : (last : Books) (after : D) (a : Addr) (e : StoreError) → ReadsAfter g last old (made a) after (Err e) → AreBack books' last → ((ReadsAfter g last old (made a) after (Err e)) → Stands (g.seen after) (g.may_leave after) last old × (end_of last.space ≤ length (g.seen after))) → 8192 ≤ length (g.seen after) → Runs (g.seen after) (g.may_leave after) last old taken
+      runs_back : (last : Books) (after : D) (a : Addr) (e : StoreError) → ReadsAfter g last old (made a) after (Err e) → AreBack books' last → ((ReadsAfter g last old (made a) after (Err e)) → Stands (g.seen after) (g.may_leave after) last old × (end_of last.space ≤ length (g.seen after))) → 8192 ≤ length (g.seen after) → Runs (g.seen after) (g.may_leave after) last old lives taken
       runs_back last after a e reads back is long = let r = is reads in record { stands = r.0; cells = λ u. back.cells u ∙ all.half.runs.cells u; units = back.units all.half.runs.units; long = long; within = r.1; own = all.half.runs.own }
 
+      -- what the books had at first is as it was
+      keeps_then : (after : D) → Keeps (Has books'.cells) (g.seen mid) (g.seen after) → Keeps (Has books.cells) (g.seen before) (g.seen after)
+      keeps_then after still = keeps_trans (Has books.cells) (g.seen before) (g.seen mid) (g.seen after) all.keeps (keeps_fewer (Has books'.cells) (Has books.cells) (g.seen mid) (g.seen after) all.used still)
+
       -- the record was not installed
-      pub not_put : (last : Books) (after : D) (a : Addr) (e : StoreError) → g.capacity mid ≡ g.capacity before → Fails g books'.space (length image) (g.capacity mid) old (made a) mid after e → ReadsAfter g last old (made a) after (Err e) → AreBack books' last → SomePut g old w known leaves had books last places more taken before after e
-      not_put last after a NoMemory room left reads back = record {
+      pub not_put : (last : Books) (after : D) (a : Addr) (e : StoreError) → g.capacity mid ≡ g.capacity before → Fails g books'.space (length image) (g.capacity mid) old (made a) mid after e → ReadsAfter g last old (made a) after (Err e) → KeepsAfter g books' mid after (Err e) → AreBack books' last → SomePut g old lives w known leaves had books last places more taken before after e
+      not_put last after a NoMemory room left reads still back = record {
         left = inl (keeps after left);
         kept = λ safe. keeps after left;
+        keeps = λ safe. keeps_then after still;
         runs = λ safe. runs_back last after a NoMemory reads back (λ r. r) (still_long old (g.seen after) reads.0.seen_has);
         lacks = λ is. absurd (cc);
       }
-      not_put last after a NoSpace room left reads back = record {
+      not_put last after a NoSpace room left reads still back = record {
         left = inl (keeps after left.1);
         kept = λ safe. keeps after left.1;
+        keeps = λ safe. keeps_then after still;
         runs = λ safe. runs_back last after a NoSpace reads back (λ r. r) (still_long old (g.seen after) reads.0.seen_has);
         lacks = λ is. inr (books'.space, block_size (length (record_image img.r)), all.placed, record_size, sized (λ (n capacity : ℕ). HasNoRoom books'.space n capacity) room left.0);
       }
-      not_put last after a Read room left reads back = record {
+      not_put last after a Read room left reads still back = record {
         left = inl (keeps after left);
         kept = λ safe. keeps after left;
+        keeps = λ safe. keeps_then after still;
         runs = λ safe. runs_back last after a Read reads back (λ r. r) (still_long old (g.seen after) reads.0.seen_has);
         lacks = λ is. absurd (cc);
       }
-      not_put last after a (Down fault) room left reads back = record {
+      not_put last after a (Down fault) room left reads still back = record {
         left = elim left [ inl kept ↦ inl (keeps after kept) | inr (b, either) ↦ inr (made b, is_made b, turns after b either) ];
         kept = λ safe. absurd safe;
+        keeps = λ safe. absurd safe;
         runs = λ safe. absurd safe;
         lacks = λ is. absurd (cc);
       }

@@ -1,5 +1,5 @@
 -- The checkpoint on which the next one stands.
-use Rattle.std.specs.Prelude.{◌≡◌, ℕ, ◌+◌, ◌*◌, ◌/◌, ◌≤◌, Bool, false, List, cond, length, Option, None, Some, refl}
+use Rattle.std.specs.Prelude.{◌≡◌, ℕ, ◌+◌, ◌*◌, ◌/◌, ◌≤◌, Bool, false, List, [], cond, length, Option, None, Some, refl}
 use Rattle.std.specs.List.{flat_map, fold}
 use Rattle.std.proofs.Common.{inl, inr, sym, ◌∙◌, ap, subst, arith}
 use Rattle.std.proofs.Math.Path.{fun_ext}
@@ -26,9 +26,10 @@ use Rattle.tree_open.specs.declared.place.TreePlace.{TreePlace}
 use Rattle.ckpt_step.specs.declared.ground.Ground.{Ground}
 use Rattle.call_steps.specs.declared.hub.Hub.{Hub}
 use Rattle.tree_dir.specs.Leaves.{IsDirectory}
-use Rattle.ckpt_step.specs.Grounds.{AreWritten, HasRoots, StandsOn, found_in}
+use Rattle.ckpt_step.specs.Grounds.{AreSince, AreWritten, HasRoots, StandsOn, found_in, start_cell}
 use Rattle.ckpt_step.specs.Parts.{AreOfLeaves, with_parts}
 use Rattle.ckpt_step.specs.Rooms.{Written, known_in}
+use Rattle.ckpt_step.specs.declared.lives.Lone.{Lone}
 use Rattle.ckpt_step.specs.declared.parts.LeafPart.{LeafPart}
 use Rattle.ckpt_step.proofs.NewParts.{new_written}
 use Rattle.ckpt_step.specs.Halves.{AreParted, body_cell, half_cell, record_cell, settled_at, with_last}
@@ -36,14 +37,15 @@ use Rattle.ckpt_step.specs.Records.{trees_by_name}
 use Rattle.ckpt_step.specs.Runs.{IsDone, made_of}
 use Rattle.ckpt_step.specs.Trees.{trees_blocks}
 use Rattle.ckpt_step.proofs.Cells.{Begins, found_is, found_of, start-none, start-record, which}
+use Rattle.ckpt_step.proofs.Lones.{no_since}
 use Rattle.ckpt_step.proofs.PlacedTrees.{addr_block, block_addr}
 use Rattle.ckpt_step.proofs.Made.{all_blocks, body_are, made_roots, table_blocks, tables_are}
 use Rattle.ckpt_step.proofs.Members.{all_made, all_of, flat_member, member_flat}
 
 -- ---- once the checkpoint is settled
 
-module _ (seen : List ℕ) (books : Books) (old : Option Stored) (known : List Table) (next : ℕ) (ascend : NumbersAscend 1 known next) (places : List TreePlace) (trees : List TableTree) (captured : List Addr) (count : length places ≡ length known) (r : Record) (a : Addr)
-    (done : IsDone seen books old known places trees captured r a) (bare : IsBare r) (cells : List Cell) (settled : (u : ℕ) → cell_at cells u ≡ settled_at captured a u) where
+module _ (seen : List ℕ) (books : Books) (old : Option Stored) (lives : List Lone) (known : List Table) (next : ℕ) (ascend : NumbersAscend 1 known next) (places : List TreePlace) (trees : List TableTree) (captured : List Addr) (count : length places ≡ length known) (r : Record) (a : Addr)
+    (done : IsDone seen books old lives known places trees captured r a) (bare : IsBare r) (cells : List Cell) (settled : (u : ℕ) → cell_at cells u ≡ settled_at captured a u) where
   abbrev new : Stored
   new = made_of r known trees a
 
@@ -94,9 +96,9 @@ module _ (seen : List ℕ) (books : Books) (old : Option Stored) (known : List T
   apart : (u : ℕ) (x : Addr) → a.offset ≡ 8192 + 4096 * u → Member x captured → Begins u x → ⊥
   apart u x here there hit =
       let same : done.fresh.0 ≡ u = omega (arith, done.fresh.1, here) in
-      let none : half_cell old captured u ≡ nothing = subst (λ (k : ℕ). half_cell old captured k ≡ nothing) same done.fresh.2 in
+      let none : half_cell old lives captured u ≡ nothing = subst (λ (k : ℕ). half_cell old lives captured k ≡ nothing) same done.fresh.2 in
       elim (which u captured) [
-        | inl one ↦ false≢true (sym (ap (λ (c : Cell). c.is_live) (sym (one.half (found_cell (found_in old) u)) ∙ none)))
+        | inl one ↦ false≢true (sym (ap (λ (c : Cell). c.is_live) (sym (one.half (start_cell old lives u)) ∙ none)))
         | inr far ↦ far.none x there hit
       ]
 
@@ -153,8 +155,8 @@ module _ (seen : List ℕ) (books : Books) (old : Option Stored) (known : List T
   -- the ground is that of the new checkpoint
   pub new_ground : (images : List ℕ → Type 0) (hub : Hub) (had : Written) (more : List LeafPart) (g : Ground) → hub.tables.tables ≡ known → IsDirectory hub.dir → AreParted known hub.dir.leaves (with_parts had more) places trees → AreOfLeaves hub.dir.leaves more → ((id : ℕ) → hub.dir.next ≤ id → had id ≡ None)
       → Each images (λ c. IsOn c new) → g.place.blocks.cells ≡ cells → AreUnits g.place.blocks.cells g.place.blocks.space → g.place.blocks.is_held ≡ false → end_of g.place.blocks.space ≡ end_of books.space → g.number ≡ r.sequence
-      → g.place.slot ≡ Some (slot_at r.sequence a) → g.trees.items ≡ places → ((leaf : ℕ) → known_in g.parts leaf ≡ with_parts had more leaf) → StandsOn seen images hub g (Some new)
-  new_ground images hub had more g tables_are is parted of later each same units idle end number slot_is trees_are parts_are = record {
+      → g.place.slot ≡ Some (slot_at r.sequence a) → g.trees.items ≡ places → ((leaf : ℕ) → known_in g.parts leaf ≡ with_parts had more leaf) → g.lives ≡ [] → StandsOn seen images hub g (Some new)
+  new_ground images hub had more g tables_are is parted of later each same units idle end number slot_is trees_are parts_are none = record {
     stands = record {
       seen_has = done.on;
       images_have = λ _. each;
@@ -162,13 +164,14 @@ module _ (seen : List ℕ) (books : Books) (old : Option Stored) (known : List T
     };
     number = number;
     slot = slot_is;
-    cells = λ u. ap (λ (l : List Cell). cell_at l u) same ∙ (settled u ∙ found_same u);
+    cells = λ u. ap (λ (l : List Cell). cell_at l u) same ∙ (settled u ∙ (found_same u ∙ ap (λ (x : List Lone). start_cell (Some new) x u) (sym none)));
     units = units;
     idle = idle;
     long = done.on.long;
     within = omega (arith, end, done.within);
-    roots = from (λ ts ps x. HasRoots ts hub.dir.leaves x ps new) (made_roots known next ascend places trees count done.bytes done.there r a bare done.tables hub.dir.leaves (with_parts had more) parted);
-    written = from (λ ts ps x. AreWritten ts hub.dir x ps) (new_written hub.dir known places had more is count of later);
+    roots = from (λ ts ps x. HasRoots ts g.lives hub.dir.leaves x ps new) (subst (λ (y : List Lone). HasRoots known y hub.dir.leaves (with_parts had more) places new) (sym none) (made_roots known next ascend places trees count done.bytes done.there r a bare done.tables hub.dir.leaves (with_parts had more) parted));
+    written = from (λ ts ps x. AreWritten ts g.lives hub.dir x ps) (new_written hub.dir known places had more g.lives is count of later);
+    since = subst (λ (y : List Lone). AreSince (Some new) y hub.dir (known_in g.parts)) (sym none) (no_since (Some new) hub.dir (known_in g.parts));
   } where
     from : (P : List Table → List TreePlace → Written → Type 0) → P known places (with_parts had more) → P hub.tables.tables g.trees.items (known_in g.parts)
     from P made =

@@ -1,12 +1,12 @@
 -- What steps of actors leave of a machine, with the calls that are under way.
-use Rattle.std.proofs.Common.{◌≡◌, ◌++◌, ℕ, zero, suc, List, [], ◌∷◌, Option, Some, None, get_or, set, sym, subst, inl, inr}
+use Rattle.std.proofs.Common.{◌≡◌, ◌++◌, ℕ, Bool, zero, suc, List, [], ◌∷◌, Option, Some, None, get_or, set, sym, subst, inl, inr}
 use Rattle.std.specs.Prelude.{MatchOption, slice_index_or, slice_set}
 use Rattle.failure.specs.declared.Fault.{Fault}
 use Rattle.item.specs.declared.Change.TheVariants.{Put as PutOf, Remove as RemoveOf}
 use Rattle.wt_code.specs.declared.answers.Answer.{Answer}
 use Rattle.wt_code.specs.declared.answers.Answer.TheVariants as answers
 use Rattle.wt_code.specs.declared.refusals.Refusal.{Refusal}
-use Rattle.wt_code.specs.declared.refusals.Refusal.TheVariants.{NoMemory, Panic}
+use Rattle.wt_code.specs.declared.refusals.Refusal.TheVariants.{Again, NoMemory, Panic}
 use Rattle.kv_model.specs.Machine.{Machine, Transaction, Event, EndTransaction, Nothing, OpenSession, after, transaction_of}
 use Rattle.kv_model.specs.Decisions.{Outcome, Done, Refused, Request, BeginCall, PrepareCall, CommitCall, RollbackCall, FindKey, FindToWrite, FindRow, Occupied, decision}
 use Rattle.kv_model.specs.Rows.{reset_decision, row_event, seek_event}
@@ -138,19 +138,20 @@ module _ (barred : Type 0) (k : Kept barred) where
   ends_unless None answer m session left x is = finishes answer left (after m (EndTransaction session)) m x (k.by m (EndTransaction session) tt) is
   ends_unless (Some fault) answer m session left x ends = ends_with (answers.Refused (Panic fault)) m m x (k.same m) ends
 
-  goes_on : (doing : Doing) (m : Machine) (session : ℕ) (x : Made) → IsMildDoing barred doing → GoesOn doing m session x → MadeMild m x
-  goes_on Resting m session x mild is = subst (λ (y : Made). MadeMild m y) (sym is) (record { to = k.same m; mild = tt })
-  goes_on (Asked made left) m session x mild (inl goes) = goes_to (Asked made) left m m x (k.same m) (λ n. mild) goes
-  goes_on (Asked made left) m session x mild (inr j) = judges made m session left x mild j
-  goes_on (Placed made table left) m session x mild (inl goes) = goes_to (Placed made table) left m m x (k.same m) (λ n. mild) goes
-  goes_on (Placed made table left) m session x mild (inr (inl looks)) =
+  goes_on : (again : Bool) (doing : Doing) (m : Machine) (session : ℕ) (x : Made) → IsMildDoing barred doing → GoesOn again doing m session x → MadeMild m x
+  goes_on again Resting m session x mild is = subst (λ (y : Made). MadeMild m y) (sym is) (record { to = k.same m; mild = tt })
+  goes_on again (Asked made left) m session x mild (inl goes) = goes_to (Asked made) left m m x (k.same m) (λ n. mild) goes
+  goes_on again (Asked made left) m session x mild (inr j) = judges made m session left x mild j
+  goes_on again (Placed made table left) m session x mild (inl goes) = goes_to (Placed made table) left m m x (k.same m) (λ n. mild) goes
+  goes_on again (Placed made table left) m session x mild (inr (inl looks)) =
       looks_on made m looks.answer looks.event left x (look_quiet made m session looks.transaction table looks.outcome looks.event looks.finds) looks.goes
-  goes_on (Placed made table left) m session x mild (inr (inr goes)) = goes_to (Decided (answers.Refused NoMemory) Nothing) left m m x (k.same m) (λ n. tt) goes
-  goes_on (Decided answer event left) m session x mild (inl goes) = goes_to (Decided answer event) left m m x (k.same m) (λ n. mild) goes
-  goes_on (Decided answer event left) m session x mild (inr (inl ends)) = ends_with answer (after m event) m x (k.by m event mild) ends
-  goes_on (Decided answer event left) m session x mild (inr (inr tells)) = tells_fault m.fault left m x tells
-  goes_on (Ending answer left) m session x mild (inl goes) = goes_to (Ending answer) left m m x (k.same m) (λ n. tt) goes
-  goes_on (Ending answer left) m session x mild (inr ends) = ends_unless m.fault answer m session left x ends
+  goes_on again (Placed made table left) m session x mild (inr (inr (inl goes))) = goes_to (Decided (answers.Refused NoMemory) Nothing) left m m x (k.same m) (λ n. tt) goes
+  goes_on again (Placed made table left) m session x mild (inr (inr (inr goes))) = goes_to (Decided (answers.Refused (Again goes.1.0)) Nothing) left m m x (k.same m) (λ n. tt) goes.1.1
+  goes_on again (Decided answer event left) m session x mild (inl goes) = goes_to (Decided answer event) left m m x (k.same m) (λ n. mild) goes
+  goes_on again (Decided answer event left) m session x mild (inr (inl ends)) = ends_with answer (after m event) m x (k.by m event mild) ends
+  goes_on again (Decided answer event left) m session x mild (inr (inr tells)) = tells_fault m.fault left m x tells
+  goes_on again (Ending answer left) m session x mild (inl goes) = goes_to (Ending answer) left m m x (k.same m) (λ n. tt) goes
+  goes_on again (Ending answer left) m session x mild (inr ends) = ends_unless m.fault answer m session left x ends
 
   kept_out : (doing : Doing) (r : Refusal) (m : Machine) (x : Made) → IsKeptOut doing r m x → MadeMild m x
   kept_out (Placed made table left) r m x goes = goes_to (Decided (answers.Refused r) Nothing) left m m x (k.same m) (λ n. tt) goes
@@ -180,7 +181,9 @@ module _ (barred : Type 0) (k : Kept barred) where
       record { to = so; mild = record { sessions = mild.sessions; systems = each_set (λ (c : Option Call). IsMildIn barred c) w.systems number o None mild.systems there } }
 
   begins : (doing : Doing) (w : World) (session : ℕ) (made : Call) (told : Told) (next : World) → IsMild barred made → IsMildWorld barred w → BeginsIn doing w session made told next → Stays w next
-  begins Resting w session made told next there mild (left, started, is) = stays_at w _ next is (with_session w w.machine session (Asked made left) mild (k.same w.machine) there)
+  begins Resting w session made told next there mild (left, started, is) =
+      let s = with_session w w.machine session (Asked made left) mild (k.same w.machine) there in
+      stays_at w _ next is (record { to = s.to; mild = record { sessions = s.mild.sessions; systems = s.mild.systems } })
   begins (Asked other n) w session made told next there mild (refuses, is) = unmoved w next mild is
   begins (Placed other table n) w session made told next there mild (refuses, is) = unmoved w next mild is
   begins (Decided other event n) w session made told next there mild (refuses, is) = unmoved w next mild is
@@ -199,7 +202,7 @@ module _ (barred : Type 0) (k : Kept barred) where
   steps w next (Start (call.Session session made)) told mild there may = begins (doing_of w session) w session (session_call_in made) told next there mild may
   steps w next (Start (call.System number made)) told mild there may = asks (slice_index_or w.systems number None) w number (system_call_in made) told next there mild may
   steps w next (Go (by.Session session)) told mild there may =
-      let x = goes_on (doing_of w session) w.machine session may.made (mild.sessions session) may.goes in
+      let x = goes_on (w.again session) (doing_of w session) w.machine session may.made (mild.sessions session) may.goes in
       stays_at w _ next may.leaves (with_session w may.made.machine session may.made.doing mild x.to x.mild)
   steps w next (Go (by.System number)) told mild there may = makes (slice_index_or w.systems number None) w number told next (mild.systems number) mild may
 

@@ -16,15 +16,22 @@ use Rattle.tree_open.specs.declared.place.TreePlace.{TreePlace}
 use Rattle.tree_write.specs.Drafts.{aligned}
 use Rattle.tree_write.specs.Steps.{links_in}
 use Rattle.ckpt_step.specs.Goings.{AreOfTables, HasPartsAt}
-use Rattle.ckpt_step.specs.Grounds.{AreRoots, AreWritten}
-use Rattle.ckpt_step.specs.Parts.{AreOfLeaves, IsPart, IsParted, links_over, part_leaves, part_of, with_parts}
+use Rattle.ckpt_step.specs.Grounds.{AreRoots, AreSince, AreWritten}
+use Rattle.ckpt_step.specs.Lives.{NoneLive}
+use Rattle.ckpt_step.specs.Parts.{AreOfLeaves, IsPart, IsParted, has_rows, links_over, part_leaves, part_of, parts_of, with_parts}
 use Rattle.ckpt_step.specs.Rooms.{Written}
+use Rattle.ckpt_step.specs.Trees.{HasTreeAt, leaves_at}
+use Rattle.tree_write.specs.Writes.{LeadApart}
+use Rattle.ckpt_step.specs.declared.lives.Lone.{Lone}
 use Rattle.ckpt_step.specs.declared.parts.LeafPart.{LeafPart}
+use Rattle.ckpt_step.proofs.Apart.{filter_apart}
 use Rattle.ckpt_step.proofs.ByPlace.{place_one}
 use Rattle.ckpt_step.proofs.DraftingMore.{all_into, all_more}
 use Rattle.ckpt_step.proofs.Members.{in_either, none_some, some_same, all_made}
+use Rattle.ckpt_step.proofs.Lones.{some_live}
+use Rattle.ckpt_step.proofs.OldTrees.{leaves_there}
 use Rattle.ckpt_step.proofs.TableLeaves.{contains_of, in_table, member_of}
-use Rattle.ckpt_step.proofs.WithParts.{part_alike, parts_alike, with_alike, with_both, with_none}
+use Rattle.ckpt_step.proofs.WithParts.{part_alike, part_none, parts_alike, with_alike, with_both, with_none}
 
 -- ---- the first of a list
 
@@ -42,16 +49,17 @@ at_take (y ∷ l) (suc n) (suc j) x at lt = at_take l n j x at (omega (arith, lt
 
 -- ---- parts that are alike
 
-pub parted_alike : (leaves : List Leaf) (table : ℕ) (written next : Written) (place : TreePlace) (tree : TableTree) → ((l : Leaf) → Contains leaves l → l.table ≡ table → written l.id ≡ next l.id) → IsParted leaves table written place tree → IsParted leaves table next place tree
-parted_alike leaves table written next place tree same parted = record {
-  joined = parted.joined ∙ ap links_in (parts_alike written next (leaves_of table leaves) (all_made (λ (l : Leaf). written l.id ≡ next l.id) (leaves_of table leaves) (λ l there. let in_it = in_table table leaves l there in same l (contains_of leaves l in_it.0) in_it.1)));
-  parts = λ l there own. subst (λ (part : List Entry). IsPart leaves table l part (part_leaves place tree part)) (part_alike written next l (same l there own)) (parted.parts l there own);
+pub parted_alike : (lives : List Lone) (leaves : List Leaf) (table : ℕ) (written next : Written) (place : TreePlace) (tree : TableTree) → ((l : Leaf) → Contains leaves l → l.table ≡ table → written l.id ≡ next l.id) → IsParted lives leaves table written place tree → IsParted lives leaves table next place tree
+parted_alike lives leaves table written next place tree same parted = record {
+  joined = λ none. parted.joined none ∙ ap links_in (parts_alike written next (leaves_of table leaves) (all_made (λ (l : Leaf). written l.id ≡ next l.id) (leaves_of table leaves) (λ l there. let in_it = in_table table leaves l there in same l (contains_of leaves l in_it.0) in_it.1)));
+  among = λ l there own dead e mine. parted.among l there own dead e (subst (λ (part : List Entry). Member e part) (sym (part_alike written next l (same l there own))) mine);
+  parts = λ l there own dead. subst (λ (part : List Entry). IsPart leaves table l part (part_leaves place tree part)) (part_alike written next l (same l there own)) (parted.parts l there own dead);
 }
 
 -- ---- leaves of two tables
 
 module _ (d : Directory) (is : IsDirectory d) (known : List Table) (next : ℕ) (ascend : NumbersAscend 1 known next) where
-  one_table : (x l : Leaf) (i j : ℕ) (t u : Table) → Contains d.leaves x → Contains d.leaves l → x.id ≡ l.id → x.table ≡ t.number → l.table ≡ u.number → slice_get known i ≡ Some t → slice_get known j ≡ Some u → i ≡ j
+  pub one_table : (x l : Leaf) (i j : ℕ) (t u : Table) → Contains d.leaves x → Contains d.leaves l → x.id ≡ l.id → x.table ≡ t.number → l.table ≡ u.number → slice_get known i ≡ Some t → slice_get known j ≡ Some u → i ≡ j
   one_table x l i j t u one two same own its at also =
       let equal : x ≡ l = some_same (sym (ids-name d is x one) ∙ (ap (λ (n : ℕ). leaf_named n d.leaves) same ∙ ids-name d is l two)) in
       place_one 1 known next i j t u ascend at also (sym own ∙ (ap (λ (y : Leaf). y.table) equal ∙ its))
@@ -86,15 +94,39 @@ module _ (d : Directory) (is : IsDirectory d) (known : List Table) (next : ℕ) 
 
 -- ---- what the checkpoint before has of a table
 
-pub has_parts : (old : Option Stored) (known : List Table) (d : Directory) (had : Written) (was : List TreePlace) (t : Table) (i : ℕ) → AreRoots known d.leaves had was old → AreWritten known d had was → slice_get known i ≡ Some t → HasPartsAt old d.leaves had was t i
-has_parts None known d had was t i roots made at = record {
-  tree = λ place place_at. absurd (none_some (ap (λ (l : List TreePlace). slice_get l i) (sym roots) ∙ place_at));
-  none = λ none l there own. made.made_since i t l at none there own;
-}
-has_parts (Some s) known d had was t i roots made at = record {
-  tree = λ place place_at. roots.trees i t place at place_at;
-  none = λ none l there own. made.made_since i t l at none there own;
-}
+none_of_parts : (had : Written) (front : List Leaf) → ((l : Leaf) → Member l front → part_of had l ≡ []) → parts_of had front ≡ []
+none_of_parts had [] none = refl
+none_of_parts had (l ∷ front) none = ap (λ (m : List Entry). m ++ parts_of had front) (none l (inl refl)) ∙ none_of_parts had front (λ x there. none x (inr there))
+
+module _ (old : Option Stored) (known : List Table) (lives : List Lone) (d : Directory) (had : Written) (was : List TreePlace) (t : Table) (i : ℕ) (roots : AreRoots known lives d.leaves had was old) (made : AreWritten known lives d had was) (since : AreSince old lives d had) (at : slice_get known i ≡ Some t) (lead : LeadApart (leaves_at was i)) where
+  tree_at : (place : TreePlace) → slice_get was i ≡ Some place → (tree : TableTree) × HasTreeAt old t place tree × IsParted lives d.leaves t.number had place tree
+  tree_at = by old roots
+    where
+      by : (o : Option Stored) → AreRoots known lives d.leaves had was o → (place : TreePlace) → slice_get was i ≡ Some place → (tree : TableTree) × HasTreeAt o t place tree × IsParted lives d.leaves t.number had place tree
+      by None none place place_at = absurd (none_some (ap (λ (l : List TreePlace). slice_get l i) (sym none) ∙ place_at))
+      by (Some s) has place place_at = has.trees i t place at place_at
+
+  -- where none was written since they are those of the tree, or none
+  apart_dead : NoneLive lives d.leaves t.number → LeadApart (links_in (parts_of had (leaves_of t.number d.leaves)))
+  apart_dead dead = by (slice_get was i) refl
+    where
+      by : (o : Option TreePlace) → slice_get was i ≡ o → LeadApart (links_in (parts_of had (leaves_of t.number d.leaves)))
+      by (Some place) stands = subst LeadApart ((tree_at place stands).2.joined dead) (filter_apart has_rows place.leaves.items (subst LeadApart (leaves_there was i place stands) lead))
+      by None stands = subst (λ (es : List Entry). LeadApart (links_in es)) (sym (none_of_parts had (leaves_of t.number d.leaves) (λ l there.
+          let in_it = in_table t.number d.leaves l there in
+          let mine = contains_of d.leaves l in_it.0 in
+          part_none had l (made.made_since i t l at stands mine in_it.1 (dead l mine in_it.1)).0))) tt
+
+  pub has_parts : HasPartsAt old lives d.leaves had was t i
+  has_parts = record {
+    tree = tree_at;
+    none = λ none l there own dead. made.made_since i t l at none there own dead;
+    since = since.leaf;
+    apart = elim (some_live lives t.number d.leaves) [
+      | inl one ↦ subst (λ (n : ℕ). LeadApart (links_in (parts_of had (leaves_of n d.leaves)))) one.own (since.apart one.leaf one.there one.live)
+      | inr dead ↦ apart_dead dead
+    ];
+  }
 
 -- ---- the links over which it is written
 

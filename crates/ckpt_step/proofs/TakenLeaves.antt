@@ -3,7 +3,6 @@ use Rattle.std.specs.Prelude.{◌≡◌, ℕ, List, [], ◌∷◌, ◌++◌, len
 use Rattle.std.specs.List.{Contains}
 use Rattle.std.proofs.Common.{inl, inr, sym, ◌∙◌, ap, subst}
 use Rattle.std.proofs.lemmas.Bool.{cases_Bool}
-use Rattle.std.proofs.lemmas.List.{length-map}
 use Rattle.device_layout.specs.declared.link.Link.{Link}
 use Rattle.item.specs.declared.Change.{Change}
 use Rattle.stamp.specs.declared.Name.{Name}
@@ -11,7 +10,7 @@ use Rattle.stamp.specs.declared.Version.{Version}
 use Rattle.kv_model.specs.AgreementLaws.{head_of}
 use Rattle.kv_model.specs.Holds.{Member}
 use Rattle.kv_model.specs.History.{line}
-use Rattle.kv_model.specs.Machine.{Machine, of_some}
+use Rattle.kv_model.specs.Machine.{Machine}
 use Rattle.kv_model.specs.Pending.{TopStands, Update as ModelUpdate}
 use Rattle.kv_model.specs.Valid.{Valid}
 use Rattle.row_page.specs.Rows.{Row}
@@ -22,21 +21,22 @@ use Rattle.update_chain.specs.EventLaws.{StandsFor}
 use Rattle.frame_capture.specs.Capture.{captured_over}
 use Rattle.frame_capture.specs.Laws.{CapturesAreNewest}
 use Rattle.leaf_frame.specs.Leaf.{HeldLeaf}
-use Rattle.stored.specs.TableTree.{Entry, TableTree}
+use Rattle.stored.specs.TableTree.{Entry}
 use Rattle.stored.specs.Tree.{join}
 use Rattle.tree_dir.specs.declared.leaf.Leaf.{Leaf}
 use Rattle.tree_dir.specs.Leaves.{leaf_under}
-use Rattle.tree_open.specs.declared.place.TreePlace.{TreePlace}
 use Rattle.tree_write.specs.Steps.{links_in}
 use Rattle.tree_write.specs.Writes.{KeepSame}
 use Rattle.engine_world.specs.Stands.{Engine, Stands}
 use Rattle.engine_world.specs.Worlds.{World}
 use Rattle.ckpt_step.specs.Drafting.{AreCutOf, AreEntriesFrom, IsLeafDrafted}
 use Rattle.ckpt_step.specs.Floors.{AreNewestIn, IsLeafBefore}
-use Rattle.ckpt_step.specs.Parts.{IsPart, part_leaves, part_of, rows_behind}
+use Rattle.ckpt_step.specs.Parts.{IsPart, part_of}
 use Rattle.ckpt_step.specs.Rooms.{Written}
 use Rattle.ckpt_step.specs.Steps.{IsKept, IsLoaded}
 use Rattle.ckpt_step.proofs.CleanTrees.{clean_newest}
+use Rattle.ckpt_step.proofs.KeptPlaces.{kept_long, links_long}
+use Rattle.ckpt_step.proofs.LeafImages.{HasImages}
 use Rattle.ckpt_step.proofs.LoadedLeaves.{captured_lie, captured_newest, stands_in}
 use Rattle.ckpt_step.proofs.Members.{none_some}
 use Rattle.ckpt_step.proofs.WithParts.{part_written}
@@ -79,28 +79,25 @@ module _ (law : CapturesAreNewest) (e : Engine) (w : World) (s : Sight) (stands 
   abbrev leaves : List Leaf
   leaves = e.hub.dir.leaves
 
-  -- its rows in the checkpoint before are the newest
-  pub kept_newest : (place : TreePlace) (tree : TableTree) → IsKept e had floor l → IsLeafBefore w.machine w.shelf floor leaves had table place tree l → AreNewestIn w.machine leaves table l (join (part_leaves place tree (part_of had l)))
-  kept_newest place tree (inl unloaded) before = elim (stands.leaves l there) [
+  -- the rows of its part are the newest
+  pub kept_newest : (rows : List Row) → IsKept e had floor l → IsLeafBefore w.machine w.shelf floor leaves had table l rows → AreNewestIn w.machine leaves table l rows
+  kept_newest rows (inl unloaded) before = elim (stands.leaves l there) [
     | inl frame ↦ absurd (none_some (sym (unloaded w stands there) ∙ frame.laid.placed))
     | inr device ↦ λ key under.
         let stand : StandsFor w.machine table key [] (shown_at key (w.shelf l.id)) [] = subst (λ (n : ℕ). StandsFor w.machine n key [] (shown_at key (w.shelf l.id)) []) own (device.keys key (subst (λ (n : ℕ). leaf_under n key leaves ≡ Some l) (sym own) under)) in
-        shelf_newest law w.machine s table key (shown_at key (w.shelf l.id)) stands.valid none sees stand ∙ ap (λ (rows : List Row). shown_at key rows) (sym (before.same (inl device.none)))
+        shelf_newest law w.machine s table key (shown_at key (w.shelf l.id)) stands.valid none sees stand ∙ ap (λ (m : List Row). shown_at key m) (sym (before.same (inl device.none)))
   ]
-  kept_newest place tree (inr clean) before =
-      let part : part_of had l ≡ clean.part = ap (λ (o : Option (List Entry)). of_some [] (λ (es : List Entry). es) o) clean.there in
+  kept_newest rows (inr clean) before =
       let stand = stands_in e w table l clean.held stands there own clean.loaded in
-      subst (λ (es : List Entry). AreNewestIn w.machine leaves table l (join (part_leaves place tree es))) (sym part)
-      (clean_newest law w.machine s table leaves l clean.held clean.greatest floor (join (part_leaves place tree clean.part)) stands.valid none sees stand.keys clean.loaded.chains_fit clean.loaded.rows_fit clean.none_above clean.under (before.before clean.part clean.there clean.below))
+      clean_newest law w.machine s table leaves l clean.held clean.greatest floor rows stands.valid none sees stand.keys clean.loaded.chains_fit clean.loaded.rows_fit clean.none_above clean.under (before.before clean.part clean.there clean.below)
 
-  pub kept_drafted : (seen : List ℕ) (place : TreePlace) (tree : TableTree) → IsKept e had floor l → IsLeafBefore w.machine w.shelf floor leaves had table place tree l → IsPart leaves table l (part_of had l) (part_leaves place tree (part_of had l))
-      → IsLeafDrafted seen leaves had w table had l (part_leaves place tree (part_of had l))
-  kept_drafted seen place tree kept before is = record {
-    is = is;
-    many = sym (length-map (part_of had l) (λ (x : Entry). rows_behind place.leaves.items tree.leaves x.link));
-    newest = kept_newest place tree kept before;
-    shelved = before.same;
-    same = same_self seen (links_in (part_of had l)) (part_leaves place tree (part_of had l));
+  pub kept_drafted : (seen : List ℕ) (images : List (List Row)) → IsKept e had floor l → HasImages seen leaves table had w floor l images → IsLeafDrafted seen leaves had w table had l images
+  kept_drafted seen images kept has = record {
+    is = has.is;
+    many = sym (links_long (part_of had l)) ∙ kept_long seen (part_of had l) images has.on;
+    newest = kept_newest (join images) kept has.before;
+    shelved = has.before.same;
+    same = same_self seen (links_in (part_of had l)) images;
   }
 
   -- ---- a leaf that is written

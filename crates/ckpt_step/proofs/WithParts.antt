@@ -2,13 +2,13 @@
 use Rattle.std.specs.Prelude.{◌≡◌, ℕ, ◌==◌, true, false, List, [], ◌∷◌, ◌++◌, Option, Some, None, if◌then◌else◌, refl}
 use Rattle.std.specs.List.{AllByRecursion}
 use Rattle.std.proofs.Common.{inl, inr, sym, ◌∙◌, ap, append_assoc}
-use Rattle.std.proofs.lemmas.Bool.{eq-eqb, ne_eqb}
+use Rattle.std.proofs.lemmas.Bool.{cases_Bool, eq-eqb, ne_eqb}
 use Rattle.std.proofs.lemmas.List.{append-nil}
 use Rattle.kv_model.specs.Machine.{of_some}
 use Rattle.stored.specs.TableTree.{Entry}
 use Rattle.tree_dir.specs.declared.leaf.Leaf.{Leaf}
 use Rattle.ckpt_step.specs.Floors.{IsAsItLies}
-use Rattle.ckpt_step.specs.Parts.{part_in, part_of, parts_of, with_parts}
+use Rattle.ckpt_step.specs.Parts.{has_rows, own_part, part_in, part_of, parts_of, with_parts}
 use Rattle.ckpt_step.specs.Rooms.{Written}
 use Rattle.ckpt_step.specs.declared.parts.LeafPart.{LeafPart}
 
@@ -75,3 +75,10 @@ parts_both written (l ∷ front) rest = ap (λ (es : List Entry). part_of writte
 -- a leaf more
 pub parts_more : (written : Written) (front : List Leaf) (l : Leaf) → parts_of written (front ++ l ∷ []) ≡ parts_of written front ++ part_of written l
 parts_more written front l = parts_both written front (l ∷ []) ∙ ap (λ (es : List Entry). parts_of written front ++ es) (append-nil (part_of written l))
+
+-- a part that leads to rows
+pub own_some : (e : Entry) → has_rows e.link ≡ true → own_part e ≡ Some (e ∷ [])
+own_some e has = elim (cases_Bool (e.link.greatest.id == 0)) [
+  | inl is ↦ absurd (let clash : false ≡ true = rw is at has in cc)
+  | inr isnt ↦ rw isnt refl
+]

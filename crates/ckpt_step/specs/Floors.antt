@@ -1,5 +1,5 @@
 -- What a checkpoint had of the names before a floor, and of leaves that are as they lie on the device, and what no call changes of them.
-use Rattle.std.specs.Prelude.{◌≡◌, ◌⊎◌, ℕ, ◌≤◌, ◌<◌, ◌==◌, ◌&&◌, ◌||◌, Bool, false, nat_lt, List, [], ◌∷◌, Option, None, Some, MatchOption, if◌then◌else◌, slice_get}
+use Rattle.std.specs.Prelude.{◌≡◌, ◌⊎◌, ℕ, ◌≤◌, ◌<◌, ◌==◌, ◌&&◌, ◌||◌, Bool, true, false, nat_lt, List, [], ◌∷◌, Option, None, Some, MatchOption, if◌then◌else◌, slice_get}
 use Rattle.std.specs.List.{Contains}
 use Rattle.item.specs.declared.Change.{Change}
 use Rattle.stamp.specs.declared.Name.{Name}
@@ -17,12 +17,15 @@ use Rattle.tree_dir.specs.Leaves.{leaf_under}
 use Rattle.call_steps.specs.declared.hub.Hub.{Hub}
 use Rattle.engine_world.specs.Worlds.{World}
 use Rattle.tree_open.specs.declared.place.TreePlace.{TreePlace}
+use Rattle.tree_write.specs.Drafts.{HasLeaves}
 use Rattle.recover_open.specs.Bare.{tree_rows}
 use Rattle.ckpt_step.specs.Checkpoints.{IsRowsOf}
 use Rattle.ckpt_step.specs.Trees.{HasTreeAt}
-use Rattle.ckpt_step.specs.Parts.{AreBelowFloor, IsParted, part_in, part_leaves, part_of}
+use Rattle.ckpt_step.specs.Lives.{NoneLive, is_live}
+use Rattle.ckpt_step.specs.Parts.{AreBelowFloor, IsPart, IsParted, part_in, part_leaves, part_of}
 use Rattle.ckpt_step.specs.Rooms.{Written, known_in}
 use Rattle.ckpt_step.specs.declared.ground.Ground.{Ground}
+use Rattle.ckpt_step.specs.declared.lives.Lone.{Lone}
 
 -- ---- names before a floor
 
@@ -59,23 +62,41 @@ AreNewestIn m leaves table l rows = (key : List ℕ) → leaf_under table key le
 abbrev pub IsAsItLies : Written → Leaf → Type 0
 IsAsItLies written l = (l.frame ≡ None) ⊎ (written l.id ≡ None)
 
--- What the checkpoint has of a leaf of the table, whose tree stands at a place. before: where all its names are below the floor, its rows are the newest before it. same: where the leaf is in no frame, or no checkpoint of this engine wrote it, they are those of its block, from which it is loaded.
-pub record IsLeafBefore (m : Machine) (shelf : ℕ → List Row) (floor : Name) (leaves : List Leaf) (written : Written) (table : ℕ) (place : TreePlace) (tree : TableTree) (l : Leaf) : Type 0 where
-  pub before : (part : List Entry) → part_in written l ≡ Some part → AreBelowFloor floor part → AreNewestBefore m floor leaves table l (join (part_leaves place tree part))
-  pub same : IsAsItLies written l → join (part_leaves place tree (part_of written l)) ≡ shelf l.id
+-- The rows of the part of a leaf of the table. before: where all its names are below the floor, they are the newest before it. same: where the leaf is in no frame, or no checkpoint of this engine wrote it, they are those of its block, from which it is loaded.
+pub record IsLeafBefore (m : Machine) (shelf : ℕ → List Row) (floor : Name) (leaves : List Leaf) (written : Written) (table : ℕ) (l : Leaf) (rows : List Row) : Type 0 where
+  pub before : (part : List Entry) → part_in written l ≡ Some part → AreBelowFloor floor part → AreNewestBefore m floor leaves table l rows
+  pub same : IsAsItLies written l → rows ≡ shelf l.id
 
--- The machine respects the floor, and so it is with each leaf of each table that the checkpoint has.
-pub record FollowsFrom (old : Option Stored) (known : List Table) (leaves : List Leaf) (written : Written) (places : List TreePlace) (floor : Name) (w : World) : Type 0 where
+-- The machine respects the floor, and so it is with each leaf of each table that the checkpoint has; with a leaf that was written since by the rows of its block.
+pub record FollowsFrom (old : Option Stored) (known : List Table) (lives : List Lone) (leaves : List Leaf) (written : Written) (places : List TreePlace) (floor : Name) (w : World) : Type 0 where
   pub respects : Respects w.machine floor
-  pub leaf : (i : ℕ) (t : Table) (place : TreePlace) (tree : TableTree) (l : Leaf) → slice_get known i ≡ Some t → slice_get places i ≡ Some place → HasTreeAt old t place tree → Contains leaves l → l.table ≡ t.number
-      → IsLeafBefore w.machine w.shelf floor leaves written t.number place tree l
+  pub leaf : (i : ℕ) (t : Table) (place : TreePlace) (tree : TableTree) (l : Leaf) → slice_get known i ≡ Some t → slice_get places i ≡ Some place → HasTreeAt old t place tree → Contains leaves l → l.table ≡ t.number → is_live lives l ≡ false
+      → IsLeafBefore w.machine w.shelf floor leaves written t.number l (join (part_leaves place tree (part_of written l)))
+  pub since : (l : Leaf) → Contains leaves l → is_live lives l ≡ true → IsLeafBefore w.machine w.shelf floor leaves written l.table l (w.shelf l.id)
 
 abbrev pub Follows : Option Stored → Hub → Ground → World → Type 0
-Follows old hub g w = FollowsFrom old hub.tables.tables hub.dir.leaves (known_in g.parts) g.trees.items g.floor w
+Follows old hub g w = FollowsFrom old hub.tables.tables g.lives hub.dir.leaves (known_in g.parts) g.trees.items g.floor w
 
--- the tree there, of the parts of the table's leaves, is still that of the table
-pub record IsStill (old : Option Stored) (leaves : List Leaf) (written : Written) (m : Machine) (t : Table) (place : TreePlace) : Type 0 where
+-- ---- leaves that were written since
+
+-- the device has the rows of the leaf where its entry leads, and they are all of its part
+pub record IsOnDevice (seen : List ℕ) (leaves : List Leaf) (shelf : ℕ → List Row) (l : Leaf) : Type 0 where
+  pub is : IsPart leaves l.table l (l.entry ∷ []) (shelf l.id ∷ [])
+  pub on : HasLeaves seen (l.entry ∷ []) (shelf l.id ∷ [])
+
+-- so it is with each that was written since
+abbrev pub AreOnDevice : List ℕ → List Lone → List Leaf → (ℕ → List Row) → Type 0
+AreOnDevice seen lives leaves shelf = (l : Leaf) → Contains leaves l → is_live lives l ≡ true → IsOnDevice seen leaves shelf l
+
+abbrev pub AreLivesOn : List ℕ → Hub → Ground → World → Type 0
+AreLivesOn seen hub g w = AreOnDevice seen g.lives hub.dir.leaves w.shelf
+
+-- ---- tables that are as they were
+
+-- the tree there, of the parts of the table's leaves, of which none was written since, is still that of the table
+pub record IsStill (old : Option Stored) (lives : List Lone) (leaves : List Leaf) (written : Written) (m : Machine) (t : Table) (place : TreePlace) : Type 0 where
   pub tree : TableTree
   pub has : HasTreeAt old t place tree
-  pub parted : IsParted leaves t.number written place tree
+  pub none : NoneLive lives leaves t.number
+  pub parted : IsParted [] leaves t.number written place tree
   pub is : IsRowsOf m t (tree_rows tree)

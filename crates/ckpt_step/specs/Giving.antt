@@ -17,8 +17,9 @@ use Rattle.engine_world.specs.Stands.{Engine, Stands}
 use Rattle.engine_world.specs.Worlds.{World}
 use Rattle.engine.specs.Frames.{HasGivenWay}
 use Rattle.ckpt_step.specs.Checkpoints.{IsCheckpointOf, IsRowsOf}
-use Rattle.ckpt_step.specs.Floors.{Follows}
+use Rattle.ckpt_step.specs.Floors.{AreLivesOn, Follows}
 use Rattle.ckpt_step.specs.Grounds.{StandsOn}
+use Rattle.ckpt_step.specs.Lives.{NoneLive}
 use Rattle.ckpt_step.specs.Parts.{part_in}
 use Rattle.ckpt_step.specs.Rooms.{Written, known_in}
 use Rattle.ckpt_step.specs.Trees.{HasTreeAt}
@@ -59,8 +60,9 @@ pub record StandsStill (seen : List ℕ) (images : List ℕ → Type 0) (old : O
   pub shelved : IsShelved w.machine hub.dir next.dir made w.shelf shelf
   pub on : StandsOn seen images next g old
   pub follows : Follows old next g (record w { shelf = shelf })
+  pub since : AreLivesOn seen next g (record w { shelf = shelf })
 
--- A leaf gives way to what the checkpoint has of it, which has the newest version of each key: the ground is still that of the checkpoint.
+-- A leaf of a table of which no leaf was written since gives way to what the checkpoint has of it, which has the newest version of each key: the ground is still that of the checkpoint.
 abbrev pub GroundsGiveWay : List ℕ → (List ℕ → Type 0) → Type 0
-GroundsGiveWay seen images = (e next : Engine) (w : World) (g g' : Ground) (old : Option Stored) (id : ℕ) (entries : List Entry) (way : HasGivenWay e next id entries) → Stands e w → IsDirectory next.hub.dir → StandsOn seen images e.hub g old → Follows old e.hub g w
+GroundsGiveWay seen images = (e next : Engine) (w : World) (g g' : Ground) (old : Option Stored) (id : ℕ) (entries : List Entry) (way : HasGivenWay e next id entries) → Stands e w → IsDirectory next.hub.dir → StandsOn seen images e.hub g old → Follows old e.hub g w → AreLivesOn seen e.hub g w → NoneLive g.lives e.hub.dir.leaves way.leaf.table
     → HasNewest old w.machine → MayTakeOver e.hub.dir (known_in g.parts) id w.machine.oldest entries → Forgets g g' id → StandsStill seen images old e.hub next.hub g' w (leaves_with way.leaf.table way.ids entries)

@@ -1,5 +1,5 @@
 -- Trees that are captured one after the other.
-use Rattle.std.specs.Prelude.{◌≡◌, ◌≢◌, ◌⊎◌, ◌<◌, ℕ, List, [], ◌∷◌, ◌++◌, drop, length, take, Option, None, Some, Result, Ok, Err, slice_get}
+use Rattle.std.specs.Prelude.{◌≡◌, ◌≢◌, ◌⊎◌, ◌<◌, ℕ, true, false, List, [], ◌∷◌, ◌++◌, drop, length, take, Option, None, Some, Result, Ok, Err, slice_get}
 use Rattle.std.specs.List.{AllByRecursion, Contains}
 use Rattle.disk_model.specs.Crash.{Keeps, LeavesOnly}
 use Rattle.disk_model.specs.declared.disk.Disk.{Ghosts}
@@ -31,28 +31,38 @@ use Rattle.tree_write.specs.Steps.{links_in}
 use Rattle.tree_write.specs.Writes.{KeepSame, LeadApart, MayWriteOver}
 use Rattle.ckpt_step.specs.Checkpoints.{AreRowsOf, IsRowsOf}
 use Rattle.ckpt_step.specs.Floors.{IsAsItLies}
+use Rattle.ckpt_step.specs.Grounds.{IsSince}
 use Rattle.ckpt_step.specs.Halves.{ByLeaves, Half, IsNewBlock}
-use Rattle.ckpt_step.specs.Parts.{AreOfLeaves, ArePartedBy, IsParted, links_over, part_in, part_leaves, part_of, with_parts}
+use Rattle.ckpt_step.specs.Lives.{is_live, live_addrs}
+use Rattle.ckpt_step.specs.Parts.{AreOfLeaves, ArePartedBy, IsParted, links_over, part_in, part_leaves, part_of, parts_of, with_parts}
 use Rattle.ckpt_step.specs.Rooms.{Written}
+use Rattle.ckpt_step.specs.declared.lives.Lone.{Lone}
 use Rattle.ckpt_step.specs.declared.parts.LeafPart.{LeafPart}
 use Rattle.ckpt_step.specs.Sizes.{LacksFront, LacksTables, PlacesTables}
 use Rattle.ckpt_step.specs.Trees.{HasTreeAt, leaves_at}
 
--- a block begins where one of the tree at a place does
-abbrev pub BeginsIn : List TreePlace → ℕ → Addr → Type 0
-BeginsIn was i a = (p : TreePlace) × (x : Addr) × (slice_get was i ≡ Some p) × Member x p.addrs.items × (x.offset ≡ a.offset)
+-- a block of the table at a place, as the checkpoint begins: one of its tree in the checkpoint before, or of a leaf of it that was written since
+abbrev pub IsOfTable : List TreePlace → List Addr → ℕ → Addr → Type 0
+IsOfTable was since i x = ((p : TreePlace) × (slice_get was i ≡ Some p) × Member x p.addrs.items) ⊎ Member x since
 
--- A tree may be written or kept over the one at a place of the checkpoint before. first: the books when the checkpoint began.
-pub record MayGo (seen : List ℕ) (images : List ℕ → Type 0) (first books : Books) (old : Option Stored) (was : List TreePlace) (i : ℕ) : Type 0 where
+-- a block begins where one of the table does
+abbrev pub BeginsIn : List TreePlace → List Addr → ℕ → Addr → Type 0
+BeginsIn was since i a = (x : Addr) × IsOfTable was since i x × (x.offset ≡ a.offset)
+
+-- A tree may be written or kept over the one at a place of the checkpoint before. first: the books when the checkpoint began; since: where the leaves of the table stand that were written since.
+pub record MayGo (seen : List ℕ) (images : List ℕ → Type 0) (first books : Books) (old : Option Stored) (was : List TreePlace) (since : List Addr) (i : ℕ) : Type 0 where
   pub over : MayWriteOver seen images first books old (leaves_at was i)
   pub apart : LeadApart (leaves_at was i)
   pub blocks : (p : TreePlace) (a : Addr) → slice_get was i ≡ Some p → Member a p.addrs.items → HasLive first.cells a.offset a.size
+  pub written : (a : Addr) → Member a since → HasLive first.cells a.offset a.size
   pub listed : (p : TreePlace) (link : Link) → slice_get was i ≡ Some p → Member link p.leaves.items → (link.addr.offset ≡ 0 → ⊥) → Member link.addr p.addrs.items
 
--- what the checkpoint before has at the place of a table that it has: a tree, which is the parts of the table's leaves; each leaf of any other is in a frame, and has no part
-pub record HasPartsAt (old : Option Stored) (leaves : List Leaf) (had : Written) (was : List TreePlace) (t : Table) (i : ℕ) : Type 0 where
-  pub tree : (place : TreePlace) → slice_get was i ≡ Some place → (tree : TableTree) × HasTreeAt old t place tree × IsParted leaves t.number had place tree
-  pub none : slice_get was i ≡ None → (l : Leaf) → Contains leaves l → l.table ≡ t.number → (part_in had l ≡ None) × (l.frame ≢ None)
+-- What the checkpoint before has at the place of a table that it has: a tree, which has the parts of the table's leaves; each leaf of any other is in a frame, and has no part, but for those that were written since. All parts lead apart.
+pub record HasPartsAt (old : Option Stored) (lives : List Lone) (leaves : List Leaf) (had : Written) (was : List TreePlace) (t : Table) (i : ℕ) : Type 0 where
+  pub tree : (place : TreePlace) → slice_get was i ≡ Some place → (tree : TableTree) × HasTreeAt old t place tree × IsParted lives leaves t.number had place tree
+  pub none : slice_get was i ≡ None → (l : Leaf) → Contains leaves l → l.table ≡ t.number → is_live lives l ≡ false → (part_in had l ≡ None) × (l.frame ≢ None)
+  pub since : (l : Leaf) → Contains leaves l → is_live lives l ≡ true → IsSince lives had l
+  pub apart : LeadApart (links_in (parts_of had (leaves_of t.number leaves)))
 
 -- the device has no room for all of the tree of these rows of a table, parted by its leaves
 pub record LacksTree (bytes : List ℕ) (capacity : ℕ) (space : Space) (leaves : List Leaf) (had : Written) (table : ℕ) (rows : List Row) : Type 0 where
@@ -66,10 +76,10 @@ pub record LacksTree (bytes : List ℕ) (capacity : ℕ) (space : Space) (leaves
   pub lacks : LacksAll space capacity sizes
 
 -- i: the place of the table; was: where the trees of the checkpoint before stand; had: their parts, by leaf; more, more': the leaves that were written before and after
-module _ {D : Type 0} (g : Ghosts D) (old : Option Stored) (first : Books) (was : List TreePlace) (leaves : List Leaf) (had : Written) (w : World) (t : Table) (i : ℕ) (books books' : Books) (places places' : List TreePlace) (more more' : List LeafPart) (captured captured' : List Addr) (before after : D) where
-  -- a block is where none was, or where one of the table's was in the checkpoint before
+module _ {D : Type 0} (g : Ghosts D) (old : Option Stored) (first : Books) (was : List TreePlace) (lives : List Lone) (leaves : List Leaf) (had : Written) (w : World) (t : Table) (i : ℕ) (books books' : Books) (places places' : List TreePlace) (more more' : List LeafPart) (captured captured' : List Addr) (before after : D) where
+  -- a block is where none was, or where one of the table's was
   abbrev pub IsOwnBlock : Addr → Type 0
-  IsOwnBlock a = IsPlaced books a ⊎ BeginsIn was i a
+  IsOwnBlock a = IsPlaced books a ⊎ BeginsIn was (live_addrs lives (leaves_of t.number leaves)) i a
 
   -- the tree of before is captured as it stands
   pub record KeepsTree (place : TreePlace) (tree : TableTree) (sizes : List ℕ) : Type 0 where
@@ -103,7 +113,7 @@ module _ {D : Type 0} (g : Ghosts D) (old : Option Stored) (first : Books) (was 
     pub more_are : more' ≡ more ++ own_more
     pub of_table : AreOfLeaves (leaves_of t.number leaves) own_more
     pub rows : IsRowsOf w.machine t (tree_rows tree)
-    pub parted : IsParted leaves t.number (with_parts had own_more) place tree
+    pub parted : IsParted [] leaves t.number (with_parts had own_more) place tree
     pub each : (l : Leaf) → Contains leaves l → l.table ≡ t.number → IsLeafNow (with_parts had own_more) place tree l
     pub has : HasTree (g.seen after) place.root tree
     pub is : IsPlaceOf place tree
@@ -128,19 +138,19 @@ module _ {D : Type 0} (g : Ghosts D) (old : Option Stored) (first : Books) (was 
   Goes (Err e) = NotOneMore e
 
 -- a block that is captured is new, or it begins where one of an earlier table's does
-abbrev pub IsFrom : Option Stored → List TreePlace → ℕ → Addr → Type 0
-IsFrom old was count a = IsNewBlock old a ⊎ ((j : ℕ) × (j < count) × BeginsIn was j a)
+abbrev pub IsFrom : Option Stored → List TreePlace → List Lone → List Leaf → List Table → ℕ → Addr → Type 0
+IsFrom old was lives leaves known count a = IsNewBlock old lives a ⊎ ((j : ℕ) × (t : Table) × (j < count) × (slice_get known j ≡ Some t) × BeginsIn was (live_addrs lives (leaves_of t.number leaves)) j a)
 
 -- each leaf that is written is of one of these tables
 abbrev pub AreOfTables : List Table → List Leaf → List LeafPart → Type 0
 AreOfTables known leaves more = AllByRecursion (λ (p : LeafPart). (j : ℕ) × (t : Table) × (slice_get known j ≡ Some t) × ((l : Leaf) × Contains (leaves_of t.number leaves) l × (l.id ≡ p.leaf))) more
 
 -- The trees of the first tables are captured, as many as count says. had: what the checkpoint before has of the leaves of the directory; more: the leaves that are written now, all of these tables.
-pub record Going {D : Type 0} (g : Ghosts D) (old : Option Stored) (was : List TreePlace) (leaves : List Leaf) (had : Written) (w : World) (known : List Table) (first books : Books) (places : List TreePlace) (more : List LeafPart) (captured : List Addr) (count : ℕ) (before after : D) : Type 0 where
+pub record Going {D : Type 0} (g : Ghosts D) (old : Option Stored) (was : List TreePlace) (lives : List Lone) (leaves : List Leaf) (had : Written) (w : World) (known : List Table) (first books : Books) (places : List TreePlace) (more : List LeafPart) (captured : List Addr) (count : ℕ) (before after : D) : Type 0 where
   pub trees : List TableTree
   pub many : length places ≡ count
-  pub half : Half (g.seen after) (g.may_leave after) books old captured places trees
-  pub from : (a : Addr) → Member a captured → IsFrom old was count a
+  pub half : Half (g.seen after) (g.may_leave after) books old lives captured places trees
+  pub from : (a : Addr) → Member a captured → IsFrom old was lives leaves known count a
   pub left : LeavesOnly g before after (IsOld (g.may_leave before) old)
   pub images : (c : List ℕ) → g.may_leave after c → IsOld (g.may_leave before) old c
   pub rows : (rest : List TableTree) → AreRowsOf w.machine (drop count known) rest → AreRowsOf w.machine known (trees ++ rest)

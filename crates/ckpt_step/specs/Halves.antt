@@ -1,13 +1,12 @@
 -- A checkpoint that is half written: the trees of the first tables are captured.
-use Rattle.std.specs.Prelude.{◌≡◌, ◌⊎◌, ◌+◌, ◌*◌, ◌/◌, ◌≤◌, ◌==◌, ℕ, true, false, List, length, Option, Some, Result, Ok, Err, slice_get, if◌then◌else◌}
+use Rattle.std.specs.Prelude.{◌≡◌, ◌⊎◌, ◌+◌, ◌*◌, ◌/◌, ◌≤◌, ◌==◌, ℕ, Bool, true, false, List, [], length, Option, Some, Result, Ok, Err, slice_get, if◌then◌else◌}
 use Rattle.std.specs.List.{Contains, fold}
-use Rattle.disk_model.specs.Crash.{LeavesOnly}
+use Rattle.disk_model.specs.Crash.{Keeps, LeavesOnly}
 use Rattle.disk_model.specs.declared.disk.Disk.{Ghosts}
 use Rattle.extent_list.specs.Space.{end_of}
 use Rattle.block_mgr.specs.declared.cell.Cell.{Cell}
-use Rattle.block_mgr.specs.Blocks.{Books}
+use Rattle.block_mgr.specs.Blocks.{Books, Has}
 use Rattle.block_mgr.specs.Cells.{AreUnits, cell_at, done_cell, nothing}
-use Rattle.block_mgr.specs.Open.{found_cell}
 use Rattle.device_layout.specs.declared.addr.Addr.{Addr}
 use Rattle.wt_code.specs.declared.store_error.StoreError.{StoreError}
 use Rattle.wt_code.specs.declared.store_error.StoreError.TheVariants.{NoSpace}
@@ -28,30 +27,35 @@ use Rattle.tree_write.specs.Steps.{links_in}
 use Rattle.tree_write.specs.Writes.{KeepSame}
 use Rattle.ckpt_step.specs.Checkpoints.{AreRowsOf}
 use Rattle.ckpt_step.specs.Floors.{IsAsItLies}
-use Rattle.ckpt_step.specs.Grounds.{found_in}
+use Rattle.ckpt_step.specs.Grounds.{start_cell}
 use Rattle.ckpt_step.specs.Sizes.{PlacesTables, LacksTables}
 use Rattle.ckpt_step.specs.Parts.{AreOfLeaves, IsParted, part_leaves, part_of, with_parts}
 use Rattle.ckpt_step.specs.Rooms.{Written}
 use Rattle.ckpt_step.specs.Trees.{AreTreesAt, addrs_of, trees_blocks}
+use Rattle.ckpt_step.specs.declared.lives.Lone.{Lone}
 use Rattle.ckpt_step.specs.declared.parts.LeafPart.{LeafPart}
 
 -- ---- the cells of the books
 
 -- the cell at a unit, once the running checkpoint has captured the blocks at these addresses
-abbrev pub half_cell : Option Stored → List Addr → ℕ → Cell
-half_cell old captured u = with_addrs u (found_cell (found_in old) u) captured
+abbrev pub half_cell : Option Stored → List Lone → List Addr → ℕ → Cell
+half_cell old lives captured u = with_addrs u (start_cell old lives u) captured
 
 -- the block of a record, which only the last checkpoint has
 abbrev pub record_cell : Addr → Cell
 record_cell a = record { units = a.size / 4096; is_live = false; is_running = false; is_last = true; names = 0 }
 
 -- once the record is installed, and the trees of the checkpoint before are still in the live tree
-abbrev pub done_at : Option Stored → List Addr → Addr → ℕ → Cell
-done_at old captured a u = if a.offset == 8192 + 4096 * u then record_cell a else done_cell (half_cell old captured u)
+abbrev pub done_at : Option Stored → List Lone → List Addr → Addr → ℕ → Cell
+done_at old lives captured a u = if a.offset == 8192 + 4096 * u then record_cell a else done_cell (half_cell old lives captured u)
 
--- a block that the last checkpoint and the live tree have, of so many units
+-- a block of so many units that the live tree has, and the last checkpoint too or not
+abbrev pub held_cell : ℕ → Bool → Cell
+held_cell n last = record { units = n; is_live = true; is_running = false; is_last = last; names = 0 }
+
+-- one that both have
 abbrev pub body_cell : ℕ → Cell
-body_cell n = record { units = n; is_live = true; is_running = false; is_last = true; names = 0 }
+body_cell n = held_cell n true
 
 abbrev pub with_last : ℕ → Cell → Addr → Cell
 with_last u c a = if a.offset == 8192 + 4096 * u then body_cell (a.size / 4096) else c
@@ -60,52 +64,53 @@ with_last u c a = if a.offset == 8192 + 4096 * u then body_cell (a.size / 4096) 
 abbrev pub settled_at : List Addr → Addr → ℕ → Cell
 settled_at captured a u = if a.offset == 8192 + 4096 * u then record_cell a else fold (with_last u) nothing captured
 
--- no block of the old checkpoint, and none that is captured, begins where this one does
-abbrev pub IsFresh : Option Stored → List Addr → Addr → Type 0
-IsFresh old captured a = (u : ℕ) × (a.offset ≡ 8192 + 4096 * u) × (half_cell old captured u ≡ nothing)
+-- no block of the old checkpoint or written since, and none that is captured, begins where this one does
+abbrev pub IsFresh : Option Stored → List Lone → List Addr → Addr → Type 0
+IsFresh old lives captured a = (u : ℕ) × (a.offset ≡ 8192 + 4096 * u) × (half_cell old lives captured u ≡ nothing)
 
 -- ---- the blocks that are captured
 
--- the address leads to where the checkpoint before had no block
-pub record IsNewBlock (old : Option Stored) (a : Addr) : Type 0 where
+-- the address leads to where no block was as the checkpoint began
+pub record IsNewBlock (old : Option Stored) (lives : List Lone) (a : Addr) : Type 0 where
   pub unit : ℕ
   pub units : ℕ
   pub offset : a.offset ≡ 8192 + 4096 * unit
   pub size : a.size ≡ 4096 * units
-  pub none : found_cell (found_in old) unit ≡ nothing
+  pub none : start_cell old lives unit ≡ nothing
 
--- it leads to a block of the checkpoint before, which is not that of its record
-pub record IsOldBlock (old : Option Stored) (a : Addr) : Type 0 where
+-- it leads to a block of the checkpoint before, which is not that of its record, or to one that was written since
+pub record IsOldBlock (old : Option Stored) (lives : List Lone) (a : Addr) : Type 0 where
   pub unit : ℕ
   pub units : ℕ
+  pub is_last : Bool
   pub offset : a.offset ≡ 8192 + 4096 * unit
   pub size : a.size ≡ 4096 * units
-  pub cell : found_cell (found_in old) unit ≡ body_cell units
+  pub cell : start_cell old lives unit ≡ held_cell units is_last
 
-abbrev pub AreOwn : Option Stored → List Addr → Type 0
-AreOwn old captured = (a : Addr) → Member a captured → IsOldBlock old a ⊎ IsNewBlock old a
+abbrev pub AreOwn : Option Stored → List Lone → List Addr → Type 0
+AreOwn old lives captured = (a : Addr) → Member a captured → IsOldBlock old lives a ⊎ IsNewBlock old lives a
 
--- the addresses are those of the checkpoint before but that of its record
-pub record AreOldBlocks (old : Option Stored) (addrs : List Addr) : Type 0 where
-  pub each : (a : Addr) → Member a addrs → IsOldBlock old a
-  pub all : (u : ℕ) → (found_cell (found_in old) u).is_live ≡ true → (a : Addr) × Member a addrs × (a.offset ≡ 8192 + 4096 * u)
+-- the addresses are those of the checkpoint before but that of its record, and of the leaves that were written since
+pub record AreOldBlocks (old : Option Stored) (lives : List Lone) (addrs : List Addr) : Type 0 where
+  pub each : (a : Addr) → Member a addrs → IsOldBlock old lives a
+  pub all : (u : ℕ) → (start_cell old lives u).is_live ≡ true → (a : Addr) × Member a addrs × (a.offset ≡ 8192 + 4096 * u)
 
 -- the same addresses, in whatever order
 abbrev pub AreListed : List Addr → List TreePlace → Type 0
 AreListed captured places = (a : Addr) → (Member a captured → Member a (addrs_of places)) × (Member a (addrs_of places) → Member a captured)
 
 -- The running checkpoint has these blocks, in the order in which it captured them, and the checkpoint before stands as it did.
-pub record Runs (seen : List ℕ) (images : List ℕ → Type 0) (books : Books) (old : Option Stored) (captured : List Addr) : Type 0 where
+pub record Runs (seen : List ℕ) (images : List ℕ → Type 0) (books : Books) (old : Option Stored) (lives : List Lone) (captured : List Addr) : Type 0 where
   pub stands : Stands seen images books old
-  pub cells : (u : ℕ) → cell_at books.cells u ≡ half_cell old captured u
+  pub cells : (u : ℕ) → cell_at books.cells u ≡ half_cell old lives captured u
   pub units : AreUnits books.cells books.space
   pub long : 8192 ≤ length seen
   pub within : end_of books.space ≤ length seen
-  pub own : AreOwn old captured
+  pub own : AreOwn old lives captured
 
 -- they are those of these trees, by place of their tables, which are on the device
-pub record Half (seen : List ℕ) (images : List ℕ → Type 0) (books : Books) (old : Option Stored) (captured : List Addr) (places : List TreePlace) (trees : List TableTree) : Type 0 where
-  pub runs : Runs seen images books old captured
+pub record Half (seen : List ℕ) (images : List ℕ → Type 0) (books : Books) (old : Option Stored) (lives : List Lone) (captured : List Addr) (places : List TreePlace) (trees : List TableTree) : Type 0 where
+  pub runs : Runs seen images books old lives captured
   pub held : books.is_held ≡ true
   pub there : AreTreesAt seen places trees
   pub in_use : AreInUse books.cells (trees_blocks places trees)
@@ -121,7 +126,7 @@ TreesKeep bytes known leaves before places trees written =
 -- by table, its tree is the parts of its leaves
 abbrev pub AreParted : List Table → List Leaf → Written → List TreePlace → List TableTree → Type 0
 AreParted known leaves written places trees =
-    (i : ℕ) (t : Table) (place : TreePlace) (tree : TableTree) → slice_get known i ≡ Some t → slice_get places i ≡ Some place → slice_get trees i ≡ Some tree → IsParted leaves t.number written place tree
+    (i : ℕ) (t : Table) (place : TreePlace) (tree : TableTree) → slice_get known i ≡ Some t → slice_get places i ≡ Some place → slice_get trees i ≡ Some tree → IsParted [] leaves t.number written place tree
 
 -- By table and leaf that is in no frame, or was not written, it has the rows of its block.
 abbrev pub AreOnShelf : List Table → List Leaf → Written → List TreePlace → List TableTree → (ℕ → List Row) → Type 0
@@ -138,21 +143,24 @@ pub record ByLeaves (bytes : List ℕ) (known : List Table) (leaves : List Leaf)
 -- ---- writing them
 
 -- leaves: those of the directory; had: what the checkpoint before has of them; more: the leaves that are written now
-module _ {D : Type 0} (g : Ghosts D) (old : Option Stored) (w : World) (known : List Table) (leaves : List Leaf) (had : Written) (books books' : Books) (places : List TreePlace) (more : List LeafPart) (captured : List Addr) (before after : D) where
+module _ {D : Type 0} (g : Ghosts D) (old : Option Stored) (lives : List Lone) (w : World) (known : List Table) (leaves : List Leaf) (had : Written) (books books' : Books) (places : List TreePlace) (more : List LeafPart) (captured : List Addr) (before after : D) where
   -- all trees are captured
   pub record AllWritten : Type 0 where
     pub trees : List TableTree
-    pub half : Half (g.seen after) (g.may_leave after) books' old captured places trees
+    pub half : Half (g.seen after) (g.may_leave after) books' old lives captured places trees
     pub rows : AreRowsOf w.machine known trees
     pub left : LeavesOnly g before after (IsOld (g.may_leave before) old)
+    pub keeps : Keeps (Has books.cells) (g.seen before) (g.seen after)
+    pub used : (at n : ℕ) → Has books.cells at n → Has books'.cells at n
     pub placed : PlacesTables (g.seen before) (g.capacity before) old leaves had w.machine books.space known books'.space
     pub by_leaves : ByLeaves (g.seen before) known leaves had w.shelf places trees (with_parts had more)
     pub of_leaves : AreOfLeaves leaves more
 
   -- some blocks are
   pub record SomeWritten (e : StoreError) : Type 0 where
-    pub runs : IsSafe e → Runs (g.seen after) (g.may_leave after) books' old captured
+    pub runs : IsSafe e → Runs (g.seen after) (g.may_leave after) books' old lives captured
     pub left : LeavesOnly g before after (IsOld (g.may_leave before) old)
+    pub keeps : IsSafe e → Keeps (Has books.cells) (g.seen before) (g.seen after)
     pub lacks : e ≡ NoSpace → LacksTables (g.seen before) (g.capacity before) old leaves had w.machine books.space known
 
   abbrev pub Writes : Result (Unit {0}) StoreError → Type 0

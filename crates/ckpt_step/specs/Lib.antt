@@ -19,3 +19,7 @@ pub mod Drafting
 pub mod Rooms
 pub mod Stays
 pub mod Giving
+pub mod Lives
+pub mod Holding
+pub mod WritesOut
+pub mod CutOuts

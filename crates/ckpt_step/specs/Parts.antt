@@ -1,8 +1,9 @@
 -- What a checkpoint has of the leaves of the directory: by leaf its part of the table's tree, which is some leaves of that tree, one behind the other.
-use Rattle.std.specs.Prelude.{◌≡◌, ℕ, ◌≤◌, ◌==◌, Bool, true, List, [], ◌∷◌, ◌++◌, length, map, filter, not, Option, None, Some, IfSome, if◌then◌else◌}
+use Rattle.std.specs.Prelude.{◌≡◌, ℕ, ◌≤◌, ◌==◌, Bool, true, false, List, [], ◌∷◌, ◌++◌, length, map, filter, not, Option, None, Some, IfSome, if◌then◌else◌}
 use Rattle.std.specs.List.{AllByRecursion, Contains, flat_map}
 use Rattle.std.specs.Option.{option_or}
 use Rattle.device_layout.specs.declared.link.Link.{Link}
+use Rattle.kv_model.specs.Holds.{Member}
 use Rattle.kv_model.specs.Machine.{of_some}
 use Rattle.leaf_rows.specs.Rows.{AreFit}
 use Rattle.row_page.specs.Rows.{Row}
@@ -16,7 +17,9 @@ use Rattle.tree_open.specs.declared.place.TreePlace.{TreePlace}
 use Rattle.tree_write.specs.Cuts.{AreFullLeaves}
 use Rattle.tree_write.specs.Drafts.{aligned}
 use Rattle.tree_write.specs.Steps.{links_in}
+use Rattle.ckpt_step.specs.Lives.{NoneLive, is_live}
 use Rattle.ckpt_step.specs.Rooms.{Rooms, Written, has_room}
+use Rattle.ckpt_step.specs.declared.lives.Lone.{Lone}
 use Rattle.ckpt_step.specs.declared.parts.LeafPart.{LeafPart}
 
 -- ---- the entries of a leaf
@@ -83,10 +86,11 @@ pub record IsPart (leaves : List Leaf) (table : ℕ) (l : Leaf) (part : List Ent
   pub rows_fit : AreFit (join images)
   pub lie : LieIn leaves table l (join images)
 
--- The tree of a table, at a place, is the parts of the table's leaves, one behind the other: of its leaves those that have rows.
-pub record IsParted (leaves : List Leaf) (table : ℕ) (written : Written) (place : TreePlace) (tree : TableTree) : Type 0 where
-  pub joined : filter has_rows place.leaves.items ≡ links_in (parts_of written (leaves_of table leaves))
-  pub parts : (l : Leaf) → Contains leaves l → l.table ≡ table → IsPart leaves table l (part_of written l) (part_leaves place tree (part_of written l))
+-- The tree of a table, at a place, has the part of each of the table's leaves but of those that were written since. Where none was it is these parts, one behind the other: of its leaves those that have rows.
+pub record IsParted (lives : List Lone) (leaves : List Leaf) (table : ℕ) (written : Written) (place : TreePlace) (tree : TableTree) : Type 0 where
+  pub joined : NoneLive lives leaves table → filter has_rows place.leaves.items ≡ links_in (parts_of written (leaves_of table leaves))
+  pub among : (l : Leaf) → Contains leaves l → l.table ≡ table → is_live lives l ≡ false → (e : Entry) → Member e (part_of written l) → Member e.link place.leaves.items × (has_rows e.link ≡ true)
+  pub parts : (l : Leaf) → Contains leaves l → l.table ≡ table → is_live lives l ≡ false → IsPart leaves table l (part_of written l) (part_leaves place tree (part_of written l))
 
 -- ---- the links over which leaves are written
 

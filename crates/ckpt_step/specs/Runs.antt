@@ -1,10 +1,10 @@
 -- What the writing of a checkpoint leaves, step by step.
-use Rattle.std.specs.Prelude.{◌≡◌, ◌⊎◌, ℕ, ◌*◌, ◌/◌, ◌≤◌, false, List, length, Option, Some, Result, Ok, Err}
-use Rattle.disk_model.specs.Crash.{Each, LeavesOnly}
+use Rattle.std.specs.Prelude.{◌≡◌, ◌⊎◌, ℕ, ◌*◌, ◌/◌, ◌≤◌, false, List, [], length, Option, Some, Result, Ok, Err}
+use Rattle.disk_model.specs.Crash.{Each, Keeps, LeavesOnly}
 use Rattle.disk_model.specs.declared.disk.Disk.{Ghosts}
 use Rattle.extent_list.specs.Space.{end_of}
 use Rattle.block_mgr.specs.declared.cell.Cell.{Cell}
-use Rattle.block_mgr.specs.Blocks.{Books}
+use Rattle.block_mgr.specs.Blocks.{Books, Has}
 use Rattle.block_mgr.specs.Cells.{AreUnits, cell_at}
 use Rattle.device_layout.specs.declared.addr.Addr.{Addr}
 use Rattle.device_layout.specs.Slots.{slot_at}
@@ -27,12 +27,13 @@ use Rattle.tree_write.specs.Captures.{IsSafe}
 use Rattle.engine_world.specs.Stands.{Engine}
 use Rattle.engine_world.specs.Systems.{with_fault}
 use Rattle.ckpt_step.specs.Checkpoints.{IsCheckpointOf, IsRecordOf}
-use Rattle.ckpt_step.specs.Floors.{Follows, FollowsFrom, Respects}
+use Rattle.ckpt_step.specs.Floors.{AreLivesOn, Follows, FollowsFrom, Respects}
 use Rattle.ckpt_step.specs.Parts.{AreOfLeaves, with_parts}
 use Rattle.ckpt_step.specs.Rooms.{Written, known_in}
 use Rattle.tree_dir.specs.declared.leaf.Leaf.{Leaf}
 use Rattle.call_steps.specs.declared.hub.Hub.{Hub}
 use Rattle.engine_world.specs.Worlds.{World}
+use Rattle.ckpt_step.specs.declared.lives.Lone.{Lone}
 use Rattle.ckpt_step.specs.declared.parts.LeafPart.{LeafPart}
 use Rattle.ckpt_step.specs.Grounds.{StandsOn, number_of}
 use Rattle.ckpt_step.specs.Halves.{AreListed, AreOwn, ByLeaves, IsFresh, Runs, done_at, half_cell}
@@ -54,19 +55,19 @@ abbrev pub made_of : Record → List Table → List TableTree → Addr → Store
 made_of r known trees a = bare_stored (slot_at r.sequence a) r (trees_by_name known trees)
 
 -- The checkpoint of these trees is the last completed one, and those of the checkpoint before are still in the live tree. half: the cells as the record was written.
-pub record IsDone (seen : List ℕ) (books : Books) (old : Option Stored) (known : List Table) (places : List TreePlace) (trees : List TableTree) (captured : List Addr) (r : Record) (a : Addr) : Type 0 where
+pub record IsDone (seen : List ℕ) (books : Books) (old : Option Stored) (lives : List Lone) (known : List Table) (places : List TreePlace) (trees : List TableTree) (captured : List Addr) (r : Record) (a : Addr) : Type 0 where
   pub on : IsOn seen (made_of r known trees a)
   pub tables : r.tables ≡ roots_by_name known (roots_of places)
   pub bytes : List ℕ
   pub there : AreTreesAt bytes places trees
   pub half : List Cell
-  pub half_are : (u : ℕ) → cell_at half u ≡ half_cell old captured u
+  pub half_are : (u : ℕ) → cell_at half u ≡ half_cell old lives captured u
   pub half_use : AreInUse half (trees_blocks places trees)
   pub listed : AreListed captured places
-  pub own : AreOwn old captured
-  pub fresh : IsFresh old captured a
+  pub own : AreOwn old lives captured
+  pub fresh : IsFresh old lives captured a
   pub sized : a.size ≡ 4096 * (a.size / 4096)
-  pub cells : (u : ℕ) → cell_at books.cells u ≡ done_at old captured a u
+  pub cells : (u : ℕ) → cell_at books.cells u ≡ done_at old lives captured a u
   pub units : AreUnits books.cells books.space
   pub idle : books.is_held ≡ false
   pub within : end_of books.space ≤ length seen
@@ -77,7 +78,7 @@ module _ {D : Type 0} (g : Ghosts D) (old : Option Stored) (m : Machine) (before
   LeavesOne = LeavesOnly g before after (IsOld (g.may_leave before) old) ⊎ ((new : Stored) × IsCheckpointOf m (number_of old) new × LeavesOnly g before after (IsEither (g.may_leave before) old new))
 
 -- had: what the checkpoint before has of the leaves of the directory; more: the leaves that are written now
-module _ {D : Type 0} (g : Ghosts D) (old : Option Stored) (w : World) (known : List Table) (leaves : List Leaf) (had : Written) (books books' : Books) (places : List TreePlace) (more : List LeafPart) (captured : List Addr) (before after : D) where
+module _ {D : Type 0} (g : Ghosts D) (old : Option Stored) (lives : List Lone) (w : World) (known : List Table) (leaves : List Leaf) (had : Written) (books books' : Books) (places : List TreePlace) (more : List LeafPart) (captured : List Addr) (before after : D) where
   -- all blocks are written, and the record is installed
   pub record AllPut (a : Addr) : Type 0 where
     pub r : Record
@@ -88,14 +89,15 @@ module _ {D : Type 0} (g : Ghosts D) (old : Option Stored) (w : World) (known : 
     pub placed : HasPlaces (g.seen before) (g.capacity before) old leaves had w.machine books.space known
     pub by_leaves : ByLeaves (g.seen before) known leaves had w.shelf places trees (with_parts had more)
     pub of_leaves : AreOfLeaves leaves more
-    pub done : IsDone (g.seen after) books' old known places trees captured r a
-    pub follows : (floor : Name) → Respects w.machine floor → FollowsFrom (Some (made_of r known trees a)) known leaves (with_parts had more) places floor w
+    pub done : IsDone (g.seen after) books' old lives known places trees captured r a
+    pub follows : (floor : Name) → Respects w.machine floor → FollowsFrom (Some (made_of r known trees a)) known [] leaves (with_parts had more) places floor w
 
   -- they are not
   pub record SomePut (e : StoreError) : Type 0 where
     pub left : LeavesOne g old w.machine before after
     pub kept : IsSafe e → LeavesOnly g before after (IsOld (g.may_leave before) old)
-    pub runs : IsSafe e → Runs (g.seen after) (g.may_leave after) books' old captured
+    pub keeps : IsSafe e → Keeps (Has books.cells) (g.seen before) (g.seen after)
+    pub runs : IsSafe e → Runs (g.seen after) (g.may_leave after) books' old lives captured
     pub lacks : e ≡ NoSpace → LacksPlace (g.seen before) (g.capacity before) old leaves had w.machine books.space known
 
   abbrev pub Puts : Result Addr StoreError → Type 0
@@ -111,7 +113,8 @@ module _ {D : Type 0} (g : Ghosts D) (old : Option Stored) (w : World) (hub : Hu
     pub each : Each (g.may_leave after) (λ c. IsOn c new)
     pub on : StandsOn (g.seen after) (g.may_leave after) hub stand' (Some new)
     pub follows : Follows (Some new) hub stand' w
-    pub had_room : HasRoomFor (g.seen before) (g.capacity before) hub.dir.leaves (known_in stand.parts) w.machine
+    pub none : stand'.lives ≡ []
+    pub had_room : HasRoomFor (g.seen before) (g.capacity before) stand.lives hub.dir.leaves (known_in stand.parts) w.machine
     pub kept : KeepsLeaves (g.seen before) hub.tables.tables hub.dir.leaves (known_in stand.parts) new stand'.trees.items (known_in stand'.parts)
 
   -- the one before does
@@ -120,7 +123,8 @@ module _ {D : Type 0} (g : Ghosts D) (old : Option Stored) (w : World) (hub : Hu
     pub kept : IsSafe e → LeavesOnly g before after (IsOld (g.may_leave before) old)
     pub on : IsSafe e → StandsOn (g.seen after) (g.may_leave after) hub stand' old
     pub follows : Follows old hub stand' w
-    pub full : e ≡ NoSpace → IsFullFor (g.seen before) (g.capacity before) hub.dir.leaves (known_in stand.parts) w.machine
+    pub since : IsSafe e → AreLivesOn (g.seen after) hub stand' w
+    pub full : e ≡ NoSpace → IsFullFor (g.seen before) (g.capacity before) stand.lives hub.dir.leaves (known_in stand.parts) w.machine
 
   abbrev pub Wrote : Result (Unit {0}) StoreError → Type 0
   Wrote (Ok done) = NewStands

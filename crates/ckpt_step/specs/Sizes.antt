@@ -25,8 +25,10 @@ use Rattle.tree_write.specs.Writes.{KeepSame}
 use Rattle.ckpt_step.specs.Checkpoints.{IsRecordOf, IsRowsOf}
 use Rattle.ckpt_step.specs.Floors.{AreNewestIn}
 use Rattle.ckpt_step.specs.Grounds.{number_of}
+use Rattle.ckpt_step.specs.Lives.{lone_blocks}
 use Rattle.ckpt_step.specs.Parts.{ArePartedBy, links_over, part_leaves, part_of}
 use Rattle.ckpt_step.specs.Rooms.{Written}
+use Rattle.ckpt_step.specs.declared.lives.Lone.{Lone}
 use Rattle.ckpt_step.specs.Trees.{HasTreeAt, IsPair}
 
 -- By leaf of the directory, an image that the checkpoint before has at the same place in the leaf, with the same rows, stands where it did. places, written: where the trees of the new checkpoint stand, and their parts.
@@ -106,18 +108,18 @@ pub record IsFreeSpace (bytes : List ℕ) (blocks : List Block) (space : Space) 
   pub free : (b : ℕ) → IsFree space b → (8192 ≤ b) × (b < space_end space) × (InBlocks blocks b → ⊥)
   pub rest : (b : ℕ) → 8192 ≤ b → b < space_end space → (InBlocks blocks b → ⊥) → IsFree space b
 
--- The device has no room for the next checkpoint of an engine with these leaves. The trees are written in the order in which their tables were made, each from its leaves up, and then the record.
-pub record IsFullFor (bytes : List ℕ) (capacity : ℕ) (leaves : List Leaf) (written : Written) (m : Machine) : Type 0 where
+-- The device has no room for the next checkpoint of an engine with these leaves, of which some were written since the last one. The trees are written in the order in which their tables were made, each from its leaves up, and then the record.
+pub record IsFullFor (bytes : List ℕ) (capacity : ℕ) (lives : List Lone) (leaves : List Leaf) (written : Written) (m : Machine) : Type 0 where
   pub old : Option Stored
   pub has : HasStill old bytes
   pub space : Space
-  pub space_is : IsFreeSpace bytes (blocks_of old) space
+  pub space_is : IsFreeSpace bytes (blocks_of old ++ lone_blocks lives) space
   pub none : LacksPlace bytes capacity old leaves written m space (reverse (tables m.history))
 
 -- it had room
-pub record HasRoomFor (bytes : List ℕ) (capacity : ℕ) (leaves : List Leaf) (written : Written) (m : Machine) : Type 0 where
+pub record HasRoomFor (bytes : List ℕ) (capacity : ℕ) (lives : List Lone) (leaves : List Leaf) (written : Written) (m : Machine) : Type 0 where
   pub old : Option Stored
   pub has : HasStill old bytes
   pub space : Space
-  pub space_is : IsFreeSpace bytes (blocks_of old) space
+  pub space_is : IsFreeSpace bytes (blocks_of old ++ lone_blocks lives) space
   pub some : HasPlaces bytes capacity old leaves written m space (reverse (tables m.history))

@@ -1,5 +1,5 @@
 -- What a checkpoint answers, and what it leaves.
-use Rattle.std.specs.Prelude.{◌≡◌, ◌⊎◌, ℕ, List, Option, Some, Result, Ok, Err}
+use Rattle.std.specs.Prelude.{◌≡◌, ◌⊎◌, ℕ, List, [], Option, Some, Result, Ok, Err}
 use Rattle.failure.specs.Counts.{Rose}
 use Rattle.failure.specs.declared.Fault.{Fault}
 use Rattle.disk_model.specs.Crash.{Each, LeavesOnly}
@@ -17,7 +17,8 @@ use Rattle.engine_world.specs.Worlds.{World}
 use Rattle.engine.specs.Checkpoints.{MayStart}
 use Rattle.ckpt_step.specs.declared.ground.Ground.{Ground}
 use Rattle.ckpt_step.specs.Checkpoints.{IsCheckpointOf}
-use Rattle.ckpt_step.specs.Floors.{Follows}
+use Rattle.ckpt_step.specs.Floors.{AreLivesOn, Follows}
+use Rattle.ckpt_step.specs.declared.lives.Lone.{Lone}
 use Rattle.ckpt_step.specs.Rooms.{Written, known_in}
 use Rattle.tree_dir.specs.declared.leaf.Leaf.{Leaf}
 use Rattle.ckpt_step.specs.Grounds.{StandsOn, number_of}
@@ -28,12 +29,12 @@ abbrev pub IsBarred : Machine → ℕ → Refusal → Type 0
 IsBarred m number r = MayStart m number (Err r)
 
 -- why none was taken, with the engine up; fault: the disk's count of faults rose
-abbrev pub WhyNot : (fault : Type 0) → List ℕ → ℕ → List Leaf → Written → Machine → ℕ → Refusal → Type 0
-WhyNot fault bytes capacity leaves written m number r =
+abbrev pub WhyNot : (fault : Type 0) → List ℕ → ℕ → List Lone → List Leaf → Written → Machine → ℕ → Refusal → Type 0
+WhyNot fault bytes capacity lives leaves written m number r =
     IsBarred m number r
     ⊎ ((r ≡ NoMemory)
     ⊎ (MayStart m number (Ok tt)
-    × (((r ≡ NoSpace) × IsFullFor bytes capacity leaves written m) ⊎ ((r ≡ DiskFault) × fault))))
+    × (((r ≡ NoSpace) × IsFullFor bytes capacity lives leaves written m) ⊎ ((r ≡ DiskFault) × fault))))
 
 module _ {D : Type 0} (g : Ghosts D) (old : Option Stored) (w : World) (stand stand' : Ground) (e e' : Engine) (before after : D) where
   -- the checkpoint is the last completed one now, and nothing changes of the engine
@@ -44,7 +45,8 @@ module _ {D : Type 0} (g : Ghosts D) (old : Option Stored) (w : World) (stand st
     pub each : Each (g.may_leave after) (λ c. IsOn c new)
     pub on : StandsOn (g.seen after) (g.may_leave after) e.hub stand' (Some new)
     pub follows : Follows (Some new) e.hub stand' (record w { machine = checkpointed w.machine })
-    pub had_room : HasRoomFor (g.seen before) (g.capacity before) e.hub.dir.leaves (known_in stand.parts) w.machine
+    pub none : stand'.lives ≡ []
+    pub had_room : HasRoomFor (g.seen before) (g.capacity before) stand.lives e.hub.dir.leaves (known_in stand.parts) w.machine
     pub kept : KeepsLeaves (g.seen before) e.hub.tables.tables e.hub.dir.leaves (known_in stand.parts) new stand'.trees.items (known_in stand'.parts)
     pub may : MayStart w.machine (number_of old) (Ok tt)
     pub same : e' ≡ e
@@ -52,10 +54,11 @@ module _ {D : Type 0} (g : Ghosts D) (old : Option Stored) (w : World) (stand st
 
   -- the checkpoint before stands, and nothing changes of the engine
   pub record NotTaken (r : Refusal) : Type 0 where
-    pub why : WhyNot (Rose (g.faults before) (g.faults after)) (g.seen before) (g.capacity before) e.hub.dir.leaves (known_in stand.parts) w.machine (number_of old) r
+    pub why : WhyNot (Rose (g.faults before) (g.faults after)) (g.seen before) (g.capacity before) stand.lives e.hub.dir.leaves (known_in stand.parts) w.machine (number_of old) r
     pub leaves : LeavesOnly g before after (IsOld (g.may_leave before) old)
     pub on : StandsOn (g.seen after) (g.may_leave after) e.hub stand' old
     pub follows : Follows old e.hub stand' w
+    pub since : AreLivesOn (g.seen after) e.hub stand' w
     pub same : e' ≡ e
 
   -- a write or sync failed, and the engine is down; the device has the checkpoint before, or at a fault of its gate the new one

@@ -1,4 +1,5 @@
 // What a checkpoint stands on.
+use crate::lives::Lives;
 use crate::parts::Parts;
 use stamp::Name;
 use tree_open::TreePlace;
@@ -10,6 +11,8 @@ pub(crate) struct Before<'a> {
     pub trees: &'a [TreePlace],
     // By id: the entries of the leaves that this engine wrote.
     pub parts: &'a Parts,
+    // The leaves that were written since.
+    pub lives: &'a Lives,
     // Each name before it had ended.
     pub floor: Name,
 }

@@ -1,5 +1,5 @@
 // What the checkpoint before has of leaves, and which of them have still the same rows.
-ghost use Rattle.std.specs.Prelude.{◌≡◌, ℕ, List, Option, Some, length, option_map, slice_get, true, IfNone, IfSome, IsTrue, MatchOption};
+ghost use Rattle.std.specs.Prelude.{◌≡◌, ℕ, List, Option, Some, length, option_map, slice_get, true, false, IfNone, IfSome, IsTrue, MatchOption};
 ghost use Rattle.std.specs.List.{Contains};
 ghost use Rattle.kv_model.specs.History.{Table};
 ghost use Rattle.leaf_rows.specs.Rows.{AreFit};
@@ -21,6 +21,7 @@ ghost use Rattle.engine_world.specs.Worlds.{World};
 ghost use Rattle.ckpt_step.specs.Floors.{FollowsFrom, IsStill};
 ghost use Rattle.ckpt_step.specs.Rooms.{known_in};
 ghost use Rattle.ckpt_step.specs.Goings.{HasPartsAt};
+ghost use Rattle.ckpt_step.specs.Lives.{is_live};
 ghost use Rattle.ckpt_step.specs.Parts.{AreBelowFloor, own_part, part_in};
 ghost use Rattle.ckpt_step.specs.Steps.{IsKept, IsLoaded, IsStepOf, IsUnloaded};
 
@@ -37,7 +38,8 @@ use std::slice::from_ref;
 use tree_dir::Leaf;
 use tree_open::TreePlace;
 
-// What a checkpoint does with a leaf, of which the one before has these entries.
+// What a checkpoint does with a leaf, of which the one before has these entries, or to which it was
+// written since.
 #[derive(Clone, Copy)]
 pub(crate) enum LeafStep<'a> {
     // It keeps them: the leaf has still the same rows, or is in no frame.
@@ -59,12 +61,12 @@ pub(crate) fn floor_of(snapshot: &Snapshot) -> Name
     }
 }
 
-// Where the tree of the table at a place stands in the checkpoint before, if it keeps each leaf of the
-// table. `O(n)` in the leaves of the table.
+// Where the tree of the table at a place stands in the checkpoint before, if each leaf of the table is
+// kept, and none was written since. `O(n log m)` in the leaves of the table and those written.
 pub(crate) fn clean_tree<'a>(engine: &Local, place: u32, was: Before<'a>) -> Option<&'a TreePlace>
     ensures at { IfSome result (λ p. slice_get was.entry.trees.now place ≡ Some p.now) }
     ensures still { (w : World) (s : Sight) → Stands engine.now w → NoneResolves w.machine → SeesCommitted w.machine (length w.machine.history) s → (t : Table) → slice_get engine.now.hub.tables.tables place ≡ Some t
-        → (old : Option Stored) (bytes : List ℕ) → HasStill old bytes → LeadApart (leaves_at was.entry.trees.now place) → HasPartsAt old engine.now.hub.dir.leaves (known_in was.entry.parts.now) was.entry.trees.now t place → FollowsFrom old engine.now.hub.tables.tables engine.now.hub.dir.leaves (known_in was.entry.parts.now) was.entry.trees.now was.entry.floor w → IfSome result (λ p. IsStill old engine.now.hub.dir.leaves (known_in was.entry.parts.now) w.machine t p.now) }
+        → (old : Option Stored) (bytes : List ℕ) → HasStill old bytes → LeadApart (leaves_at was.entry.trees.now place) → HasPartsAt old was.entry.lives.now engine.now.hub.dir.leaves (known_in was.entry.parts.now) was.entry.trees.now t place → FollowsFrom old engine.now.hub.tables.tables was.entry.lives.now engine.now.hub.dir.leaves (known_in was.entry.parts.now) was.entry.trees.now was.entry.floor w → IfSome result (λ p. IsStill old was.entry.lives.now engine.now.hub.dir.leaves (known_in was.entry.parts.now) w.machine t p.now) }
 {
     captures_are_newest();
     let tree = was.trees.get(place as usize)?;
@@ -76,12 +78,15 @@ pub(crate) fn clean_tree<'a>(engine: &Local, place: u32, was: Before<'a>) -> Opt
     }
 }
 
-// Whether a checkpoint keeps each leaf of the table of this number.
+// Whether a checkpoint keeps each leaf of the table of this number, and none was written since.
 fn keeps_all(engine: &Local, table: u32, was: Before<'_>) -> bool
-    ensures { IsTrue result → (l : ALeaf) → Contains (leaves_of table engine.now.hub.dir.leaves) l → IsKept engine.now (known_in was.entry.parts.now) was.entry.floor l }
+    ensures { IsTrue result → (l : ALeaf) → Contains (leaves_of table engine.now.hub.dir.leaves) l → (is_live was.entry.lives.now l ≡ false) × IsKept engine.now (known_in was.entry.parts.now) was.entry.floor l }
 {
     let mut leaves = engine.leaves().leaves_of(table);
     while let Some(leaf) = leaves.next_leaf() {
+        if was.lives.is_live(leaf) {
+            return false;
+        }
         if let LeafStep::Write(_, _) = step_of(engine, leaf, was) {
             return false;
         }
@@ -109,8 +114,8 @@ pub(crate) fn step_of<'a>(engine: &'a Local, leaf: &'a Leaf, was: Before<'a>) ->
     }
 }
 
-// The entries that the checkpoint before has of a leaf; none where nothing was ever written of it, or
-// no rows.
+// The entries that the checkpoint before has of a leaf, or the one to which it was written since; none
+// where nothing was ever written of it, or no rows.
 pub(crate) fn part_of<'a>(parts: &'a Parts, leaf: &'a Leaf) -> Option<&'a [Entry]>
     ensures { option_map (λ es. es.now) result ≡ part_in (known_in parts.now) leaf.now }
 {

@@ -48,7 +48,7 @@ fn low_of(leaf: &Leaf) -> &Item
 }
 
 // The entry of the leaf behind the one of this id in its table.
-fn behind(leaves: &Dir, leaf: u64) -> Option<&Entry>
+pub(crate) fn behind(leaves: &Dir, leaf: u64) -> Option<&Entry>
     ensures { option_map (λ e. e.now) result ≡ option_map (λ l. l.entry) (leaf_behind leaf leaves.now.leaves) }
 {
     leaves.stands();

@@ -1,10 +1,12 @@
 // On what the next checkpoint of an engine stands.
+use crate::lives::Lives;
 use crate::parts::Parts;
 use device_leaf::Place;
 use stamp::Name;
 use tree_open::TreePlace;
 
-/// Where the last completed checkpoint of an engine's device stands, and its trees.
+/// Where the last completed checkpoint of an engine's device stands, its trees, and what was written
+/// since.
 #[derive(Drop)]
 pub struct Ground {
     /// Its slot, and the blocks in use.
@@ -17,6 +19,8 @@ pub struct Ground {
     /// The entries that this checkpoint has of leaves, by their ids. Of a leaf without any here it has
     /// the one to which the leaf's entry in the directory leads, or nothing where that has no rows.
     pub parts: Parts,
+    /// The leaves that were written since, each as one block.
+    pub lives: Lives,
     /// Each name before it had ended at the last checkpoint that this engine took. No name is before
     /// run 0 and id 0, with which an engine begins.
     pub floor: Name,

@@ -27,9 +27,10 @@ ghost use Rattle.engine_world.specs.Stands.{Stands};
 ghost use Rattle.engine_world.specs.Worlds.{World};
 ghost use Rattle.frame_capture.specs.Capture.{IsCaptured};
 ghost use Rattle.ckpt_step.specs.Drafting.{Drafting, Drafts, WritesLeaf};
-ghost use Rattle.ckpt_step.specs.Floors.{FollowsFrom};
+ghost use Rattle.ckpt_step.specs.Floors.{AreOnDevice, FollowsFrom};
 ghost use Rattle.ckpt_step.specs.Rooms.{known_in};
 ghost use Rattle.ckpt_step.specs.Goings.{HasPartsAt, MayGo};
+ghost use Rattle.ckpt_step.specs.Lives.{live_addrs};
 ghost use Rattle.ckpt_step.specs.declared.parts.LeafPart.{LeafPart as APart};
 
 use crate::before::Before;
@@ -71,8 +72,8 @@ pub(crate) fn take_leaves<D: Disk>(
     requires empty { draft.old ≡ [] }
     requires ready { IsTrue (D.honest disk.old) → end_of blocks.old.space ≤ length (D.seen disk.old) }
     ensures drafts { IsTrue (D.honest disk.old) → (w : World) → Stands engine.now w → NoneResolves w.machine → SeesCommitted w.machine (length w.machine.history) snapshot.now.sight → (i : ℕ) (t : Table) → slice_get engine.now.hub.tables.tables i ≡ Some t → t.number ≡ table
-        → (old : Option Stored) (first : Books) → MayGo (D.seen disk.old) (D.may_leave disk.old) first blocks.old old was.entry.trees.now i → HasPartsAt old engine.now.hub.dir.leaves (known_in was.entry.parts.now) was.entry.trees.now t i
-        → FollowsFrom old engine.now.hub.tables.tables engine.now.hub.dir.leaves (known_in was.entry.parts.now) was.entry.trees.now was.entry.floor w
+        → (old : Option Stored) (first : Books) → MayGo (D.seen disk.old) (D.may_leave disk.old) first blocks.old old was.entry.trees.now (live_addrs was.entry.lives.now (leaves_of t.number engine.now.hub.dir.leaves)) i → HasPartsAt old was.entry.lives.now engine.now.hub.dir.leaves (known_in was.entry.parts.now) was.entry.trees.now t i
+        → FollowsFrom old engine.now.hub.tables.tables was.entry.lives.now engine.now.hub.dir.leaves (known_in was.entry.parts.now) was.entry.trees.now was.entry.floor w → AreOnDevice (D.seen disk.old) was.entry.lives.now engine.now.hub.dir.leaves w.shelf
         → Drafts D.Disk old first engine.now.hub.dir.leaves (known_in was.entry.parts.now) w table blocks.old blocks.new taken.old.parts.items taken.new.parts.items taken.old.captured.items taken.new.captured.items disk.old disk.new (leaves_of table engine.now.hub.dir.leaves) draft.new result }
     ensures trees { taken.new.trees ≡ taken.old.trees }
     ensures ready { IsTrue (D.honest disk.old) → OnOk result (end_of blocks.new.space ≤ length (D.seen disk.new)) }
@@ -90,7 +91,7 @@ pub(crate) fn take_leaves<D: Disk>(
 }
 
 // Captures a leaf of the directory behind those of its table that are captured: as it stands in the
-// checkpoint before, where it is in no frame or clean, or else its rows.
+// checkpoint before, or as it was written since, where it is in no frame or clean, or else its rows.
 fn take_leaf<D: Disk>(
     alloc: Global,
     disk: &mut D,
@@ -106,8 +107,8 @@ fn take_leaf<D: Disk>(
     requires there { Contains engine.now.hub.dir.leaves leaf.now }
     requires ready { IsTrue (D.honest disk.old) → end_of blocks.old.space ≤ length (D.seen disk.old) }
     ensures drafts { IsTrue (D.honest disk.old) → (w : World) → Stands engine.now w → NoneResolves w.machine → SeesCommitted w.machine (length w.machine.history) snapshot.now.sight → (i : ℕ) (t : Table) → slice_get engine.now.hub.tables.tables i ≡ Some t → leaf.now.table ≡ t.number
-        → (old : Option Stored) (first books : Books) (before : D) (more : List APart) (captured : List AnAddr) (front rest : List ALeaf) → MayGo (D.seen before) (D.may_leave before) first books old was.entry.trees.now i → HasPartsAt old engine.now.hub.dir.leaves (known_in was.entry.parts.now) was.entry.trees.now t i
-        → FollowsFrom old engine.now.hub.tables.tables engine.now.hub.dir.leaves (known_in was.entry.parts.now) was.entry.trees.now was.entry.floor w → leaves_of t.number engine.now.hub.dir.leaves ≡ front ++ leaf.now ∷ rest
+        → (old : Option Stored) (first books : Books) (before : D) (more : List APart) (captured : List AnAddr) (front rest : List ALeaf) → MayGo (D.seen before) (D.may_leave before) first books old was.entry.trees.now (live_addrs was.entry.lives.now (leaves_of t.number engine.now.hub.dir.leaves)) i → HasPartsAt old was.entry.lives.now engine.now.hub.dir.leaves (known_in was.entry.parts.now) was.entry.trees.now t i
+        → FollowsFrom old engine.now.hub.tables.tables was.entry.lives.now engine.now.hub.dir.leaves (known_in was.entry.parts.now) was.entry.trees.now was.entry.floor w → AreOnDevice (D.seen before) was.entry.lives.now engine.now.hub.dir.leaves w.shelf → leaves_of t.number engine.now.hub.dir.leaves ≡ front ++ leaf.now ∷ rest
         → Drafting D.Disk old first engine.now.hub.dir.leaves (known_in was.entry.parts.now) w t.number books blocks.old more taken.old.parts.items captured taken.old.captured.items before disk.old front draft.old
         → Drafts D.Disk old first engine.now.hub.dir.leaves (known_in was.entry.parts.now) w t.number books blocks.new more taken.new.parts.items captured taken.new.captured.items before disk.new (front ++ leaf.now ∷ []) draft.new result }
     ensures trees { taken.new.trees ≡ taken.old.trees }
@@ -136,8 +137,7 @@ fn take_leaf<D: Disk>(
     }
 }
 
-// Captures a leaf as it stands in the checkpoint before, which has these entries of it. The error is
-// want of memory.
+// Captures a leaf as it stands, with these entries. The error is want of memory.
 fn keep_leaf(
     alloc: Global,
     blocks: &mut Blocks,
@@ -164,8 +164,7 @@ fn keep_leaf(
     draft.keep(blocks, part, &mut taken.captured)
 }
 
-// Writes and captures the rows of a leaf that is in this frame, over these entries of the checkpoint
-// before.
+// Writes and captures the rows of a leaf that is in this frame, over these entries of it.
 fn write_leaf<D: Disk>(
     alloc: Global,
     disk: &mut D,
@@ -231,7 +230,11 @@ fn note_part(
 
 // The images of a leaf in memory: of each key the newest version that the snapshot sees. Everything
 // is past, so nothing moves to a history.
-fn images_of(alloc: Global, leaf: &LeafFrame, snapshot: &Snapshot) -> Result<Vec<Image>, NoMemory>
+pub(crate) fn images_of(
+    alloc: Global,
+    leaf: &LeafFrame,
+    snapshot: &Snapshot,
+) -> Result<Vec<Image>, NoMemory>
     requires fit { ChainsFit leaf.now.chains }
     ensures { IfOk result (λ images. (rows : List Row) × IsCaptured snapshot.now.sight leaf.now rows × AreImages images.items rows) }
 {
@@ -246,7 +249,7 @@ fn images_of(alloc: Global, leaf: &LeafFrame, snapshot: &Snapshot) -> Result<Vec
 }
 
 // Whether the rows of these images stand from this key on, as those of each leaf do from its low key.
-fn stand_from(images: &[Image], low: &Item) -> bool
+pub(crate) fn stand_from(images: &[Image], low: &Item) -> bool
     ensures { (rows : List Row) → AreImages images.now rows → AreFit rows → IsTrue result → AreFrom low.now rows }
 {
     match images.first() {
@@ -334,7 +337,7 @@ pub(crate) fn is_above(entry: &Entry, last: Option<&Entry>) -> bool
 
 // Whether a part from this key on may stand behind these entries: the key is not too long, and above
 // theirs.
-fn may_begin_behind(entries: &[Entry], low: &Item) -> bool
+pub(crate) fn may_begin_behind(entries: &[Entry], low: &Item) -> bool
     requires climbs { Climbs entries.now }
     ensures short { IsTrue result → length low.now ≤ key_most }
     ensures above { IsTrue result → AreBelow low.now entries.now }
@@ -348,7 +351,7 @@ fn may_begin_behind(entries: &[Entry], low: &Item) -> bool
     }
 }
 
-fn is_below(key: &Item, other: &Item) -> bool
+pub(crate) fn is_below(key: &Item, other: &Item) -> bool
     ensures { result ≡ is_below key.now other.now }
 {
     order(key.as_bytes(), other.as_bytes()).is_lt()

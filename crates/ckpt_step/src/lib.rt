@@ -1,12 +1,13 @@
 //! A checkpoint in one event: of each table the tree of its rows, the record, and the slot.
 //!
 //! Stands for the last completed checkpoint of the engine's device (`Ground`): its blocks, its
-//! number, and where its trees stand. Promises that a checkpoint keeps of each table the newest
-//! version of each key, that at each moment the device has the checkpoint before or the new one,
-//! whole, and that what is refused gives back what it wrote; and that the new one opens as the
-//! checkpoint that the machine takes (`checkpoints_open`). Says what may take the place of a leaf that
-//! leaves memory, and that the next checkpoint stands then as before. Leaves to the caller to open the
-//! device, when a checkpoint may come, and which leaves leave.
+//! number, and where its trees stand, beside the blocks of leaves that were written since. Promises
+//! that a checkpoint keeps of each table the newest version of each key, that at each moment the device
+//! has the checkpoint before or the new one, whole, and that what is refused gives back what it wrote;
+//! and that the new one opens as the checkpoint that the machine takes (`checkpoints_open`). Says what
+//! may take the place of a leaf that leaves memory, and that the next checkpoint stands then as before;
+//! and writes out a leaf that changed, so that the next checkpoint keeps its blocks. Leaves to the
+//! caller to open the device, when a checkpoint may come, and which leaves leave.
 #![tactic(auto)]
 
 mod before;
@@ -16,6 +17,7 @@ mod giving;
 mod ground;
 mod laws;
 mod leaves;
+mod lives;
 mod parts;
 mod record;
 mod roots;
@@ -23,6 +25,7 @@ mod taken;
 mod taking;
 mod trees;
 mod writing;
+mod writing_out;
 
 pub use giving::entries_in_place;
 pub use ground::Ground;
@@ -30,5 +33,7 @@ pub use laws::{
     calm_stays, checkpoints_are_kept, checkpoints_have_newest, checkpoints_open, grounds_give_way,
     grounds_let_go, grounds_stay, plain_stays,
 };
+pub use lives::{Lives, Lone};
 pub use parts::Parts;
 pub use taking::checkpoint;
+pub use writing_out::write_out;

@@ -1,12 +1,12 @@
 // A checkpoint in one event.
-ghost use Rattle.std.specs.Prelude.{◌≡◌, ◌⊎◌, ◌≤◌, ◌+◌, Option, Some, Err, length, None, IfErr, OnOk, IsTrue};
+ghost use Rattle.std.specs.Prelude.{◌≡◌, ◌⊎◌, ◌≤◌, ◌+◌, Option, Some, Err, length, None, IfErr, OnErr, OnOk, IsTrue};
 ghost use Rattle.failure.specs.Counts.{Rose};
 ghost use Rattle.failure.specs.declared.Fault.{Fault as AFault};
 ghost use Rattle.disk_model.specs.Crash.{SameDisk};
 ghost use Rattle.stored.specs.Stored.{Stored};
 ghost use Rattle.engine_world.specs.Stands.{Stands};
 ghost use Rattle.engine_world.specs.Worlds.{World};
-ghost use Rattle.ckpt_step.specs.Floors.{Follows};
+ghost use Rattle.ckpt_step.specs.Floors.{AreLivesOn, Follows};
 ghost use Rattle.ckpt_step.specs.Grounds.{StandsOn};
 ghost use Rattle.engine_world.specs.Systems.{checkpointed, with_fault};
 ghost use Rattle.snapshot.specs.Matters.{NoneResolves};
@@ -24,8 +24,9 @@ use wt_code::{Refusal, StoreError};
 /// A checkpoint in one event: of each table the tree of the newest versions that are committed, the
 /// record, a sync, and the slot that names it. A leaf of the directory that is in no frame, or clean,
 /// so that nothing was committed to it since the last checkpoint of this engine, keeps its blocks,
-/// unread. The rows of any other are cut into images, of which one that the checkpoint before has at
-/// the same place in the leaf, with the same rows, keeps its block.
+/// unread: those of the checkpoint before, or the one to which it was written since. The rows of any
+/// other are cut into images, of which one that is there already at the same place in the leaf, with
+/// the same rows, keeps its block.
 ///
 /// After `Ok` it is the last completed one. Refused where the engine is down, a prepared
 /// transaction is being resolved or there were too many checkpoints; `28 no space` where a block has
@@ -48,13 +49,14 @@ pub fn checkpoint<D: Disk>(
     requires trees { length ground.old.trees.items ≤ length engine.old.hub.tables.tables }
     requires low { AreLow ground.old.trees.items }
     ensures takes { IsTrue (D.honest disk.old) → (w : World) → Stands engine.old w → w.machine.checkpoint ≡ None → (old : Option Stored) → StandsOn (D.seen disk.old) (D.may_leave disk.old) engine.old.hub ground.old old
-        → Follows old engine.old.hub ground.old w → Takes D.Disk old w ground.old ground.new engine.old engine.new disk.old disk.new result }
+        → Follows old engine.old.hub ground.old w → AreLivesOn (D.seen disk.old) engine.old.hub ground.old w → Takes D.Disk old w ground.old ground.new engine.old engine.new disk.old disk.new result }
     ensures down { (fault : AFault) → engine.old.hub.fault ≡ Some fault → (result ≡ Err (Refusal.Panic fault)) × (engine.new ≡ engine.old) × (ground.new ≡ ground.old) × (disk.new ≡ disk.old) }
     ensures refusals { IfErr result IsOfCheckpoint }
     ensures fault { IfErr result (λ r. r ≡ Refusal.DiskFault → Rose (D.faults disk.old) (D.faults disk.new)) }
     ensures run { ground.old.number ≤ ground.new.number }
     ensures trees { length ground.new.trees.items ≤ length engine.old.hub.tables.tables }
     ensures low { AreLow ground.new.trees.items }
+    ensures lives { OnErr result (ground.new.lives ≡ ground.old.lives) }
     ensures sessions { length engine.new.sessions ≡ length engine.old.sessions }
     ensures hub { (engine.new.hub.tables ≡ engine.old.hub.tables) × (engine.new.hub.txns ≡ engine.old.hub.txns) }
     ensures engine { (engine.new ≡ engine.old) ⊎ ((fault : AFault) × (engine.new ≡ with_fault engine.old fault)) }

@@ -13,16 +13,18 @@ ghost use Rattle.reconcile.specs.Images.{AreImages};
 ghost use Rattle.snapshot.specs.Matters.{NoneResolves, SeesCommitted};
 ghost use Rattle.stored.specs.Stored.{Stored};
 ghost use Rattle.stored.specs.TableTree.{Climbs, Entry as StoredEntry, EntryFits, first_key};
+ghost use Rattle.tree_dir.specs.Leaves.{leaves_of};
 ghost use Rattle.engine_world.specs.Stands.{Stands};
 ghost use Rattle.engine_world.specs.Worlds.{World};
 ghost use Rattle.frame_capture.specs.Capture.{IsCaptured};
 ghost use Rattle.block_mgr.specs.Blocks.{Books};
 ghost use Rattle.tree_write.specs.Keeps.{AreLive, KeepsAll};
-ghost use Rattle.ckpt_step.specs.Floors.{FollowsFrom};
+ghost use Rattle.ckpt_step.specs.Floors.{AreOnDevice, FollowsFrom};
 ghost use Rattle.ckpt_step.specs.Rooms.{known_in};
 ghost use Rattle.ckpt_step.specs.Goings.{Goes, HasPartsAt, MayGo};
-ghost use Rattle.ckpt_step.specs.Grounds.{AreRoots, AreWritten};
+ghost use Rattle.ckpt_step.specs.Grounds.{AreRoots, AreSince, AreWritten};
 ghost use Rattle.ckpt_step.specs.Halves.{Half, Writes};
+ghost use Rattle.ckpt_step.specs.Lives.{live_addrs};
 ghost use Rattle.ckpt_step.specs.Trees.{AreLow, AreTold, placed_by};
 
 use crate::before::Before;
@@ -60,9 +62,9 @@ pub(crate) fn write_trees<D: Disk>(
     requires low { AreLow was.trees.now }
     requires ready { IsTrue (D.honest disk.old) → end_of blocks.old.space ≤ length (D.seen disk.old) }
     ensures writes { IsTrue (D.honest disk.old) → (w : World) → Stands engine.now w → NoneResolves w.machine → SeesCommitted w.machine (length w.machine.history) snapshot.now.sight → (old : Option Stored)
-        → Half (D.seen disk.old) (D.may_leave disk.old) blocks.old old [] [] [] → AreRoots engine.now.hub.tables.tables engine.now.hub.dir.leaves (known_in was.entry.parts.now) was.entry.trees.now old → AreWritten engine.now.hub.tables.tables engine.now.hub.dir (known_in was.entry.parts.now) was.entry.trees.now
-        → FollowsFrom old engine.now.hub.tables.tables engine.now.hub.dir.leaves (known_in was.entry.parts.now) was.entry.trees.now was.entry.floor w
-        → Writes D.Disk old w engine.now.hub.tables.tables engine.now.hub.dir.leaves (known_in was.entry.parts.now) blocks.old blocks.new (placed_by was.entry.trees.now taken.new.trees.items) taken.new.parts.items taken.new.captured.items disk.old disk.new result }
+        → Half (D.seen disk.old) (D.may_leave disk.old) blocks.old old was.entry.lives.now [] [] [] → AreRoots engine.now.hub.tables.tables was.entry.lives.now engine.now.hub.dir.leaves (known_in was.entry.parts.now) was.entry.trees.now old → AreWritten engine.now.hub.tables.tables was.entry.lives.now engine.now.hub.dir (known_in was.entry.parts.now) was.entry.trees.now → AreSince old was.entry.lives.now engine.now.hub.dir (known_in was.entry.parts.now)
+        → FollowsFrom old engine.now.hub.tables.tables was.entry.lives.now engine.now.hub.dir.leaves (known_in was.entry.parts.now) was.entry.trees.now was.entry.floor w → AreOnDevice (D.seen disk.old) was.entry.lives.now engine.now.hub.dir.leaves w.shelf
+        → Writes D.Disk old was.entry.lives.now w engine.now.hub.tables.tables engine.now.hub.dir.leaves (known_in was.entry.parts.now) blocks.old blocks.new (placed_by was.entry.trees.now taken.new.trees.items) taken.new.parts.items taken.new.captured.items disk.old disk.new result }
     ensures ready { IsTrue (D.honest disk.old) → OnOk result (end_of blocks.new.space ≤ length (D.seen disk.new)) }
     ensures count { OnOk result (length taken.new.trees.items ≡ length engine.now.hub.tables.tables) }
     ensures told { OnOk result (AreTold was.entry.trees.now taken.new.trees.items) }
@@ -95,9 +97,9 @@ fn take_table<D: Disk>(
     requires placed { length taken.old.trees.items ≡ place }
     requires ready { IsTrue (D.honest disk.old) → end_of blocks.old.space ≤ length (D.seen disk.old) }
     ensures goes { IsTrue (D.honest disk.old) → (w : World) → Stands engine.now w → NoneResolves w.machine → SeesCommitted w.machine (length w.machine.history) snapshot.now.sight → (t : Table) → slice_get engine.now.hub.tables.tables place ≡ Some t
-        → (old : Option Stored) (first : Books) → MayGo (D.seen disk.old) (D.may_leave disk.old) first blocks.old old was.entry.trees.now place → HasPartsAt old engine.now.hub.dir.leaves (known_in was.entry.parts.now) was.entry.trees.now t place
-        → FollowsFrom old engine.now.hub.tables.tables engine.now.hub.dir.leaves (known_in was.entry.parts.now) was.entry.trees.now was.entry.floor w
-        → Goes D.Disk old first was.entry.trees.now engine.now.hub.dir.leaves (known_in was.entry.parts.now) w t place blocks.old blocks.new (placed_by was.entry.trees.now taken.old.trees.items) (placed_by was.entry.trees.now taken.new.trees.items) taken.old.parts.items taken.new.parts.items taken.old.captured.items taken.new.captured.items disk.old disk.new result }
+        → (old : Option Stored) (first : Books) → MayGo (D.seen disk.old) (D.may_leave disk.old) first blocks.old old was.entry.trees.now (live_addrs was.entry.lives.now (leaves_of t.number engine.now.hub.dir.leaves)) place → HasPartsAt old was.entry.lives.now engine.now.hub.dir.leaves (known_in was.entry.parts.now) was.entry.trees.now t place
+        → FollowsFrom old engine.now.hub.tables.tables was.entry.lives.now engine.now.hub.dir.leaves (known_in was.entry.parts.now) was.entry.trees.now was.entry.floor w → AreOnDevice (D.seen disk.old) was.entry.lives.now engine.now.hub.dir.leaves w.shelf
+        → Goes D.Disk old first was.entry.trees.now was.entry.lives.now engine.now.hub.dir.leaves (known_in was.entry.parts.now) w t place blocks.old blocks.new (placed_by was.entry.trees.now taken.old.trees.items) (placed_by was.entry.trees.now taken.new.trees.items) taken.old.parts.items taken.new.parts.items taken.old.captured.items taken.new.captured.items disk.old disk.new result }
     ensures count { OnOk result (length taken.new.trees.items ≡ length taken.old.trees.items + 1) }
     ensures told { OnOk result (AreTold was.entry.trees.now taken.new.trees.items) }
     ensures ready { IsTrue (D.honest disk.old) → OnOk result (end_of blocks.new.space ≤ length (D.seen disk.new)) }
@@ -154,9 +156,9 @@ fn write_table<D: Disk>(
     requires told { AreTold was.trees.now taken.old.trees.items }
     requires ready { IsTrue (D.honest disk.old) → end_of blocks.old.space ≤ length (D.seen disk.old) }
     ensures goes { IsTrue (D.honest disk.old) → (w : World) → Stands engine.now w → NoneResolves w.machine → SeesCommitted w.machine (length w.machine.history) snapshot.now.sight → (t : Table) → slice_get engine.now.hub.tables.tables place ≡ Some t
-        → (old : Option Stored) (first : Books) → MayGo (D.seen disk.old) (D.may_leave disk.old) first blocks.old old was.entry.trees.now place → HasPartsAt old engine.now.hub.dir.leaves (known_in was.entry.parts.now) was.entry.trees.now t place
-        → FollowsFrom old engine.now.hub.tables.tables engine.now.hub.dir.leaves (known_in was.entry.parts.now) was.entry.trees.now was.entry.floor w
-        → Goes D.Disk old first was.entry.trees.now engine.now.hub.dir.leaves (known_in was.entry.parts.now) w t place blocks.old blocks.new (placed_by was.entry.trees.now taken.old.trees.items) (placed_by was.entry.trees.now taken.new.trees.items) taken.old.parts.items taken.new.parts.items taken.old.captured.items taken.new.captured.items disk.old disk.new result }
+        → (old : Option Stored) (first : Books) → MayGo (D.seen disk.old) (D.may_leave disk.old) first blocks.old old was.entry.trees.now (live_addrs was.entry.lives.now (leaves_of t.number engine.now.hub.dir.leaves)) place → HasPartsAt old was.entry.lives.now engine.now.hub.dir.leaves (known_in was.entry.parts.now) was.entry.trees.now t place
+        → FollowsFrom old engine.now.hub.tables.tables was.entry.lives.now engine.now.hub.dir.leaves (known_in was.entry.parts.now) was.entry.trees.now was.entry.floor w → AreOnDevice (D.seen disk.old) was.entry.lives.now engine.now.hub.dir.leaves w.shelf
+        → Goes D.Disk old first was.entry.trees.now was.entry.lives.now engine.now.hub.dir.leaves (known_in was.entry.parts.now) w t place blocks.old blocks.new (placed_by was.entry.trees.now taken.old.trees.items) (placed_by was.entry.trees.now taken.new.trees.items) taken.old.parts.items taken.new.parts.items taken.old.captured.items taken.new.captured.items disk.old disk.new result }
     ensures count { OnOk result (length taken.new.trees.items ≡ length taken.old.trees.items + 1) }
     ensures told { OnOk result (AreTold was.entry.trees.now taken.new.trees.items) }
     ensures ready { IsTrue (D.honest disk.old) → OnOk result (end_of blocks.new.space ≤ length (D.seen disk.new)) }

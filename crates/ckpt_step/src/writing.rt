@@ -14,9 +14,10 @@ ghost use Rattle.kv_model.specs.Holds.{Member};
 ghost use Rattle.stored.specs.Stored.{Stored};
 ghost use Rattle.engine_world.specs.Stands.{Stands};
 ghost use Rattle.engine_world.specs.Worlds.{World};
-ghost use Rattle.ckpt_step.specs.Floors.{Follows};
-ghost use Rattle.ckpt_step.specs.Grounds.{AreRoots, AreWritten, StandsOn, number_of};
+ghost use Rattle.ckpt_step.specs.Floors.{AreLivesOn, Follows};
+ghost use Rattle.ckpt_step.specs.Grounds.{AreRoots, AreSince, AreWritten, StandsOn, number_of};
 ghost use Rattle.ckpt_step.specs.Halves.{AreOldBlocks, AreOwn, Half, IsFresh, done_at, settled_at};
+ghost use Rattle.ckpt_step.specs.Lives.{addrs_in};
 ghost use Rattle.ckpt_step.specs.Parts.{HaveRoom, with_parts};
 ghost use Rattle.ckpt_step.specs.Rooms.{known_in};
 ghost use Rattle.ckpt_step.specs.Runs.{IsImageOf, Puts, Wrote};
@@ -58,11 +59,12 @@ pub(crate) fn write<D: Disk>(
     requires trees { length ground.old.trees.items ≤ length engine.now.hub.tables.tables }
     requires low { AreLow ground.old.trees.items }
     ensures wrote { IsTrue (D.honest disk.old) → (w : World) → Stands engine.now w → NoneResolves w.machine → SeesCommitted w.machine (length w.machine.history) snapshot.now.sight → (old : Option Stored)
-        → StandsOn (D.seen disk.old) (D.may_leave disk.old) engine.now.hub ground.old old → Follows old engine.now.hub ground.old w
+        → StandsOn (D.seen disk.old) (D.may_leave disk.old) engine.now.hub ground.old old → Follows old engine.now.hub ground.old w → AreLivesOn (D.seen disk.old) engine.now.hub ground.old w
         → Wrote D.Disk old w engine.now.hub ground.old ground.new disk.old disk.new result }
     ensures number { ground.old.number ≤ ground.new.number }
     ensures trees { length ground.new.trees.items ≤ length engine.now.hub.tables.tables }
     ensures low { AreLow ground.new.trees.items }
+    ensures lives { OnErr result (ground.new.lives ≡ ground.old.lives) }
     ensures fault { IfErr result (λ e. IsOfDisk e → Rose (D.faults disk.old) (D.faults disk.new)) }
     ensures disk { SameDisk D.Disk disk.old disk.new }
 {
@@ -80,14 +82,14 @@ pub(crate) fn write<D: Disk>(
             Ok(())
         }
         Err(error) => {
-            give_up(&mut ground.place.blocks, &taken.captured);
+            give_up(&mut ground.place.blocks, &taken.captured, &ground.lives);
             Err(error)
         }
     }
 }
 
 // Whether the space of the blocks lies within the device.
-fn is_within<D: Disk>(disk: &mut D, blocks: &Blocks) -> Result<bool, StoreError>
+pub(crate) fn is_within<D: Disk>(disk: &mut D, blocks: &Blocks) -> Result<bool, StoreError>
     ensures yes { IsTrue (D.honest disk.old) → IfOk result (λ is. IsTrue is → end_of blocks.now.space ≤ length (D.seen disk.old)) }
     ensures no { IsTrue (D.honest disk.old) → IfOk result (λ is. is ≡ false → length (D.seen disk.old) < end_of blocks.now.space) }
     ensures err { IfErr result (λ e. e ≡ StoreError.Read) }
@@ -133,9 +135,9 @@ fn write_blocks<D: Disk>(
     requires unlisted { taken.old.captured.items ≡ [] }
     requires ready { IsTrue (D.honest disk.old) → end_of ground.old.place.blocks.space ≤ length (D.seen disk.old) }
     ensures puts { IsTrue (D.honest disk.old) → (w : World) → Stands engine.now w → NoneResolves w.machine → SeesCommitted w.machine (length w.machine.history) snapshot.now.sight → (old : Option Stored)
-        → Half (D.seen disk.old) (D.may_leave disk.old) ground.old.place.blocks old [] [] [] → AreRoots engine.now.hub.tables.tables engine.now.hub.dir.leaves (known_in ground.old.parts) ground.old.trees.items old → AreWritten engine.now.hub.tables.tables engine.now.hub.dir (known_in ground.old.parts) ground.old.trees.items → ground.old.number ≡ number_of old
-        → Follows old engine.now.hub ground.old w
-        → Puts D.Disk old w engine.now.hub.tables.tables engine.now.hub.dir.leaves (known_in ground.old.parts) ground.old.place.blocks ground.new.place.blocks (placed_by ground.old.trees.items taken.new.trees.items) taken.new.parts.items taken.new.captured.items disk.old disk.new result }
+        → Half (D.seen disk.old) (D.may_leave disk.old) ground.old.place.blocks old ground.old.lives [] [] [] → AreRoots engine.now.hub.tables.tables ground.old.lives engine.now.hub.dir.leaves (known_in ground.old.parts) ground.old.trees.items old → AreWritten engine.now.hub.tables.tables ground.old.lives engine.now.hub.dir (known_in ground.old.parts) ground.old.trees.items → AreSince old ground.old.lives engine.now.hub.dir (known_in ground.old.parts) → ground.old.number ≡ number_of old
+        → Follows old engine.now.hub ground.old w → AreLivesOn (D.seen disk.old) engine.now.hub ground.old w
+        → Puts D.Disk old ground.old.lives w engine.now.hub.tables.tables engine.now.hub.dir.leaves (known_in ground.old.parts) ground.old.place.blocks ground.new.place.blocks (placed_by ground.old.trees.items taken.new.trees.items) taken.new.parts.items taken.new.captured.items disk.old disk.new result }
     ensures count { OnOk result (length taken.new.trees.items ≡ length engine.now.hub.tables.tables) }
     ensures told { OnOk result (AreTold ground.old.trees.items taken.new.trees.items) }
     ensures room { OnOk result (length taken.new.trees.items ≤ vec_capacity ground.new.trees) }
@@ -145,6 +147,7 @@ fn write_blocks<D: Disk>(
     ensures number { ground.new.number ≡ ground.old.number }
     ensures trees { ground.new.trees.items ≡ ground.old.trees.items }
     ensures parts { (leaf : ℕ) → known_in ground.new.parts leaf ≡ known_in ground.old.parts leaf }
+    ensures lives { ground.new.lives ≡ ground.old.lives }
     ensures floor { ground.new.floor ≡ ground.old.floor }
     ensures fault { IfErr result (λ e. IsOfDisk e → Rose (D.faults disk.old) (D.faults disk.new)) }
     ensures disk { SameDisk D.Disk disk.old disk.new }
@@ -153,6 +156,7 @@ fn write_blocks<D: Disk>(
     let was = Before {
         trees: &ground.trees,
         parts: &ground.parts,
+        lives: &ground.lives,
         floor: ground.floor,
     };
     match write_trees(alloc, disk, blocks, was, engine, snapshot, taken) {
@@ -224,7 +228,7 @@ fn image_of(
 }
 
 // The ground is that of the checkpoint with these trees, leaves and floor, whose record stands at the
-// address.
+// address. Nothing was written since.
 fn settle(
     ground: &mut Ground,
     told: Vec<Option<TreePlace>>,
@@ -242,12 +246,18 @@ fn settle(
     ensures trees { ground.new.trees.items ≡ placed_by ground.old.trees.items told.items }
     ensures floor { ground.new.floor ≡ floor }
     ensures slot { ground.new.place.slot ≡ Some (slot_at (ground.old.number + 1) addr) }
-    ensures cells { (old : Option Stored) (captured : List AnAddr) (a : AnAddr) → AreOldBlocks old (addrs_of ground.old.trees.items) → ((x : AnAddr) → Member x (addrs_of (kept_by ground.old.trees.items told.items)) → Member x captured) → AreOwn old captured → IsFresh old captured a → ((u : ℕ) → cell_at ground.old.place.blocks.cells u ≡ done_at old captured a u) → (u : ℕ) → cell_at ground.new.place.blocks.cells u ≡ settled_at captured a u }
+    ensures lives { ground.new.lives ≡ [] }
+    ensures cells { (old : Option Stored) (captured : List AnAddr) (a : AnAddr) → AreOldBlocks old ground.old.lives (addrs_of ground.old.trees.items ++ addrs_in ground.old.lives) → ((x : AnAddr) → Member x (addrs_of (kept_by ground.old.trees.items told.items)) → Member x captured) → AreOwn old ground.old.lives captured → IsFresh old ground.old.lives captured a → ((u : ℕ) → cell_at ground.old.place.blocks.cells u ≡ done_at old ground.old.lives captured a u) → (u : ℕ) → cell_at ground.new.place.blocks.cells u ≡ settled_at captured a u }
     ensures end { end_of ground.new.place.blocks.space ≡ end_of ground.old.place.blocks.space }
     ensures units { AreUnits ground.old.place.blocks.cells ground.old.place.blocks.space → AreUnits ground.new.place.blocks.cells ground.new.place.blocks.space }
     ensures held { ground.new.place.blocks.is_held ≡ ground.old.place.blocks.is_held }
 {
-    let_go(&mut ground.place.blocks, &ground.trees, &told);
+    let_go(
+        &mut ground.place.blocks,
+        &ground.trees,
+        &told,
+        &mut ground.lives,
+    );
     put_trees(&mut ground.trees, told);
     put_parts(&mut ground.parts, written);
     ground.floor = floor;

@@ -5,7 +5,7 @@ ghost use Rattle.ckpt_step.specs.Trees.{AreLow};
 
 use block_sum::sum;
 use catalog::Catalog;
-use ckpt_step::{Ground, Parts, checkpoint};
+use ckpt_step::{Ground, Lives, Parts, checkpoint};
 use disk_model::{Call as DiskCall, Look, MemDisk};
 use engine::{Called, Local};
 use item::{Format, Formats, Item};
@@ -77,6 +77,7 @@ fn new_bench(
             number: 0,
             trees: Vec::new(alloc),
             parts: Parts::new(alloc),
+            lives: Lives::new(alloc),
             floor: Name { run: 0, id: 0 },
         },
         engine,

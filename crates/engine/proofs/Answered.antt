@@ -1,5 +1,5 @@
 -- A step of a call answers it, or the call goes on.
-use Rattle.std.proofs.Common.{◌≡◌, ◌⊎◌, ℕ, ap, List, inl, inr}
+use Rattle.std.proofs.Common.{◌≡◌, ◌⊎◌, ℕ, ap, List, inl, inr, Bool}
 use Rattle.std.specs.Prelude.{Option, Some, None}
 use Rattle.failure.specs.declared.Fault.{Fault}
 use Rattle.wt_code.specs.declared.answers.Answer.{Answer}
@@ -83,15 +83,16 @@ ends-unless : (o : Option Fault) (answer : Answer (List ℕ)) (m : Machine) (ses
 ends-unless None answer m session left made is = finishes answer left (after m (EndTransaction session)) made is
 ends-unless (Some fault) answer m session left made is = ends (answers.Refused (refusal.Panic fault)) m left made is
 
-pub ends-or-goes : (d : Doing) (m : Machine) (session : ℕ) (made : Made) → GoesOn d m session made → EndsOrGoes made
-ends-or-goes Resting m session made is = inl (answers.Refused (refusal.Invalid NoCall), ap (λ (x : Made). x.told) is, ap (λ (x : Made). x.doing) is)
-ends-or-goes (Asked call left) m session made (inl is) = goes (Asked call) left m made is
-ends-or-goes (Asked call left) m session made (inr is) = judges call m session left made is
-ends-or-goes (Placed call table left) m session made (inl is) = goes (Placed call table) left m made is
-ends-or-goes (Placed call table left) m session made (inr (inl is)) = looks-on call m is.answer is.event left made is.goes
-ends-or-goes (Placed call table left) m session made (inr (inr is)) = goes (Decided (answers.Refused refusal.NoMemory) Nothing) left m made is
-ends-or-goes (Decided answer event left) m session made (inl is) = goes (Decided answer event) left m made is
-ends-or-goes (Decided answer event left) m session made (inr (inl is)) = ends answer (after m event) left made is
-ends-or-goes (Decided answer event left) m session made (inr (inr is)) = tells-fault m.fault left m made is
-ends-or-goes (Ending answer left) m session made (inl is) = goes (Ending answer) left m made is
-ends-or-goes (Ending answer left) m session made (inr is) = ends-unless m.fault answer m session left made is
+pub ends-or-goes : (again : Bool) (d : Doing) (m : Machine) (session : ℕ) (made : Made) → GoesOn again d m session made → EndsOrGoes made
+ends-or-goes again Resting m session made is = inl (answers.Refused (refusal.Invalid NoCall), ap (λ (x : Made). x.told) is, ap (λ (x : Made). x.doing) is)
+ends-or-goes again (Asked call left) m session made (inl is) = goes (Asked call) left m made is
+ends-or-goes again (Asked call left) m session made (inr is) = judges call m session left made is
+ends-or-goes again (Placed call table left) m session made (inl is) = goes (Placed call table) left m made is
+ends-or-goes again (Placed call table left) m session made (inr (inl is)) = looks-on call m is.answer is.event left made is.goes
+ends-or-goes again (Placed call table left) m session made (inr (inr (inl is))) = goes (Decided (answers.Refused refusal.NoMemory) Nothing) left m made is
+ends-or-goes again (Placed call table left) m session made (inr (inr (inr is))) = goes (Decided (answers.Refused (refusal.Again is.1.0)) Nothing) left m made is.1.1
+ends-or-goes again (Decided answer event left) m session made (inl is) = goes (Decided answer event) left m made is
+ends-or-goes again (Decided answer event left) m session made (inr (inl is)) = ends answer (after m event) left made is
+ends-or-goes again (Decided answer event left) m session made (inr (inr is)) = tells-fault m.fault left m made is
+ends-or-goes again (Ending answer left) m session made (inl is) = goes (Ending answer) left m made is
+ends-or-goes again (Ending answer left) m session made (inr is) = ends-unless m.fault answer m session left made is

@@ -1,5 +1,5 @@
 -- An engine on what a device holds.
-use Rattle.std.proofs.Common.{◌≡◌, ◌+◌, ◌^◌, ◌<◌, ◌≤◌, ℕ, zero, suc, refl, ap, sym, ◌∙◌, List, length, inr, subst}
+use Rattle.std.proofs.Common.{◌≡◌, ◌+◌, ◌^◌, ◌<◌, ◌≤◌, ℕ, zero, suc, refl, ap, sym, ◌∙◌, List, length, inr, subst, arith}
 use Rattle.std.specs.Prelude.{Option, None, map, reverse}
 use Rattle.std.specs.List.{Contains}
 use Rattle.limits.specs.declared.TheConstants.{NUMBER_MAX, TABLES_MAX}
@@ -15,7 +15,7 @@ use Rattle.call_steps.specs.declared.frame.FramePiece.{FramePiece}
 use Rattle.call_steps.specs.declared.hub.Hub.{Hub}
 use Rattle.call_steps.specs.State.{State}
 use Rattle.call_turns.specs.Seats.{AllRun, AreSeated}
-use Rattle.engine_world.specs.Leaves.{LeavesOwned, TablesBegun}
+use Rattle.engine_world.specs.Leaves.{FramesStand, LeavesOwned, TablesBegun}
 use Rattle.engine_world.specs.Stands.{Engine}
 use Rattle.engine_world.specs.Systems.{Begins, LeafStarts}
 use Rattle.engine.specs.Bases.{IsBaseOf}
@@ -45,6 +45,7 @@ module _ (e : Engine) (run oldest stable : ℕ) (known : Known) (dir : Directory
     begun = subst (λ (h : Hub). TablesBegun h.tables.tables h.dir.leaves) (sym o.hub) base.begun;
     owned = subst (λ (h : Hub). LeavesOwned h.tables.tables h.dir.leaves) (sym o.hub) owned;
     leaves = subst (λ (h : Hub). (l : Leaf) → Contains h.dir.leaves l → LeafStarts c shelf h.dir.leaves e.pieces e.states l) (sym o.hub) (λ l there. inr (base.leaves l there));
+    frames = subst (λ (ps : List FramePiece). FramesStand ps e.states) (sym o.pieces) (λ frame. record { below = omega arith; word = omega arith });
     sessions = o.sessions;
     systems = subst (λ (calls : List (Option SystemCall)). map (λ x. None) calls ≡ calls) (sym o.systems) refl;
   }

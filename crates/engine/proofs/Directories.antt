@@ -14,7 +14,7 @@ use Rattle.tree_dir.proofs.Members.{head-in, later, split}
 use Rattle.catalog.specs.Known.{AreTables, Known, with_new}
 use Rattle.leaf_frame.specs.Leaf.{HeldLeaf}
 use Rattle.call_steps.specs.declared.hub.Hub.{Hub}
-use Rattle.engine_world.specs.Leaves.{LeavesOwned}
+use Rattle.engine_world.specs.Leaves.{LeavesOwned, generation_at}
 use Rattle.engine_world.specs.Stands.{Engine}
 use Rattle.engine_world.specs.Systems.{HasFirstLeaf}
 use Rattle.engine_world.proofs.Appended.{append-keeps}
@@ -155,38 +155,38 @@ pub goes-keeps : (old new : Engine) → IsSound old → Keeps old new → HubGoe
 goes-keeps old new sound kept = goes-with old new.hub sound kept.run kept.fault kept.tables kept.dir
 
 -- a leaf comes into a frame
-goes-framed : (e : Engine) (next : Hub) (leaf frame : ℕ) → IsSound e → next.txns.run ≡ e.hub.txns.run → next.fault ≡ e.hub.fault → next.tables ≡ e.hub.tables → next.dir ≡ framed_at e.hub.dir leaf frame → HubGoesOn e.hub next
-goes-framed e next leaf frame sound run fault tables dir = record {
+goes-framed : (e : Engine) (next : Hub) (leaf frame generation : ℕ) → IsSound e → next.txns.run ≡ e.hub.txns.run → next.fault ≡ e.hub.fault → next.tables ≡ e.hub.tables → next.dir ≡ framed_at e.hub.dir leaf frame generation → HubGoesOn e.hub next
+goes-framed e next leaf frame generation sound run fault tables dir = record {
   run = run;
   fault = fault;
   tables = λ i t at. ap (λ (k : Known). slice_get k.tables i) tables ∙ at;
   dir = subst (DirGoesOn e.hub.tables.tables e.hub.dir) (sym dir) framed;
 } where
   its : Framed
-  its = record { frame = frame; generation = 0 }
+  its = record { frame = frame; generation = generation }
 
-  framed : DirGoesOn e.hub.tables.tables e.hub.dir (framed_at e.hub.dir leaf frame)
+  framed : DirGoesOn e.hub.tables.tables e.hub.dir (framed_at e.hub.dir leaf frame generation)
   framed = record {
     ids = omega arith;
     kept = λ i t at. changed-goes t.number leaf its e.hub.dir.leaves;
-    made = λ l there none. absurd (owned-not e.hub.tables.tables (framed_at e.hub.dir leaf frame).leaves l (framed-owned e.hub.tables.tables e.hub.dir.leaves leaf (Some its) sound.owned) there none);
+    made = λ l there none. absurd (owned-not e.hub.tables.tables (framed_at e.hub.dir leaf frame generation).leaves l (framed-owned e.hub.tables.tables e.hub.dir.leaves leaf (Some its) sound.owned) there none);
   }
 
 pub goes-filled : {E : Type 0} (old new : Engine) (leaf : ℕ) (page : HeldLeaf) (made : Result (Unit {0}) E) → IsSound old → new.hub.txns.run ≡ old.hub.txns.run → new.hub.fault ≡ old.hub.fault → new.hub.tables ≡ old.hub.tables → OnOk made (IsFilled old new leaf page) → OnErr made (new ≡ old) → HubGoesOn old.hub new.hub
-goes-filled old new leaf page (Ok done) sound run fault tables came kept = goes-framed old new.hub leaf came.frame sound run fault tables came.dir
+goes-filled old new leaf page (Ok done) sound run fault tables came kept = goes-framed old new.hub leaf came.frame (generation_at old.pieces came.frame) sound run fault tables came.dir
 goes-filled old new leaf page (Err why) sound run fault tables came kept = goes-with old new.hub sound run fault tables (ap (λ (e : Engine). e.hub.dir) kept)
 
 -- a table more, with its first leaf
 module _ (e : Engine) (known : Known) (dir : Directory) (t : Table) (id frame : ℕ) (sound : IsSound e) (are : AreTables e.hub.tables) (was : IsDirectory e.hub.dir)
-    (number : t.number ≡ e.hub.tables.next) (more : known ≡ with_new e.hub.tables t) (first : HasFirstLeaf e.hub.dir dir t.number id frame) where
+    (number : t.number ≡ e.hub.tables.next) (more : known ≡ with_new e.hub.tables t) (first : HasFirstLeaf e.hub.dir dir t.number id frame 0) where
   known-is : known.tables ≡ e.hub.tables.tables ++ t ∷ []
   known-is = ap (λ (k : Known). k.tables) more
 
-  come : IsCome e.hub.dir.leaves dir.leaves (new_leaf t.number id frame)
-  come = comes e.hub.dir dir t.number id frame was (λ l there same. none-yet e are sound l there (same ∙ number)) first
+  come : IsCome e.hub.dir.leaves dir.leaves (new_leaf t.number id frame 0)
+  come = comes e.hub.dir dir t.number id frame 0 was (λ l there same. none-yet e are sound l there (same ∙ number)) first
 
   leaves-stay : (i : ℕ) (v : Table) → slice_get e.hub.tables.tables i ≡ Some v → leaves_of v.number e.hub.dir.leaves ≡ leaves_of v.number dir.leaves
-  leaves-stay i v at = ap (leaves_of v.number) come.old ∙ (sym (of-other v.number come.before come.behind (new_leaf t.number id frame) apart) ∙ ap (leaves_of v.number) (sym come.new)) where
+  leaves-stay i v at = ap (leaves_of v.number) come.old ∙ (sym (of-other v.number come.before come.behind (new_leaf t.number id frame 0) apart) ∙ ap (leaves_of v.number) (sym come.new)) where
     apart : t.number ≢ v.number
     apart same = let below = number-below 1 e.hub.tables.tables e.hub.tables.next i v are.numbers at in omega (arith, below, number, same)
 
@@ -198,7 +198,7 @@ module _ (e : Engine) (known : Known) (dir : Directory) (t : Table) (id frame : 
     dir = record {
       ids = (let next = ap (λ (d : Directory). d.next) first.placed in let from = first.added.fresh.ascend.0 in let below = first.added.fresh.ascend.1 in omega (arith, next, from, below));
       kept = λ i v at. subst (LeavesGoOn (leaves_of v.number e.hub.dir.leaves)) (leaves-stay i v at) (leaves-same (leaves_of v.number e.hub.dir.leaves));
-      made = λ l there none. elim (come-cases e.hub.dir dir.leaves (new_leaf t.number id frame) was come l there) [
+      made = λ l there none. elim (come-cases e.hub.dir dir.leaves (new_leaf t.number id frame 0) was come l there) [
         | inl old ↦ absurd (owned-not e.hub.tables.tables e.hub.dir.leaves l sound.owned old none)
         | inr same ↦ subst (λ (x : Leaf). (e.hub.dir.next ≤ x.id) × (x.entry.link ≡ nowhere) × (x.frame ≢ None)) same (first.added.fresh.ascend.0, refl, λ none. absurd (cc))
       ];

@@ -70,7 +70,7 @@ rest-step e session a at on w st = (
   later,
   record {
     made = record { told = reply.Answer (answers.Refused (refusal.Invalid NoCall)); machine = w.machine; doing = Resting };
-    goes = subst (λ d. GoesOn d w.machine session (record { told = reply.Answer (answers.Refused (refusal.Invalid NoCall)); machine = w.machine; doing = Resting })) (sym rests) refl;
+    goes = subst (λ d. GoesOn (w.again session) d w.machine session (record { told = reply.Answer (answers.Refused (refusal.Invalid NoCall)); machine = w.machine; doing = Resting })) (sym rests) refl;
     tells = refl;
     leaves = refl;
   },

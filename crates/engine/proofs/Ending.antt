@@ -8,7 +8,7 @@ use Rattle.call_steps.specs.declared.reply.Reply.TheVariants as reply
 use Rattle.call_turns.specs.Turns.{IsNoAnswer}
 use Rattle.engine_world.specs.Stands.{Engine, Stands}
 use Rattle.engine_world.specs.Steps.{MayGo}
-use Rattle.engine_world.specs.Worlds.{World, Resting, doing_of}
+use Rattle.engine_world.specs.Worlds.{World, Resting, doing_of, unset}
 use Rattle.engine.specs.declared.called.Called.TheVariants as called
 use Rattle.engine.specs.declared.called.Went.{Went}
 use Rattle.engine.specs.declared.step.Actor.TheVariants as actor
@@ -32,7 +32,7 @@ taken-goes old new session reply.Started now answer taken leads fewer own = subs
 
 -- a call goes on where it is not answered
 is-more : (w later : World) (session : ℕ) (told : Reply) → IsNoAnswer told → MayGo w session told later → told ≡ reply.More
-is-more w later session told none go = elim (ends-or-goes (doing_of w session) w.machine session go.made go.goes) [
+is-more w later session told none go = elim (ends-or-goes (w.again session) (doing_of w session) w.machine session go.made go.goes) [
   | inl answered ↦ absurd (none answered.0 (go.tells ∙ answered.1))
   | inr more ↦ go.tells ∙ more
 ]
@@ -103,7 +103,7 @@ waits-fewer old now new session leaf way same is ready = elim way.fewer [
 pub moved-then : (w middle last : World) (session : ℕ) (told : Reply) → session < length w.sessions → middle ≡ moved w session middle.machine (doing_of middle session) → MayGo middle session told last
     → last ≡ moved w session last.machine (doing_of last session)
 moved-then w middle last session told inside is go = go.leaves ∙ (ap (λ (x : World). record x { machine = go.made.machine; sessions = slice_set x.sessions session go.made.doing }) is
-    ∙ ((λ i. record w { machine = go.made.machine; sessions = set-set w.sessions session (doing_of middle session) go.made.doing i })
+    ∙ ((λ i. record w { machine = go.made.machine; sessions = set-set w.sessions session (doing_of middle session) go.made.doing i; again = unset session w.again })
     ∙ (λ i. moved w session (machine-is i) (does-is i)))) where
       machine-is : go.made.machine ≡ last.machine
       machine-is = sym (ap (λ (x : World). x.machine) go.leaves)

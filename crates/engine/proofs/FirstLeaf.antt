@@ -36,7 +36,7 @@ module _ (old new : Directory) (table : ℕ) (key : List ℕ) where
   found-as c o e = e ∙ ap (option_map (λ (l : Leaf). l.id)) c.under
 
 pub has-first : (old new made : Directory) (table frame : ℕ) (key : List ℕ) (c : CameAs old new table key) (id : ℕ) → c.id ≡ id
-    → made ≡ record new { leaves = changed id (in_frame (Some (record { frame = frame; generation = 0 }))) new.leaves } → HasFirstLeaf old made table id frame
+    → made ≡ record new { leaves = changed id (in_frame (Some (record { frame = frame; generation = 0 }))) new.leaves } → HasFirstLeaf old made table id frame 0
 has-first old new made table frame key c id same is = record {
   between = new;
   added = subst (λ (x : ℕ). HasTable old new table (first_entry ∷ []) (x ∷ [])) same c.added;

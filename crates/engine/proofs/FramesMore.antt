@@ -4,11 +4,13 @@ use Rattle.std.specs.Prelude.{None, if◌then◌else◌, nat_lt, option_and_then
 use Rattle.std.proofs.lemmas.Bool.{cases_Bool, le-ltb, lt-ltb, ltb-false, ltb-true}
 use Rattle.std.proofs.lemmas.List.{length-append, length-set}
 use Rattle.call_steps.specs.declared.frame.FramePiece.{FramePiece}
-use Rattle.engine_world.specs.Leaves.{frame_in}
+use Rattle.kv_model.specs.Machine.{of_some}
+use Rattle.engine_world.specs.Leaves.{frame_in, generation_at}
 use Rattle.engine_world.specs.Stands.{Engine, Stands}
 use Rattle.engine_world.specs.Systems.{FramesGrow, with_frame}
 use Rattle.engine_world.specs.Worlds.{World}
 use Rattle.engine_world.proofs.Appended.{append-last}
+use Rattle.engine_world.proofs.Growing.{generation-same}
 use Rattle.engine.specs.Frames.{IsBare, put_at}
 use Rattle.engine.specs.Sizes.{LeavesFit}
 use Rattle.engine.proofs.LeafSizes.{PieceFits, leaves-more, leaves-set}
@@ -52,6 +54,9 @@ module _ (e : Engine) where
   pub frame-none : frame_in (with_frame e).pieces (length e.pieces) ≡ None
   frame-none = ap (option_and_then (λ (p : FramePiece). p.frame)) (append-last e.pieces empty_piece)
 
+  pub generation-first : generation_at (with_frame e).pieces (length e.pieces) ≡ 0
+  generation-first = ap (of_some 0 (λ (p : FramePiece). p.generation)) (append-last e.pieces empty_piece)
+
   pub piece-within : length e.pieces < length (with_frame e).pieces
   piece-within = let more = length-append e.pieces (empty_piece ∷ []) in omega (arith, more)
 
@@ -76,6 +81,7 @@ pub record HasRoom (e : Engine) (frame : ℕ) : Type 0 where
   pub states : List ℕ
   pub stands : (w : World) → Stands e w → Stands (record e { pieces = pieces; states = states }) w
   pub bare : frame_in pieces frame ≡ None
+  pub aged : generation_at pieces frame ≡ generation_at e.pieces frame
   pub piece : frame < length pieces
   pub word : frame < length states
   pub put_piece : (p : FramePiece) → slice_set pieces frame p ≡ put_at e.pieces frame p
@@ -88,6 +94,7 @@ module _ (e : Engine) (frame : ℕ) (same : length e.states ≡ length e.pieces)
     states = e.states;
     stands = λ w st. st;
     bare = bare;
+    aged = refl;
     piece = less;
     word = inside;
     put_piece = λ p. put-within e.pieces frame p less;
@@ -102,6 +109,7 @@ module _ (e : Engine) (frame : ℕ) (same : length e.states ≡ length e.pieces)
     states = (with_frame e).states;
     stands = grow e;
     bare = subst (λ (n : ℕ). frame_in (with_frame e).pieces n ≡ None) (sym last) (frame-none e);
+    aged = generation-same e.pieces frame;
     piece = subst (λ (n : ℕ). n < length (with_frame e).pieces) (sym last) (piece-within e);
     word = subst (λ (n : ℕ). n < length (with_frame e).states) (sym last) (word-within e same);
     put_piece = λ p. put-behind e.pieces empty_piece p frame last;

@@ -1,5 +1,5 @@
 -- A leaf that gives way to others, while nobody is at work.
-use Rattle.std.proofs.Common.{◌≡◌, ℕ, refl, ap, sym, ◌∙◌, List, [], ◌∷◌, inl, inr, subst, arith}
+use Rattle.std.proofs.Common.{◌≡◌, ◌+◌, ℕ, refl, ap, sym, ◌∙◌, List, [], ◌∷◌, inl, inr, subst, arith}
 use Rattle.std.specs.Prelude.{None, ◌==◌, slice_set}
 use Rattle.std.specs.List.{Contains}
 use Rattle.std.proofs.lemmas.Bool.{cases_Bool}
@@ -14,12 +14,12 @@ use Rattle.tree_dir.proofs.Members.{head-in, later, split}
 use Rattle.call_steps.specs.declared.frame.FramePiece.{FramePiece}
 use Rattle.call_turns.proofs.Walks.{named-is}
 use Rattle.engine_world.specs.GivingWay.{IsIdle, IsShelved, LeavesGiveWay, without_leaf}
-use Rattle.engine_world.specs.Leaves.{LeavesOwned}
+use Rattle.call_steps.specs.Tables.{empty}
+use Rattle.engine_world.specs.Leaves.{LeavesOwned, emptied, generation_at}
 use Rattle.engine_world.specs.Stands.{Engine, Stands}
 use Rattle.engine_world.specs.Worlds.{World}
 use Rattle.engine.specs.Frames.{HasGivenWay}
 use Rattle.engine.specs.Sound.{IsSound}
-use Rattle.engine.proofs.FramesMore.{empty_piece}
 use Rattle.engine.proofs.LeafSizes.{PieceFits, leaves-set}
 use Rattle.engine.proofs.LeavesCome.{named-there}
 use Rattle.engine.proofs.Soundness.{seated-with}
@@ -54,12 +54,12 @@ given-owned known id ids entries leaves owned n there = let was = given-table id
 -- ---- the engine that is left
 
 -- by what it is made of
-pub without-is : (e : Engine) (dir : Directory) (frame : ℕ) (pieces : List FramePiece) (states : List ℕ) → pieces ≡ slice_set e.pieces frame empty_piece → states ≡ slice_set e.states frame 0
+pub without-is : (e : Engine) (dir : Directory) (frame : ℕ) (pieces : List FramePiece) (states : List ℕ) → pieces ≡ slice_set e.pieces frame (emptied e.pieces frame) → states ≡ slice_set e.states frame (empty (generation_at e.pieces frame + 1))
     → without_leaf e dir frame ≡ record e { hub = record e.hub { dir = dir }; pieces = pieces; states = states }
 without-is e dir frame pieces states p s = λ i. record e { hub = record e.hub { dir = dir }; pieces = sym p i; states = sym s i }
 
-pub empty-fits : PieceFits empty_piece
-empty-fits f is = absurd (cc)
+pub empty-fits : (pieces : List FramePiece) (frame : ℕ) → PieceFits (emptied pieces frame)
+empty-fits pieces frame f is = absurd (cc)
 
 pub way-sound : (e : Engine) (dir : Directory) (frame id : ℕ) (entries : List Entry) (ids : List ℕ) → GaveWay e.hub.dir dir id entries ids → IsSound e → IsSound (without_leaf e dir frame)
 way-sound e dir frame id entries ids gave sound = record {
@@ -68,11 +68,11 @@ way-sound e dir frame id entries ids gave sound = record {
   run = sound.run;
   built = sound.built;
   actors = sound.actors;
-  states = length-set e.states frame 0 ∙ (sound.states ∙ sym (length-set e.pieces frame empty_piece));
+  states = length-set e.states frame (empty (generation_at e.pieces frame + 1)) ∙ (sound.states ∙ sym (length-set e.pieces frame (emptied e.pieces frame)));
   numbers = sound.numbers;
   owned = subst (LeavesOwned e.hub.tables.tables) (sym gave.leaves) (given-owned e.hub.tables.tables id ids entries e.hub.dir.leaves sound.owned);
   stamps = sound.stamps;
-  sizes = record { leaves = leaves-set e.pieces frame empty_piece sound.sizes.leaves empty-fits; sessions = sound.sizes.sessions; names = sound.sizes.names };
+  sizes = record { leaves = leaves-set e.pieces frame (emptied e.pieces frame) sound.sizes.leaves (empty-fits e.pieces frame); sessions = sound.sizes.sessions; names = sound.sizes.names };
 }
 
 -- nobody sees it
@@ -80,7 +80,7 @@ pub way-stands : LeavesGiveWay → (old new : Engine) (id : ℕ) (entries : List
     → (way : HasGivenWay old new id entries) (w : World) (shelf : ℕ → List Row) → Stands old w → w.machine.checkpoint ≡ None
     → IsShelved w.machine old.hub.dir new.hub.dir (leaves_with way.leaf.table way.ids entries) w.shelf shelf → Stands new (record w { shelf = shelf })
 way-stands law old new id entries idle place is way w shelf st none shelved = subst (λ (e : Engine). Stands e (record w { shelf = shelf })) (sym way.is)
-    (law old w way.leaf way.framed new.hub.dir entries way.ids shelf st idle none (named-there id old.hub.dir.leaves way.leaf way.there) way.placed
+    (law old w way.leaf way.framed new.hub.dir entries way.ids shelf st idle none (named-there id old.hub.dir.leaves way.leaf way.there) way.placed way.next
     (subst (λ (n : ℕ). TakePlace n entries old.hub.dir.leaves) (sym id-is) place) (subst (λ (n : ℕ). GaveWay old.hub.dir new.hub.dir n entries way.ids) (sym id-is) way.gave) is shelved) where
       id-is : way.leaf.id ≡ id
       id-is = named-is id old.hub.dir.leaves way.leaf way.there

@@ -40,8 +40,8 @@ leaves-set (x ∷ xs) (suc i) p fit new zero f is = fit zero f is
 leaves-set (x ∷ xs) (suc i) p fit new (suc j) f is = leaves-set xs i p (λ k g at. fit (suc k) g at) new j f is
 
 -- a piece with this leaf
-pub filled-fits : (table id : ℕ) (leaf : HeldLeaf) → LeafFits leaf → PieceFits (record { generation = 0; frame = Some (record { table = table; id = id; leaf = leaf }) })
-filled-fits table id leaf fit f is = subst LeafFits (let same : record { table = table; id = id; leaf = leaf } ≡ f = cc in ap (λ (x : Frame). x.leaf) same) fit
+pub filled-fits : (generation table id : ℕ) (leaf : HeldLeaf) → LeafFits leaf → PieceFits (record { generation = generation; frame = Some (record { table = table; id = id; leaf = leaf }) })
+filled-fits generation table id leaf fit f is = subst LeafFits (let same : record { table = table; id = id; leaf = leaf } ≡ f = cc in ap (λ (x : Frame). x.leaf) same) fit
 
 pub leaves-none : LeavesFit []
 leaves-none place f is = absurd (cc)

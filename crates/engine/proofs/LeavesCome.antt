@@ -1,6 +1,6 @@
 -- A leaf that comes into a frame that has none.
 use Rattle.std.proofs.Common.{◌≡◌, ℕ, refl, ap, sym, ◌∙◌, Bool, false, List, [], ◌∷◌, inl, inr, subst, arith}
-use Rattle.std.specs.Prelude.{Option, Some, None, Result, Ok, Err, OnOk, if◌then◌else◌, ◌==◌, map, slice_get}
+use Rattle.std.specs.Prelude.{Option, Some, None, Result, Ok, Err, OnOk, if◌then◌else◌, ◌==◌, map, slice_get, slice_set}
 use Rattle.std.specs.List.{Contains}
 use Rattle.std.proofs.lemmas.Bool.{cases_Bool}
 use Rattle.std.proofs.lemmas.Option.{same_Some}
@@ -14,12 +14,12 @@ use Rattle.tree_dir.specs.Leaves.{Directory, IsDirectory, changed, in_frame, lea
 use Rattle.tree_dir.proofs.Members.{head-in, later, split}
 use Rattle.call_steps.specs.declared.frame.FramePiece.{FramePiece}
 use Rattle.call_steps.specs.State.{State}
-use Rattle.call_steps.specs.Tables.{first_word}
+use Rattle.call_steps.specs.Tables.{filled as word_filled}
 use Rattle.call_turns.specs.Turns.{FramesKeep, turns}
 use Rattle.call_turns.proofs.Walks.{named-is}
-use Rattle.engine_world.specs.Leaves.{LeavesOwned}
+use Rattle.engine_world.specs.Leaves.{LeavesOwned, generation_at}
 use Rattle.engine_world.specs.Stands.{Engine, Stands}
-use Rattle.engine_world.specs.Systems.{FramesGrow, LeavesCome, with_leaf}
+use Rattle.engine_world.specs.Systems.{FramesGrow, LeavesCome}
 use Rattle.engine_world.specs.Worlds.{World}
 use Rattle.engine.specs.Frames.{IsBare, IsFilled, framed_at, piece_of, put_at}
 use Rattle.engine.specs.Sound.{IsSound}
@@ -59,11 +59,11 @@ framed-owned known leaves id f owned l there = let s = contains-source (λ (x : 
 -- ---- the engine with the leaf
 
 abbrev pub filled : Engine → Leaf → ℕ → ℕ → HeldLeaf → Engine
-filled e l id frame leaf = record e { hub = record e.hub { dir = framed_at e.hub.dir id frame }; pieces = put_at e.pieces frame (piece_of l.table id leaf); states = put_at e.states frame first_word }
+filled e l id frame leaf = record e { hub = record e.hub { dir = framed_at e.hub.dir id frame (generation_at e.pieces frame) }; pieces = put_at e.pieces frame (piece_of (generation_at e.pieces frame) l.table id leaf); states = put_at e.states frame (word_filled (generation_at e.pieces frame)) }
 
 -- by what it is made of
 pub filled-is : (e : Engine) (l : Leaf) (id frame : ℕ) (leaf : HeldLeaf) (dir : Directory) (pieces : List FramePiece) (states : List ℕ)
-    → dir ≡ framed_at e.hub.dir id frame → pieces ≡ put_at e.pieces frame (piece_of l.table id leaf) → states ≡ put_at e.states frame first_word
+    → dir ≡ framed_at e.hub.dir id frame (generation_at e.pieces frame) → pieces ≡ put_at e.pieces frame (piece_of (generation_at e.pieces frame) l.table id leaf) → states ≡ put_at e.states frame (word_filled (generation_at e.pieces frame))
     → filled e l id frame leaf ≡ record e { hub = record e.hub { dir = dir }; pieces = pieces; states = states }
 filled-is e l id frame leaf dir pieces states d p s = λ i. record e { hub = record e.hub { dir = sym d i }; pieces = sym p i; states = sym s i }
 
@@ -72,32 +72,36 @@ module _ (e : Engine) (l : Leaf) (id frame : ℕ) (leaf : HeldLeaf) (named : lea
   id-is = named-is id e.hub.dir.leaves l named
 
   -- nobody sees it
-  pub fill-stands : FramesGrow → LeavesCome → IsDirectory (framed_at e.hub.dir id frame) → (w : World) → Stands e w → leaf.page ≡ w.shelf id → Stands (filled e l id frame leaf) w
+  pub fill-stands : FramesGrow → LeavesCome → IsDirectory (framed_at e.hub.dir id frame (generation_at e.pieces frame)) → (w : World) → Stands e w → leaf.page ≡ w.shelf id → Stands (filled e l id frame leaf) w
   fill-stands grow come is w st page = subst (λ (h : HeldLeaf). Stands (filled e l id frame h) w) (λ i. record { page = sym page i; chains = sym no_chains i })
       (subst (λ (n : ℕ). Stands (filled e l n frame (record { page = w.shelf n; chains = [] })) w) id-is
-      (subst (λ (ps : List FramePiece). Stands (record (filled e l l.id frame on_device) { pieces = ps }) w) (room.put_piece (piece_of l.table l.id on_device))
-      (subst (λ (ws : List ℕ). Stands (record (with_leaf (record e { pieces = room.pieces; states = room.states }) l frame (w.shelf l.id)) { states = ws }) w) (room.put_word first_word)
+      (subst (λ (ps : List FramePiece). Stands (record (filled e l l.id frame on_device) { pieces = ps }) w) (room.put_piece (piece_of (generation_at e.pieces frame) l.table l.id on_device))
+      (subst (λ (ws : List ℕ). Stands (record (filled e l l.id frame on_device) { pieces = slice_set room.pieces frame (piece_of (generation_at e.pieces frame) l.table l.id on_device); states = ws }) w) (room.put_word (word_filled (generation_at e.pieces frame)))
+      (subst (λ g. Stands (comes-at g) w) room.aged
       (come (record e { pieces = room.pieces; states = room.states }) w l frame (room.stands w st) (named-there id e.hub.dir.leaves l named) none room.bare room.piece room.word
-      (subst (λ (n : ℕ). IsDirectory (framed_at e.hub.dir n frame)) (sym id-is) is))))) where
+      (subst (λ g. IsDirectory (framed_at e.hub.dir l.id frame g)) (sym room.aged) (subst (λ (n : ℕ). IsDirectory (framed_at e.hub.dir n frame (generation_at e.pieces frame))) (sym id-is) is))))))) where
         room : HasRoom e frame
         room = has-room e frame sound.states grow bare
 
         on_device : HeldLeaf
         on_device = record { page = w.shelf l.id; chains = [] }
 
+        comes-at : ℕ → Engine
+        comes-at g = record e { hub = record e.hub { dir = framed_at e.hub.dir l.id frame g }; pieces = slice_set room.pieces frame (piece_of g l.table l.id on_device); states = slice_set room.states frame (word_filled g) }
+
   pub fill-sound : IsSound (filled e l id frame leaf)
   fill-sound = record {
     count = sound.count;
-    seated = seated-with e.hub (record e.hub { dir = framed_at e.hub.dir id frame }) e.sessions refl sound.seated;
+    seated = seated-with e.hub (record e.hub { dir = framed_at e.hub.dir id frame (generation_at e.pieces frame) }) e.sessions refl sound.seated;
     run = sound.run;
     built = sound.built;
     actors = sound.actors;
-    states = put-same e.states e.pieces frame first_word (piece_of l.table id leaf) sound.states;
+    states = put-same e.states e.pieces frame (word_filled (generation_at e.pieces frame)) (piece_of (generation_at e.pieces frame) l.table id leaf) sound.states;
     numbers = sound.numbers;
-    owned = framed-owned e.hub.tables.tables e.hub.dir.leaves id (Some (record { frame = frame; generation = 0 })) sound.owned;
+    owned = framed-owned e.hub.tables.tables e.hub.dir.leaves id (Some (record { frame = frame; generation = generation_at e.pieces frame })) sound.owned;
     stamps = sound.stamps;
     sizes = record {
-      leaves = put-fits e.pieces frame (piece_of l.table id leaf) sound.sizes.leaves (filled-fits l.table id leaf (subst ChainsFit (sym no_chains) (λ key. tt)));
+      leaves = put-fits e.pieces frame (piece_of (generation_at e.pieces frame) l.table id leaf) sound.sizes.leaves (filled-fits (generation_at e.pieces frame) l.table id leaf (subst ChainsFit (sym no_chains) (λ key. tt)));
       sessions = sound.sizes.sessions;
       names = sound.sizes.names;
     };
@@ -112,11 +116,11 @@ framed-there id f (l ∷ leaves) = elim (cases_Bool (l.id == id)) [
   | inr isnt ↦ rw (isnt, isnt) (framed-there id f leaves)
 ]
 
-module _ (old new : Engine) (session leaf frame : ℕ) (sessions : new.sessions ≡ old.sessions) (dir : new.hub.dir ≡ framed_at old.hub.dir leaf frame) where
+module _ (old new : Engine) (session leaf frame generation : ℕ) (sessions : new.sessions ≡ old.sessions) (dir : new.hub.dir ≡ framed_at old.hub.dir leaf frame generation) where
   -- it is ready to go on
   waited-ready : waits_in old session ≡ Some leaf → waits_in new session ≡ None
   waited-ready waits = waits-now new session h.state (ap (λ (xs : List State). slice_get xs session) sessions ∙ h.at)
-      ∙ (ap (waits_at new.hub.dir.leaves) h.on ∙ ap (λ (b : Bool). if b then Some leaf else None) (ap (λ (d : Directory). is_away d.leaves leaf) dir ∙ framed-there leaf (record { frame = frame; generation = 0 }) old.hub.dir.leaves)) where
+      ∙ (ap (waits_at new.hub.dir.leaves) h.on ∙ ap (λ (b : Bool). if b then Some leaf else None) (ap (λ (d : Directory). is_away d.leaves leaf) dir ∙ framed-there leaf (record { frame = frame; generation = generation }) old.hub.dir.leaves)) where
         h : IsHeld old session leaf
         h = held old session leaf waits
 
@@ -124,15 +128,15 @@ module _ (old new : Engine) (session leaf frame : ℕ) (sessions : new.sessions 
   waited-turns : FramesKeep → turns_in new session ≡ turns_in old session
   waited-turns law = ap (λ (xs : List State). of_some 0 (λ (a : State). turns new.hub.dir.leaves a) (slice_get xs session)) sessions
       ∙ (ap (λ (d : Directory). of_some 0 (λ (a : State). turns d.leaves a) (slice_get old.sessions session)) dir ∙ by (slice_get old.sessions session)) where
-        by : (o : Option State) → of_some 0 (λ (a : State). turns (framed_at old.hub.dir leaf frame).leaves a) o ≡ of_some 0 (λ (a : State). turns old.hub.dir.leaves a) o
+        by : (o : Option State) → of_some 0 (λ (a : State). turns (framed_at old.hub.dir leaf frame generation).leaves a) o ≡ of_some 0 (λ (a : State). turns old.hub.dir.leaves a) o
         by None = refl
-        by (Some a) = law old.hub.dir.leaves leaf (Some (record { frame = frame; generation = 0 })) a
+        by (Some a) = law old.hub.dir.leaves leaf (Some (record { frame = frame; generation = generation })) a
 
 module _ {E : Type 0} (old new : Engine) (session leaf : ℕ) (page : HeldLeaf) (sessions : new.sessions ≡ old.sessions) where
   pub fill-ready : (made : Result (Unit {0}) E) → OnOk made (IsFilled old new leaf page) → waits_in old session ≡ Some leaf → OnOk made (waits_in new session ≡ None)
-  fill-ready (Ok done) came waits = waited-ready old new session leaf came.frame sessions came.dir waits
+  fill-ready (Ok done) came waits = waited-ready old new session leaf came.frame (generation_at old.pieces came.frame) sessions came.dir waits
   fill-ready (Err why) came waits = tt
 
   pub fill-turns : FramesKeep → (made : Result (Unit {0}) E) → OnOk made (IsFilled old new leaf page) → OnOk made (turns_in new session ≡ turns_in old session)
-  fill-turns law (Ok done) came = waited-turns old new session leaf came.frame sessions came.dir law
+  fill-turns law (Ok done) came = waited-turns old new session leaf came.frame (generation_at old.pieces came.frame) sessions came.dir law
   fill-turns law (Err why) came = tt

@@ -1,6 +1,6 @@
 -- The events of a create and of a set, over the data of an engine.
 use Rattle.std.proofs.Common.{◌≡◌, ◌≢◌, ◌+◌, ◌<◌, ℕ, refl, ap, sym, ◌∙◌, Bool, true, false, not, List, [], ◌∷◌, ◌++◌, length, inl, inr, subst, arith}
-use Rattle.std.specs.Prelude.{Option, Some, None, Result, Ok, Err, ◌&&◌, ◌==◌, max, nat_le, nat_lt, slice_get, if◌then◌else◌}
+use Rattle.std.specs.Prelude.{Option, Some, None, Result, Ok, Err, ◌&&◌, ◌==◌, max, nat_le, nat_lt, slice_get, if◌then◌else◌, slice_set}
 use Rattle.std.specs.List.{Contains}
 use Rattle.std.proofs.lemmas.Bool.{cases_eq, leb-false, ltb-false, ne_eqb}
 use Rattle.std.proofs.lemmas.List.{length-append}
@@ -28,16 +28,16 @@ use Rattle.catalog.specs.Known.{AreTables, Known}
 use Rattle.catalog.specs.Laws.{CreatesAreJudged, CreatesSuit}
 use Rattle.catalog.specs.declared.created.Created.TheVariants.{New}
 use Rattle.call_steps.specs.declared.frame.FramePiece.{FramePiece}
-use Rattle.call_steps.specs.Tables.{first_word}
+use Rattle.call_steps.specs.Tables.{filled}
 use Rattle.engine_world.specs.Leaves.{LeavesOwned}
 use Rattle.engine_world.specs.Stands.{Engine, Stands}
-use Rattle.engine_world.specs.Systems.{CreatesGo, FramesGrow, HasFirstLeaf, SetsGo, first_piece, with_frame, with_table}
+use Rattle.engine_world.specs.Systems.{CreatesGo, FramesGrow, HasFirstLeaf, SetsGo, first_piece, with_frame}
 use Rattle.engine_world.specs.Worlds.{World}
 use Rattle.engine_world.proofs.Appended.{append-keeps, append-last}
 use Rattle.engine_world.proofs.NewLeaf.{IsCome, come-cases, comes, new_leaf}
 use Rattle.engine.specs.Sound.{IsSound}
 use Rattle.engine.specs.Systems.{Makes}
-use Rattle.engine.proofs.FramesMore.{frame-none, one-more, piece-within, pieces-last, states-last, word-within}
+use Rattle.engine.proofs.FramesMore.{generation-first, frame-none, one-more, piece-within, pieces-last, states-last, word-within}
 use Rattle.engine.proofs.LeafSizes.{filled-fits, leaves-more}
 use Rattle.engine.proofs.Numbers.{number-below}
 use Rattle.engine.proofs.Soundness.{seated-with}
@@ -137,10 +137,10 @@ none-yet e are sound l there same = let o = sound.owned l there in let below = n
 
 -- the engine with a table more, whose first leaf is in a frame more
 abbrev pub created : Engine → Known → Directory → Table → ℕ → Engine
-created e known dir t id = record e { hub = record e.hub { tables = known; dir = dir }; pieces = e.pieces ++ first_piece t id ∷ []; states = e.states ++ first_word ∷ [] }
+created e known dir t id = record e { hub = record e.hub { tables = known; dir = dir }; pieces = e.pieces ++ first_piece 0 t id ∷ []; states = e.states ++ filled 0 ∷ [] }
 
 module _ (e : Engine) (name : List ℕ) (formats : Formats) (known : Known) (dir : Directory) (place id : ℕ) (sound : IsSound e)
-    (made : IsCreated e.hub.tables (table_in e name formats) known (New place)) (all : AreTables known) (first : HasFirstLeaf e.hub.dir dir (table_in e name formats).number id (length e.pieces)) where
+    (made : IsCreated e.hub.tables (table_in e name formats) known (New place)) (all : AreTables known) (first : HasFirstLeaf e.hub.dir dir (table_in e name formats).number id (length e.pieces) 0) where
   abbrev t : Table
   t = table_in e name formats
 
@@ -148,10 +148,17 @@ module _ (e : Engine) (name : List ℕ) (formats : Formats) (known : Known) (dir
   create-new laws grow is well w st = (
     after w.machine (CreateTable t),
     inr (t, table-suits laws e w name formats st, (Done, (CreateTable t, decision-is laws e w name formats st well ∙ made.0, refl), refl)),
-    subst (λ (ps : List FramePiece). Stands (record (created e known dir t id) { pieces = ps }) (record w { machine = after w.machine (CreateTable t) })) (pieces-last e (first_piece t id))
-        (subst (λ (ws : List ℕ). Stands (record (with_table (with_frame e) known dir t id (length e.pieces)) { states = ws }) (record w { machine = after w.machine (CreateTable t) })) (states-last e sound.states first_word)
-        (laws.goes (with_frame e) w name formats known dir place id (length e.pieces) (grow e w st) made all first is (frame-none e) (piece-within e) (word-within e sound.states))),
-  )
+    subst (λ (ps : List FramePiece). Stands (record (created e known dir t id) { pieces = ps }) (record w { machine = after w.machine (CreateTable t) })) (pieces-last e (first_piece 0 t id))
+        (subst (λ (ws : List ℕ). Stands (record (created e known dir t id) { pieces = slice_set (with_frame e).pieces (length e.pieces) (first_piece 0 t id); states = ws }) (record w { machine = after w.machine (CreateTable t) })) (states-last e sound.states (filled 0))
+        (subst (λ g. Stands (comes-at g) (record w { machine = after w.machine (CreateTable t) })) (generation-first e)
+        (laws.goes (with_frame e) w name formats known dir place id (length e.pieces) (grow e w st) made all (subst (HasFirstLeaf e.hub.dir dir t.number id (length e.pieces)) (sym (generation-first e)) first) is (frame-none e) (piece-within e) (word-within e sound.states)))),
+  ) where
+    comes-at : ℕ → Engine
+    comes-at g = record e {
+      hub = record e.hub { tables = known; dir = dir };
+      pieces = slice_set (with_frame e).pieces (length e.pieces) (first_piece g t id);
+      states = slice_set (with_frame e).states (length e.pieces) (filled g);
+    }
 
   known-is : known.tables ≡ e.hub.tables.tables ++ t ∷ []
   known-is = ap (λ (k : Known). k.tables) made.2
@@ -160,11 +167,11 @@ module _ (e : Engine) (name : List ℕ) (formats : Formats) (known : Known) (dir
   long = ap (λ (ts : List Table). length ts) known-is ∙ length-append e.hub.tables.tables (t ∷ [])
 
   module _ (are : AreTables e.hub.tables) (was : IsDirectory e.hub.dir) where
-    come : IsCome e.hub.dir.leaves dir.leaves (new_leaf t.number id (length e.pieces))
-    come = comes e.hub.dir dir t.number id (length e.pieces) was (none-yet e are sound) first
+    come : IsCome e.hub.dir.leaves dir.leaves (new_leaf t.number id (length e.pieces) 0)
+    come = comes e.hub.dir dir t.number id (length e.pieces) 0 was (none-yet e are sound) first
 
     owned : LeavesOwned known.tables dir.leaves
-    owned l at = elim (come-cases e.hub.dir dir.leaves (new_leaf t.number id (length e.pieces)) was come l at) [
+    owned l at = elim (come-cases e.hub.dir dir.leaves (new_leaf t.number id (length e.pieces) 0) was come l at) [
       | inl old ↦ let o = sound.owned l old in (o.0, o.1, ap (λ (ts : List Table). slice_get ts o.0) known-is ∙ append-keeps e.hub.tables.tables t o.1 o.0 o.2, o.3)
       | inr same ↦ (length e.hub.tables.tables, t, ap (λ (ts : List Table). slice_get ts (length e.hub.tables.tables)) known-is ∙ append-last e.hub.tables.tables t, ap (λ (x : Leaf). x.table) (sym same))
     ]
@@ -176,11 +183,11 @@ module _ (e : Engine) (name : List ℕ) (formats : Formats) (known : Known) (dir
       run = sound.run;
       built = sound.built;
       actors = sound.actors;
-      states = one-more e sound.states (first_piece t id) first_word;
+      states = one-more e sound.states (first_piece 0 t id) (filled 0);
       numbers = (let next = ap (λ (k : Known). k.next) made.2 in let before = sound.numbers in omega (arith, before, long, next));
       owned = owned;
       stamps = sound.stamps;
-      sizes = record { leaves = leaves-more e.pieces (first_piece t id) sound.sizes.leaves (filled-fits t.number id (record { page = []; chains = [] }) (λ key. tt)); sessions = sound.sizes.sessions; names = sound.sizes.names };
+      sizes = record { leaves = leaves-more e.pieces (first_piece 0 t id) sound.sizes.leaves (filled-fits 0 t.number id (record { page = []; chains = [] }) (λ key. tt)); sessions = sound.sizes.sessions; names = sound.sizes.names };
     }
 
 -- ---- set

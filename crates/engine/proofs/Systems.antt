@@ -43,11 +43,13 @@ asked-stands e w systems st = record {
   begun = st.begun;
   owned = st.owned;
   leaves = st.leaves;
+  frames = st.frames;
   count = st.count;
   doings = st.doings;
   doing = st.doing;
   sessions = st.sessions;
   systems = refl;
+  noticed = st.noticed;
 }
 
 -- the call of one actor changed

@@ -16,11 +16,11 @@ use Rattle.engine.specs.declared.called.Called.{Called}
 use Rattle.engine.specs.declared.called.Called.TheVariants as called
 use Rattle.engine.specs.declared.step.Actor.TheVariants as actor
 use Rattle.engine.specs.Runs.{StepsMore, StepsOut}
-use Rattle.engine_world.specs.Worlds.{World, Doing, Resting, doing_of}
+use Rattle.engine_world.specs.Worlds.{World, Doing, Resting, doing_of, unset}
 
--- the world with one session as it is now, and the machine
+-- the world with one session as it is now, whose call found no leaf that has gone out, and the machine
 abbrev pub moved : World → ℕ → Machine → Doing → World
-moved w session m doing = record w { machine = m; sessions = slice_set w.sessions session doing }
+moved w session m doing = record w { machine = m; sessions = slice_set w.sessions session doing; again = unset session w.again }
 
 -- the steps of a session's call, up to its answer or to a leaf that is in no frame
 abbrev pub Ends : Called → Engine → World → ℕ → Type 0

@@ -1,8 +1,8 @@
 // Frames, and the leaves that come into them. A function calls the laws that its proof rests on,
 // which do nothing.
 
-ghost use Rattle.std.specs.Prelude.{◌≡◌, ◌<◌, [], length, option_map, vec_capacity, vec_len, IfOk, IfSome, IsTrue, OnErr, OnOk};
-ghost use Rattle.engine_world.specs.Leaves.{frame_in};
+ghost use Rattle.std.specs.Prelude.{◌≡◌, ◌<◌, ◌+◌, ◌^◌, [], false, length, option_map, vec_capacity, vec_len, IfOk, IfSome, IsTrue, OnErr, OnOk};
+ghost use Rattle.engine_world.specs.Leaves.{frame_in, generation_at};
 ghost use Rattle.engine_world.specs.Stands.{Stands};
 ghost use Rattle.engine_world.specs.Worlds.{World};
 ghost use Rattle.engine.specs.Frames.{IsBare, IsFilled, piece_of, put_at};
@@ -10,7 +10,7 @@ ghost use Rattle.engine.specs.Sound.{IsSound};
 ghost use Rattle.engine.specs.Waits.{IsAway};
 
 use crate::parts::Parts;
-use call_steps::{Frame, FramePiece};
+use call_steps::{Frame, FramePiece, filled};
 use engine_world::{frames_grow, leaves_come};
 use failure::NoMemory;
 use leaf_frame::LeafFrame;
@@ -19,8 +19,8 @@ use tree_dir::Framed;
 // How many frames there may be: each has a number of 32 bits.
 const FRAMES_MAX: usize = u32::MAX as usize;
 
-// The state word of a frame that has the first leaf that it ever had.
-pub(crate) const FIRST_WORD: u64 = 1;
+// Generations are below this.
+const GENERATIONS: u64 = 1 << 62;
 
 impl Parts {
     /// The leaf of this id comes into a frame that has none, with the rows of its block.
@@ -45,17 +45,18 @@ impl Parts {
             Some(there) => there.table,
         };
         let frame = frame_for_one(&mut self.pieces, &mut self.states, &mut self.bare)?;
-        self.hub.dir.set_frame(
-            leaf,
-            Some(Framed {
-                frame,
-                generation: 0,
-            }),
-        );
+        let generation = generation_at(&self.pieces, frame);
+        self.hub
+            .dir
+            .set_frame(leaf, Some(Framed { frame, generation }));
         // What holds of every directory holds of this one.
         self.hub.dir.stands();
-        put(&mut self.pieces, frame, piece_of(table, leaf, page));
-        put(&mut self.states, frame, FIRST_WORD);
+        put(
+            &mut self.pieces,
+            frame,
+            piece_of(generation, table, leaf, page),
+        );
+        put(&mut self.states, frame, filled(generation));
         Ok(())
     }
 
@@ -132,12 +133,30 @@ pub(crate) fn room_for_one(
     Ok(count as u32)
 }
 
-// The piece of a frame that has the leaf of this id as its first one.
-pub(crate) fn piece_of(table: u32, id: u64, leaf: LeafFrame) -> FramePiece
-    ensures { result ≡ piece_of table id leaf }
+// The generation of a frame; that of one more is the first.
+pub(crate) fn generation_at(pieces: &[FramePiece], frame: u32) -> u64
+    ensures { result ≡ generation_at pieces.now frame }
+{
+    match pieces.get(frame as usize) {
+        None => 0,
+        Some(piece) => piece.generation,
+    }
+}
+
+// Whether another leaf may come into the frame after its own.
+pub(crate) fn has_next(pieces: &[FramePiece], frame: u32) -> bool
+    ensures yes { IsTrue result → generation_at pieces.now frame + 1 < 2 ^ 62 }
+    ensures no { result ≡ false → generation_at pieces.now frame + 1 < 2 ^ 62 → ⊥ }
+{
+    generation_at(pieces, frame) < GENERATIONS - 1
+}
+
+// The piece of a frame that has the leaf of this id, at this generation.
+pub(crate) fn piece_of(generation: u64, table: u32, id: u64, leaf: LeafFrame) -> FramePiece
+    ensures { result ≡ piece_of generation table id leaf }
 {
     FramePiece {
-        generation: 0,
+        generation,
         frame: Some(Frame { table, id, leaf }),
     }
 }

@@ -1,19 +1,21 @@
 // Leaves that leave their frames while nobody is at work.
 
-ghost use Rattle.std.specs.Prelude.{◌≡◌, ℕ, List, None, false, length, option_map, IsTrue, OnErr, OnOk, slice_set};
+ghost use Rattle.std.specs.Prelude.{◌≡◌, ◌<◌, ◌+◌, ◌^◌, ℕ, List, false, length, option_map, IsTrue, OnErr, OnOk, slice_set};
 ghost use Rattle.row_page.specs.Rows.{Row as ARow};
+ghost use Rattle.call_steps.specs.Tables.{empty};
 ghost use Rattle.tree_dir.specs.Leaves.{TakePlace, leaves_with};
 ghost use Rattle.engine_world.specs.GivingWay.{IsIdle, IsShelved, RestsWhole};
-ghost use Rattle.engine_world.specs.Leaves.{frame_in};
+ghost use Rattle.engine_world.specs.Leaves.{emptied, frame_in, generation_at};
 ghost use Rattle.engine_world.specs.Stands.{Stands};
 ghost use Rattle.engine_world.specs.Worlds.{World};
 ghost use Rattle.engine.specs.Frames.{HasGivenWay, IsFramed};
 ghost use Rattle.engine.specs.Sound.{IsSound};
 ghost use Rattle.engine.specs.Told.{KeepOwn};
 
+use crate::frames::{generation_at, has_next};
 use crate::local::Local;
 use crate::parts::Parts;
-use call_steps::{FramePiece, SessionState, Stage};
+use call_steps::{FramePiece, SessionState, Stage, empty};
 use engine_world::leaves_give_way;
 use failure::NoMemory;
 use inner_page::Entry;
@@ -44,8 +46,9 @@ impl Local {
 
     /// Others take the place of a leaf that is in a frame, the first from its low key on, while nobody
     /// is at work. They are in no frame, and another leaf may come into that one. Nobody sees it where
-    /// their blocks have the newest version of each key, durable at the oldest stamp. Without memory
-    /// nothing is changed. `O(log n)` comparisons for each with n leaves.
+    /// their blocks have the newest version of each key, durable at the oldest stamp. Without memory,
+    /// or where the frame is at its last generation, nothing is changed. `O(log n)` comparisons for
+    /// each with n leaves.
     pub fn give_way(&mut self, leaf: u64, entries: Vec<Entry>) -> Result<(), NoMemory>
         requires idle { IsIdle self.old }
         requires framed { IsFramed self.old.hub.dir.leaves leaf }
@@ -107,11 +110,14 @@ impl Parts {
         let Some(framed) = self.hub.dir.frame(leaf) else {
             return Err(NoMemory);
         };
+        if !has_next(&self.pieces, framed.frame) {
+            return Err(NoMemory);
+        }
         self.bare.reserve(1)?;
         self.hub.dir.replace(leaf, entries)?;
         self.hub.dir.stands();
-        empty(&mut self.pieces, framed.frame);
-        clear(&mut self.states, framed.frame);
+        let generation = leave(&mut self.pieces, framed.frame);
+        clear(&mut self.states, framed.frame, generation);
         self.bare.push_reserved(framed.frame);
         Ok(())
     }
@@ -127,25 +133,29 @@ fn rests_whole(session: &SessionState) -> bool
         && session.pinned_cursor().is_none()
 }
 
-// The frame has no leaf any more.
-pub(crate) fn empty(pieces: &mut [FramePiece], frame: u32)
-    ensures { pieces.new ≡ slice_set pieces.old frame (record { generation = 0; frame = None }) }
+// The frame has no leaf any more, and is at the next generation.
+pub(crate) fn leave(pieces: &mut [FramePiece], frame: u32) -> u64
+    requires { generation_at pieces.old frame + 1 < 2 ^ 62 }
+    ensures piece { pieces.new ≡ slice_set pieces.old frame (emptied pieces.old frame) }
+    ensures next { result ≡ generation_at pieces.old frame + 1 }
 {
+    let generation = generation_at(pieces, frame) + 1;
     let at = frame as usize;
     if at < pieces.len() {
         pieces[at] = FramePiece {
-            generation: 0,
+            generation,
             frame: None,
         };
     }
+    generation
 }
 
-// Its state word is that of no leaf.
-pub(crate) fn clear(states: &mut [u64], frame: u32)
-    ensures { states.new ≡ slice_set states.old frame 0 }
+// Its state word is that of no leaf, at this generation.
+pub(crate) fn clear(states: &mut [u64], frame: u32, generation: u64)
+    ensures { states.new ≡ slice_set states.old frame (empty generation) }
 {
     let at = frame as usize;
     if at < states.len() {
-        states[at] = 0;
+        states[at] = empty(generation);
     }
 }

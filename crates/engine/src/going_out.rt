@@ -1,26 +1,28 @@
 // Leaves that go out of their frames as they were read, while sessions are at work.
 
 ghost use Rattle.std.specs.Prelude.{◌≡◌, None, false, IfOk, IfSome, IsTrue, OnErr};
-ghost use Rattle.engine_world.specs.GoingOut.{IsAside, frame_in_hand};
+ghost use Rattle.engine_world.specs.GoingOut.{IsClearOf, frame_named};
 ghost use Rattle.engine_world.specs.Stands.{Stands};
 ghost use Rattle.engine_world.specs.Worlds.{World};
-ghost use Rattle.engine.specs.Frames.{AllAside, HasGoneOut, IsUnpinned, IsUnwritten, MayGoOut};
+ghost use Rattle.engine.specs.Frames.{AllClearOf, HasGoneOut, IsUnpinned, IsUnwritten, MayGoOut};
 ghost use Rattle.engine.specs.Sound.{IsSound};
 ghost use Rattle.engine.specs.Told.{KeepOwn};
 
-use crate::giving::{clear, empty};
+use crate::frames::has_next;
+use crate::giving::{clear, leave};
 use crate::local::Local;
 use crate::parts::Parts;
 use call_steps::{SessionState, Stage};
-use engine_world::leaves_go_out;
+use engine_world::leaves_go_out_unseen;
 use failure::NoMemory;
 use leaf_frame::LeafFrame;
 
 impl Local {
     /// The leaf of this id goes out of its frame, where it may: its keys were never written since it
-    /// was read, no call is at it, and no hazard word names its frame. It is read again when a call
-    /// needs it, and another leaf may come into that frame. Nobody sees it. `Ok(false)` where it may
-    /// not; then, and without memory, nothing is changed. `O(n)` in the sessions.
+    /// was read, no call has found it or is at it, no hazard word names its frame, and that is not at
+    /// its last generation. It is read again when a call needs it, and another leaf may come into that
+    /// frame. Nobody sees it. `Ok(false)` where it may not; then, and without memory, nothing is
+    /// changed. `O(n)` in the sessions.
     pub fn go_out(&mut self, leaf: u64) -> Result<bool, NoMemory>
         ensures out { IfOk result (λ out. IsTrue out → HasGoneOut self.old self.new leaf) }
         ensures not { IfOk result (λ out. out ≡ false → (MayGoOut self.old leaf → ⊥) × (self.new ≡ self.old)) }
@@ -42,7 +44,7 @@ impl Parts {
         ensures own { KeepOwn self.old self.new }
         ensures sound { IsSound self.new }
     {
-        leaves_go_out();
+        leaves_go_out_unseen();
         let Some(frame) = self.frame_to_leave(leaf) else {
             return Ok(false);
         };
@@ -50,8 +52,8 @@ impl Parts {
         self.hub.dir.set_frame(leaf, None);
         // What holds of every directory holds of this one.
         self.hub.dir.stands();
-        empty(&mut self.pieces, frame);
-        clear(&mut self.states, frame);
+        let generation = leave(&mut self.pieces, frame);
+        clear(&mut self.states, frame, generation);
         self.bare.push_reserved(frame);
         Ok(true)
     }
@@ -63,8 +65,9 @@ impl Parts {
     {
         let frame = self.hub.dir.frame(leaf)?.frame;
         if is_unwritten(self.leaf_in(frame)?)
-            && are_aside(&self.sessions, frame)
+            && are_clear_of(&self.sessions, frame)
             && is_unpinned(&self.hazards, frame)
+            && has_next(&self.pieces, frame)
         {
             Some(frame)
         } else {
@@ -84,32 +87,32 @@ fn is_unwritten(leaf: &LeafFrame) -> bool
     }
 }
 
-// Whether no call is at the leaf in the frame.
-fn are_aside(sessions: &[SessionState], frame: u32) -> bool
-    ensures yes { IsTrue result → AllAside frame sessions.now }
-    ensures no { result ≡ false → AllAside frame sessions.now → ⊥ }
+// Whether no call has found the leaf in the frame, or is at it.
+fn are_clear_of(sessions: &[SessionState], frame: u32) -> bool
+    ensures yes { IsTrue result → AllClearOf frame sessions.now }
+    ensures no { result ≡ false → AllClearOf frame sessions.now → ⊥ }
 {
     for session in sessions {
-        if !is_aside(session, frame) {
+        if !is_clear_of(session, frame) {
             return false;
         }
     }
     true
 }
 
-fn is_aside(session: &SessionState, frame: u32) -> bool
-    ensures yes { IsTrue result → IsAside frame session.now }
-    ensures no { result ≡ false → IsAside frame session.now → ⊥ }
+fn is_clear_of(session: &SessionState, frame: u32) -> bool
+    ensures yes { IsTrue result → IsClearOf frame session.now }
+    ensures no { result ≡ false → IsClearOf frame session.now → ⊥ }
 {
-    match frame_in_hand(session.stage()) {
+    match frame_named(session.stage()) {
         None => true,
         Some(at) => at != frame,
     }
 }
 
-// The frame whose leaf a call is at.
-fn frame_in_hand(stage: Stage) -> Option<u32>
-    ensures { result ≡ frame_in_hand stage }
+// The frame that a call names, from the finding of its leaf on.
+fn frame_named(stage: Stage) -> Option<u32>
+    ensures { result ≡ frame_named stage }
 {
     match stage {
         Stage::Publish(_, target)

@@ -12,8 +12,8 @@ use stamp::Name;
 use std::alloc::Global;
 use tree_dir::{Dir, Framed};
 
-// A table with one leaf that has all keys, in this frame; gives the leaf's id. Where memory is short,
-// nothing is changed.
+// A table with one leaf that has all keys, in this frame, which had none before; gives the leaf's id.
+// Where memory is short, nothing is changed.
 pub(crate) fn add_leaf(
     alloc: Global,
     dir: &mut Dir,
@@ -21,7 +21,7 @@ pub(crate) fn add_leaf(
     frame: u32,
 ) -> Result<u64, NoMemory>
     requires { All (λ l. l.table ≢ table) dir.old.leaves }
-    ensures first { IfOk result (λ id. HasFirstLeaf dir.old dir.new table id frame) }
+    ensures first { IfOk result (λ id. HasFirstLeaf dir.old dir.new table id frame 0) }
     ensures kept { OnErr result (dir.new ≡ dir.old) }
 {
     let entries = first_entries(alloc)?;

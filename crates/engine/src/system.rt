@@ -15,11 +15,11 @@ ghost use Rattle.engine.specs.Systems.{Makes};
 ghost use Rattle.engine.specs.Told.{IsOwnAlways, KeepOwn, TellsFrom};
 ghost use Rattle.engine.specs.Whole.{MayAnswer, with_session_more};
 
-use crate::frames::{FIRST_WORD, piece_of, room_for_one};
+use crate::frames::{piece_of, room_for_one};
 use crate::leaves::add_leaf;
 use crate::parts::Parts;
 use crate::step::Actor;
-use call_steps::{Reply, SessionState};
+use call_steps::{Reply, SessionState, filled};
 use catalog::{Created, creates_are_judged, creates_suit, names_turn, places_are_named};
 use engine_world::{creates_go, frames_grow, opens_go, sets_go};
 use failure::NoMemory;
@@ -210,8 +210,8 @@ impl Parts {
                         // What holds of every directory holds of this one.
                         self.hub.dir.stands();
                         let leaf = LeafFrame::new(alloc);
-                        self.pieces.push_reserved(piece_of(number, id, leaf));
-                        self.states.push_reserved(FIRST_WORD);
+                        self.pieces.push_reserved(piece_of(0, number, id, leaf));
+                        self.states.push_reserved(filled(0));
                         Answer::Done
                     }
                 }

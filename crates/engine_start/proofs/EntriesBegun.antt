@@ -188,6 +188,7 @@ module _ (stay : SeenStay) (m : Marks) (ids : List ℕ) (led : Led) (shelf : ℕ
     begun = begun;
     owned = leaves_owned tables e.hub.tables.tables e.hub.dir unread.tables_are unread.added;
     leaves = λ l there. inr (starts l there);
+    frames = unread.frames;
     sessions = unread.sessions;
     systems = unread.systems;
   }

@@ -1,11 +1,13 @@
 -- What an engine is that was opened on tables and the directory of their leaves.
-use Rattle.std.proofs.Common.{◌≡◌, ◌+◌, List, Option, None, map, reverse, refl, sym, ap, subst, ◌∙◌}
+use Rattle.std.proofs.Common.{◌≡◌, ◌+◌, List, Option, None, map, reverse, refl, sym, ap, subst, ◌∙◌, arith}
 use Rattle.kv_model.specs.Content.{descending, table_lt}
 use Rattle.leaf_rows.specs.declared.marks.Marks.{Marks}
 use Rattle.tree_dir.specs.Leaves.{Directory, IsDirectory, no_leaves}
 use Rattle.wt_calls.specs.declared.system_call.SystemCall.{SystemCall}
 use Rattle.catalog.specs.Known.{AreTables, Known}
 use Rattle.call_steps.specs.declared.hub.Hub.{Hub}
+use Rattle.call_steps.specs.declared.frame.FramePiece.{FramePiece}
+use Rattle.engine_world.specs.Leaves.{FramesStand}
 use Rattle.engine_world.specs.Stands.{Engine}
 use Rattle.engine.specs.Openings.{IsOpened, first_hub}
 use Rattle.engine_start.specs.declared.table_entries.TableEntries.{TableEntries}
@@ -21,6 +23,7 @@ module _ (m : Marks) (known : Known) (dir : Directory) (e : Engine) (is : IsOpen
     tables_are = ap (λ (h : Hub). reverse h.tables.tables) is.hub ∙ are;
     dir = subst (λ (h : Hub). IsDirectory h.dir) (sym is.hub) directory;
     added = subst (λ (h : Hub). AreAdded no_leaves tables h.dir) (sym is.hub) added;
+    frames = subst (λ (ps : List FramePiece). FramesStand ps e.states) (sym is.pieces) (λ frame. record { below = omega arith; word = omega arith });
     sessions = is.sessions;
     systems = subst (λ (l : List (Option SystemCall)). map {A = Option SystemCall} (λ x. None) l ≡ l) (sym is.systems) refl;
   }

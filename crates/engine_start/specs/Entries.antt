@@ -13,6 +13,7 @@ use Rattle.tree_dir.specs.declared.leaf.Leaf.{Leaf}
 use Rattle.tree_dir.specs.Leaves.{AreTable, Directory, HasTable, IsDirectory, leaf_named, no_leaves}
 use Rattle.txn_table.specs.Tabled.{fresh}
 use Rattle.catalog.specs.Known.{AreTables}
+use Rattle.engine_world.specs.Leaves.{FramesStand}
 use Rattle.engine_world.specs.Stands.{Engine}
 use Rattle.engine_start.specs.Contents.{TableLeaf}
 use Rattle.engine_start.specs.declared.table_entries.TableEntries.{TableEntries}
@@ -64,6 +65,7 @@ pub record IsUnread (m : Marks) (tables : List TableEntries) (e : Engine) : Type
   pub tables_are : reverse e.hub.tables.tables ≡ descending table_lt (tables_of tables)
   pub dir : IsDirectory e.hub.dir
   pub added : AreAdded no_leaves tables e.hub.dir
+  pub frames : FramesStand e.pieces e.states
   pub sessions : e.sessions ≡ []
   pub systems : map (λ x. None) e.systems ≡ e.systems
 

@@ -1,5 +1,5 @@
 -- What holds between two calls goes on over a call of an actor, by which the disk is at most looked at.
-use Rattle.std.proofs.Common.{◌≡◌, ◌∙◌, ◌≤◌, ℕ, List, [], ◌∷◌, length, Option, refl, sym, subst, inl, inr, arith}
+use Rattle.std.proofs.Common.{◌≡◌, ◌∙◌, ◌≤◌, ℕ, List, [], ◌∷◌, length, Option, refl, sym, ap, subst, inl, inr, arith}
 use Rattle.disk_model.specs.Crash.{Each, Looked}
 use Rattle.disk_model.specs.Disk.{NoMore}
 use Rattle.disk_model.specs.declared.disk.Disk.{Ghosts}
@@ -45,6 +45,7 @@ stands_looked bytes seen was images hub g old same fewer on = record {
   within = subst (λ (l : List ℕ). end_of g.place.blocks.space ≤ length l) (sym same) on.within;
   roots = on.roots;
   written = on.written;
+  since = on.since;
 }
 
 pub ready_goes : (s s' : Store) → HubGoesOn s.engine.hub s'.engine.hub → s'.ground ≡ s.ground → IsReady s → IsReady s'
@@ -73,7 +74,7 @@ module _ {D : Type 0} (g : Ghosts D) (s s' : Store) (before after : D) (looked :
   backed_goes w was now are backed up =
       let b = backed (sym goes.fault ∙ up) in
       let m = moved b.0 w w was now are (goes_same w.machine) refl b.1 b.2 in
-      (b.0, m.on, m.follows)
+      (b.0, m.on, m.follows, ap (λ (x : Ground). x.lives) ground ∙ b.3)
 
   -- ---- what is held
 
@@ -88,6 +89,7 @@ module _ {D : Type 0} (g : Ghosts D) (s s' : Store) (before after : D) (looked :
           old = x.old;
           on = m.on;
           follows = m.follows;
+          none = ap (λ (x : Ground). x.lives) ground ∙ x.none;
           opens = subst (λ (c : Completed). OpensAs (content_was x.old) c) (sym on.keeps.completed) x.opens;
           one = x.one;
         };
@@ -112,7 +114,7 @@ module _ {D : Type 0} (g : Ghosts D) (s s' : Store) (before after : D) (looked :
 -- ---- where a call begins
 
 pub backed_held : {D : Type 0} (g : Ghosts D) (start disk : D) (s : Store) (w : World) (first : Completed) (made : List Installed) → IsHeld g start s disk w first made → IsBacked g s disk w
-backed_held g start disk s w first made held up = let x = held.on (sym held.stands.fault ∙ up) in (x.old, x.on, x.follows)
+backed_held g start disk s w first made held up = let x = held.on (sym held.stands.fault ∙ up) in (x.old, x.on, x.follows, x.none)
 
 pub reached_first : {D : Type 0} (g : Ghosts D) (s : Store) (disk : D) (w : World) → Stands s.engine w → IsBacked g s disk w → IsReached g s disk w w
 reached_first g s disk w stands backed = record { backed = backed; stands = stands; fault = refl; shelf = refl }

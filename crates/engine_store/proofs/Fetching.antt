@@ -34,7 +34,7 @@ module _ {D : Type 0} (g : Ghosts D) (s : Store) (disk : D) where
   pub shelf_here : (w now : World) (leaf : ℕ) → IsReached g s disk w now → s.engine.hub.fault ≡ None → IsAway s.engine.hub.dir.leaves leaf → known_in s.ground.parts leaf ≡ None → ShelfIsOn (g.seen disk) s.engine.hub.dir now.shelf leaf
   shelf_here w now leaf reached up away none =
       let b = reached.backed up in
-      shelf_on (g.seen disk) (g.may_leave disk) s.engine s.ground now reached.stands b.0 w leaf b.1 b.2 reached.shelf away none
+      shelf_on (g.seen disk) (g.may_leave disk) s.engine s.ground now reached.stands b.0 w leaf b.1 b.2 b.3 reached.shelf away none
 
 pub caused : (fault : Type 0) (down : Option Fault) (result : Result (Unit {0}) Refusal) → IfErr result (LacksLeaf fault) → IfErr result (IsCause fault down)
 caused fault down (Ok done) lacks = tt

@@ -31,10 +31,12 @@ use Rattle.engine.specs.Directories.{HubGoesOn}
 use Rattle.engine_start.specs.declared.table_entries.TableEntries.{TableEntries}
 use Rattle.engine_start.specs.Entries.{IsUnread, entries_of}
 use Rattle.ckpt_step.specs.Floors.{Follows, FollowsFrom, IsAsItLies}
-use Rattle.ckpt_step.specs.Grounds.{AreRoots, AreWritten, found_in}
+use Rattle.ckpt_step.specs.declared.lives.Lone.{Lone}
+use Rattle.ckpt_step.specs.Grounds.{AreRoots, AreSince, AreWritten, found_in, start_cell}
 use Rattle.ckpt_step.specs.Parts.{part_leaves, part_of}
 use Rattle.ckpt_step.specs.Rooms.{Rooms, Written, known_in}
 use Rattle.ckpt_step.specs.Trees.{HasTreeAt, table_root}
+use Rattle.ckpt_step.proofs.Lones.{no_since}
 use Rattle.ckpt_step.proofs.Members.{none_some}
 use Rattle.ckpt_step.proofs.TableLeaves.{contains_of, in_table, member_of, table_in}
 use Rattle.engine_store.specs.declared.store.Store.{Store}
@@ -85,10 +87,10 @@ module _ (a : Above) (is_record : IsRecord a.record) (both : List TableEntries) 
     are : ArePlaces ps a.record.tables of.trees
     are = places_over bytes a.record.tables a.uppers.items of.trees ps of.have of.uppers over
 
-    roots : AreRoots s.engine.hub.tables.tables d.leaves (known_in []) (places_in a.record.tables ps) (Some old)
+    roots : AreRoots s.engine.hub.tables.tables [] d.leaves (known_in []) (places_in a.record.tables ps) (Some old)
     roots = roots_are bytes place a is_record bare of both with d now.dir own ps (many a is_record both with e unread s goes ps over trees_are number) are s.engine.hub.tables.tables known_now
 
-    written : AreWritten s.engine.hub.tables.tables d (known_in []) (places_in a.record.tables ps)
+    written : AreWritten s.engine.hub.tables.tables [] d (known_in []) (places_in a.record.tables ps)
     written = written_are bytes place a is_record bare of both with d now.dir own ps (many a is_record both with e unread s goes ps over trees_are number) are s.engine.hub.tables.tables known_now
 
     -- a leaf that is in no frame, or of which nothing is kept, has on the shelf what the device has
@@ -108,19 +110,20 @@ module _ (a : Above) (is_record : IsRecord a.record) (both : List TableEntries) 
         ∙ shelf_same bytes e.hub.dir (marks_of a.record) a.record.snapshot.ids on_shelf was.0 l (rows_of bytes d now.dir t.number p tree has at.1 leads entries fits l.entry)
         (begun_kept bytes place a of both with recorded e unread was.0 before) was.2.id was.2.entry (whole_or_bare s.engine.hub.tables.tables d now.dir (marks_of a.record) written_now keep now.owned unmarked l there as_it_lies) (under bytes d now.dir t.number p tree has at.1 leads entries fits l there its).leaf)
 
-    follows : FollowsFrom (Some old) s.engine.hub.tables.tables d.leaves written_now (places_in a.record.tables ps) no_name (first_world (content_of old) on_shelf s.engine)
+    follows : FollowsFrom (Some old) s.engine.hub.tables.tables [] d.leaves written_now (places_in a.record.tables ps) no_name (first_world (content_of old) on_shelf s.engine)
     follows = follows_from (Some old) s.engine.hub.tables.tables d.leaves written_now (places_in a.record.tables ps) (first_world (content_of old) on_shelf s.engine) (starts_below (content_of old)) (part_own s.engine.hub.tables.tables d now.dir (marks_of a.record) written_now keep) same
 
-    pub found_above : s.ground.place ≡ place → s.ground.floor ≡ no_name → a.record.run < last_number → a.record.next_table + TABLES_MAX < 2 ^ 32 + length a.record.tables → IsFound bytes s
-    found_above place_is floor run numbers = record {
+    pub found_above : s.ground.place ≡ place → s.ground.floor ≡ no_name → s.ground.lives ≡ [] → a.record.run < last_number → a.record.next_table + TABLES_MAX < 2 ^ 32 + length a.record.tables → IsFound bytes s
+    found_above place_is floor none run numbers = record {
       old = Some old;
       numbers = (run, numbers);
       on = record {
         serves = subst (λ (x : Place). Serves bytes x (Some old)) (sym place_is) of.serves;
         books = subst (λ (x : Place). Counts (found_in (Some old)) x.blocks) (sym place_is) of.books;
         number = number;
-        roots = subst (λ (l : List TreePlace). AreRoots s.engine.hub.tables.tables d.leaves written_now l (Some old)) (sym trees_are) (roots_kept s.engine.hub.tables.tables d now.dir (marks_of a.record) written_now keep (places_in a.record.tables ps) old roots);
-        written = subst (λ (l : List TreePlace). AreWritten s.engine.hub.tables.tables d written_now l) (sym trees_are) (written_kept s.engine.hub.tables.tables d now.dir (marks_of a.record) written_now keep (places_in a.record.tables ps) written);
+        roots = subst (λ (l : List TreePlace). AreRoots s.engine.hub.tables.tables [] d.leaves written_now l (Some old)) (sym trees_are) (roots_kept s.engine.hub.tables.tables d now.dir (marks_of a.record) written_now keep (places_in a.record.tables ps) old roots);
+        written = subst (λ (l : List TreePlace). AreWritten s.engine.hub.tables.tables [] d written_now l) (sym trees_are) (written_kept s.engine.hub.tables.tables d now.dir (marks_of a.record) written_now keep (places_in a.record.tables ps) written);
+        none = none;
         floor = floor;
       };
       shelf = on_shelf;
@@ -134,13 +137,14 @@ module _ (a : Above) (is_record : IsRecord a.record) (both : List TableEntries) 
 
         following : s.ground.floor ≡ no_name → Follows (Some old) s.engine.hub s.ground w
         following floor =
-            subst (λ (f : Name). FollowsFrom (Some old) s.engine.hub.tables.tables d.leaves written_now s.ground.trees.items f w) (sym floor)
-            (subst (λ (l : List TreePlace). FollowsFrom (Some old) s.engine.hub.tables.tables d.leaves written_now l no_name w) (sym trees_are) follows)
+            subst (λ (x : List Lone). FollowsFrom (Some old) s.engine.hub.tables.tables x d.leaves written_now s.ground.trees.items s.ground.floor w) (sym none)
+            (subst (λ (f : Name). FollowsFrom (Some old) s.engine.hub.tables.tables [] d.leaves written_now s.ground.trees.items f w) (sym floor)
+            (subst (λ (l : List TreePlace). FollowsFrom (Some old) s.engine.hub.tables.tables [] d.leaves written_now l no_name w) (sym trees_are) follows))
 
 -- ---- without one
 
-pub found_none : (bytes : List ℕ) (s : Store) → KeepsNone bytes s.ground.place → s.ground.number ≡ 0 → s.ground.trees.items ≡ [] → s.ground.parts ≡ [] → s.ground.floor ≡ no_name → s.engine.hub.tables.tables ≡ [] → s.engine.hub.dir.leaves ≡ [] → Stands s.engine (first_world nothing no_shelf s.engine) → IsFound bytes s
-found_none bytes s keeps number none parts floor known bare st = record {
+pub found_none : (bytes : List ℕ) (s : Store) → KeepsNone bytes s.ground.place → s.ground.number ≡ 0 → s.ground.trees.items ≡ [] → s.ground.parts ≡ [] → s.ground.floor ≡ no_name → s.ground.lives ≡ [] → s.engine.hub.tables.tables ≡ [] → s.engine.hub.dir.leaves ≡ [] → Stands s.engine (first_world nothing no_shelf s.engine) → IsFound bytes s
+found_none bytes s keeps number none parts floor unwritten known bare st = record {
   old = None;
   numbers = tt;
   on = record {
@@ -148,16 +152,18 @@ found_none bytes s keeps number none parts floor known bare st = record {
     books = keeps.books;
     number = number;
     roots = none;
-    written = subst (λ (r : Rooms). AreWritten s.engine.hub.tables.tables s.engine.hub.dir (known_in r) s.ground.trees.items) (sym parts) (record {
+    written = subst (λ (r : Rooms). AreWritten s.engine.hub.tables.tables [] s.engine.hub.dir (known_in r) s.ground.trees.items) (sym parts) (record {
       later = λ id le. refl;
-      made_since = λ i t l there at among its. absurd (none_some (ap (λ (ts : List Table). slice_get ts i) (sym known) ∙ there));
+      made_since = λ i t l there at among its dead. absurd (none_some (ap (λ (ts : List Table). slice_get ts i) (sym known) ∙ there));
     });
+    none = unwritten;
     floor = floor;
   };
   shelf = no_shelf;
   world = st;
-  follows = subst (λ (f : Name). FollowsFrom None s.engine.hub.tables.tables s.engine.hub.dir.leaves (known_in s.ground.parts) s.ground.trees.items f (first_world nothing no_shelf s.engine)) (sym floor)
-      (record { respects = starts_below nothing; leaf = λ i t p tree l there stands at among its. absurd at });
+  follows = subst (λ (x : List Lone). FollowsFrom None s.engine.hub.tables.tables x s.engine.hub.dir.leaves (known_in s.ground.parts) s.ground.trees.items s.ground.floor (first_world nothing no_shelf s.engine)) (sym unwritten)
+      (subst (λ (f : Name). FollowsFrom None s.engine.hub.tables.tables [] s.engine.hub.dir.leaves (known_in s.ground.parts) s.ground.trees.items f (first_world nothing no_shelf s.engine)) (sym floor)
+      (record { respects = starts_below nothing; leaf = λ i t p tree l there stands at among its dead. absurd at; since = λ l there live. absurd (false≢true live) }));
   away = λ l there free. let nothing_there : Contains [] l = subst (λ (ls : List Leaf). Contains ls l) bare there in absurd (omega (arith, nothing_there.1));
 }
 
@@ -179,17 +185,22 @@ opened_of bytes images s found = record {
     };
     number = found.on.number;
     slot = found.on.serves.slot;
-    cells = found.on.books.has.cells;
+    cells = λ u. found.on.books.has.cells u ∙ ap (λ (x : List Lone). start_cell found.old x u) (sym none);
     units = found.on.books.has.units;
     idle = found.on.books.idle;
     long = long_of bytes found.old found.on.serves.still;
     within = found.on.serves.within;
-    roots = found.on.roots;
-    written = found.on.written;
+    roots = subst (λ (x : List Lone). AreRoots s.engine.hub.tables.tables x s.engine.hub.dir.leaves (known_in s.ground.parts) s.ground.trees.items found.old) (sym none) found.on.roots;
+    written = subst (λ (x : List Lone). AreWritten s.engine.hub.tables.tables x s.engine.hub.dir (known_in s.ground.parts) s.ground.trees.items) (sym none) found.on.written;
+    since = subst (λ (x : List Lone). AreSince found.old x s.engine.hub.dir (known_in s.ground.parts)) (sym none) (no_since found.old s.engine.hub.dir (known_in s.ground.parts));
   };
   floor = found.on.floor;
+  none = none;
   shelf = found.shelf;
   world = found.world;
   follows = found.follows;
   away = found.away;
 }
+  where
+    none : s.ground.lives ≡ []
+    none = found.on.none

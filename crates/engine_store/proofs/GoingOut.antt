@@ -108,7 +108,7 @@ module _ {D : Type 0} (g : Ghosts D) where
       on = λ up.
           let x = held.on up in
           let y = out.on disk x.old x.on in
-          record { old = x.old; on = y.0; follows = y.1 w x.follows; opens = x.opens; one = x.one };
+          record { old = x.old; on = y.0; follows = y.1 w x.follows; none = ap (λ (k : Ground). k.lives) out.ground ∙ x.none; opens = x.opens; one = x.one };
       images = held.images;
       last = held.last;
       ever = held.ever;

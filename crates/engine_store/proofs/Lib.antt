@@ -1,4 +1,5 @@
 pub mod TwoLists
+pub mod NoLives
 pub mod LeafBehind
 pub mod BehindKeys
 pub mod SurveyedTrees

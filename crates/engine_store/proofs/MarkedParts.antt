@@ -24,6 +24,7 @@ use Rattle.ckpt_step.specs.Floors.{IsAsItLies}
 use Rattle.ckpt_step.specs.Grounds.{AreWritten, HasRoots}
 use Rattle.ckpt_step.specs.Parts.{IsPart, IsParted, has_rows, own_part, part_in, part_leaves, part_of, parts_of}
 use Rattle.ckpt_step.specs.Rooms.{Rooms, Written, known_in}
+use Rattle.ckpt_step.proofs.Behind.{parted_whole}
 use Rattle.ckpt_step.proofs.Members.{none_some}
 use Rattle.ckpt_step.proofs.TableLeaves.{contains_of, in_table}
 use Rattle.engine_store.specs.Marked.{IsUnmarked, KeepMarked, framed_part}
@@ -107,13 +108,12 @@ module _ (known : List Table) (d : Directory) (is : IsDirectory d) (marks : Mark
   parts_same [] there = refl
   parts_same (l ∷ leaves) there = ap₂ (λ (a b : List Entry). a ++ b) (part_same l (there l (inl refl))) (parts_same leaves (λ x at. there x (inr at)))
 
-  parted : (n : ℕ) (place : TreePlace) (tree : TableTree) → IsParted d.leaves n (known_in []) place tree → IsParted d.leaves n written place tree
-  parted n place tree p = record {
-    joined = p.joined ∙ ap links_in (sym (parts_same (leaves_of n d.leaves) (λ l at. contains_of d.leaves l (in_table n d.leaves l at).0)));
-    parts = λ l there its. subst (λ (part : List Entry). IsPart d.leaves n l part (part_leaves place tree part)) (sym (part_same l there)) (p.parts l there its);
-  }
+  parted : (n : ℕ) (place : TreePlace) (tree : TableTree) → IsParted [] d.leaves n (known_in []) place tree → IsParted [] d.leaves n written place tree
+  parted n place tree p = parted_whole d.leaves n written place tree
+      (p.joined (λ l there its. refl) ∙ ap links_in (sym (parts_same (leaves_of n d.leaves) (λ l at. contains_of d.leaves l (in_table n d.leaves l at).0))))
+      (λ l there its. subst (λ (part : List Entry). IsPart d.leaves n l part (part_leaves place tree part)) (sym (part_same l there)) (p.parts l there its refl))
 
-  pub roots_kept : (places : List TreePlace) (s : Stored) → HasRoots known d.leaves (known_in []) places s → HasRoots known d.leaves written places s
+  pub roots_kept : (places : List TreePlace) (s : Stored) → HasRoots known [] d.leaves (known_in []) places s → HasRoots known [] d.leaves written places s
   roots_kept places s roots = record {
     bare = roots.bare;
     few = roots.few;
@@ -130,10 +130,10 @@ module _ (known : List Table) (d : Directory) (is : IsDirectory d) (marks : Mark
         let below : l.id < d.next = All-contains (λ (y : Leaf). y.id < d.next) d.leaves l is.below x.0 in
         absurd (omega (arith, late, below, x.1))
 
-  pub written_kept : (places : List TreePlace) → AreWritten known d (known_in []) places → AreWritten known d written places
+  pub written_kept : (places : List TreePlace) → AreWritten known [] d (known_in []) places → AreWritten known [] d written places
   written_kept places are = record {
     later = λ id late. elim (keep.own id) [ inl none ↦ none | inr kept ↦ kept ∙ ap framed_part (none_named id late) ];
-    made_since = λ i t l at none there its. let own = are.made_since i t l at none there its in (part_own l there ∙ own.0, own.1);
+    made_since = λ i t l at none there its dead. let own = are.made_since i t l at none there its dead in (part_own l there ∙ own.0, own.1);
   }
 
   -- of a leaf in no frame nothing is kept

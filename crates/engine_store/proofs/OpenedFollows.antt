@@ -83,8 +83,9 @@ shelf_same bytes d marks ids shelf was l rows kept id entry all leaf =
 
 -- written: of each leaf what its own entry says
 pub follows_from : (old : Option Stored) (known : List Table) (leaves : List Leaf) (written : Written) (places : List TreePlace) (w : World) → Respects w.machine no_name → ((l : Leaf) → Contains leaves l → part_in written l ≡ own_part l.entry)
-    → ((t : Table) (p : TreePlace) (tree : TableTree) (l : Leaf) → HasTreeAt old t p tree → Contains leaves l → l.table ≡ t.number → IsAsItLies written l → join (part_leaves p tree (part_of written l)) ≡ w.shelf l.id) → FollowsFrom old known leaves written places no_name w
+    → ((t : Table) (p : TreePlace) (tree : TableTree) (l : Leaf) → HasTreeAt old t p tree → Contains leaves l → l.table ≡ t.number → IsAsItLies written l → join (part_leaves p tree (part_of written l)) ≡ w.shelf l.id) → FollowsFrom old known [] leaves written places no_name w
 follows_from old known leaves written places w respects own same = record {
   respects = respects;
-  leaf = λ i t p tree l known_at stands at there its. record { before = λ part is below. absurd (no_part l part (sym (own l there) ∙ is) below); same = λ lies. same t p tree l at there its lies };
+  leaf = λ i t p tree l known_at stands at there its dead. record { before = λ part is below. absurd (no_part l part (sym (own l there) ∙ is) below); same = λ lies. same t p tree l at there its lies };
+  since = λ l there live. absurd (false≢true live);
 }

@@ -28,7 +28,7 @@ use Rattle.recover_open.proofs.TreeLeaves.{tree_leaves}
 use Rattle.engine_start.specs.Entries.{led_in}
 use Rattle.engine_start.proofs.LedRows.{in_order}
 use Rattle.ckpt_step.specs.Parts.{IsPart, IsParted, LieIn, has_rows, part_leaves, part_of, rows_behind}
-use Rattle.ckpt_step.proofs.Behind.{leaf_behind as rows_there}
+use Rattle.ckpt_step.proofs.Behind.{leaf_behind as rows_there, parted_whole}
 use Rattle.ckpt_step.proofs.Links.{no_rows, some_rows}
 use Rattle.ckpt_step.proofs.Members.{all_of, map_member, none_some}
 use Rattle.ckpt_step.proofs.TableLeaves.{member_of, table_in}
@@ -140,8 +140,5 @@ module _ (bytes : List ℕ) (d : Directory) (is_dir : IsDirectory d) (n : ℕ) (
           open_end e low [] keys = tt
           open_end e low (r ∷ rows) keys = ((keys.0.0, refl), open_end e low rows keys.1)
 
-  pub parted : IsParted d.leaves n none_written place tree
-  parted = record {
-    joined = ap (filter has_rows) (is.leaves ∙ ap links_in (sym own)) ∙ links_joined (leaves_of n d.leaves);
-    parts = part_is;
-  }
+  pub parted : IsParted [] d.leaves n none_written place tree
+  parted = parted_whole d.leaves n none_written place tree (ap (filter has_rows) (is.leaves ∙ ap links_in (sym own)) ∙ links_joined (leaves_of n d.leaves)) part_is

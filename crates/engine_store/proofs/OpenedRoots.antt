@@ -116,11 +116,11 @@ module _ (bytes : List ℕ) (place : Place) (a : Above) (is_record : IsRecord a.
         let has = pair_entries both r.tables a.uppers.items of.trees (table_root t p.root) tree with of.uppers at.0 in
         ap (λ (x : Table). entries_in (leaves_of x.number d.leaves)) (sym has.table) ∙ (own has.its has.among ∙ has.entries)
 
-    pub tree_parted : (t : Table) (p : TreePlace) (tree : TableTree) → HasTreeAt (Some old) t p tree → IsParted d.leaves t.number (known_in []) p tree
+    pub tree_parted : (t : Table) (p : TreePlace) (tree : TableTree) → HasTreeAt (Some old) t p tree → IsParted [] d.leaves t.number (known_in []) p tree
     tree_parted t p tree at = parted bytes d is_dir t.number p tree (tree_there t p tree at) at.1 (tree_leads t p tree at) (own_tree t p tree at) (root_fits t p tree at)
 
     module _ (ps : List TreePlace) (many : length ps ≡ length r.tables) (are : ArePlaces ps r.tables of.trees) (known : List Table) (sorted : reverse known ≡ descending table_lt (record_tables r.tables)) where
-      pub roots_are : HasRoots known d.leaves (known_in []) (places_in r.tables ps) old
+      pub roots_are : HasRoots known [] d.leaves (known_in []) (places_in r.tables ps) old
       roots_are = record {
         bare = bare;
         few = omega (arith, length_places r.tables ps many, length_known r.tables known sorted);
@@ -128,10 +128,10 @@ module _ (bytes : List ℕ) (place : Place) (a : Above) (is_record : IsRecord a.
         trees = λ i t p there stands. let at = tree_at of.slot r known ps of.trees many are sorted i t p there stands in (at.0, at.1, tree_parted t p at.0 at.1);
       }
 
-      pub written_are : AreWritten known d (known_in []) (places_in r.tables ps)
+      pub written_are : AreWritten known [] d (known_in []) (places_in r.tables ps)
       written_are = record {
         later = λ id le. refl;
-        made_since = λ i t l there none among its.
+        made_since = λ i t l there none among its dead.
             let within = get_within (places_in r.tables ps) i (omega (arith, slice_get_within known i t there, length_places r.tables ps many, length_known r.tables known sorted)) in
             absurd (none_some (sym none ∙ within.1));
       }

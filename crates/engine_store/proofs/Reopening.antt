@@ -17,6 +17,7 @@ use Rattle.recover_open.proofs.Devices.{damage_no_content}
 use Rattle.tree_dir.specs.declared.leaf.Leaf.{Leaf}
 use Rattle.engine_world.specs.Systems.{first_world}
 use Rattle.engine_world.specs.Worlds.{World}
+use Rattle.ckpt_step.specs.declared.lives.Lone.{Lone}
 use Rattle.ckpt_step.specs.Grounds.{AreRoots}
 use Rattle.ckpt_step.specs.Plain.{IsBareStill, StartsPlain}
 use Rattle.ckpt_step.specs.Rooms.{Written, known_in}
@@ -31,9 +32,9 @@ use Rattle.engine_store.proofs.Contents.{start_opens, still_reads}
 use Rattle.engine_store.proofs.Installing.{past_later, stays_on}
 use Rattle.engine_store.proofs.Refusing.{spoilt_no_content}
 
-bare_still : (known : List Table) (leaves : List Leaf) (written : Written) (places : List TreePlace) (old : Option Stored) → AreRoots known leaves written places old → IsBareStill old
-bare_still known leaves written places None roots = tt
-bare_still known leaves written places (Some s) roots = roots.bare
+bare_still : (known : List Table) (lives : List Lone) (leaves : List Leaf) (written : Written) (places : List TreePlace) (old : Option Stored) → AreRoots known lives leaves written places old → IsBareStill old
+bare_still known lives leaves written places None roots = tt
+bare_still known lives leaves written places (Some s) roots = roots.bare
 
 -- ---- a device that was only looked at
 
@@ -57,6 +58,7 @@ module _ {D : Type 0} (g : Ghosts D) (start_disk before after : D) (looked : Loo
       old = on.old;
       on = stands_looked (g.seen before) (g.seen after) (g.may_leave before) (g.may_leave after) s.engine.hub s.ground on.old looked.content looked.images on.on;
       follows = on.follows;
+      none = on.none;
       opens = on.opens;
       one = on.one;
     };
@@ -99,7 +101,7 @@ module _ {D : Type 0} (g : Ghosts D) (start_disk before after : D) (looked : Loo
     held_reopened = record {
       stands = is.world;
       idle = refl;
-      on = λ up. record { old = is.old; on = is.on; follows = is.follows; opens = opens; one = one };
+      on = λ up. record { old = is.old; on = is.on; follows = is.follows; none = is.none; opens = opens; one = one };
       images = images_looked;
       last = last_reopened held.last;
       ever = ever_looked;
@@ -117,7 +119,7 @@ module _ {D : Type 0} (g : Ghosts D) (start_disk before after : D) (looked : Loo
       capacity = looked.capacity;
       shelf = is.shelf;
       held = held_reopened;
-      plain = plain (g.seen after) is.old is.on.stands.seen_has (bare_still s'.engine.hub.tables.tables s'.engine.hub.dir.leaves (known_in s'.ground.parts) s'.ground.trees.items is.old is.on.roots);
+      plain = plain (g.seen after) is.old is.on.stands.seen_has (bare_still s'.engine.hub.tables.tables s'.ground.lives s'.engine.hub.dir.leaves (known_in s'.ground.parts) s'.ground.trees.items is.old is.on.roots);
     }
 
   -- ---- it is not

@@ -31,6 +31,7 @@ use Rattle.ckpt_step.proofs.OldTrees.{leaves_apart, leaves_there, on_device}
 use Rattle.ckpt_step.proofs.TableLeaves.{contains_of, once_of}
 use Rattle.engine_store.specs.Loads.{ShelfIsOn, low_behind}
 use Rattle.engine_store.proofs.LowKeys.{lie_under}
+use Rattle.engine_store.proofs.NoLives.{none_is}
 
 -- ---- the leaf of an id
 
@@ -73,8 +74,8 @@ module _ (seen : List ℕ) (images : List ℕ → Type 0) (e : Engine) (g : Grou
     lie : LieIn e.hub.dir.leaves table.number l (join (part_leaves place tree (part_of written l)))
     same : join (part_leaves place tree (part_of written l)) ≡ rows
 
-  in_tree : (old : Option Stored) (w : World) (l : Leaf) → StandsOn seen images e.hub g old → Follows old e.hub g w → Contains e.hub.dir.leaves l → l.frame ≡ None → IsInTree old l (w.shelf l.id)
-  in_tree old w l on follows there away = by_place (slice_get g.trees.items at) refl
+  in_tree : (old : Option Stored) (w : World) (l : Leaf) → StandsOn seen images e.hub g old → Follows old e.hub g w → g.lives ≡ [] → Contains e.hub.dir.leaves l → l.frame ≡ None → IsInTree old l (w.shelf l.id)
+  in_tree old w l on follows none there away = by_place (slice_get g.trees.items at) refl
     where
       owned : (place : ℕ) × (t : Table) × (slice_get e.hub.tables.tables place ≡ Some t) × (l.table ≡ t.number)
       owned = stands.owned l there
@@ -86,32 +87,33 @@ module _ (seen : List ℕ) (images : List ℕ → Type 0) (e : Engine) (g : Grou
       t = owned.1
 
       by_old : (p : TreePlace) → slice_get g.trees.items at ≡ Some p → (o : Option Stored) → old ≡ o → IsInTree old l (w.shelf l.id)
-      by_old p is None none = absurd (none_some (subst (λ (l : List TreePlace). slice_get l at ≡ Some p) (subst (λ (o : Option Stored). AreRoots e.hub.tables.tables e.hub.dir.leaves written g.trees.items o) none on.roots) is))
+      by_old p is None nothing = absurd (none_some (subst (λ (l : List TreePlace). slice_get l at ≡ Some p) (subst (λ (o : Option Stored). AreRoots e.hub.tables.tables g.lives e.hub.dir.leaves written g.trees.items o) nothing on.roots) is))
       by_old p is (Some s) some =
+          let dead = none_is g.lives none l in
           let on_s = subst (λ (o : Option Stored). StandsOn seen images e.hub g o) some on in
           let tree = on_s.roots.trees at t p owned.2 is in
           let apart : LeadApart p.leaves.items = subst LeadApart (leaves_there g.trees.items at p is)
-          (leaves_apart seen images g.place.blocks e.hub.tables.tables e.hub.tables.next stands.catalog.numbers e.hub.dir.leaves written g.trees.items (Some s) on_s.stands on_s.roots on_s.cells on_s.units at) in
-          let there_tree = on_device seen images g.place.blocks e.hub.tables.tables e.hub.tables.next stands.catalog.numbers e.hub.dir.leaves written g.trees.items s on_s.stands on_s.roots on_s.cells on_s.units t p tree.0 tree.1 in
+          (leaves_apart seen images g.place.blocks e.hub.tables.tables e.hub.tables.next stands.catalog.numbers g.lives e.hub.dir.leaves written g.trees.items (Some s) on_s.stands on_s.roots on_s.since.lone on_s.cells on_s.units at) in
+          let there_tree = on_device seen images g.place.blocks e.hub.tables.tables e.hub.tables.next stands.catalog.numbers g.lives e.hub.dir.leaves written g.trees.items s on_s.stands on_s.roots on_s.since.lone on_s.cells on_s.units t p tree.0 tree.1 in
           record {
             table = t;
             its = owned.3;
             place = p;
             tree = tree.0;
-            has = part_has e.hub.dir.leaves t.number written p tree.0 tree.1.1 apart tree.2 seen there_tree l there owned.3;
-            lie = (tree.2.parts l there owned.3).lie;
-            same = (follows.leaf at t p tree.0 l owned.2 is (subst (λ (o : Option Stored). HasTreeAt o t p tree.0) (sym some) tree.1) there owned.3).same (inl away);
+            has = part_has g.lives e.hub.dir.leaves t.number written p tree.0 tree.1.1 apart tree.2 seen there_tree l there owned.3 dead;
+            lie = (tree.2.parts l there owned.3 dead).lie;
+            same = (follows.leaf at t p tree.0 l owned.2 is (subst (λ (o : Option Stored). HasTreeAt o t p tree.0) (sym some) tree.1) there owned.3 dead).same (inl away);
           }
 
       by_place : (o : Option TreePlace) → slice_get g.trees.items at ≡ o → IsInTree old l (w.shelf l.id)
-      by_place None none = absurd ((on.written.made_since at t l owned.2 none there owned.3).1 away)
+      by_place None nowhere = absurd ((on.written.made_since at t l owned.2 nowhere there owned.3 (none_is g.lives none l)).1 away)
       by_place (Some p) is = by_old p is old refl
 
-  pub shelf_on : (old : Option Stored) (w : World) (id : ℕ) → StandsOn seen images e.hub g old → Follows old e.hub g w → now.shelf ≡ w.shelf → IsAway e.hub.dir.leaves id → written id ≡ None → ShelfIsOn seen e.hub.dir now.shelf id
-  shelf_on old w id on follows shelf (l, there, away) none =
+  pub shelf_on : (old : Option Stored) (w : World) (id : ℕ) → StandsOn seen images e.hub g old → Follows old e.hub g w → g.lives ≡ [] → now.shelf ≡ w.shelf → IsAway e.hub.dir.leaves id → written id ≡ None → ShelfIsOn seen e.hub.dir now.shelf id
+  shelf_on old w id on follows nobody shelf (l, there, away) none =
       let found = named id e.hub.dir.leaves l there in
       let own : l.id ≡ id = found.1 in
-      let x = in_tree old w l on follows (contains_of e.hub.dir.leaves l found.0) away in
+      let x = in_tree old w l on follows nobody (contains_of e.hub.dir.leaves l found.0) away in
       let unwritten : written l.id ≡ None = ap written own ∙ none in
       let rows : w.shelf l.id ≡ now.shelf id = ap w.shelf own ∙ ap (λ (f : ℕ → List Row). f id) (sym shelf) in
       record {

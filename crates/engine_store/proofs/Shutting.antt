@@ -1,5 +1,5 @@
 -- What a close answers as the machine's Close, and what it leaves of what holds between two calls.
-use Rattle.std.specs.Prelude.{Bool, true, false, nat_le, slice_index_or}
+use Rattle.std.specs.Prelude.{Bool, true, false, nat_le, slice_index_or, OnErr}
 use Rattle.std.proofs.lemmas.Bool.{false≢true, cases_lt, cases_Bool, leb-true, le-leb}
 use Rattle.std.proofs.Common.{◌≡◌, ℕ, suc, ◌+◌, ◌<◌, ◌≤◌, List, [], ◌∷◌, ◌++◌, Option, Some, None, Result, Ok, Err, refl, sym, ap, subst, ◌∙◌, inl, inr, arith}
 use Rattle.failure.specs.declared.Fault.{Fault}
@@ -29,7 +29,7 @@ use Rattle.engine_world.proofs.HubMoves.{decided-up}
 use Rattle.engine.specs.Checkpoints.{MayStart, started_as}
 use Rattle.engine.specs.Closes.{MayClose, busy_in, close_told, unfinished_in}
 use Rattle.engine.specs.Directories.{HubGoesOn}
-use Rattle.ckpt_step.specs.Floors.{Follows}
+use Rattle.ckpt_step.specs.Floors.{AreLivesOn, Follows}
 use Rattle.ckpt_step.specs.Grounds.{StandsOn}
 use Rattle.ckpt_step.specs.declared.ground.Ground.{Ground}
 use Rattle.ckpt_step.specs.Laws.{CheckpointsOpen}
@@ -45,6 +45,7 @@ use Rattle.engine_store.specs.Held.{CheckpointsOn, IsGrounded, IsHeld, Shuts}
 use Rattle.engine_store.specs.Images.{OpensToLast}
 use Rattle.engine_store.proofs.Closings.{free_of, up_of}
 use Rattle.engine_store.proofs.Contents.{most_number}
+use Rattle.engine_store.proofs.NoLives.{none_on}
 use Rattle.engine_store.proofs.Taking.{by_takes, number_held}
 
 -- ---- what is decided
@@ -198,12 +199,13 @@ refused_takes old new w r number counted why = inr (inr (
 pub record IsRolled (seen : List ℕ) (images : List ℕ → Type 0) (old : Option Stored) (w : World) (ground : Ground) (middle : Engine) : Type 0 where
   pub on : StandsOn seen images middle.hub ground old
   pub follows : Follows old middle.hub ground (rolled w)
+  pub since : AreLivesOn seen middle.hub ground (rolled w)
 
 pub is_rolled : (seen : List ℕ) (images : List ℕ → Type 0) (old : Option Stored) (w : World) (ground : Ground) (e middle : Engine) → HubGoesOn e.hub middle.hub → Stands e w → Stands middle (rolled w)
-    → StandsOn seen images e.hub ground old → Follows old e.hub ground w → IsRolled seen images old w ground middle
-is_rolled seen images old w ground e middle goes st later on follows =
+    → StandsOn seen images e.hub ground old → Follows old e.hub ground w → AreLivesOn seen e.hub ground w → IsRolled seen images old w ground middle
+is_rolled seen images old w ground e middle goes st later on follows device =
     let stay = grounds_stay seen images e.hub middle.hub ground old goes st.dir later.dir later.catalog on in
-    record { on = stay.0; follows = stay.1 w (rolled w) (goes_rolled w.machine) refl follows }
+    record { on = stay.0; follows = stay.1 w (rolled w) (goes_rolled w.machine) refl follows; since = stay.2 w (rolled w) refl device }
 
 -- with the transactions rolled back
 abbrev pub with_rolled : Store → Engine → Store
@@ -233,11 +235,12 @@ module _ {D : Type 0} (g : Ghosts D) (start_disk before : D) (image : g.may_leav
 
     grounded_rolled : IsGrounded (g.seen before) (g.may_leave before) s w (may_open_to (first ∷ []) made) → IsGrounded (g.seen before) (g.may_leave before) s1 (rolled w) (may_open_to (first ∷ []) made)
     grounded_rolled on =
-        let r = is_rolled (g.seen before) (g.may_leave before) on.old w s.ground s.engine middle hub held.stands stands on.on on.follows in
+        let r = is_rolled (g.seen before) (g.may_leave before) on.old w s.ground s.engine middle hub held.stands stands on.on on.follows (none_on (g.seen before) s.engine.hub s.ground w on.none) in
         record {
           old = on.old;
           on = r.on;
           follows = r.follows;
+          none = on.none;
           opens = subst (λ (k : Completed). OpensAs (content_was on.old) k) (sym goes.completed) on.opens;
           one = on.one;
         }
@@ -258,7 +261,7 @@ module _ {D : Type 0} (g : Ghosts D) (start_disk before : D) (image : g.may_leav
     }
 
     module _ (after : D) (counts : g.moment before ≤ g.moment after → (c : List ℕ) → g.may_leave after c → g.left_since after (g.moment before) c) (only : (c : List ℕ) → g.left_since after (g.moment after) c → g.may_leave after c)
-        (count : g.faults before ≤ g.faults after) (room : g.capacity after ≡ g.capacity before) (law : CheckpointsOpen) (downs : DownsGo) (s' : Store) (result : Result (Unit {0}) Refusal) where
+        (count : g.faults before ≤ g.faults after) (room : g.capacity after ≡ g.capacity before) (law : CheckpointsOpen) (downs : DownsGo) (s' : Store) (result : Result (Unit {0}) Refusal) (lives : OnErr result (s'.ground.lives ≡ s.ground.lives)) where
       from_checkpoint : CheckpointsOn g start_disk (rolled w) first made s1 s' before after w.shelf result → Shuts g start_disk w first made s s' before after result
       from_checkpoint t = record {
         next = t.next;
@@ -270,5 +273,5 @@ module _ {D : Type 0} (g : Ghosts D) (start_disk before : D) (image : g.may_leav
         plain = t.plain;
       }
 
-      pub shuts_by : ((old : Option Stored) → StandsOn (g.seen before) (g.may_leave before) middle.hub s.ground old → Follows old middle.hub s.ground (rolled w) → Takes g old (rolled w) s.ground s'.ground middle s'.engine before after result) → Shuts g start_disk w first made s s' before after result
-      shuts_by takes = from_checkpoint (by_takes g start_disk before after counts only image s1 s' (rolled w) first made held_rolled on_rolled count room law downs goes.plain result (takes on_rolled.old on_rolled.on on_rolled.follows))
+      pub shuts_by : ((old : Option Stored) → StandsOn (g.seen before) (g.may_leave before) middle.hub s.ground old → Follows old middle.hub s.ground (rolled w) → AreLivesOn (g.seen before) middle.hub s.ground (rolled w) → Takes g old (rolled w) s.ground s'.ground middle s'.engine before after result) → Shuts g start_disk w first made s s' before after result
+      shuts_by takes = from_checkpoint (by_takes g start_disk before after counts only image s1 s' (rolled w) first made held_rolled on_rolled count room law downs goes.plain result lives (takes on_rolled.old on_rolled.on on_rolled.follows (none_on (g.seen before) middle.hub s.ground (rolled w) on_rolled.none)))

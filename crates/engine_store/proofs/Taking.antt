@@ -1,5 +1,6 @@
 -- What a checkpoint in one event leaves of what holds between two calls.
 use Rattle.std.proofs.Common.{◌≡◌, ◌⊎◌, ◌≤◌, ℕ, List, [], ◌∷◌, ◌++◌, reverse, Option, Some, None, Result, Ok, Err, refl, sym, ap, subst, ◌∙◌, inl, inr, arith}
+use Rattle.std.specs.Prelude.{OnErr}
 use Rattle.std.proofs.lemmas.List.{reverse-reverse}
 use Rattle.failure.specs.Counts.{Rose}
 use Rattle.failure.specs.declared.Fault.{Fault}
@@ -26,13 +27,15 @@ use Rattle.engine_world.specs.Worlds.{World}
 use Rattle.engine_world.proofs.HubMoves.{decided-down}
 use Rattle.engine.specs.Checkpoints.{MayStart}
 use Rattle.ckpt_step.specs.declared.ground.Ground.{Ground}
+use Rattle.ckpt_step.specs.declared.lives.Lone.{Lone}
 use Rattle.ckpt_step.specs.Checkpoints.{IsCheckpointOf}
-use Rattle.ckpt_step.specs.Floors.{Follows}
+use Rattle.ckpt_step.specs.Floors.{AreLivesOn, Follows}
 use Rattle.ckpt_step.specs.Giving.{CheckpointsHaveNewest, HasNewest}
 use Rattle.ckpt_step.specs.Grounds.{AreRoots, StandsOn, number_of}
 use Rattle.ckpt_step.specs.Laws.{CheckpointsOpen}
 use Rattle.ckpt_step.specs.Plain.{IsPlain}
 use Rattle.ckpt_step.specs.Rooms.{known_in}
+use Rattle.ckpt_step.specs.Sizes.{HasRoomFor, IsFullFor}
 use Rattle.ckpt_step.specs.Takes.{Fallen, NotTaken, Taken, Takes, WhyNot}
 use Rattle.engine_store.specs.declared.eviction.Clock.{Clock}
 use Rattle.engine_store.specs.declared.store.Store.{Store}
@@ -42,6 +45,7 @@ use Rattle.engine_store.specs.Held.{Checkpoints, CheckpointsOn, IsGrounded, IsHe
 use Rattle.engine_store.specs.Images.{OpensToAny, OpensToLast, OpensToOne}
 use Rattle.engine_store.specs.Relieves.{IsRelieved, LetsGo}
 use Rattle.engine_store.proofs.Contents.{number_read, numbered, still_reads}
+use Rattle.engine_store.proofs.NoLives.{none_on}
 use Rattle.engine_store.proofs.Installing.{any_last, any_more, any_one, last_opens, one_last, one_more, past_later, past_more, pending_last, stays_more, stays_on}
 
 -- ---- of an engine that is up
@@ -76,11 +80,11 @@ module _ {D : Type 0} (g : Ghosts D) (start_disk before after : D)
 
   -- nothing was installed
   kept_held : (next : World) → Stands s'.engine next → next.machine.checkpoint ≡ None → next.machine.completed ≡ w.machine.completed → KeptAll
-      → (next.machine.fault ≡ None → StandsOn (g.seen after) (g.may_leave after) s'.engine.hub s'.ground grounded.old × Follows grounded.old s'.engine.hub s'.ground next) → IsHeld g start_disk s' after next first made
+      → (next.machine.fault ≡ None → StandsOn (g.seen after) (g.may_leave after) s'.engine.hub s'.ground grounded.old × Follows grounded.old s'.engine.hub s'.ground next × (s'.ground.lives ≡ [])) → IsHeld g start_disk s' after next first made
   kept_held next stands idle same kept on = record {
     stands = stands;
     idle = idle;
-    on = λ up. record { old = grounded.old; on = (on up).0; follows = (on up).1; opens = subst (λ (k : Completed). OpensAs (content_was grounded.old) k) (sym same) grounded.opens; one = grounded.one };
+    on = λ up. record { old = grounded.old; on = (on up).0; follows = (on up).1; none = (on up).2; opens = subst (λ (k : Completed). OpensAs (content_was grounded.old) k) (sym same) grounded.opens; one = grounded.one };
     images = λ c left. old_opens c (old_now kept c left);
     last = subst (λ (k : Completed). OpensToLast (g.may_leave after) first k made) (sym same) (last_on kept held.last);
     ever = joined g start_disk before after (OpensToOne first made) Old held.ever kept (λ c old. any_one first made c (old_opens c old));
@@ -109,14 +113,15 @@ module _ {D : Type 0} (g : Ghosts D) (start_disk before after : D)
 
     -- each image has it
     done_held : (next : World) → Stands s'.engine next → next.machine.checkpoint ≡ None → own.at ≡ g.moment after → next.machine.completed ≡ own.checkpoint → Each (g.may_leave after) (λ c. IsOn c new)
-        → StandsOn (g.seen after) (g.may_leave after) s'.engine.hub s'.ground (Some new) → Follows (Some new) s'.engine.hub s'.ground next → OpensAs (content_of new) own.checkpoint → IsHeld g start_disk s' after next first (made ++ own ∷ [])
-    done_held next stands idle now same each on follows new_opens = record {
+        → StandsOn (g.seen after) (g.may_leave after) s'.engine.hub s'.ground (Some new) → Follows (Some new) s'.engine.hub s'.ground next → s'.ground.lives ≡ [] → OpensAs (content_of new) own.checkpoint → IsHeld g start_disk s' after next first (made ++ own ∷ [])
+    done_held next stands idle now same each on follows none new_opens = record {
       stands = stands;
       idle = idle;
       on = λ up. record {
         old = Some new;
         on = on;
         follows = follows;
+        none = none;
         opens = subst (λ (k : Completed). OpensAs (content_of new) k) (sym same) new_opens;
         one = (own.checkpoint, last_opens (first ∷ []) made own, new_opens);
       };
@@ -171,7 +176,8 @@ module _ {D : Type 0} (g : Ghosts D) (start_disk before after : D)
       old = grounded.old;
       has = grounded.on.stands.seen_has;
       places = s.ground.trees.items;
-      roots = subst (λ (l : List Table). AreRoots l s.engine.hub.dir.leaves (known_in s.ground.parts) s.ground.trees.items grounded.old) known grounded.on.roots;
+      roots = subst (λ (x : List Lone). AreRoots (reverse (tables m.history)) x s.engine.hub.dir.leaves (known_in s.ground.parts) s.ground.trees.items grounded.old) grounded.none
+          (subst (λ (l : List Table). AreRoots l s.ground.lives s.engine.hub.dir.leaves (known_in s.ground.parts) s.ground.trees.items grounded.old) known grounded.on.roots);
       begun = subst (λ (l : List Table). TablesBegun l s.engine.hub.dir.leaves) known held.stands.begun;
     }
       where
@@ -204,20 +210,20 @@ module _ {D : Type 0} (g : Ghosts D) (start_disk before after : D)
         next = checkpointed m;
         now = made ++ installed None ∷ [];
         behind = record { later = is_later t.leaves.later; capacity = room; has = (t.new, number, t.is, t.on.stands.seen_has) };
-        takes = inr (number, Ok tt, counted, t.may, record { storing = StoredWhole; takes = (s.engine.hub.dir.leaves, known_in s.ground.parts, parted, t.had_room); told = refl; leaves = refl });
+        takes = inr (number, Ok tt, counted, t.may, record { storing = StoredWhole; takes = (s.engine.hub.dir.leaves, known_in s.ground.parts, parted, subst (λ (x : List Lone). HasRoomFor (g.seen before) (g.capacity before) x s.engine.hub.dir.leaves (known_in s.ground.parts) m) grounded.none t.had_room); told = refl; leaves = refl });
         installs = refl;
-        held = done_held t.new (installed None) (opens_new t.new t.is) t.leaves (record w { machine = checkpointed m; shelf = r.shelf }) r.stands refl refl refl t.each r.on r.follows (new_opens t.new t.is (g.seen after) t.on.stands.seen_has);
+        held = done_held t.new (installed None) (opens_new t.new t.is) t.leaves (record w { machine = checkpointed m; shelf = r.shelf }) r.stands refl refl refl t.each r.on r.follows r.none (new_opens t.new t.is (g.seen after) t.on.stands.seen_has);
         plain = record { idle = refl; suffice = λ table key. record { reached = (plain.suffice table key).reached } };
       }
 
-    refused_by : (r : Refusal) → WhyNot (Rose (g.faults before) (g.faults after)) (g.seen before) (g.capacity before) s.engine.hub.dir.leaves (known_in s.ground.parts) m number r → CheckpointTakes (device_of g before) (device_of g after) m (Refused r) m
+    refused_by : (r : Refusal) → WhyNot (Rose (g.faults before) (g.faults after)) (g.seen before) (g.capacity before) s.ground.lives s.engine.hub.dir.leaves (known_in s.ground.parts) m number r → CheckpointTakes (device_of g before) (device_of g after) m (Refused r) m
     refused_by r (inl barred) = inr (number, Err r, counted, barred, (refl, refl))
     refused_by r (inr (inl none)) = inl (cc, refl)
-    refused_by r (inr (inr (may, inl (is, full)))) = inr (number, Ok tt, counted, may, record { storing = NoPlace; takes = (s.engine.hub.dir.leaves, known_in s.ground.parts, parted, full); told = cc; leaves = refl })
+    refused_by r (inr (inr (may, inl (is, full)))) = inr (number, Ok tt, counted, may, record { storing = NoPlace; takes = (s.engine.hub.dir.leaves, known_in s.ground.parts, parted, subst (λ (x : List Lone). IsFullFor (g.seen before) (g.capacity before) x s.engine.hub.dir.leaves (known_in s.ground.parts) m) grounded.none full); told = cc; leaves = refl })
     refused_by r (inr (inr (may, inr (is, rose)))) = inr (number, Ok tt, counted, may, record { storing = ReadFailed; takes = rose; told = cc; leaves = refl })
 
-    not_taken : (r : Refusal) → NotTaken g grounded.old w s.ground s'.ground s.engine s'.engine before after r → Gives (Err r)
-    not_taken r n = record {
+    not_taken : (r : Refusal) → s'.ground.lives ≡ s.ground.lives → NotTaken g grounded.old w s.ground s'.ground s.engine s'.engine before after r → Gives (Err r)
+    not_taken r lives n = record {
       next = m;
       now = made;
       behind = record { later = is_later n.leaves.later; capacity = room; has = λ up. (grounded.old, grounded.on.stands.seen_has, n.on.stands.seen_has) };
@@ -227,6 +233,7 @@ module _ {D : Type 0} (g : Ghosts D) (start_disk before after : D)
           (λ up. (
             subst (λ (e : Engine). StandsOn (g.seen after) (g.may_leave after) e.hub s'.ground grounded.old) (sym n.same) n.on,
             subst (λ (e : Engine). Follows grounded.old e.hub s'.ground w) (sym n.same) n.follows,
+            lives ∙ grounded.none,
           ));
       plain = plain;
     }
@@ -275,10 +282,10 @@ module _ {D : Type 0} (g : Ghosts D) (start_disk before after : D)
       | inr (new, checkpoint, left) ↦ fell_at f.fault f.may f.rose f.down new checkpoint left
     ])
 
-    pub by_takes : (result : Result (Unit {0}) Refusal) → Takes g grounded.old w s.ground s'.ground s.engine s'.engine before after result → Gives result
-    by_takes (Ok end) t = taken s'.ground s'.engine t (record { shelf = w.shelf; stands = t.stands; on = taken_on s'.ground s'.engine t; follows = taken_follows s'.ground s'.engine t })
-    by_takes (Err r) (inl n) = not_taken r n
-    by_takes (Err r) (inr f) = fallen r f
+    pub by_takes : (result : Result (Unit {0}) Refusal) → OnErr result (s'.ground.lives ≡ s.ground.lives) → Takes g grounded.old w s.ground s'.ground s.engine s'.engine before after result → Gives result
+    by_takes (Ok end) lives t = taken s'.ground s'.engine t (record { shelf = w.shelf; stands = t.stands; on = taken_on s'.ground s'.engine t; follows = taken_follows s'.ground s'.engine t; none = t.none })
+    by_takes (Err r) lives (inl n) = not_taken r lives n
+    by_takes (Err r) lives (inr f) = fallen r f
 
 -- ---- of one that is down
 
@@ -292,7 +299,7 @@ module _ {D : Type 0} (g : Ghosts D) (start_disk disk : D) (image : g.may_leave 
   clock_held n k = record {
     stands = held.stands;
     idle = held.idle;
-    on = λ up. let x = held.on up in record { old = x.old; on = x.on; follows = x.follows; opens = x.opens; one = x.one };
+    on = λ up. let x = held.on up in record { old = x.old; on = x.on; follows = x.follows; none = x.none; opens = x.opens; one = x.one };
     images = held.images;
     last = held.last;
     ever = held.ever;
@@ -334,12 +341,13 @@ module _ {D : Type 0} (g : Ghosts D) (start_disk before after : D)
     (counts : g.moment before ≤ g.moment after → (c : List ℕ) → g.may_leave after c → g.left_since after (g.moment before) c) (only : (c : List ℕ) → g.left_since after (g.moment after) c → g.may_leave after c)
     (image : g.may_leave before (g.seen before)) (s s' : Store) (w : World) (first : Completed) (made : List Installed) (held : IsHeld g start_disk s before w first made)
     (count : g.faults before ≤ g.faults after) (room : g.capacity after ≡ g.capacity before) (law : CheckpointsOpen) (downs : DownsGo) (plain : IsPlain w.machine) (result : Result (Unit {0}) Refusal)
-    (takes : (old : Option Stored) → StandsOn (g.seen before) (g.may_leave before) s.engine.hub s.ground old → Follows old s.engine.hub s.ground w → Takes g old w s.ground s'.ground s.engine s'.engine before after result)
+    (lives : OnErr result (s'.ground.lives ≡ s.ground.lives))
+    (takes : (old : Option Stored) → StandsOn (g.seen before) (g.may_leave before) s.engine.hub s.ground old → Follows old s.engine.hub s.ground w → AreLivesOn (g.seen before) s.engine.hub s.ground w → Takes g old w s.ground s'.ground s.engine s'.engine before after result)
     (down : (fault : Fault) → s.engine.hub.fault ≡ Some fault → (result ≡ Err (Panic fault)) × (s'.engine ≡ s.engine) × (s'.ground ≡ s.ground) × (after ≡ before)) where
   by_fault : (f : Option Fault) → w.machine.fault ≡ f → CheckpointsOn g start_disk w first made s s' before after w.shelf result
   by_fault None up =
       let on = held.on up in
-      by_takes g start_disk before after counts only image s s' w first made held on count room law downs plain result (takes on.old on.on on.follows)
+      by_takes g start_disk before after counts only image s s' w first made held on count room law downs plain result lives (takes on.old on.on on.follows (none_on (g.seen before) s.engine.hub s.ground w on.none))
   by_fault (Some fault) is =
       let told = down fault (held.stands.fault ∙ is) in
       by_down g start_disk before image s w first made held s' after result fault is plain told.0 (same_store s s' told.1 told.2) told.3
@@ -358,16 +366,17 @@ module _ {D : Type 0} (g : Ghosts D) (start_disk before after : D)
     (counts : g.moment before ≤ g.moment after → (c : List ℕ) → g.may_leave after c → g.left_since after (g.moment before) c) (only : (c : List ℕ) → g.left_since after (g.moment after) c → g.may_leave after c)
     (image : g.may_leave before (g.seen before)) (s s' : Store) (w : World) (first : Completed) (made : List Installed) (held : IsHeld g start_disk s before w first made)
     (count : g.faults before ≤ g.faults after) (room : g.capacity after ≡ g.capacity before) (law : CheckpointsOpen) (downs : DownsGo) (plain : IsPlain w.machine) (have : CheckpointsHaveNewest) (stand : Ground) (e : Engine)
-    (takes : (old : Option Stored) → StandsOn (g.seen before) (g.may_leave before) s.engine.hub s.ground old → Follows old s.engine.hub s.ground w → Taken g old w s.ground stand s.engine e before after)
+    (takes : (old : Option Stored) → StandsOn (g.seen before) (g.may_leave before) s.engine.hub s.ground old → Follows old s.engine.hub s.ground w → AreLivesOn (g.seen before) s.engine.hub s.ground w → Taken g old w s.ground stand s.engine e before after)
     (up : (fault : Fault) → s.engine.hub.fault ≡ Some fault → ⊥) (n : ℕ) (k : Clock) (goes : LetsGo g (record { engine = e; ground = stand; frames = n; clock = k }) s') where
   by_up : (f : Option Fault) → w.machine.fault ≡ f → Checkpoints g start_disk w first made s s' before after (Ok tt)
   by_up (Some fault) is = absurd (up fault (held.stands.fault ∙ is))
   by_up None is =
       let on = held.on is in
-      let t = takes on.old on.on on.follows in
+      let t = takes on.old on.on on.follows (none_on (g.seen before) s.engine.hub s.ground w on.none) in
       let r = goes.relieves after (Some t.new) (record w { machine = checkpointed w.machine }) t.stands refl
       (taken_on g start_disk before after counts only image s s' w first made held on count room law downs plain stand e t)
       (taken_follows g start_disk before after counts only image s s' w first made held on count room law downs plain stand e t)
+      t.none
       (newest_taken w.machine t.new (have w.machine (number_of on.old) t.new t.is)) in
       (r.shelf, taken g start_disk before after counts only image s s' w first made held on count room law downs plain stand e t r)
 

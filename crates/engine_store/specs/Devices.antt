@@ -79,18 +79,18 @@ IsWide bytes = (s : OnDevice) × IsOn bytes s × (IsBare s.kept → ⊥)
 abbrev pub IsUsedUp : List ℕ → Type 0
 IsUsedUp bytes = (s : OnDevice) × IsOn bytes s × (2 ^ 32 + length s.kept.tables ≤ s.kept.next_table + TABLES_MAX)
 
--- Leaves by which the machine's tables are parted, and by which the trees of the device's checkpoint are: of each what that checkpoint has.
+-- Leaves by which the machine's tables are parted, and by which the trees of the device's checkpoint are: of each what that checkpoint has. None was written since.
 pub record ArePartedOn (bytes : List ℕ) (m : Machine) (leaves : List Leaf) (written : Written) : Type 0 where
   pub old : Option OnDevice
   pub has : HasStill old bytes
   pub places : List TreePlace
-  pub roots : AreRoots (reverse (tables m.history)) leaves written places old
+  pub roots : AreRoots (reverse (tables m.history)) [] leaves written places old
   pub begun : TablesBegun (reverse (tables m.history)) leaves
 
 -- how a device takes the blocks of a checkpoint: each has a place, or one of them finds none
 abbrev pub MayTakeAt : Device → Device → Machine → Storing → Type 0
-MayTakeAt old new m Stored = (leaves : List Leaf) × (written : Written) × ArePartedOn old.seen m leaves written × HasRoomFor old.seen old.capacity leaves written m
-MayTakeAt old new m NoPlace = (leaves : List Leaf) × (written : Written) × ArePartedOn old.seen m leaves written × IsFullFor old.seen old.capacity leaves written m
+MayTakeAt old new m Stored = (leaves : List Leaf) × (written : Written) × ArePartedOn old.seen m leaves written × HasRoomFor old.seen old.capacity [] leaves written m
+MayTakeAt old new m NoPlace = (leaves : List Leaf) × (written : Written) × ArePartedOn old.seen m leaves written × IsFullFor old.seen old.capacity [] leaves written m
 MayTakeAt old new m ReadFailed = Rose old.faults new.faults
 MayTakeAt old new m (Damaged offset want found) = ⊥
 MayTakeAt old new m (WriteFailed fault) = Rose old.faults new.faults

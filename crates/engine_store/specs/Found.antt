@@ -1,5 +1,5 @@
 -- What is made of a survey, step by step.
-use Rattle.std.specs.Prelude.{◌≡◌, ◌⊎◌, ℕ, ◌≤◌, IsTrue, List, Option}
+use Rattle.std.specs.Prelude.{◌≡◌, ◌⊎◌, ℕ, ◌≤◌, IsTrue, List, [], Option}
 use Rattle.failure.specs.Counts.{Rose}
 use Rattle.disk_model.specs.declared.disk.Disk.{Ghosts}
 use Rattle.wt_code.specs.declared.refusals.Refusal.{Refusal}
@@ -25,13 +25,14 @@ use Rattle.engine_store.specs.Marked.{AreAway}
 use Rattle.engine_store.specs.Loads.{LeafOfSpoils}
 use Rattle.engine_store.specs.Opened.{HasNumbers, LacksNumbers}
 
--- The ground is that of this checkpoint, or of none, on a device that was not synced since.
+-- The ground is that of this checkpoint, or of none, on a device that was not synced since; no leaf was written since.
 pub record IsGroundOf (bytes : List ℕ) (hub : Hub) (g : Ground) (old : Option Stored) : Type 0 where
   pub serves : Serves bytes g.place old
   pub books : Counts (found_in old) g.place.blocks
   pub number : g.number ≡ number_of old
-  pub roots : AreRoots hub.tables.tables hub.dir.leaves (known_in g.parts) g.trees.items old
-  pub written : AreWritten hub.tables.tables hub.dir (known_in g.parts) g.trees.items
+  pub roots : AreRoots hub.tables.tables [] hub.dir.leaves (known_in g.parts) g.trees.items old
+  pub written : AreWritten hub.tables.tables [] hub.dir (known_in g.parts) g.trees.items
+  pub none : g.lives ≡ []
   pub floor : g.floor ≡ no_name
 
 -- the engine begins with what the device holds, and the leaves that are not loaded are as the checkpoint has them

@@ -22,11 +22,12 @@ use Rattle.engine_store.specs.Answers.{CheckpointTakes, CloseTakes, Installs, Is
 use Rattle.engine_store.specs.Devices.{Installed, IsLater, device_of, may_open_to}
 use Rattle.engine_store.specs.Images.{OpensToAny, OpensToLast, OpensToOne, Stays}
 
--- the next checkpoint stands on the one that the device has, of which the leaves that are not loaded, and those that are clean, have the rows that they had; it opens as the machine's last one, and is one of those to which the device may open
+-- the next checkpoint stands on the one that the device has, since which no leaf was written, and of which the leaves that are not loaded, and those that are clean, have the rows that they had; it opens as the machine's last one, and is one of those to which the device may open
 pub record IsGrounded (seen : List ℕ) (images : List ℕ → Type 0) (s : Store) (w : World) (these : List Completed) : Type 0 where
   pub old : Option Stored
   pub on : StandsOn seen images s.engine.hub s.ground old
   pub follows : Follows old s.engine.hub s.ground w
+  pub none : s.ground.lives ≡ []
   pub opens : OpensAs (content_was old) w.machine.completed
   pub one : (k : Completed) × Member k these × OpensAs (content_was old) k
 

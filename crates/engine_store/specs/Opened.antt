@@ -1,5 +1,5 @@
 -- An engine on a device, as an opening makes it.
-use Rattle.std.specs.Prelude.{◌≡◌, ◌⊎◌, ℕ, ◌+◌, ◌^◌, ◌<◌, ◌≤◌, List, length, Option, Some, None}
+use Rattle.std.specs.Prelude.{◌≡◌, ◌⊎◌, ℕ, ◌+◌, ◌^◌, ◌<◌, ◌≤◌, List, [], length, Option, Some, None}
 use Rattle.limits.specs.declared.TheConstants.{TABLES_MAX}
 use Rattle.failure.specs.Counts.{Rose}
 use Rattle.disk_model.specs.declared.disk.Disk.{Ghosts}
@@ -42,12 +42,13 @@ abbrev pub HasNumbers : Option Stored → Type 0
 HasNumbers None = Unit {0}
 HasNumbers (Some s) = (s.kept.run < last_number) × (s.kept.next_table + TABLES_MAX < 2 ^ 32 + length s.kept.tables)
 
--- the engine stands for the world with which what the device holds begins, without a session; the leaves that are not loaded are as the checkpoint has them
+-- the engine stands for the world with which what the device holds begins, without a session; the leaves that are not loaded are as the checkpoint has them, and none was written since
 pub record IsOpened (seen : List ℕ) (images : List ℕ → Type 0) (s : Store) : Type 0 where
   pub old : Option Stored
   pub numbers : HasNumbers old
   pub on : StandsOn seen images s.engine.hub s.ground old
   pub floor : s.ground.floor ≡ no_name
+  pub none : s.ground.lives ≡ []
   pub shelf : ℕ → List Row
   pub world : Stands s.engine (first_world (content_was old) shelf s.engine)
   pub follows : Follows old s.engine.hub s.ground (first_world (content_was old) shelf s.engine)

@@ -1,5 +1,5 @@
 -- What leaves that have left their frames leave of a store.
-use Rattle.std.specs.Prelude.{◌≡◌, ◌||◌, ℕ, nat_le, nat_lt, Bool, List, length, None, Some, Option}
+use Rattle.std.specs.Prelude.{◌≡◌, ◌||◌, ℕ, nat_le, nat_lt, Bool, List, [], length, None, Some, Option}
 use Rattle.disk_model.specs.declared.disk.Disk.{Ghosts}
 use Rattle.row_page.specs.Rows.{Row}
 use Rattle.stored.specs.Stored.{Stored}
@@ -25,16 +25,17 @@ pub record StaysAlike (s s' : Store) : Type 0 where
   pub number : s'.ground.number ≡ s.ground.number
   pub trees : s'.ground.trees ≡ s.ground.trees
 
--- The store stands for the world, whose shelf has what left the frames, on the checkpoint that the disk has.
+-- The store stands for the world, whose shelf has what left the frames, on the checkpoint that the disk has, since which no leaf was written.
 pub record IsRelieved (seen : List ℕ) (images : List ℕ → Type 0) (old : Option Stored) (w : World) (s : Store) : Type 0 where
   pub shelf : ℕ → List Row
   pub stands : Stands s.engine (record w { shelf = shelf })
   pub on : StandsOn seen images s.engine.hub s.ground old
   pub follows : Follows old s.engine.hub s.ground (record w { shelf = shelf })
+  pub none : s.ground.lives ≡ []
 
--- so it does where it stood for it, and the checkpoint has the newest version of each key
+-- so it does where it stood for it, no leaf was written since the checkpoint, and that has the newest version of each key
 abbrev pub Relieves : List ℕ → (List ℕ → Type 0) → Store → Store → Type 0
-Relieves seen images s s' = (old : Option Stored) (w : World) → Stands s.engine w → w.machine.checkpoint ≡ None → StandsOn seen images s.engine.hub s.ground old → Follows old s.engine.hub s.ground w → HasNewest old w.machine
+Relieves seen images s s' = (old : Option Stored) (w : World) → Stands s.engine w → w.machine.checkpoint ≡ None → StandsOn seen images s.engine.hub s.ground old → Follows old s.engine.hub s.ground w → s.ground.lives ≡ [] → HasNewest old w.machine
     → IsRelieved seen images old w s'
 
 -- whatever the disk

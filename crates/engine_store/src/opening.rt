@@ -12,7 +12,7 @@ use crate::above::store_above;
 use crate::eviction::Clock;
 use crate::store::Store;
 use catalog::Catalog;
-use ckpt_step::{Ground, Parts};
+use ckpt_step::{Ground, Lives, Parts};
 use device_leaf::Place;
 use disk_model::Disk;
 use engine::Local;
@@ -24,8 +24,8 @@ use tree_dir::Dir;
 use wt_code::Refusal;
 
 /// An engine with so many frames on what a device holds, without a session. The record and the inner
-/// pages are read, and of the leaves those alone of which an opening may take something out: any other is read when a call
-/// needs it, and damage of it told then. Nothing is written.
+/// pages are read, and of the leaves those alone of which an opening may take something out: any other
+/// is read when a call needs it, and damage of it told then. Nothing is written.
 ///
 /// Refused as `recover_open::survey` says, since such a leaf is at fault, as `75 limit checkpoints`
 /// where no run may follow that of the record, and as `75 limit tables` where its next number leaves
@@ -75,6 +75,7 @@ fn store_on_nothing(alloc: Global, place: Place, frames: u32) -> Result<Store, N
             number: 0,
             trees: Vec::new(alloc),
             parts: Parts::new(alloc),
+            lives: Lives::new(alloc),
             floor: Name { run: 0, id: 0 },
         },
         frames,

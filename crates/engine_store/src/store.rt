@@ -7,7 +7,7 @@ ghost use Rattle.kv_model.specs.Machine.{Completed};
 ghost use Rattle.stored.specs.Stored.{Stored};
 ghost use Rattle.engine_world.specs.Stands.{Stands};
 ghost use Rattle.engine_world.specs.Worlds.{World};
-ghost use Rattle.ckpt_step.specs.Floors.{Follows};
+ghost use Rattle.ckpt_step.specs.Floors.{AreLivesOn, Follows};
 ghost use Rattle.ckpt_step.specs.Grounds.{StandsOn};
 ghost use Rattle.ckpt_step.specs.Plain.{IsPlain};
 ghost use Rattle.ckpt_step.specs.Takes.{IsOfCheckpoint};
@@ -75,7 +75,7 @@ impl Store {
     pub fn close<D: Disk>(&mut self, alloc: Global, disk: &mut D) -> Result<(), Refusal>
         requires ready { IsReady self.old }
         ensures closes { IsTrue (D.honest disk.old) → (w : World) → Stands self.old.engine w → w.machine.checkpoint ≡ None → (old : Option Stored) → StandsOn (D.seen disk.old) (D.may_leave disk.old) self.old.engine.hub self.old.ground old
-            → Follows old self.old.engine.hub self.old.ground w → Closes D.Disk old w self.old self.new disk.old disk.new result }
+            → Follows old self.old.engine.hub self.old.ground w → AreLivesOn (D.seen disk.old) self.old.engine.hub self.old.ground w → Closes D.Disk old w self.old self.new disk.old disk.new result }
         ensures shuts { IsTrue (D.honest disk.old) → (first_disk : D) → (w : World) → (first : Completed) → (made : List Installed) → IsHeld D.Disk first_disk self.old disk.old w first made → IsPlain w.machine
             → Shuts D.Disk first_disk w first made self.old self.new disk.old disk.new result }
         ensures refusals { IfErr result IsOfCheckpoint }

@@ -13,8 +13,9 @@ use Rattle.call_steps.specs.State.{State, at_stage}
 use Rattle.call_steps.specs.Tables.{stage_by, stage_for, target_in}
 use Rattle.engine_world.specs.Worlds.{Placed}
 use Rattle.engine_world.specs.Doings.{call_in, doing_at, doing_in, further_from}
-use Rattle.engine_world.specs.Stages.{IsSought, StageStands}
+use Rattle.engine_world.specs.Stages.{IsSought}
 use Rattle.engine_world.proofs.Homes.{target-is}
+use Rattle.engine_world.proofs.InPlace.{StageInPlace}
 
 -- it has so many steps left at most
 pub record PlacesAt (call : KeyCall) (l : Leaf) (leaves : List Leaf) (session : ℕ) (a : State) : Type 0 where
@@ -38,8 +39,8 @@ places-at call l leaves session a = by (target_in l) refl where
 
 -- its leaf is the one that is sought
 pub stands-for : (m : Machine) (leaves : List Leaf) (pieces : List FramePiece) (session : ℕ) (a : State) (call : KeyCall) (l : Leaf) → Contains leaves l → HasTransaction m session (λ t. (t.phase ≡ Running) × (is_write call ≡ true → 0 < t.id))
-    → IsSought m leaves session (at_stage (stage_for call l) a) call l → StageStands (stage_for call l) m leaves pieces session (at_stage (stage_for call l) a)
+    → IsSought m leaves session (at_stage (stage_for call l) a) call l → StageInPlace (stage_for call l) m leaves pieces session (at_stage (stage_for call l) a)
 stands-for m leaves pieces session a call l there runs sought = by (target_in l) refl where
-  by : (o : Option Target) → target_in l ≡ o → StageStands (stage_for call l) m leaves pieces session (at_stage (stage_for call l) a)
-  by None e = subst (λ o. StageStands (stage_by call l o) m leaves pieces session (at_stage (stage_for call l) a)) (sym e) (runs, ((l, there, refl, refl), sought))
-  by (Some target) e = subst (λ o. StageStands (stage_by call l o) m leaves pieces session (at_stage (stage_for call l) a)) (sym e) ((runs, (l, there, e)), sought)
+  by : (o : Option Target) → target_in l ≡ o → StageInPlace (stage_for call l) m leaves pieces session (at_stage (stage_for call l) a)
+  by None e = subst (λ o. StageInPlace (stage_by call l o) m leaves pieces session (at_stage (stage_for call l) a)) (sym e) (runs, ((l, there, refl, refl), sought))
+  by (Some target) e = subst (λ o. StageInPlace (stage_by call l o) m leaves pieces session (at_stage (stage_for call l) a)) (sym e) ((runs, (l, there, e)), sought)

@@ -34,6 +34,7 @@ use Rattle.engine_world.specs.Stages.{EndsOnlyDown}
 use Rattle.engine_world.specs.Stands.{Engine, Stands, SessionStands}
 use Rattle.engine_world.specs.Laws.{BeginsGo, IsBegin}
 use Rattle.engine_world.proofs.HubMoves.{Goes, decided-up, decided-down, idle-none, phase-there, phase-ends, refused-judged, stage-stands, goes-from, refused-goes, leaves-go-on, SetsSeat, seat-now, seats-opened, seat-leads}
+use Rattle.engine_world.proofs.InPlace.{SessionInPlace}
 
 -- ---- decisions
 
@@ -76,7 +77,7 @@ module _ (law : ChainsGoOn) (e : Engine) (w : World) (session : ℕ) (a : State)
   refuses-by r decided = refused-goes e w session a (stage.Begin read) r st at is ends (inr (refused-judged (decision w.machine session (BeginCall read)) r w.machine decided))
 
   begun-stands : transaction_of w.machine session ≡ None
-      → SessionStands (after w.machine (BeginAt session (stamp_of read))) (record e.hub { txns = begun e.hub.txns session (stamp_of read) }) e.pieces session (at_stage stage.Rest (record a { phase = phase.Running }))
+      → SessionInPlace (after w.machine (BeginAt session (stamp_of read))) (record e.hub { txns = begun e.hub.txns session (stamp_of read) }) e.pieces session (at_stage stage.Rest (record a { phase = phase.Running }))
   begun-stands none = record {
     phase = sym (ap (λ (o : Option Transaction). option_map (λ (t : Transaction). t.phase) o) now);
     seated = record {
@@ -100,7 +101,7 @@ module _ (law : ChainsGoOn) (e : Engine) (w : World) (session : ℕ) (a : State)
   accepted none decided = seat-leads e w session a (at_stage stage.Rest (record a { phase = phase.Running })) (begun e.hub.txns session (stamp_of read)) (new_seat e.hub.txns (stamp_of read)) (BeginAt session (stamp_of read)) (reply.Answer answers.Done) st at
       may refl (begun-seat e.hub.txns session (stamp_of read)) ((calls-stand e.hub.txns w.machine st.valid st.txns).begins session (stamp_of read) may) refl
       (leaves-go-on law w.machine (BeginAt session (stamp_of read)) w.shelf e.hub.dir.leaves e.pieces e.states st.valid may (λ table key. tt) st.leaves)
-      (goes-from e.hub.dir.leaves session a (stage.Begin read) w.machine (record { told = reply.Answer answers.Done; machine = after w.machine (BeginAt session (stamp_of read)); doing = Resting }) is
+      (goes-from (w.again session) e.hub.dir.leaves session a (stage.Begin read) w.machine (record { told = reply.Answer answers.Done; machine = after w.machine (BeginAt session (stamp_of read)); doing = Resting }) is
       (inr (subst (λ (d : Outcome × Event). JudgedBy d w.machine (record { told = reply.Answer answers.Done; machine = after w.machine (BeginAt session (stamp_of read)); doing = Resting })) (sym decided) (answers.Done, refl, refl))))
       (begun-stands none) where
         may : Allowed w.machine (BeginAt session (stamp_of read))

@@ -20,7 +20,10 @@ use Rattle.update_chain.specs.declared.update.Update.{Update}
 use Rattle.leaf_chains.specs.Slots.{chain_at, slot_of}
 use Rattle.call_steps.specs.declared.frame.FramePiece.{FramePiece}
 use Rattle.call_steps.specs.declared.hub.Hub.{Hub}
-use Rattle.engine_world.specs.Leaves.{frame_of, slots_in, table_at}
+use Rattle.call_steps.specs.declared.stage.Target.{Target}
+use Rattle.call_steps.specs.Tables.{target_in}
+use Rattle.engine_world.specs.Leaves.{frame_of, generation_at, slots_in, table_at}
+use Rattle.engine_world.specs.Stages.{IsPast}
 use Rattle.engine_world.specs.Walks.{leaves_on}
 
 -- an event of this session alone
@@ -59,8 +62,9 @@ pub record MachineBeside (session : ℕ) (m next : Machine) : Type 0 where
   pub stable : next.stable ≡ m.stable
   pub count : length next.sessions ≡ length m.sessions
 
--- a frame stays with its table, and a key keeps its slot
+-- a frame stays with its table and generation, and a key keeps its slot
 pub record SlotsStay (pieces later : List FramePiece) : Type 0 where
+  pub generations : (frame : ℕ) → generation_at later frame ≡ generation_at pieces frame
   pub tables : (frame : ℕ) → table_at later frame ≡ table_at pieces frame
   pub slots : (frame : ℕ) (key : List ℕ) (i : ℕ) → slot_of key (slots_in pieces frame) ≡ Some i → slot_of key (slots_in later frame) ≡ Some i
 
@@ -105,6 +109,9 @@ pub record LeavesStay (freed : Option ℕ) (leaves made : List Leaf) (pieces lat
   pub tables : (table : ℕ) (key : List ℕ) (frame : ℕ) → frame_of leaves table key ≡ Some frame → freed ≢ Some frame → table_at later frame ≡ table_at pieces frame
   pub slots : (table : ℕ) (key : List ℕ) (frame : ℕ) (other : List ℕ) (i : ℕ) → frame_of leaves table key ≡ Some frame → slot_of other (slots_in pieces frame) ≡ Some i → slot_of other (slots_in later frame) ≡ Some i
   pub bare : (frame : ℕ) → freed ≡ Some frame → slots_in pieces frame ≡ []
+  -- no frame goes back to an older generation, and the one that its leaf left is past it
+  pub older : (frame : ℕ) → generation_at pieces frame ≤ generation_at later frame
+  pub past : (l : Leaf) (target : Target) → Contains leaves l → target_in l ≡ Some target → freed ≡ Some target.frame → IsPast later target
 
 -- what is left to each session but this one, also while sessions are opened, stamps are raised and tables are made
 pub record Apart (freed : Option ℕ) (session : ℕ) (m next : Machine) (hub later : Hub) (pieces pieces' : List FramePiece) : Type 0 where

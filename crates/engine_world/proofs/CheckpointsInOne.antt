@@ -41,11 +41,13 @@ checkpoints-go chains e w st free none = record {
   owned = st.owned;
   leaves = leaves-go-on chains begun CheckpointFinish w.shelf e.hub.dir.leaves e.pieces e.states valid tt (λ table key. tt)
       (leaves-go-on chains w.machine CheckpointStart w.shelf e.hub.dir.leaves e.pieces e.states st.valid may (λ table key. tt) st.leaves);
+  frames = st.frames;
   count = st.count;
   doings = st.doings;
   doing = st.doing;
   sessions = λ r b there. others-stay (length e.sessions) w.machine (checkpointed w.machine) e.hub e.hub e.pieces e.pieces r b beside (past-all e.sessions r b there) st.valid (st.sessions r b there);
   systems = st.systems;
+  noticed = st.noticed;
 } where
   begun : Machine
   begun = after w.machine CheckpointStart

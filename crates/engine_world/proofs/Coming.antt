@@ -1,10 +1,9 @@
 -- A leaf that was in no frame comes into one.
 use Rattle.std.proofs.Common.{◌≡◌, ◌≢◌, ◌<◌, ℕ, refl, ap, sym, ◌∙◌, Bool, true, false, List, [], length, map, inl, inr, subst, arith}
-use Rattle.std.specs.Prelude.{Option, Some, None, option_and_then, slice_get, slice_set}
+use Rattle.std.specs.Prelude.{Option, Some, None, slice_set}
 use Rattle.std.specs.List.{Contains}
 use Rattle.std.proofs.lemmas.Bool.{cases_eq}
-use Rattle.std.proofs.lemmas.List.{get_or-set_same, length-set}
-use Rattle.std.proofs.lemmas.Option.{slice_get-get_or}
+use Rattle.std.proofs.lemmas.List.{get_or-set_same}
 use Rattle.kv_model.specs.Machine.{of_some}
 use Rattle.rows_shown.specs.Shows.{shown_at}
 use Rattle.tree_dir.specs.declared.leaf.Framed.{Framed}
@@ -12,21 +11,20 @@ use Rattle.tree_dir.specs.declared.leaf.Leaf.{Leaf}
 use Rattle.tree_dir.specs.Leaves.{IsDirectory, in_frame, leaf_under}
 use Rattle.call_steps.specs.declared.frame.Frame.{Frame}
 use Rattle.call_steps.specs.declared.frame.FramePiece.{FramePiece}
-use Rattle.call_steps.specs.Tables.{first_word}
-use Rattle.engine_world.specs.Leaves.{LeafOnDevice, LeafStands, frame_in, frame_of}
+use Rattle.call_steps.specs.Tables.{filled}
+use Rattle.engine_world.specs.Leaves.{LeafOnDevice, LeafStands, frame_in, frame_of, generation_at}
 use Rattle.engine_world.specs.Stands.{Engine, Stands}
 use Rattle.engine_world.specs.Systems.{LeavesCome, with_leaf}
 use Rattle.engine_world.specs.Worlds.{World}
+use Rattle.engine_world.proofs.FrameWords.{filled-stand, frame-here, generation-here, generations-kept}
 use Rattle.engine_world.proofs.Homes.{LeavesStand, home-at, same-id}
 use Rattle.engine_world.proofs.LeavesChanged.{IsMild, changed-is, changed-stands, contains-source, moved, moved-it, moved-mild, moved-not, stands-beside, stays-in, under-from, under-to}
+use Rattle.engine_world.proofs.Moves.{noticed-stays}
 use Rattle.update_chain.specs.EventLaws.{StandsFor}
 
 -- it comes where it was in none
 abbrev is_none : Option Framed → Bool
 is_none o = of_some true (λ f. false) o
-
-set-here : {A : Type 0} (xs : List A) (i : ℕ) (x : A) → i < length xs → slice_get (slice_set xs i x) i ≡ Some x
-set-here xs i x inside = let long = length-set xs i x in slice_get-get_or (slice_set xs i x) i x (omega arith) ∙ ap Some (get_or-set_same xs i x x inside)
 
 record IsComing (e : Engine) (w : World) (l : Leaf) (frame : ℕ) : Type 0 where
   stands : Stands e w
@@ -42,7 +40,7 @@ module _ (e : Engine) (w : World) (l : Leaf) (frame : ℕ) (c : IsComing e w l f
   leaves = e.hub.dir.leaves
 
   abbrev framed : Framed
-  framed = record { frame = frame; generation = 0 }
+  framed = record { frame = frame; generation = generation_at e.pieces frame }
 
   abbrev to : Leaf → Leaf
   to = moved l.id is_none (Some framed)
@@ -57,20 +55,23 @@ module _ (e : Engine) (w : World) (l : Leaf) (frame : ℕ) (c : IsComing e w l f
   frame_now = record { table = l.table; id = l.id; leaf = record { page = w.shelf l.id; chains = [] } }
 
   abbrev piece_now : FramePiece
-  piece_now = record { generation = 0; frame = Some frame_now }
+  piece_now = record { generation = generation_at e.pieces frame; frame = Some frame_now }
 
   abbrev pieces : List FramePiece
   pieces = slice_set e.pieces frame piece_now
 
   abbrev states : List ℕ
-  states = slice_set e.states frame first_word
+  states = slice_set e.states frame (filled (generation_at e.pieces frame))
 
   -- a leaf with the id is the leaf
   same-leaf : (x : Leaf) → Contains leaves x → x.id ≡ l.id → x ≡ l
   same-leaf x there same = same-id e.hub.dir x l c.stands.dir there c.there same
 
   new-frame : frame_in pieces frame ≡ Some frame_now
-  new-frame = ap (option_and_then (λ (p : FramePiece). p.frame)) (set-here e.pieces frame piece_now c.piece)
+  new-frame = frame-here e.pieces frame piece_now c.piece
+
+  same-generation : (other : ℕ) → generation_at pieces other ≡ generation_at e.pieces other
+  same-generation = generations-kept e.pieces frame piece_now c.piece refl
 
   not-empty : (other : ℕ) (f : Frame) → frame_in e.pieces other ≡ Some f → other ≢ frame
   not-empty other f there same = let clash : None ≡ Some f = sym c.empty ∙ (ap (frame_in e.pieces) (sym same) ∙ there) in absurd cc
@@ -101,7 +102,9 @@ module _ (e : Engine) (w : World) (l : Leaf) (frame : ℕ) (c : IsComing e w l f
       there = new-frame;
       table = sym (mild.table l);
       id = sym (mild.id l);
-      word = get_or-set_same e.states frame first_word 0 c.word;
+      generation = generation-here e.pieces frame piece_now c.piece;
+      below = (c.stands.frames frame).below;
+      word = get_or-set_same e.states frame (filled (generation_at e.pieces frame)) 0 c.word;
     };
     keys = λ key under. subst (λ n. StandsFor w.machine n key [] (shown_at key (w.shelf l.id)) []) (sym (mild.table l))
         (on-device.keys key (under-from e.hub.dir c.stands.dir to mild l.table key l c.there (ap (λ n. leaf_under n key made) (sym (mild.table l)) ∙ under)));
@@ -111,7 +114,7 @@ module _ (e : Engine) (w : World) (l : Leaf) (frame : ℕ) (c : IsComing e w l f
 
   other-stands : (x : Leaf) → Contains leaves x → x.id ≢ l.id → StandNow (to x)
   other-stands x there other = subst StandNow (sym (moved-not l.id is_none (Some framed) x other))
-      (stands-beside w.machine w.shelf e.hub.dir to e.pieces e.states frame piece_now first_word x c.stands.dir mild there (moved-not l.id is_none (Some framed) x other) (λ laid. not-empty laid.framed.frame laid.frame laid.there) (c.stands.leaves x there))
+      (stands-beside w.machine w.shelf e.hub.dir to e.pieces e.states frame piece_now (filled (generation_at e.pieces frame)) x c.stands.dir mild there (moved-not l.id is_none (Some framed) x other) (λ laid. not-empty laid.framed.frame laid.frame laid.there) (c.stands.leaves x there))
 
   each-stands : LeavesStand w.machine w.shelf made pieces states
   each-stands y there = let s = contains-source to leaves y there in subst StandNow s.2 (elim (cases_eq s.0.id l.id) [
@@ -127,7 +130,7 @@ module _ (e : Engine) (w : World) (l : Leaf) (frame : ℕ) (c : IsComing e w l f
       not-empty f h.stands.laid.frame (ap (frame_in e.pieces) (sym h.at) ∙ h.stands.laid.there)
 
   comes-stands : Stands (record e { hub = record e.hub { dir = record e.hub.dir { leaves = made } }; pieces = pieces; states = states }) w
-  comes-stands = changed-stands e w None to frame piece_now first_word (record {
+  comes-stands = changed-stands e w w.again None to frame piece_now (filled (generation_at e.pieces frame)) (record {
     stands = c.stands;
     mild = mild;
     frames = λ x g placed other. stays-in l.id is_none (Some framed) x (ap is_none placed) ∙ placed;
@@ -138,6 +141,10 @@ module _ (e : Engine) (w : World) (l : Leaf) (frame : ℕ) (c : IsComing e w l f
     aside = λ session a at other none. absurd cc;
     dir = subst (λ (ls : List Leaf). IsDirectory (record e.hub.dir { leaves = ls })) (sym made-is) c.dir;
     leaves = each-stands;
+    words = filled-stand e.pieces e.states frame piece_now c.piece c.word refl c.stands.frames;
+    older = λ other. let same = same-generation other in omega (arith, same);
+    past = λ x target there is none. absurd cc;
+    noticed = λ session a at. noticed-stays a.stage e.pieces pieces (w.again session) same-generation (c.stands.noticed session a at);
   })
 
 pub leaves-come : LeavesCome

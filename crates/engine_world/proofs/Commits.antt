@@ -171,8 +171,8 @@ decides-go chains-go-on commits-stand resolves-stand e w session a st at at-deci
   stands : EndsOnlyDown w.machine session × ForTransaction w.machine session (λ t. DecidesStand t.phase stamps w.machine e.pieces t a)
   stands = stage-stands e w session a (stage.Decide stamps) st at is
 
-  settled : (outcome : Outcome) (event : Event) (made : Made) → given stamps w.machine session ≡ (outcome, event) → SettledBy outcome event w.machine session (decide_left a) made → GoesOn (doing_in e.hub.dir.leaves session a) w.machine session made
-  settled outcome event made d by = subst (λ x. GoesOn x w.machine session made) (sym (doing-at e.hub.dir.leaves session a (stage.Decide stamps) is))
+  settled : (outcome : Outcome) (event : Event) (made : Made) → given stamps w.machine session ≡ (outcome, event) → SettledBy outcome event w.machine session (decide_left a) made → GoesOn (w.again session) (doing_in e.hub.dir.leaves session a) w.machine session made
+  settled outcome event made d by = subst (λ x. GoesOn (w.again session) x w.machine session made) (sym (doing-at e.hub.dir.leaves session a (stage.Decide stamps) is))
       (inr (subst (λ (x : Outcome × Event). SettledBy x.0 x.1 w.machine session (decide_left a) made) (sym d) by))
 
   is-refused : (r : Refusal) → given stamps w.machine session ≡ refused r → Goes e w session (beside e.hub (refuses r a))

@@ -3,8 +3,7 @@ use Rattle.std.proofs.Common.{◌≡◌, ◌≢◌, ◌<◌, ℕ, true, false, r
 use Rattle.std.specs.Prelude.{◌==◌, Option, Some, None, option_and_then, slice_get, slice_set}
 use Rattle.std.specs.List.{Contains}
 use Rattle.std.proofs.lemmas.Bool.{both_ways, cases_Bool, cases_eq, eqb-true}
-use Rattle.std.proofs.lemmas.List.{get_or-set_other, get_or-set_same, length-set, reverse-append}
-use Rattle.std.proofs.lemmas.Option.{slice_get-get_or}
+use Rattle.std.proofs.lemmas.List.{get_or-set_other, get_or-set_same, reverse-append}
 use Rattle.item.specs.declared.Formats.{Formats}
 use Rattle.kv_model.specs.Allowed.{Allowed}
 use Rattle.kv_model.specs.Decisions.{Outcome, Done, CreateCall}
@@ -27,16 +26,17 @@ use Rattle.leaf_chains.specs.declared.slot.KeyChain.{KeyChain}
 use Rattle.leaf_chains.specs.Slots.{chain_at, slot_of}
 use Rattle.call_steps.specs.declared.frame.Frame.{Frame}
 use Rattle.call_steps.specs.declared.frame.FramePiece.{FramePiece}
-use Rattle.call_steps.specs.Tables.{first_word}
-use Rattle.engine_world.specs.Leaves.{LeafInFrame, LeafStands, LeavesOwned, TablesBegun, frame_in, frame_of}
+use Rattle.call_steps.specs.Tables.{filled}
+use Rattle.engine_world.specs.Leaves.{LeafInFrame, LeafStands, LeavesOwned, TablesBegun, frame_in, frame_of, generation_at}
 use Rattle.engine_world.specs.Stands.{Engine, Stands}
 use Rattle.engine_world.specs.Systems.{CreatesGo, HasFirstLeaf, first_piece, with_table}
 use Rattle.engine_world.specs.Worlds.{World}
 use Rattle.engine_world.proofs.Appended.{append-finds, append-keeps, append-last}
 use Rattle.engine_world.proofs.Beside.{Apart, LeavesKept, LeavesStay, OthersUpdates}
+use Rattle.engine_world.proofs.FrameWords.{filled-stand, frame-here, generations-kept}
 use Rattle.engine_world.proofs.Homes.{LeavesStand, home-at}
 use Rattle.engine_world.proofs.HubMoves.{leaves-go-on}
-use Rattle.engine_world.proofs.Moves.{get-set-other}
+use Rattle.engine_world.proofs.Moves.{get-set-other, noticed-stays}
 use Rattle.engine_world.proofs.NewLeaf.{IsCome, come-cases, come-kept, comes, new-there, new_leaf, under-come, under-same}
 use Rattle.engine_world.proofs.OnePiece.{table-there}
 use Rattle.engine_world.proofs.Others.{doing-kept, others-stay}
@@ -75,12 +75,6 @@ number-absent m t new = elim (cases_Bool (has_table (tables m.history) t.number)
 abbrev chains_in : Option Frame → List KeyChain
 chains_in o = of_some [] (λ (f : Frame). f.leaf.chains) o
 
-set-here : {A : Type 0} (xs : List A) (i : ℕ) (x : A) → i < length xs → slice_get (slice_set xs i x) i ≡ Some x
-set-here xs i x inside = let long = length-set xs i x in slice_get-get_or (slice_set xs i x) i x (omega arith) ∙ ap Some (get_or-set_same xs i x x inside)
-
-new-frame : (pieces : List FramePiece) (frame id : ℕ) (t : Table) → frame < length pieces → frame_in (slice_set pieces frame (first_piece t id)) frame ≡ Some (record { table = t.number; id = id; leaf = record { page = []; chains = [] } })
-new-frame pieces frame id t inside = ap (option_and_then (λ (p : FramePiece). p.frame)) (set-here pieces frame (first_piece t id) inside)
-
 old-frame : (pieces : List FramePiece) (frame other : ℕ) (p : FramePiece) → other ≢ frame → frame_in (slice_set pieces frame p) other ≡ frame_in pieces other
 old-frame pieces frame other p elsewhere = ap (option_and_then (λ (p : FramePiece). p.frame)) (get-set-other pieces frame other p elsewhere)
 
@@ -94,7 +88,7 @@ record IsMade (e : Engine) (w : World) (known : Known) (dir : Directory) (t : Ta
   stands : Stands e w
   may : Allowed w.machine (CreateTable t)
   tables : known.tables ≡ e.hub.tables.tables ++ t ∷ []
-  leaf : HasFirstLeaf e.hub.dir dir t.number id frame
+  leaf : HasFirstLeaf e.hub.dir dir t.number id frame (generation_at e.pieces frame)
   dir_is : IsDirectory dir
   empty : frame_in e.pieces frame ≡ None
   piece : frame < length e.pieces
@@ -105,10 +99,16 @@ module _ (chains : ChainsGoOn) (e : Engine) (w : World) (known : Known) (dir : D
   next = after w.machine (CreateTable t)
 
   abbrev pieces : List FramePiece
-  pieces = slice_set e.pieces frame (first_piece t id)
+  pieces = slice_set e.pieces frame (first_piece (generation_at e.pieces frame) t id)
 
   abbrev states : List ℕ
-  states = slice_set e.states frame first_word
+  states = slice_set e.states frame (filled (generation_at e.pieces frame))
+
+  new-frame : frame_in pieces frame ≡ Some (record { table = t.number; id = id; leaf = record { page = []; chains = [] } })
+  new-frame = frame-here e.pieces frame (first_piece (generation_at e.pieces frame) t id) c.piece
+
+  same-generation : (other : ℕ) → generation_at pieces other ≡ generation_at e.pieces other
+  same-generation = generations-kept e.pieces frame (first_piece (generation_at e.pieces frame) t id) c.piece refl
 
   -- no leaf was of its number
   none-of : (l : Leaf) → Contains e.hub.dir.leaves l → l.table ≢ t.number
@@ -116,33 +116,35 @@ module _ (chains : ChainsGoOn) (e : Engine) (w : World) (known : Known) (dir : D
       both_ways (has_table (tables w.machine.history) t.number) (number-absent w.machine t c.may.0)
       (subst (λ n. has_table (tables w.machine.history) n ≡ true) (sym owner.3 ∙ same) (table-there w.machine e.hub.tables.tables owner.0 owner.1 c.stands.made owner.2))
 
-  come : IsCome e.hub.dir.leaves dir.leaves (new_leaf t.number id frame)
-  come = comes e.hub.dir dir t.number id frame c.stands.dir none-of c.leaf
+  come : IsCome e.hub.dir.leaves dir.leaves (new_leaf t.number id frame (generation_at e.pieces frame))
+  come = comes e.hub.dir dir t.number id frame (generation_at e.pieces frame) c.stands.dir none-of c.leaf
 
   kept : LeavesKept None e.hub.dir.leaves dir.leaves
-  kept = come-kept e.hub.dir dir.leaves (new_leaf t.number id frame) c.stands.dir come
+  kept = come-kept e.hub.dir dir.leaves (new_leaf t.number id frame (generation_at e.pieces frame)) c.stands.dir come
 
-  new-stands : LeafInFrame next w.shelf dir.leaves pieces states (new_leaf t.number id frame)
+  new-stands : LeafInFrame next w.shelf dir.leaves pieces states (new_leaf t.number id frame (generation_at e.pieces frame))
   new-stands = record {
     laid = record {
-      framed = record { frame = frame; generation = 0 };
+      framed = record { frame = frame; generation = generation_at e.pieces frame };
       placed = refl;
       frame = record { table = t.number; id = id; leaf = record { page = []; chains = [] } };
-      there = new-frame e.pieces frame id t c.piece;
+      there = new-frame;
       table = refl;
       id = refl;
-      word = get_or-set_same e.states frame first_word 0 c.word;
+      generation = same-generation frame;
+      below = (c.stands.frames frame).below;
+      word = get_or-set_same e.states frame (filled (generation_at e.pieces frame)) 0 c.word;
     };
     keys = λ key under. chains w.machine (CreateTable t) t.number key [] None [] c.stands.valid c.may tt
         (absent-stands w.machine t.number key c.stands.valid (number-absent w.machine t c.may.0));
-    bare = λ key outside. absurd (outside (under-come e.hub.dir dir.leaves (new_leaf t.number id frame) c.stands.dir come refl key));
+    bare = λ key outside. absurd (outside (under-come e.hub.dir dir.leaves (new_leaf t.number id frame (generation_at e.pieces frame)) c.stands.dir come refl key));
     lies = λ some. absurd (omega (arith, some));
   }
 
   old-stands : (l : Leaf) → Contains e.hub.dir.leaves l → LeafStands next w.shelf dir.leaves pieces states l
   old-stands l there = by (leaves-go-on chains w.machine (CreateTable t) w.shelf e.hub.dir.leaves e.pieces e.states c.stands.valid c.may (λ table key. tt) c.stands.leaves l there) where
     same : (key : List ℕ) → leaf_under l.table key dir.leaves ≡ leaf_under l.table key e.hub.dir.leaves
-    same key = under-same e.hub.dir dir.leaves (new_leaf t.number id frame) c.stands.dir come l.table key (come.apart l there)
+    same key = under-same e.hub.dir dir.leaves (new_leaf t.number id frame (generation_at e.pieces frame)) c.stands.dir come l.table key (come.apart l there)
 
     apart : (old : LeafInFrame next w.shelf e.hub.dir.leaves e.pieces e.states l) → old.laid.framed.frame ≢ frame
     apart old = not-empty e.pieces frame old.laid.framed.frame old.laid.frame c.empty old.laid.there
@@ -158,10 +160,12 @@ module _ (chains : ChainsGoOn) (e : Engine) (w : World) (known : Known) (dir : D
         framed = old.laid.framed;
         placed = old.laid.placed;
         frame = old.laid.frame;
-        there = old-frame e.pieces frame old.laid.framed.frame (first_piece t id) (apart old) ∙ old.laid.there;
+        there = old-frame e.pieces frame old.laid.framed.frame (first_piece (generation_at e.pieces frame) t id) (apart old) ∙ old.laid.there;
         table = old.laid.table;
         id = old.laid.id;
-        word = get_or-set_other e.states frame old.laid.framed.frame first_word 0 (apart old) ∙ old.laid.word;
+        generation = same-generation old.laid.framed.frame ∙ old.laid.generation;
+        below = old.laid.below;
+        word = get_or-set_other e.states frame old.laid.framed.frame (filled (generation_at e.pieces frame)) 0 (apart old) ∙ old.laid.word;
       };
       keys = λ key under. old.keys key (sym (same key) ∙ under);
       bare = λ key outside. old.bare key (λ under. outside (same key ∙ under));
@@ -169,7 +173,7 @@ module _ (chains : ChainsGoOn) (e : Engine) (w : World) (known : Known) (dir : D
     })
 
   each-stands : LeavesStand next w.shelf dir.leaves pieces states
-  each-stands l there = elim (come-cases e.hub.dir dir.leaves (new_leaf t.number id frame) c.stands.dir come l there) [
+  each-stands l there = elim (come-cases e.hub.dir dir.leaves (new_leaf t.number id frame (generation_at e.pieces frame)) c.stands.dir come l there) [
     | inl old ↦ old-stands l old
     | inr same ↦ subst (LeafStands next w.shelf dir.leaves pieces states) same (inl new-stands)
   ]
@@ -177,11 +181,11 @@ module _ (chains : ChainsGoOn) (e : Engine) (w : World) (known : Known) (dir : D
   all-begun : TablesBegun known.tables dir.leaves
   all-begun place u there = elim (append-finds e.hub.tables.tables t u place (subst (λ l. slice_get l place ≡ Some u) c.tables there)) [
     | inl old ↦ let l = c.stands.begun place u old in (kept.to l.0, kept.there l.0 l.1, (kept.alike l.0).table ∙ l.2)
-    | inr last ↦ (new_leaf t.number id frame, new-there e.hub.dir dir.leaves (new_leaf t.number id frame) c.stands.dir come, ap (λ (x : Table). x.number) last.1)
+    | inr last ↦ (new_leaf t.number id frame (generation_at e.pieces frame), new-there e.hub.dir dir.leaves (new_leaf t.number id frame (generation_at e.pieces frame)) c.stands.dir come, ap (λ (x : Table). x.number) last.1)
   ]
 
   all-owned : LeavesOwned known.tables dir.leaves
-  all-owned l there = elim (come-cases e.hub.dir dir.leaves (new_leaf t.number id frame) c.stands.dir come l there) [
+  all-owned l there = elim (come-cases e.hub.dir dir.leaves (new_leaf t.number id frame (generation_at e.pieces frame)) c.stands.dir come l there) [
     | inl old ↦ let owner = c.stands.owned l old in
         (owner.0, owner.1, subst (λ ls. slice_get ls owner.0 ≡ Some owner.1) (sym c.tables) (append-keeps e.hub.tables.tables t owner.1 owner.0 owner.2), owner.3)
     | inr same ↦ (length e.hub.tables.tables, t, subst (λ ls. slice_get ls (length e.hub.tables.tables) ≡ Some t) (sym c.tables) (append-last e.hub.tables.tables t), ap (λ (x : Leaf). x.table) (sym same))
@@ -195,15 +199,17 @@ module _ (chains : ChainsGoOn) (e : Engine) (w : World) (known : Known) (dir : D
   leaves-stay : LeavesStay None e.hub.dir.leaves dir.leaves e.pieces pieces
   leaves-stay = record {
     kept = kept;
-    tables = λ table key f home other. ap (λ (o : Option Frame). of_some 0 (λ (x : Frame). x.table) o) (old-frame e.pieces frame f (first_piece t id) (home-apart table key f home));
-    slots = λ table key f other i home slot. ap (λ (o : Option Frame). slot_of other (chains_in o)) (old-frame e.pieces frame f (first_piece t id) (home-apart table key f home)) ∙ slot;
+    tables = λ table key f home other. ap (λ (o : Option Frame). of_some 0 (λ (x : Frame). x.table) o) (old-frame e.pieces frame f (first_piece (generation_at e.pieces frame) t id) (home-apart table key f home));
+    slots = λ table key f other i home slot. ap (λ (o : Option Frame). slot_of other (chains_in o)) (old-frame e.pieces frame f (first_piece (generation_at e.pieces frame) t id) (home-apart table key f home)) ∙ slot;
     bare = λ f none. absurd cc;
+    older = λ other. let same = same-generation other in omega (arith, same);
+    past = λ l target there is none. absurd cc;
   }
 
   updates-stay : OthersUpdates w.machine (length e.sessions) e.pieces pieces
   updates-stay r x other there drawn at key u member named = elim (cases_eq at frame) [
-    | inl same ↦ absurd (subst (λ f. Member u (chain_at key (chains_in f))) (ap (frame_in pieces) same ∙ new-frame e.pieces frame id t c.piece) member)
-    | inr elsewhere ↦ subst (λ f. Member u (chain_at key (chains_in f))) (old-frame e.pieces frame at (first_piece t id) elsewhere) member
+    | inl same ↦ absurd (subst (λ f. Member u (chain_at key (chains_in f))) (ap (frame_in pieces) same ∙ new-frame) member)
+    | inr elsewhere ↦ subst (λ f. Member u (chain_at key (chains_in f))) (old-frame e.pieces frame at (first_piece (generation_at e.pieces frame) t id) elsewhere) member
   ]
 
   made-beside : Apart None (length e.sessions) w.machine next e.hub (record e.hub { tables = known; dir = dir }) e.pieces pieces
@@ -227,12 +233,14 @@ module _ (chains : ChainsGoOn) (e : Engine) (w : World) (known : Known) (dir : D
     begun = all-begun;
     owned = all-owned;
     leaves = each-stands;
+    frames = filled-stand e.pieces e.states frame (first_piece (generation_at e.pieces frame) t id) c.piece c.word refl c.stands.frames;
     count = c.stands.count;
     doings = c.stands.doings;
     doing = λ r b there. c.stands.doing r b there ∙ sym (doing-kept None w.machine e.hub.dir.leaves dir.leaves e.pieces r b kept (c.stands.sessions r b there).stage);
     sessions = λ r b there. others-stay (length e.sessions) w.machine next e.hub (record e.hub { tables = known; dir = dir }) e.pieces pieces r b
         made-beside (past-all e.sessions r b there) c.stands.valid (c.stands.sessions r b there);
     systems = c.stands.systems;
+    noticed = λ r b there. noticed-stays b.stage e.pieces pieces (w.again r) same-generation (c.stands.noticed r b there);
   }
 
 pub creates-go : ChainsGoOn → CreatesGo

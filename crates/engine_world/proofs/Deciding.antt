@@ -19,11 +19,11 @@ use Rattle.call_steps.specs.HubEvents.{IsSeated, known_phase}
 use Rattle.call_steps.specs.State.{State}
 use Rattle.engine_world.specs.Doings.{doing_in, decide_left}
 use Rattle.engine_world.specs.Leaves.{AreNoted}
-use Rattle.engine_world.specs.Stages.{StageStands}
 use Rattle.engine_world.specs.Stands.{SessionStands, writes_in}
 use Rattle.engine_world.specs.Steps.{Made, GoesOn, SettledBy}
 use Rattle.engine_world.specs.Worlds.{World}
 use Rattle.engine_world.proofs.HubMoves.{SetsSeat, seat_in, seat-now, seats-opened}
+use Rattle.engine_world.proofs.InPlace.{SessionInPlace, StageInPlace}
 
 -- ---- stamp rules
 
@@ -66,8 +66,8 @@ in-set m session t q history there = record {
 
 -- the session keeps its writes and its cursors
 pub phased-stands : (m next : Machine) (hub : Hub) (now : Table) (pieces : List FramePiece) (session : ℕ) (a b : State) (t : Transaction) (q : ModelPhase) → SessionStands m hub pieces session a → transaction_of m session ≡ Some t
-    → IsIn m next session t q → IsSeated (record hub { txns = now }) session b → phase_in b.phase ≡ Some q → b.cursors ≡ a.cursors → b.written ≡ a.written → StageStands b.stage next hub.dir.leaves pieces session b
-    → SessionStands next (record hub { txns = now }) pieces session b
+    → IsIn m next session t q → IsSeated (record hub { txns = now }) session b → phase_in b.phase ≡ Some q → b.cursors ≡ a.cursors → b.written ≡ a.written → StageInPlace b.stage next hub.dir.leaves pieces session b
+    → SessionInPlace next (record hub { txns = now }) pieces session b
 phased-stands m next hub now pieces session a b t q mine there is seated phase cursors written stands = record {
   phase = phase ∙ sym (ap (option_map (λ (x : Transaction). x.phase)) is.there);
   seated = seated;
@@ -102,4 +102,4 @@ seated-in hub now session p b sets opened is = let seat = seat-is hub.txns now s
 
 -- what the event that decides a commit or a rollback leads to
 abbrev pub Settling : List Leaf → World → ℕ → State → Outcome → Event → Type 0
-Settling leaves w session a outcome event = (made : Made) → SettledBy outcome event w.machine session (decide_left a) made → GoesOn (doing_in leaves session a) w.machine session made
+Settling leaves w session a outcome event = (made : Made) → SettledBy outcome event w.machine session (decide_left a) made → GoesOn (w.again session) (doing_in leaves session a) w.machine session made

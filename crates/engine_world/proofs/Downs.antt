@@ -98,8 +98,8 @@ module _ (m : Machine) (fault : Fault) (valid : Valid m) (leaves : List Leaf) (p
   stage-down (stage.Begin read) x = ends-down
   stage-down (stage.Find call) x = (ends-down, x.1)
   stage-down (stage.Fill call wanted) x = (x.0, (x.1.0, sought-down call x.1.0.0 x.1.1))
-  stage-down (stage.Publish call target) x = (x.0, sought-down call x.0.1.0 x.1)
-  stage-down (stage.Validate call target) x = (x.0, sought-down call x.0.1.0 x.1)
+  stage-down (stage.Publish call target) x = ((x.0.0, (x.0.1.0, sought-down call x.0.1.0.0 x.0.1.1)), x.1)
+  stage-down (stage.Validate call target) x = ((x.0.0, (x.0.1.0, sought-down call x.0.1.0.0 x.0.1.1)), x.1)
   stage-down (stage.Look call target) x = (x.0, sought-down call x.0.1.0 x.1)
   stage-down (stage.Pass call target) x = (x.0, passed-down call x.0.1.0 x.1)
   stage-down (stage.History call target) x = x
@@ -137,9 +137,11 @@ downs-go chains e w fault st = record {
   begun = st.begun;
   owned = st.owned;
   leaves = leaves-go-on chains w.machine (GoDown fault) w.shelf e.hub.dir.leaves e.pieces e.states st.valid tt (λ table key. tt) st.leaves;
+  frames = st.frames;
   count = st.count;
   doings = st.doings;
   doing = st.doing;
   sessions = λ session a there. session-down e w.machine fault session a st.valid (st.sessions session a there);
   systems = st.systems;
+  noticed = st.noticed;
 }

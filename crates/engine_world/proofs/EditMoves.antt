@@ -1,5 +1,5 @@
 -- The edit of one leaf, as an event of the session's call.
-use Rattle.std.proofs.Common.{◌≡◌, ◌<◌, ◌≤◌, ℕ, refl, ap, sym, ◌∙◌, List, [], ◌∷◌, length, inl, subst, arith}
+use Rattle.std.proofs.Common.{◌≡◌, ◌<◌, ◌≤◌, ℕ, refl, ap, sym, ◌∙◌, List, [], ◌∷◌, length, inl, subst, arith, false}
 use Rattle.std.specs.Prelude.{Some, slice_get, slice_set, option_map}
 use Rattle.wt_code.specs.declared.answers.Answer.{Answer}
 use Rattle.stamp.specs.declared.Name.{Name}
@@ -28,7 +28,7 @@ use Rattle.call_steps.specs.Written.{frame_at, leaf_start}
 use Rattle.engine_world.specs.Worlds.{World, Doing, Asked, Ending}
 use Rattle.engine_world.specs.Laws.{Leads, IsViewOf, with_session, with_piece}
 use Rattle.engine_world.specs.Leaves.{AreNoted, OrderedDownTo, slots_in, table_at}
-use Rattle.engine_world.specs.Stages.{StageStands, EndsOnlyDown, IsLeft, IsEdited}
+use Rattle.engine_world.specs.Stages.{EndsOnlyDown, IsLeft, IsEdited}
 use Rattle.engine_world.specs.Stands.{Engine, Stands, SessionStands, writes_in}
 use Rattle.engine_world.specs.Steps.{GoesOn}
 use Rattle.engine_world.proofs.Beside.{SlotsStay}
@@ -37,6 +37,7 @@ use Rattle.engine_world.proofs.Moves.{Moves}
 use Rattle.engine_world.proofs.OnePiece.{slot-stays, brings-others}
 use Rattle.engine_world.proofs.EditedChains.{Edits}
 use Rattle.engine_world.proofs.EditedLeaves.{LeafEdited, leaf-edited, piece_edited, got-member, some-at, key-held}
+use Rattle.engine_world.proofs.InPlace.{SessionInPlace, StageInPlace}
 
 -- ---- the transaction
 
@@ -88,7 +89,7 @@ has-written leaves pieces writes keys left noted some within = let k = some-at k
 
 -- it goes on to another stage over frames in which each key keeps its slot
 pub session-on : (m : Machine) (hub : Hub) (pieces later : List FramePiece) (session : ℕ) (a : State) (next : Stage) → SlotsStay pieces later → SessionStands m hub pieces session a
-    → StageStands next m hub.dir.leaves later session (at_stage next a) → SessionStands m hub later session (at_stage next a)
+    → StageInPlace next m hub.dir.leaves later session (at_stage next a) → SessionInPlace m hub later session (at_stage next a)
 session-on m hub pieces later session a next stays s now = record {
   phase = s.phase;
   seated = record { opened = s.seated.opened; phase = s.seated.phase };
@@ -99,10 +100,10 @@ session-on m hub pieces later session a next stays s now = record {
 
 -- ---- the world's step
 
-pub asked-on : (call : Call) (left fewer : ℕ) (m : Machine) (session : ℕ) (d : Doing) → fewer < left → d ≡ Asked call fewer → GoesOn (Asked call left) m session (record { told = reply.More; machine = m; doing = d })
+pub asked-on : (call : Call) (left fewer : ℕ) (m : Machine) (session : ℕ) (d : Doing) → fewer < left → d ≡ Asked call fewer → GoesOn false (Asked call left) m session (record { told = reply.More; machine = m; doing = d })
 asked-on call left fewer m session d less is = inl (fewer, less, ap (λ (x : Doing). record { told = reply.More; machine = m; doing = x }) is)
 
-pub ending-on : (answer : Answer (List ℕ)) (left fewer : ℕ) (m : Machine) (session : ℕ) (d : Doing) → fewer < left → d ≡ Ending answer fewer → GoesOn (Ending answer left) m session (record { told = reply.More; machine = m; doing = d })
+pub ending-on : (answer : Answer (List ℕ)) (left fewer : ℕ) (m : Machine) (session : ℕ) (d : Doing) → fewer < left → d ≡ Ending answer fewer → GoesOn false (Ending answer left) m session (record { told = reply.More; machine = m; doing = d })
 ending-on answer left fewer m session d less is = inl (fewer, less, ap (λ (x : Doing). record { told = reply.More; machine = m; doing = x }) is)
 
 -- what an event makes, as it is known
@@ -132,7 +133,7 @@ edit-leaf e w session a t edit left p st at there some edits old piece = leaf-ed
 }) piece
 
 pub edit-moves : (e : Engine) (w : World) (session : ℕ) (a : State) (t : Transaction) (edit : Edit) (later : List FramePiece) (keys : List WrittenKey) (left : ℕ) → Stands e w → transaction_of w.machine session ≡ Some t
-    → LeafEdited edit w.machine t w.shelf e.hub.dir e.pieces later e.states keys left → SessionStands w.machine e.hub later session a → Moves e w session e.hub later a w.machine
+    → LeafEdited edit w.machine t w.shelf e.hub.dir e.pieces later e.states keys left → SessionInPlace w.machine e.hub later session a → Moves e w session e.hub later a w.machine
 edit-moves e w session a t edit later keys left st there l mine = record {
   valid = st.valid;
   beside = record {

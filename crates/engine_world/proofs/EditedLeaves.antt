@@ -228,10 +228,10 @@ pub leaf-edited : (e : Edit) (m : Machine) (t : Transaction) (shelf : ℕ → Li
     → LeafEdited e m t shelf d pieces (slice_set pieces (frame_at keys left) (piece_edited e (name_of m t) keys left p)) states keys (leaf_start keys (frame_at keys left) left)
 leaf-edited e m t shelf d pieces states keys zero p o at = absurd (let some = o.some in omega arith)
 leaf-edited e m t shelf d pieces states keys (suc n) p o at = record {
-  leaves = leaves-on pieces frame p p' at m m shelf states d home.leaf (with_chains new home.stands.laid.frame) o.dir o.leaves home.there home.stands.laid home.at
+  leaves = leaves-on pieces frame p p' at refl m m shelf states d home.leaf (with_chains new home.stands.laid.frame) o.dir o.leaves home.there home.stands.laid home.at
       (record { is = whole; table = home.stands.laid.table; id = home.stands.laid.id; keys = final.stands; bare = λ key outside. (final.bare key outside, (home.stands.bare key outside).1); lies = home.stands.lies })
       (λ l there other key chain row under k. k);
-  slots = slots-stay pieces frame p p' at (table-edited change p) (λ key i there. ap (slot_of key) now ∙ (final.places key ∙ (ap (slot_of key) was ∙ there)));
+  slots = slots-stay pieces frame p p' at refl (table-edited change p) (λ key i there. ap (slot_of key) now ∙ (final.places key ∙ (ap (slot_of key) was ∙ there)));
   brings = brings-only pieces frame p p' at (name_of m t) (λ key u member other. subst (λ l. Member u (chain_at key l)) was (final.brings key u (subst (λ l. Member u (chain_at key l)) now member) other));
   done = λ i k low there. elim (cases_eq k.frame frame) [
     | inl same ↦ subst (λ l. AllHave e (name_of m t) (chain_in l k.slot)) (sym (ap (slots_in later) same ∙ (slots-set pieces frame p p' at ∙ now))) (final.done i k low there same)

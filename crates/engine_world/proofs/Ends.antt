@@ -85,9 +85,9 @@ end-goes chains-go-on ends-stand e w session a t st at is up there done =
       up_here : w.machine.fault ≡ None
       up_here = sym st.fault ∙ up
 
-      goes : GoesOn (doing_in e.hub.dir.leaves session a) w.machine session
+      goes : GoesOn (w.again session) (doing_in e.hub.dir.leaves session a) w.machine session
           (record { told = (finished a.answer (without_answer a)).0; machine = after w.machine (EndTransaction session); doing = doing_in e.hub.dir.leaves session (finished a.answer (without_answer a)).1 })
-      goes = subst (λ d. GoesOn d w.machine session
+      goes = subst (λ d. GoesOn (w.again session) d w.machine session
           (record { told = (finished a.answer (without_answer a)).0; machine = after w.machine (EndTransaction session); doing = doing_in e.hub.dir.leaves session (finished a.answer (without_answer a)).1 }))
           (sym (doing-at e.hub.dir.leaves session a stage.Done is))
           (inr (subst (λ f. EndsUnless f a.answer w.machine session (done_left a)

@@ -103,9 +103,11 @@ engines-start alike c shelf e regular b = record {
   begun = b.begun;
   owned = b.owned;
   leaves = λ l there. leaf-starts alike c shelf e.hub.dir.leaves e.pieces e.states l regular (b.leaves l there);
+  frames = b.frames;
   count = ap length b.sessions;
   doings = sym (ap length b.sessions);
   doing = λ session a there. absurd (no-session e session a b.sessions there);
   sessions = λ session a there. absurd (no-session e session a b.sessions there);
   systems = ap (map (option_map system_call_in)) (sym b.systems) ∙ none-started e.systems;
+  noticed = λ session a there. absurd (no-session e session a b.sessions there);
 }

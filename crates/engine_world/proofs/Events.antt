@@ -213,7 +213,7 @@ beside-same session m = record { apart = apart-same session m; oldest = refl; st
 -- ---- the frames and the hub
 
 pub slots-same : (pieces : List FramePiece) → SlotsStay pieces pieces
-slots-same pieces = record { tables = λ frame. refl; slots = λ frame key i at. at }
+slots-same pieces = record { generations = λ frame. refl; tables = λ frame. refl; slots = λ frame key i at. at }
 
 pub updates-same : (m : Machine) (session : ℕ) (pieces : List FramePiece) → OthersUpdates m session pieces pieces
 updates-same m session pieces r t other there drawn frame key u member named = member

@@ -73,7 +73,7 @@ module _ (e : Engine) (w : World) (session : ℕ) (a : State) (call : KeyCall) (
 
   goes-on : Goes e w session (beside e.hub (reply.More, at_stage (stage.Publish call target) a))
   goes-on = alone-leads e w session a (at_stage (stage.Publish call target) a) e.hazards reply.More st at
-      (goes-from e.hub.dir.leaves session a (stage.Fill call wanted) w.machine (made_in e.hub.dir.leaves w.machine session (at_stage (stage.Publish call target) a)) is (inl (left, omega arith, does)))
+      (goes-from (w.again session) e.hub.dir.leaves session a (stage.Fill call wanted) w.machine (made_in e.hub.dir.leaves w.machine session (at_stage (stage.Publish call target) a)) is (inl (left, omega arith, does)))
       (stands-at w.machine e.hub e.pieces session (at_stage (stage.Publish call target) a)
       (record { phase = kept.phase; seated = record { opened = kept.seated.opened; phase = kept.seated.phase }; cursors = kept.cursors; noted = kept.noted })
       ((x.0, (l, there, target-from l f framed)), sought))

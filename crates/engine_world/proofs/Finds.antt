@@ -43,6 +43,7 @@ use Rattle.engine_world.proofs.HubMoves.{Goes, decided-up, decided-down, none-th
 use Rattle.engine_world.proofs.FindChecks.{request_in, judged_in, draw_by, goes_in, named_by, named_then, checked_then, judged-as, off-page, checks-agree, NotThere, StandsAt, find-name, has-id, has-none, drawn_seat, drawn-seat, call-kept, judges, found-refused, found-done, placed-less}
 use Rattle.engine_world.proofs.AtLeaves.{PlacesAt, places-at, stands-for}
 use Rattle.engine_world.proofs.Seeking.{begins-sought}
+use Rattle.engine_world.proofs.InPlace.{SessionInPlace}
 
 module _ (law : ChainsGoOn) (e : Engine) (w : World) (session : ℕ) (a : State) (call : KeyCall) (st : Stands e w) (at : slice_get e.sessions session ≡ Some a) (is : a.stage ≡ stage.Find call) where
   mine : SessionStands w.machine e.hub e.pieces session a
@@ -72,8 +73,8 @@ module _ (law : ChainsGoOn) (e : Engine) (w : World) (session : ℕ) (a : State)
   on_leaf l = at_stage (stage_for call l) a
 
   found-goes : (event : Event) (s : Found) → tables (after w.machine event).history ≡ tables w.machine.history → decision w.machine session (request_in call a) ≡ (Done, event)
-      → GoesOn (doing_in e.hub.dir.leaves session a) w.machine session (record { told = reply.More; machine = after w.machine event; doing = doing_in e.hub.dir.leaves session (on_leaf s.leaf) })
-  found-goes event s kept decided = goes-from e.hub.dir.leaves session a (stage.Find call) w.machine (record { told = reply.More; machine = after w.machine event; doing = doing_in e.hub.dir.leaves session (on_leaf s.leaf) }) is
+      → GoesOn (w.again session) (doing_in e.hub.dir.leaves session a) w.machine session (record { told = reply.More; machine = after w.machine event; doing = doing_in e.hub.dir.leaves session (on_leaf s.leaf) })
+  found-goes event s kept decided = goes-from (w.again session) e.hub.dir.leaves session a (stage.Find call) w.machine (record { told = reply.More; machine = after w.machine event; doing = doing_in e.hub.dir.leaves session (on_leaf s.leaf) }) is
       (inr (judges call a w.machine session find_left (record { told = reply.More; machine = after w.machine event; doing = doing_in e.hub.dir.leaves session (on_leaf s.leaf) })
       (subst (λ d. FoundBy (decision w.machine session (request_in call a)).0 (decision w.machine session (request_in call a)).1 w.machine (call_in call a) a.name find_left (record { told = reply.More; machine = after w.machine event; doing = d })) (sym does.is)
       (found-done (decision w.machine session (request_in call a)) event w.machine (call_in call a) (call_in call (on_leaf s.leaf)) a.name s.of s.leaf.table
@@ -97,7 +98,7 @@ module _ (law : ChainsGoOn) (e : Engine) (w : World) (session : ℕ) (a : State)
   })
 
   drawn-stands : (t : Transaction) (s : Found) → transaction_of w.machine session ≡ Some t → t.phase ≡ Running
-      → SessionStands (after w.machine (DrawId session)) (record e.hub { txns = drawn e.hub.txns session }) e.pieces session (on_leaf s.leaf)
+      → SessionInPlace (after w.machine (DrawId session)) (record e.hub { txns = drawn e.hub.txns session }) e.pieces session (on_leaf s.leaf)
   drawn-stands t s there running = record {
     phase = mine.phase ∙ (ap phase-with there ∙ sym (ap phase-with now));
     seated = record {

@@ -23,6 +23,7 @@ use Rattle.engine_world.specs.Leaves.{AreNoted}
 use Rattle.engine_world.specs.Stands.{SessionStands, position_in, writes_in}
 use Rattle.engine_world.specs.Steps.{Finishes}
 use Rattle.engine_world.proofs.HubMoves.{none-ends}
+use Rattle.engine_world.proofs.InPlace.{SessionInPlace}
 
 -- ---- cursors that are not positioned any more
 
@@ -83,7 +84,7 @@ abbrev finished_by : Option ℕ → Answer (List ℕ) → State → Reply × Sta
 finished_by first answer a = of_some (reply.Answer answer, at_stage stage.Rest (forgotten a)) (λ cursor. (reply.More, record (forgotten a) { stage = stage.Unpin cursor; answer = answer })) first
 
 pub finished-stands : (next : Machine) (hub : Hub) (pieces : List FramePiece) (session : ℕ) (a : State) (answer : Answer (List ℕ)) → IsGone next session → length a.cursors ≡ CURSORS_MAX
-    → session < length hub.txns.sessions → phase_of hub.txns session ≡ phase.Idle → SessionStands next hub pieces session (finished answer a).1
+    → session < length hub.txns.sessions → phase_of hub.txns session ≡ phase.Idle → SessionInPlace next hub pieces session (finished answer a).1
 finished-stands next hub pieces session a answer gone many opened idle = by-first (first_pinned a.cursors) refl where
   cursors : map position_in (map (placed None) a.cursors) ≡ cursors_of next session
   cursors = none-placed a.cursors ∙ (ap (λ n. replicate n None) many ∙ sym gone.cursors)
@@ -91,7 +92,7 @@ finished-stands next hub pieces session a answer gone many opened idle = by-firs
   noted : AreNoted hub.dir.leaves pieces (writes_in next session) []
   noted = subst (λ o. AreNoted hub.dir.leaves pieces (of_some [] (λ (t : Transaction). t.writes) o) []) (sym gone.none) (record { noted = λ w there. absurd there; wrote = λ k there. absurd there })
 
-  by-first : (first : Option ℕ) → first_pinned a.cursors ≡ first → SessionStands next hub pieces session (finished_by first answer a).1
+  by-first : (first : Option ℕ) → first_pinned a.cursors ≡ first → SessionInPlace next hub pieces session (finished_by first answer a).1
   by-first None is = record {
     phase = sym (ap (option_map (λ (t : Transaction). t.phase)) gone.none);
     seated = record { opened = opened; phase = idle };

@@ -1,8 +1,9 @@
 -- A leaf of an engine at rest gives way to others, which are in no frame.
-use Rattle.std.proofs.Common.{ℕ, ap, sym, ◌∙◌, List, inl, inr}
-use Rattle.std.specs.Prelude.{None, slice_set}
+use Rattle.std.proofs.Common.{◌+◌, ℕ, ap, sym, ◌∙◌, List, inl, inr, subst}
+use Rattle.std.specs.Prelude.{slice_set}
 use Rattle.std.specs.List.{Contains}
 use Rattle.std.proofs.lemmas.Bool.{cases_eq}
+use Rattle.std.proofs.lemmas.Option.{same_Some}
 use Rattle.row_page.specs.Rows.{Row}
 use Rattle.rows_shown.specs.Shows.{shown_at}
 use Rattle.tree_dir.specs.declared.leaf.Framed.{Framed}
@@ -11,23 +12,26 @@ use Rattle.tree_dir.specs.GivingWay.{LeavesGiveWay as DirectoriesGiveWay}
 use Rattle.tree_dir.specs.Leaves.{Directory, leaves_with}
 use Rattle.tree_dir.proofs.LeavesWith.{with-first}
 use Rattle.call_steps.specs.declared.frame.FramePiece.{FramePiece}
+use Rattle.call_steps.specs.Tables.{empty}
 use Rattle.engine_world.specs.GivingWay.{LeavesGiveWay, without_leaf}
-use Rattle.engine_world.specs.Leaves.{LeafStands, LeavesOwned, TablesBegun}
+use Rattle.engine_world.specs.Leaves.{LeafStands, LeavesOwned, TablesBegun, emptied, generation_at}
+use Rattle.engine_world.specs.Stages.{IsNoticed}
 use Rattle.engine_world.specs.Stands.{Engine, Stands}
 use Rattle.engine_world.specs.Worlds.{World}
 use Rattle.engine_world.proofs.AtRest.{Nobody, newest-stands, nobody, rests, rests-over}
+use Rattle.engine_world.proofs.FrameWords.{emptied-stand}
 use Rattle.engine_world.proofs.Homes.{LeavesStand}
-use Rattle.engine_world.proofs.LeavesBeside.{IsGiving, other-stands, same-leaf}
+use Rattle.engine_world.proofs.LeavesBeside.{IsGiving, mine, other-stands, same-leaf}
 
 module _ (e : Engine) (w : World) (l : Leaf) (framed : Framed) (dir : Directory) (made : List Leaf) (shelf : ℕ → List Row) (g : IsGiving e w l framed dir made shelf) where
   abbrev leaves : List Leaf
   leaves = e.hub.dir.leaves
 
   abbrev pieces : List FramePiece
-  pieces = slice_set e.pieces framed.frame (record { generation = 0; frame = None })
+  pieces = slice_set e.pieces framed.frame (emptied e.pieces framed.frame)
 
   abbrev states : List ℕ
-  states = slice_set e.states framed.frame 0
+  states = slice_set e.states framed.frame (empty (generation_at e.pieces framed.frame + 1))
 
   abbrev StandNow : Leaf → Type 0
   StandNow x = LeafStands w.machine shelf dir.leaves pieces states x
@@ -76,20 +80,24 @@ module _ (e : Engine) (w : World) (l : Leaf) (framed : Framed) (dir : Directory)
     begun = still-begun;
     owned = still-owned;
     leaves = each-stands;
+    frames = let m = mine e w l framed dir made shelf g in
+        emptied-stand e.pieces e.states l m.laid framed.frame (ap (λ (f : Framed). f.frame) (same_Some m.laid.framed framed (sym m.laid.placed ∙ g.placed))) g.last g.stands.frames;
     count = g.stands.count;
     doings = g.stands.doings;
     doing = λ r b at. g.stands.doing r b at ∙ rests leaves dir.leaves r b (g.idle r b at);
     sessions = λ r b at. rests-over w.machine e.hub dir e.pieces pieces r b none (g.idle r b at) (g.stands.sessions r b at);
     systems = g.stands.systems;
+    noticed = λ r b at. subst (λ s. IsNoticed s pieces (w.again r)) (sym (g.idle r b at).stage) tt;
   }
 
 pub leaves-give-way : DirectoriesGiveWay → LeavesGiveWay
-leaves-give-way give e w l framed dir entries ids shelf st idle free there placed place gave is shelved = gives-way e w l framed dir (leaves_with l.table ids entries) shelf (record {
+leaves-give-way give e w l framed dir entries ids shelf st idle free there placed last place gave is shelved = gives-way e w l framed dir (leaves_with l.table ids entries) shelf (record {
   stands = st;
   idle = idle;
   free = free;
   there = there;
   placed = placed;
+  last = last;
   some = let n = with-first l.table ids entries place.leaf.entry.key gave.fresh.many place.begins in (n.0, n.1);
   gave = give e.hub.dir dir l entries ids st.dir is there place gave;
   directory = is;

@@ -1,8 +1,8 @@
 -- A leaf goes out of its frame, as it was read.
-use Rattle.std.proofs.Common.{◌≡◌, ◌≢◌, ◌≤◌, ℕ, refl, ap, sym, ◌∙◌, Bool, true, false, List, [], length, map, inl, inr, subst}
-use Rattle.std.specs.Prelude.{Option, Some, None, ◌==◌, option_and_then, slice_get, slice_set}
+use Rattle.std.proofs.Common.{◌≡◌, ◌≢◌, ◌<◌, ◌≤◌, ◌+◌, ◌*◌, ◌^◌, ℕ, refl, ap, sym, ◌∙◌, Bool, true, false, List, [], length, map, inl, inr, subst, arith}
+use Rattle.std.specs.Prelude.{Option, Some, None, ◌==◌, ◌||◌, option_and_then, slice_get, slice_set}
 use Rattle.std.specs.List.{Contains}
-use Rattle.std.proofs.lemmas.Bool.{cases_eq, eq-eqb, ne_eqb}
+use Rattle.std.proofs.lemmas.Bool.{cases_eq, eq-eqb, ne_eqb, or_left, or_right}
 use Rattle.std.proofs.lemmas.Option.{same_Some}
 use Rattle.kv_model.specs.Machine.{of_some}
 use Rattle.row_page.specs.Rows.{Row}
@@ -14,15 +14,23 @@ use Rattle.tree_dir.specs.declared.leaf.Leaf.{Leaf}
 use Rattle.tree_dir.specs.Leaves.{IsDirectory, leaf_under}
 use Rattle.call_steps.specs.declared.frame.Frame.{Frame}
 use Rattle.call_steps.specs.declared.frame.FramePiece.{FramePiece}
+use Rattle.call_steps.specs.declared.stage.Stage.{Stage}
+use Rattle.call_steps.specs.declared.stage.Stage.TheVariants as stage
+use Rattle.call_steps.specs.declared.stage.Target.{Target}
 use Rattle.call_steps.specs.State.{State}
+use Rattle.call_steps.specs.Tables.{empty, target_in}
 use Rattle.update_chain.specs.EventLaws.{StandsFor}
-use Rattle.engine_world.specs.GoingOut.{IsAside, LeavesGoOut, gone_out}
-use Rattle.engine_world.specs.Leaves.{IsLaid, LeafInFrame, LeafStands, frame_in, slots_in}
+use Rattle.engine_world.specs.GoingOut.{IsAside, IsClearOf, LeavesGoOut, LeavesGoOutUnseen, frame_found, frame_in_hand, frame_named, gone_out, has_found, with_again}
+use Rattle.engine_world.specs.Leaves.{IsLaid, LeafInFrame, LeafStands, emptied, frame_in, generation_at, slots_in}
+use Rattle.engine_world.specs.Stages.{IsNoticed, IsPast}
 use Rattle.engine_world.specs.Stands.{Engine, Stands}
 use Rattle.engine_world.specs.Worlds.{World}
+use Rattle.engine_world.proofs.FrameWords.{emptied-older, emptied-stand, generation-beside, generation-here, laid-piece}
 use Rattle.engine_world.proofs.Homes.{LeavesStand, in-its-frame, one-leaf, same-id}
+use Rattle.engine_world.proofs.InPlace.{generation-there}
 use Rattle.engine_world.proofs.LeavesChanged.{IsMild, changed-is, changed-stands, contains-source, moved, moved-it, moved-mild, moved-not, stands-beside, stays-in, under-from, under-to}
 use Rattle.engine_world.proofs.OnePiece.{frame-set}
+use Rattle.engine_world.proofs.Moves.{again-as}
 
 -- it goes where it is in this frame
 abbrev is_in : ℕ → Option Framed → Bool
@@ -36,6 +44,7 @@ record IsGoing (e : Engine) (w : World) (l : Leaf) (framed : Framed) (f : Frame)
   chains : f.leaf.chains ≡ []
   rows : 1 ≤ length f.leaf.page
   aside : (session : ℕ) (a : State) → slice_get e.sessions session ≡ Some a → IsAside framed.frame a
+  last : generation_at e.pieces framed.frame + 1 < 2 ^ 62
   dir : IsDirectory (gone_out e l.id framed.frame).hub.dir
 
 module _ (e : Engine) (w : World) (l : Leaf) (framed : Framed) (f : Frame) (c : IsGoing e w l framed f) where
@@ -54,14 +63,17 @@ module _ (e : Engine) (w : World) (l : Leaf) (framed : Framed) (f : Frame) (c : 
   abbrev made : List Leaf
   made = map to leaves
 
-  abbrev empty : FramePiece
-  empty = record { generation = 0; frame = None }
+  abbrev left : FramePiece
+  left = emptied e.pieces framed.frame
+
+  abbrev word : ℕ
+  word = empty (generation_at e.pieces framed.frame + 1)
 
   abbrev pieces : List FramePiece
-  pieces = slice_set e.pieces framed.frame empty
+  pieces = slice_set e.pieces framed.frame left
 
   abbrev states : List ℕ
-  states = slice_set e.states framed.frame 0
+  states = slice_set e.states framed.frame word
 
   same-leaf : (x : Leaf) → Contains leaves x → x.id ≡ l.id → x ≡ l
   same-leaf x there same = same-id e.hub.dir x l c.stands.dir there c.there same
@@ -117,7 +129,7 @@ module _ (e : Engine) (w : World) (l : Leaf) (framed : Framed) (f : Frame) (c : 
 
   other-stands : (x : Leaf) → Contains leaves x → x.id ≢ l.id → StandNow (to x)
   other-stands x there other = subst StandNow (sym (moved-not l.id from None x other))
-      (stands-beside w.machine w.shelf e.hub.dir to e.pieces e.states framed.frame empty 0 x c.stands.dir mild there (moved-not l.id from None x other) (frames-apart x there other) (c.stands.leaves x there))
+      (stands-beside w.machine w.shelf e.hub.dir to e.pieces e.states framed.frame left word x c.stands.dir mild there (moved-not l.id from None x other) (frames-apart x there other) (c.stands.leaves x there))
 
   each-stands : LeavesStand w.machine w.shelf made pieces states
   each-stands y there = let s = contains-source to leaves y there in subst StandNow s.2 (elim (cases_eq s.0.id l.id) [
@@ -135,10 +147,41 @@ module _ (e : Engine) (w : World) (l : Leaf) (framed : Framed) (f : Frame) (c : 
   gone-slots = by (slice_get e.pieces framed.frame) refl where
     by : (o : Option FramePiece) → slice_get e.pieces framed.frame ≡ o → slots_in pieces framed.frame ≡ []
     by None none = let clash : None ≡ Some f = sym (ap (option_and_then (λ (p : FramePiece). p.frame)) none) ∙ c.filled in absurd cc
-    by (Some p) at = ap (λ (o : Option Frame). of_some [] (λ (x : Frame). x.leaf.chains) o) (frame-set e.pieces framed.frame p empty at)
+    by (Some p) at = ap (λ (o : Option Frame). of_some [] (λ (x : Frame). x.leaf.chains) o) (frame-set e.pieces framed.frame p left at)
 
-  goes-stands : Stands (record e { hub = record e.hub { dir = record e.hub.dir { leaves = made } }; pieces = pieces; states = states }) w
-  goes-stands = changed-stands e w (Some framed.frame) to framed.frame empty 0 (record {
+  -- ---- the generation
+
+  mine-frame : mine.laid.framed.frame ≡ framed.frame
+  mine-frame = ap (λ (g : Framed). g.frame) mine-at
+
+  next-generation : generation_at pieces framed.frame ≡ generation_at e.pieces framed.frame + 1
+  next-generation = generation-here e.pieces framed.frame left (subst (λ n. n < length e.pieces) mine-frame (laid-piece e.pieces e.states l mine.laid))
+
+  past-now : (x : Leaf) (target : Target) → Contains leaves x → target_in x ≡ Some target → Some framed.frame ≡ Some target.frame → IsPast pieces target
+  past-now x target there is same =
+      let frame = same_Some framed.frame target.frame same in
+      let now : generation_at pieces target.frame ≡ generation_at e.pieces target.frame + 1 = subst (λ n. generation_at pieces n ≡ generation_at e.pieces n + 1) frame next-generation in
+      let word = generation-there w.machine w.shelf leaves e.pieces e.states c.stands.leaves target (x, there, is) in
+      omega (arith, now, word)
+
+  -- who has found the leaf may be told so
+  noticed-now : (session : ℕ) (a : State) → slice_get e.sessions session ≡ Some a → (g : Stage) → a.stage ≡ g → IsNoticed g e.pieces (w.again session) → IsNoticed g pieces (has_found e framed.frame session || w.again session)
+  noticed-now session a at g is noticed = by g is noticed where
+    found : (target : Target) → frame_found a.stage ≡ Some target.frame → (IsPast e.pieces target → w.again session ≡ true) → IsPast pieces target → (has_found e framed.frame session || w.again session) ≡ true
+    found target finds knows past = elim (cases_eq target.frame framed.frame) [
+      | inl same ↦ or_left (has_found e framed.frame session) (w.again session)
+          (ap (λ (o : Option State). of_some false (λ (s : State). of_some false (λ n. n == framed.frame) (frame_found s.stage)) o) at ∙ (ap (λ (o : Option ℕ). of_some false (λ n. n == framed.frame) o) finds ∙ eq-eqb target.frame framed.frame same))
+      | inr other ↦ or_right (has_found e framed.frame session) (w.again session)
+          (knows (subst (λ n. target.word + 2 < 4 * n) (generation-beside e.pieces framed.frame left target.frame other) past))
+    ]
+
+    by : (g : Stage) → a.stage ≡ g → IsNoticed g e.pieces (w.again session) → IsNoticed g pieces (has_found e framed.frame session || w.again session)
+    by (stage.Publish call target) is knows = found target (ap frame_found is) knows
+    by (stage.Validate call target) is knows = found target (ap frame_found is) knows
+    by g is knows = tt
+
+  goes-stands : Stands (record e { hub = record e.hub { dir = record e.hub.dir { leaves = made } }; pieces = pieces; states = states }) (with_again e framed.frame w)
+  goes-stands = changed-stands e w (with_again e framed.frame w).again (Some framed.frame) to framed.frame left word (record {
     stands = c.stands;
     mild = mild;
     frames = elsewhere-stays;
@@ -149,10 +192,36 @@ module _ (e : Engine) (w : World) (l : Leaf) (framed : Framed) (f : Frame) (c : 
     aside = λ session a at other is. subst (λ n. IsAside n a) (same_Some framed.frame other is) (c.aside session a at);
     dir = subst (λ (ls : List Leaf). IsDirectory (record e.hub.dir { leaves = ls })) (sym made-is) c.dir;
     leaves = each-stands;
+    words = emptied-stand e.pieces e.states l mine.laid framed.frame mine-frame c.last c.stands.frames;
+    older = emptied-older e.pieces e.states l mine.laid framed.frame mine-frame;
+    past = past-now;
+    noticed = λ session a at. noticed-now session a at a.stage refl (c.stands.noticed session a at);
   })
 
 pub leaves-go-out : LeavesGoOut
-leaves-go-out e w l framed f st there placed filled chains rows aside is = subst (λ (ls : List Leaf). Stands (record e { hub = record e.hub { dir = record e.hub.dir { leaves = ls } }; pieces = pieces e w l framed f c; states = states e w l framed f c }) w)
+leaves-go-out e w l framed f st there placed filled chains rows aside last is = subst (λ (ls : List Leaf). Stands (record e { hub = record e.hub { dir = record e.hub.dir { leaves = ls } }; pieces = pieces e w l framed f c; states = states e w l framed f c }) (with_again e framed.frame w))
     (made-is e w l framed f c) (goes-stands e w l framed f c) where
       c : IsGoing e w l framed f
-      c = record { stands = st; there = there; placed = placed; filled = filled; chains = chains; rows = rows; aside = aside; dir = is }
+      c = record { stands = st; there = there; placed = placed; filled = filled; chains = chains; rows = rows; aside = aside; last = last; dir = is }
+
+-- ---- no call has found it
+
+clear-aside : (frame : ℕ) (g : Stage) → frame_named g ≢ Some frame → frame_in_hand g ≢ Some frame
+clear-aside frame (stage.Look call target) clear = clear
+clear-aside frame (stage.Pass call target) clear = clear
+clear-aside frame (stage.History call target) clear = clear
+clear-aside frame (stage.ClearCursor call target) clear = clear
+clear-aside frame g clear = λ is. absurd cc
+
+not-found : (e : Engine) (frame session : ℕ) (a : State) → slice_get e.sessions session ≡ Some a → IsClearOf frame a → has_found e frame session ≡ false
+not-found e frame session a at clear = ap (λ (o : Option State). of_some false (λ (s : State). of_some false (λ n. n == frame) (frame_found s.stage)) o) at ∙ by a.stage clear where
+  by : (g : Stage) → frame_named g ≢ Some frame → of_some false (λ n. n == frame) (frame_found g) ≡ false
+  by (stage.Publish call target) clear = ne_eqb target.frame frame (λ same. clear (ap (λ (n : ℕ). Some n) same))
+  by (stage.Validate call target) clear = ne_eqb target.frame frame (λ same. clear (ap (λ (n : ℕ). Some n) same))
+  by g clear = refl
+
+pub leaves-go-out-unseen : LeavesGoOutUnseen
+leaves-go-out-unseen e w l framed f st there placed filled chains rows clear last is =
+    again-as (gone_out e l.id framed.frame) (with_again e framed.frame w) w.again
+    (leaves-go-out e w l framed f st there placed filled chains rows (λ session a at. clear-aside framed.frame a.stage (clear session a at)) last is)
+    (λ session a at noticed. subst (λ b. IsNoticed a.stage (gone_out e l.id framed.frame).pieces (b || w.again session)) (not-found e framed.frame session a at (clear session a at)) noticed)

@@ -1,5 +1,5 @@
 -- A frame more, which has no leaf.
-use Rattle.std.proofs.Common.{◌≡◌, ℕ, zero, suc, refl, ap, ◌∙◌, List, [], ◌∷◌, ◌++◌, length, inl, inr, subst, arith}
+use Rattle.std.proofs.Common.{◌≡◌, ◌≤◌, ◌+◌, ◌*◌, ℕ, zero, suc, refl, ap, sym, ◌∙◌, List, [], ◌∷◌, ◌++◌, length, inl, inr, subst, arith}
 use Rattle.std.specs.Prelude.{Option, None}
 use Rattle.kv_model.specs.Holds.{Member}
 use Rattle.kv_model.specs.Machine.{of_some}
@@ -7,11 +7,12 @@ use Rattle.leaf_chains.specs.Slots.{chain_at, slot_of}
 use Rattle.tree_dir.specs.declared.leaf.Leaf.{Leaf}
 use Rattle.call_steps.specs.declared.frame.Frame.{Frame}
 use Rattle.call_steps.specs.declared.frame.FramePiece.{FramePiece}
-use Rattle.engine_world.specs.Leaves.{LeafStands, frame_in, word_at}
+use Rattle.engine_world.specs.Leaves.{LeafStands, frame_in, generation_at, word_at}
 use Rattle.engine_world.specs.Stands.{Engine, Stands}
 use Rattle.engine_world.specs.Systems.{FramesGrow, with_frame}
 use Rattle.engine_world.specs.Worlds.{World}
 use Rattle.engine_world.proofs.Beside.{Apart, LeavesStay, OthersUpdates}
+use Rattle.engine_world.proofs.Moves.{frames-stay, noticed-stays}
 use Rattle.engine_world.proofs.NotedSlots.{kept-same}
 use Rattle.engine_world.proofs.Others.{others-stay}
 use Rattle.engine_world.proofs.SystemEvents.{past-all, same-apart}
@@ -24,6 +25,12 @@ frame-same [] zero = refl
 frame-same [] (suc frame) = refl
 frame-same (p ∷ pieces) zero = refl
 frame-same (p ∷ pieces) (suc frame) = frame-same pieces frame
+
+pub generation-same : (pieces : List FramePiece) (frame : ℕ) → generation_at (pieces ++ empty ∷ []) frame ≡ generation_at pieces frame
+generation-same [] zero = refl
+generation-same [] (suc frame) = refl
+generation-same (p ∷ pieces) zero = refl
+generation-same (p ∷ pieces) (suc frame) = generation-same pieces frame
 
 word-same : (states : List ℕ) (frame : ℕ) → word_at (states ++ 0 ∷ []) frame ≡ word_at states frame
 word-same [] zero = refl
@@ -47,6 +54,8 @@ module _ (e : Engine) (w : World) (st : Stands e w) where
       there = frame-same e.pieces x.laid.framed.frame ∙ x.laid.there;
       table = x.laid.table;
       id = x.laid.id;
+      generation = generation-same e.pieces x.laid.framed.frame ∙ x.laid.generation;
+      below = x.laid.below;
       word = word-same e.states x.laid.framed.frame ∙ x.laid.word;
     };
     keys = x.keys;
@@ -61,6 +70,8 @@ module _ (e : Engine) (w : World) (st : Stands e w) where
     tables = λ table key f home other. ap (λ (o : Option Frame). of_some 0 (λ (x : Frame). x.table) o) (frame-same e.pieces f);
     slots = λ table key f other i home slot. ap (λ (o : Option Frame). slot_of other (of_some [] (λ (x : Frame). x.leaf.chains) o)) (frame-same e.pieces f) ∙ slot;
     bare = λ f none. absurd cc;
+    older = λ f. let same = generation-same e.pieces f in omega (arith, same);
+    past = λ l target there is none. absurd cc;
   }
 
   updates-stay : OthersUpdates w.machine (length e.sessions) e.pieces pieces
@@ -87,11 +98,14 @@ module _ (e : Engine) (w : World) (st : Stands e w) where
     begun = st.begun;
     owned = st.owned;
     leaves = λ l there. by l (st.leaves l there);
+    frames = λ f. let as_it_was = frames-stay e.pieces pieces e.states (generation-same e.pieces) st.frames f in
+        record { below = as_it_was.below; word = subst (λ n. 4 * generation_at pieces f ≤ n + 2) (sym (word-same e.states f)) as_it_was.word };
     count = st.count;
     doings = st.doings;
     doing = st.doing;
     sessions = λ r b at. others-stay (length e.sessions) w.machine w.machine e.hub e.hub e.pieces pieces r b apart (past-all e.sessions r b at) st.valid (st.sessions r b at);
     systems = st.systems;
+    noticed = λ r b at. noticed-stays b.stage e.pieces pieces (w.again r) (generation-same e.pieces) (st.noticed r b at);
   }
 
 pub frames-grow : FramesGrow

@@ -17,11 +17,12 @@ use Rattle.call_steps.specs.State.{State, clears, moves, answered}
 use Rattle.engine_world.specs.Worlds.{World, Decided}
 use Rattle.engine_world.specs.Doings.{doing_in, event_with, landing}
 use Rattle.engine_world.specs.Steps.{GoesOn, TellsFault, Made}
-use Rattle.engine_world.specs.Stages.{IsOnLeaf, HasLooked, StageStands}
+use Rattle.engine_world.specs.Stages.{IsOnLeaf, HasLooked}
 use Rattle.engine_world.specs.Stands.{Engine, Stands, SessionStands}
 use Rattle.engine_world.specs.Laws.{HistoriesGo, IsHistory}
 use Rattle.engine_world.proofs.Moves.{alone-leads}
 use Rattle.engine_world.proofs.HubMoves.{Goes, stage-stands, goes-from}
+use Rattle.engine_world.proofs.InPlace.{StageInPlace}
 
 -- a fault moves no cursor
 no-landing : (session : ℕ) (target : Target) (key : List ℕ) (fault : Fault) (o : Option ℕ) → of_some Nothing (λ (cursor : ℕ). landing session cursor target key (answers.Refused (told.Panic fault))) o ≡ Nothing
@@ -39,12 +40,12 @@ module _ (e : Engine) (w : World) (session : ℕ) (a : State) (call : KeyCall) (
   looked = (on.0.0, on.0.1, inl on.0.2.0)
 
   -- the session goes on to this stage with this answer
-  answered-goes : (g : Stage) (answer : Answer (List ℕ)) → StageStands g w.machine e.hub.dir.leaves e.pieces session (record a { stage = g; answer = answer })
-      → GoesOn (Decided (answers.Refused told.NotFound) (event_with session call target a.key (answers.Refused told.NotFound)) 3) w.machine session
+  answered-goes : (g : Stage) (answer : Answer (List ℕ)) → StageInPlace g w.machine e.hub.dir.leaves e.pieces session (record a { stage = g; answer = answer })
+      → GoesOn (w.again session) (Decided (answers.Refused told.NotFound) (event_with session call target a.key (answers.Refused told.NotFound)) 3) w.machine session
       (record { told = reply.More; machine = w.machine; doing = doing_in e.hub.dir.leaves session (record a { stage = g; answer = answer }) })
       → Goes e w session (reply.More, (e.hub, record a { stage = g; answer = answer }))
   answered-goes g answer stands goes = alone-leads e w session a (record a { stage = g; answer = answer }) e.hazards reply.More st at
-      (goes-from e.hub.dir.leaves session a (stage.History call target) w.machine (record { told = reply.More; machine = w.machine; doing = doing_in e.hub.dir.leaves session (record a { stage = g; answer = answer }) }) is goes)
+      (goes-from (w.again session) e.hub.dir.leaves session a (stage.History call target) w.machine (record { told = reply.More; machine = w.machine; doing = doing_in e.hub.dir.leaves session (record a { stage = g; answer = answer }) }) is goes)
       (record {
         phase = mine.phase;
         seated = record { opened = mine.seated.opened; phase = mine.seated.phase };
@@ -59,7 +60,7 @@ module _ (e : Engine) (w : World) (session : ℕ) (a : State) (call : KeyCall) (
   finds-none (Some cursor) = answered-goes (stage.ClearCursor call target) (answers.Refused told.NotFound) on (inl (2, omega arith, refl))
 
   -- the fault is told
-  told-goes : (fault : Fault) → w.machine.fault ≡ Some fault → GoesOn (Decided (answers.Refused told.NotFound) (event_with session call target a.key (answers.Refused told.NotFound)) 3) w.machine session
+  told-goes : (fault : Fault) → w.machine.fault ≡ Some fault → GoesOn (w.again session) (Decided (answers.Refused told.NotFound) (event_with session call target a.key (answers.Refused told.NotFound)) 3) w.machine session
       (record { told = reply.More; machine = w.machine; doing = Decided (answers.Refused (told.Panic fault)) (event_with session call target a.key (answers.Refused (told.Panic fault))) 1 })
   told-goes fault down = inr (inr (subst (λ (f : Option Fault). TellsFault f 3 w.machine (made-with (event_with session call target a.key (answers.Refused (told.Panic fault))))) (sym down)
       (1, omega arith, ap made-with (no-landing session target a.key fault (cursor_in call))))) where

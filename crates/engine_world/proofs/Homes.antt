@@ -13,7 +13,7 @@ use Rattle.tree_dir.proofs.Parting.{ids-name, under-has}
 use Rattle.call_steps.specs.declared.frame.Frame.{Frame}
 use Rattle.call_steps.specs.declared.frame.FramePiece.{FramePiece}
 use Rattle.call_steps.specs.declared.stage.Target.{Target}
-use Rattle.call_steps.specs.Tables.{first_word, target_in}
+use Rattle.call_steps.specs.Tables.{filled, target_in}
 use Rattle.row_page.specs.Rows.{Row}
 use Rattle.engine_world.specs.Leaves.{IsLaid, LeafInFrame, LeafStands, frame_in, frame_of}
 
@@ -115,7 +115,7 @@ frame-of-leaf leaves pieces states l key x under = frame-from leaves l.table key
 -- ---- the leaf of a target
 
 abbrev pub target_at : Leaf → Framed → Target
-target_at l f = record { table = l.table; leaf = l.id; frame = f.frame; word = first_word }
+target_at l f = record { table = l.table; leaf = l.id; frame = f.frame; word = filled f.generation }
 
 -- what a target says of its leaf
 pub record IsTarget (l : Leaf) (target : Target) : Type 0 where

@@ -44,6 +44,7 @@ use Rattle.row_page.specs.Rows.{Row}
 use Rattle.engine_world.specs.Leaves.{LeafStands}
 use Rattle.engine_world.proofs.Homes.{LeavesStand}
 use Rattle.engine_world.proofs.Moves.{leads, alone-leads}
+use Rattle.engine_world.proofs.InPlace.{SessionInPlace}
 
 -- what the law of an event on the hub says, of what it makes
 abbrev pub Goes : Engine → World → ℕ → Made → Type 0
@@ -111,7 +112,7 @@ pub refused-settled : (d : Outcome × Event) (r : Refusal) (m : Machine) (sessio
 refused-settled d r m session left is =
     subst (λ (d : Outcome × Event). SettledBy d.0 d.1 m session left (record { told = reply.Answer (answers.Refused r); machine = m; doing = Resting })) (sym is) (answers.Refused r, refl, refl)
 
-pub rest-stands : (m : Machine) (hub : Hub) (pieces : List FramePiece) (session : ℕ) (a : State) → SessionStands m hub pieces session a → EndsOnlyDown m session → SessionStands m hub pieces session (at_stage stage.Rest a)
+pub rest-stands : (m : Machine) (hub : Hub) (pieces : List FramePiece) (session : ℕ) (a : State) → SessionStands m hub pieces session a → EndsOnlyDown m session → SessionInPlace m hub pieces session (at_stage stage.Rest a)
 rest-stands m hub pieces session a mine ends = record {
   phase = mine.phase;
   seated = record { opened = mine.seated.opened; phase = mine.seated.phase };
@@ -126,15 +127,15 @@ doing-at leaves session a g is = ap (λ (g : Stage). doing_at g leaves session a
 pub stage-stands : (e : Engine) (w : World) (session : ℕ) (a : State) (g : Stage) → Stands e w → slice_get e.sessions session ≡ Some a → a.stage ≡ g → StageStands g w.machine e.hub.dir.leaves e.pieces session a
 stage-stands e w session a g st at is = subst (λ (g : Stage). StageStands g w.machine e.hub.dir.leaves e.pieces session a) is (st.sessions session a at).stage
 
-pub goes-from : (leaves : List Leaf) (session : ℕ) (a : State) (g : Stage) (m : Machine) (left : Left) → a.stage ≡ g → GoesOn (doing_at g leaves session a) m session left → GoesOn (doing_in leaves session a) m session left
-goes-from leaves session a g m left is goes = subst (λ (d : Doing). GoesOn d m session left) (sym (doing-at leaves session a g is)) goes
+pub goes-from : (again : Bool) (leaves : List Leaf) (session : ℕ) (a : State) (g : Stage) (m : Machine) (left : Left) → a.stage ≡ g → GoesOn again (doing_at g leaves session a) m session left → GoesOn again (doing_in leaves session a) m session left
+goes-from again leaves session a g m left is goes = subst (λ (d : Doing). GoesOn again d m session left) (sym (doing-at leaves session a g is)) goes
 
 -- the machine stays, and the session rests
 pub refused-goes : (e : Engine) (w : World) (session : ℕ) (a : State) (g : Stage) (r : Refusal) → Stands e w → slice_get e.sessions session ≡ Some a → a.stage ≡ g → EndsOnlyDown w.machine session
-    → GoesOn (doing_at g e.hub.dir.leaves session a) w.machine session (record { told = reply.Answer (answers.Refused r); machine = w.machine; doing = Resting })
+    → GoesOn (w.again session) (doing_at g e.hub.dir.leaves session a) w.machine session (record { told = reply.Answer (answers.Refused r); machine = w.machine; doing = Resting })
     → Goes e w session (beside e.hub (refuses r a))
 refused-goes e w session a g r st at is ends goes = alone-leads e w session a (at_stage stage.Rest a) e.hazards (reply.Answer (answers.Refused r)) st at
-    (goes-from e.hub.dir.leaves session a g w.machine (record { told = reply.Answer (answers.Refused r); machine = w.machine; doing = Resting }) is goes)
+    (goes-from (w.again session) e.hub.dir.leaves session a g w.machine (record { told = reply.Answer (answers.Refused r); machine = w.machine; doing = Resting }) is goes)
     (rest-stands w.machine e.hub e.pieces session a (st.sessions session a at) ends)
 
 -- ---- leaves
@@ -199,8 +200,8 @@ seat-beside session m next hub now u pieces machine s = record {
 pub seat-leads : (e : Engine) (w : World) (session : ℕ) (old a : State) (now : Table) (u : SessionData) (event : Event) (told : Reply) → Stands e w → slice_get e.sessions session ≡ Some old
     → Allowed w.machine event → IsEventOf session event → SetsSeat e.hub.txns now session u → TableStands now (after w.machine event) → tables (after w.machine event).history ≡ tables w.machine.history
     → LeavesStand (after w.machine event) w.shelf e.hub.dir.leaves e.pieces e.states
-    → GoesOn (doing_in e.hub.dir.leaves session old) w.machine session (record { told = told; machine = after w.machine event; doing = doing_in e.hub.dir.leaves session a })
-    → SessionStands (after w.machine event) (record e.hub { txns = now }) e.pieces session a
+    → GoesOn (w.again session) (doing_in e.hub.dir.leaves session old) w.machine session (record { told = told; machine = after w.machine event; doing = doing_in e.hub.dir.leaves session a })
+    → SessionInPlace (after w.machine event) (record e.hub { txns = now }) e.pieces session a
     → Goes e w session (told, (record e.hub { txns = now }, a))
 seat-leads e w session old a now u event told st at may of seat stands known leaves goes mine =
     leads e w session old a (record e.hub { txns = now }) e.pieces e.hazards (after w.machine event) told st at goes (record {

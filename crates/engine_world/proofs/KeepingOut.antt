@@ -19,18 +19,19 @@ use Rattle.engine_world.specs.Doings.{doing_in, event_with, landing}
 use Rattle.engine_world.specs.Laws.{IsWaiting, KeepsOutGo, with_session}
 use Rattle.engine_world.specs.Stages.{Awaits, HasLooked}
 use Rattle.engine_world.specs.Whole.{nothing_around}
-use Rattle.engine_world.specs.Stands.{Engine, SessionStands, Stands}
+use Rattle.engine_world.specs.Stands.{Engine, Stands}
 use Rattle.engine_world.specs.Steps.{IsKeptOut, Made, MayKeepOut}
 use Rattle.engine_world.proofs.HubMoves.{doing-at, stage-stands}
 use Rattle.engine_world.proofs.Looking.{clears-keep, keeps, stands-at}
 use Rattle.engine_world.proofs.Moves.{alone, moves, world_with}
+use Rattle.engine_world.proofs.InPlace.{SessionInPlace}
 
 -- a refusal takes a cursor nowhere, unless it says that no row was found
 lands-nowhere : (session cursor : ℕ) (target : Target) (key : List ℕ) (r : Refusal) → r ≢ told.NotFound → landing session cursor target key (answers.Refused r) ≡ Nothing
 lands-nowhere session cursor target key told.NotFound other = absurd (other refl)
 lands-nowhere session cursor target key _ other = refl
 
-no-event : (session : ℕ) (call : KeyCall) (target : Target) (key : List ℕ) (r : Refusal) → r ≢ told.NotFound → event_with session call target key (answers.Refused r) ≡ Nothing
+pub no-event : (session : ℕ) (call : KeyCall) (target : Target) (key : List ℕ) (r : Refusal) → r ≢ told.NotFound → event_with session call target key (answers.Refused r) ≡ Nothing
 no-event session call target key r other = by (cursor_in call) where
   by : (o : Option ℕ) → of_some Nothing (λ cursor. landing session cursor target key (answers.Refused r)) o ≡ Nothing
   by None = refl
@@ -51,7 +52,7 @@ module _ (e : Engine) (w : World) (session : ℕ) (a : State) (r : Refusal) (st 
     looked : HasLooked w.machine session call
     looked = (waits.0.0, waits.0.1, inl waits.0.2.0)
 
-    mine : SessionStands w.machine e.hub e.pieces session b
+    mine : SessionInPlace w.machine e.hub e.pieces session b
     mine = stands-at w.machine e.hub e.pieces session b
         (clears-keep w.machine e.hub e.pieces session call (unframed wanted) (answers.Refused r) a (keeps w.machine e.hub e.pieces session a (st.sessions session a at))) looked
 

@@ -1,5 +1,5 @@
 -- The other leaves, where one gives way in an engine at rest: they stand as before.
-use Rattle.std.proofs.Common.{◌≡◌, ◌≢◌, ◌<◌, ℕ, refl, ap, sym, ◌∙◌, List, [], inl, inr, subst, arith}
+use Rattle.std.proofs.Common.{◌≡◌, ◌≢◌, ◌<◌, ◌+◌, ◌^◌, ℕ, refl, ap, sym, ◌∙◌, List, [], inl, inr, subst, arith}
 use Rattle.std.specs.Prelude.{Option, Some, None, option_and_then, slice_set}
 use Rattle.std.specs.List.{Contains}
 use Rattle.std.proofs.lemmas.Bool.{cases_eq}
@@ -15,10 +15,12 @@ use Rattle.tree_dir.specs.Leaves.{Directory, IsDirectory, leaf_under}
 use Rattle.tree_dir.proofs.Parting.{under-has}
 use Rattle.update_chain.specs.EventLaws.{StandsFor}
 use Rattle.call_steps.specs.declared.frame.FramePiece.{FramePiece}
+use Rattle.call_steps.specs.Tables.{empty}
 use Rattle.engine_world.specs.GivingWay.{IsIdle, IsShelved}
-use Rattle.engine_world.specs.Leaves.{IsLaid, LeafInFrame, LeafStands}
+use Rattle.engine_world.specs.Leaves.{IsLaid, LeafInFrame, LeafStands, emptied, generation_at}
 use Rattle.engine_world.specs.Stands.{Engine, Stands}
 use Rattle.engine_world.specs.Worlds.{World}
+use Rattle.engine_world.proofs.FrameWords.{generation-beside}
 use Rattle.engine_world.proofs.Homes.{in-its-frame, one-leaf, same-id}
 use Rattle.engine_world.proofs.Moves.{get-set-other}
 
@@ -28,6 +30,7 @@ pub record IsGiving (e : Engine) (w : World) (l : Leaf) (framed : Framed) (dir :
   pub free : w.machine.checkpoint ≡ None
   pub there : Contains e.hub.dir.leaves l
   pub placed : l.frame ≡ Some framed
+  pub last : generation_at e.pieces framed.frame + 1 < 2 ^ 62
   pub some : (n : Leaf) × Contains made n
   pub gave : StandFor e.hub.dir dir l made
   pub directory : IsDirectory dir
@@ -38,10 +41,10 @@ module _ (e : Engine) (w : World) (l : Leaf) (framed : Framed) (dir : Directory)
   leaves = e.hub.dir.leaves
 
   abbrev pub pieces : List FramePiece
-  pieces = slice_set e.pieces framed.frame (record { generation = 0; frame = None })
+  pieces = slice_set e.pieces framed.frame (emptied e.pieces framed.frame)
 
   abbrev pub states : List ℕ
-  states = slice_set e.states framed.frame 0
+  states = slice_set e.states framed.frame (empty (generation_at e.pieces framed.frame + 1))
 
   abbrev pub StandNow : Leaf → Type 0
   StandNow x = LeafStands w.machine shelf dir.leaves pieces states x
@@ -52,7 +55,7 @@ module _ (e : Engine) (w : World) (l : Leaf) (framed : Framed) (dir : Directory)
   below : (x : Leaf) → Contains leaves x → x.id < e.hub.dir.next
   below x there = All-contains (λ (y : Leaf). y.id < e.hub.dir.next) leaves x g.stands.dir.below there
 
-  mine : LeafInFrame w.machine w.shelf leaves e.pieces e.states l
+  pub mine : LeafInFrame w.machine w.shelf leaves e.pieces e.states l
   mine = in-its-frame w.machine w.shelf leaves e.pieces e.states l framed g.placed (g.stands.leaves l g.there)
 
   -- none of them is in its frame
@@ -64,10 +67,12 @@ module _ (e : Engine) (w : World) (l : Leaf) (framed : Framed) (dir : Directory)
     framed = laid.framed;
     placed = laid.placed;
     frame = laid.frame;
-    there = ap (option_and_then (λ (p : FramePiece). p.frame)) (get-set-other e.pieces framed.frame laid.framed.frame (record { generation = 0; frame = None }) apart) ∙ laid.there;
+    there = ap (option_and_then (λ (p : FramePiece). p.frame)) (get-set-other e.pieces framed.frame laid.framed.frame (emptied e.pieces framed.frame) apart) ∙ laid.there;
     table = laid.table;
     id = laid.id;
-    word = get_or-set_other e.states framed.frame laid.framed.frame 0 0 apart ∙ laid.word;
+    generation = generation-beside e.pieces framed.frame (emptied e.pieces framed.frame) laid.framed.frame apart ∙ laid.generation;
+    below = laid.below;
+    word = get_or-set_other e.states framed.frame laid.framed.frame (empty (generation_at e.pieces framed.frame + 1)) 0 apart ∙ laid.word;
   }
 
   under-then : (x : Leaf) → Contains leaves x → (key : List ℕ) → leaf_under x.table key dir.leaves ≡ Some x → leaf_under x.table key leaves ≡ Some x

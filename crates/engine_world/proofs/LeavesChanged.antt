@@ -1,5 +1,5 @@
 -- Leaves that are changed one by one, and keep what they are found by, while one frame comes to have another leaf, or none.
-use Rattle.std.proofs.Common.{◌≡◌, ◌≢◌, ℕ, suc, refl, ap, sym, ◌∙◌, Bool, true, false, List, [], ◌∷◌, length, map, inl, inr, subst, arith}
+use Rattle.std.proofs.Common.{◌≡◌, ◌≢◌, ◌≤◌, ℕ, suc, refl, ap, sym, ◌∙◌, Bool, true, false, List, [], ◌∷◌, length, map, inl, inr, subst, arith}
 use Rattle.std.specs.Prelude.{Option, Some, None, not, ◌==◌, ◌&&◌, if◌then◌else◌, option_and_then, option_map, slice_get, slice_set}
 use Rattle.std.specs.List.{Contains}
 use Rattle.std.specs.Option.{option_or}
@@ -19,13 +19,17 @@ use Rattle.tree_dir.proofs.Members.{head-in, later, split}
 use Rattle.tree_dir.proofs.Parting.{under-has}
 use Rattle.call_steps.specs.declared.frame.Frame.{Frame}
 use Rattle.call_steps.specs.declared.frame.FramePiece.{FramePiece}
+use Rattle.call_steps.specs.declared.stage.Target.{Target}
 use Rattle.call_steps.specs.State.{State}
+use Rattle.call_steps.specs.Tables.{target_in}
 use Rattle.engine_world.specs.GoingOut.{IsAside}
-use Rattle.engine_world.specs.Leaves.{IsLaid, LeafStands, frame_in, frame_of, slots_in}
+use Rattle.engine_world.specs.Leaves.{FramesStand, IsLaid, LeafStands, frame_in, frame_of, generation_at, slots_in}
+use Rattle.engine_world.specs.Stages.{IsNoticed, IsPast}
 use Rattle.engine_world.specs.Stands.{Engine, Stands}
 use Rattle.engine_world.specs.Walks.{all_ahead, all_behind, in_table, leaves_on}
 use Rattle.engine_world.specs.Worlds.{World}
 use Rattle.engine_world.proofs.Beside.{Apart, LeavesKept, LeavesStay, OthersUpdates}
+use Rattle.engine_world.proofs.FrameWords.{generation-beside}
 use Rattle.engine_world.proofs.Homes.{LeavesStand, same-id}
 use Rattle.engine_world.proofs.Moves.{get-set-other}
 use Rattle.engine_world.proofs.Others.{doing-kept, others-aside}
@@ -185,6 +189,8 @@ stands-beside m shelf d f pieces states frame p word x is mild there same elsewh
       there = frame-beside pieces frame p old.laid.framed.frame apart ∙ old.laid.there;
       table = old.laid.table;
       id = old.laid.id;
+      generation = generation-beside pieces frame p old.laid.framed.frame apart ∙ old.laid.generation;
+      below = old.laid.below;
       word = get_or-set_other states frame old.laid.framed.frame word 0 apart ∙ old.laid.word;
     };
     keys = λ key under. old.keys key (under-now key under);
@@ -197,10 +203,10 @@ stands-beside m shelf d f pieces states frame p word x is mild there same elsewh
     bare = λ key outside. old.bare key (λ under. outside (under-then key under));
   })
 
--- ---- nobody sees it
+-- ---- nobody sees it, but who has found a leaf that goes out
 
 -- The leaves change mildly, and a frame without chains comes to have this piece, which has none either. freed: the frame that its leaf left.
-pub record IsChange (e : Engine) (w : World) (freed : Option ℕ) (f : Leaf → Leaf) (frame : ℕ) (p : FramePiece) (word : ℕ) : Type 0 where
+pub record IsChange (e : Engine) (w : World) (again : ℕ → Bool) (freed : Option ℕ) (f : Leaf → Leaf) (frame : ℕ) (p : FramePiece) (word : ℕ) : Type 0 where
   pub stands : Stands e w
   pub mild : IsMild f
   -- the others stay in their frames
@@ -212,11 +218,15 @@ pub record IsChange (e : Engine) (w : World) (freed : Option ℕ) (f : Leaf → 
   pub aside : (session : ℕ) (a : State) → slice_get e.sessions session ≡ Some a → (other : ℕ) → freed ≡ Some other → IsAside other a
   pub dir : IsDirectory (record e.hub.dir { leaves = map f e.hub.dir.leaves })
   pub leaves : LeavesStand w.machine w.shelf (map f e.hub.dir.leaves) (slice_set e.pieces frame p) (slice_set e.states frame word)
+  pub words : FramesStand (slice_set e.pieces frame p) (slice_set e.states frame word)
+  pub older : (other : ℕ) → generation_at e.pieces other ≤ generation_at (slice_set e.pieces frame p) other
+  pub past : (l : Leaf) (target : Target) → Contains e.hub.dir.leaves l → target_in l ≡ Some target → freed ≡ Some target.frame → IsPast (slice_set e.pieces frame p) target
+  pub noticed : (session : ℕ) (a : State) → slice_get e.sessions session ≡ Some a → IsNoticed a.stage (slice_set e.pieces frame p) (again session)
 
 abbrev pub changed_by : Engine → (Leaf → Leaf) → ℕ → FramePiece → ℕ → Engine
 changed_by e f frame p word = record e { hub = record e.hub { dir = record e.hub.dir { leaves = map f e.hub.dir.leaves } }; pieces = slice_set e.pieces frame p; states = slice_set e.states frame word }
 
-module _ (e : Engine) (w : World) (freed : Option ℕ) (f : Leaf → Leaf) (frame : ℕ) (p : FramePiece) (word : ℕ) (c : IsChange e w freed f frame p word) where
+module _ (e : Engine) (w : World) (again : ℕ → Bool) (freed : Option ℕ) (f : Leaf → Leaf) (frame : ℕ) (p : FramePiece) (word : ℕ) (c : IsChange e w again freed f frame p word) where
   abbrev leaves : List Leaf
   leaves = e.hub.dir.leaves
 
@@ -252,6 +262,8 @@ module _ (e : Engine) (w : World) (freed : Option ℕ) (f : Leaf → Leaf) (fram
     tables = λ table key other home stays. ap (λ (o : Option Frame). of_some 0 (λ (x : Frame). x.table) o) (frame-beside e.pieces frame p other (c.homes table key other home stays));
     slots = λ table key other k i home slot. slots-stay other k i slot;
     bare = λ other is. ap (slots_in e.pieces) (c.only other is) ∙ c.chains;
+    older = c.older;
+    past = c.past;
   }
 
   updates-stay : OthersUpdates w.machine (length e.sessions) e.pieces pieces
@@ -269,7 +281,7 @@ module _ (e : Engine) (w : World) (freed : Option ℕ) (f : Leaf → Leaf) (fram
     updates = updates-stay;
   }
 
-  pub changed-stands : Stands (changed_by e f frame p word) w
+  pub changed-stands : Stands (changed_by e f frame p word) (record w { again = again })
   changed-stands = record {
     valid = c.stands.valid;
     fault = c.stands.fault;
@@ -281,9 +293,11 @@ module _ (e : Engine) (w : World) (freed : Option ℕ) (f : Leaf → Leaf) (fram
     begun = λ place t at. let x = c.stands.begun place t at in (f x.0, contains-map f leaves x.0 x.1, c.mild.table x.0 ∙ x.2);
     owned = λ y there. let s = contains-source f leaves y there in let o = c.stands.owned s.0 s.1 in (o.0, o.1, o.2, ap (λ (x : Leaf). x.table) (sym s.2) ∙ (c.mild.table s.0 ∙ o.3));
     leaves = c.leaves;
+    frames = c.words;
     count = c.stands.count;
     doings = c.stands.doings;
     doing = λ r b at. c.stands.doing r b at ∙ sym (doing-kept freed w.machine leaves made e.pieces r b kept (c.stands.sessions r b at).stage);
     sessions = λ r b at. others-aside freed (length e.sessions) w.machine w.machine e.hub (record e.hub { dir = now }) e.pieces pieces r b apart (past-all e.sessions r b at) c.stands.valid (c.aside r b at) (c.stands.sessions r b at);
     systems = c.stands.systems;
+    noticed = c.noticed;
   }

@@ -24,7 +24,6 @@ use Rattle.call_steps.specs.State.{State, finished, leaves}
 use Rattle.update_chain.specs.EventLaws.{ChainsGoOn}
 use Rattle.engine_world.specs.Doings.{doing_at, doing_in, decide_left, done_left}
 use Rattle.engine_world.specs.Leaves.{AreNoted}
-use Rattle.engine_world.specs.Stages.{StageStands}
 use Rattle.engine_world.specs.Stands.{Engine, Stands, SessionStands}
 use Rattle.engine_world.specs.Steps.{EndsIn}
 use Rattle.engine_world.specs.Worlds.{World, Ending}
@@ -36,6 +35,7 @@ use Rattle.engine_world.proofs.Ends.{seat-idle}
 use Rattle.engine_world.proofs.Finishing.{cursors-count, without-gone, finished-stands, finished-goes}
 use Rattle.engine_world.proofs.Fronts.{did-not}
 use Rattle.engine_world.proofs.Resolving.{edited-none}
+use Rattle.engine_world.proofs.InPlace.{StageInPlace}
 
 -- a running or failed transaction of the session leaves
 pub record MayLeave (m : Machine) (session : ℕ) (a : State) (t : Transaction) : Type 0 where
@@ -138,7 +138,7 @@ with-undos law e w session n a t outcome answer st at v some tells settles = lea
       made = ap (λ (m : Machine). tables m.history) v.leaves;
       leaves = leaves-go-on law w.machine (StartLeaving session) w.shelf e.hub.dir.leaves e.pieces e.states st.valid tt (λ table key. tt) st.leaves;
       mine = phased-stands w.machine next e.hub e.hub.txns e.pieces session a (leaves answer a) t Leaving mine v.there now (record { opened = mine.seated.opened; phase = mine.seated.phase ∙ v.known }) refl refl refl
-          (subst (λ k. StageStands (undoes k) next e.hub.dir.leaves e.pieces session (leaves answer a)) (sym some) (
+          (subst (λ k. StageInPlace (undoes k) next e.hub.dir.leaves e.pieces session (leaves answer a)) (sym some) (
             ((omega arith), (omega (arith, some))),
             (in_phase Leaving t, now.there, edited-none edit.Undo (name_of next (in_phase Leaving t)) e.pieces a.written (suc n) (omega (arith, some))),
           ));

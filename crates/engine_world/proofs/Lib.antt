@@ -24,7 +24,9 @@ pub mod Found
 pub mod Filling
 pub mod GoingOut
 pub mod Growing
+pub mod InPlace
 pub mod KeepingOut
+pub mod FrameWords
 pub mod Fronts
 pub mod GivingWay
 pub mod Histories

@@ -46,6 +46,7 @@ use Rattle.engine_world.specs.Stands.{Engine, Stands, SessionStands, position_in
 use Rattle.engine_world.proofs.Homes.{LiesIn, in-its-frame, target-frame, target-is}
 use Rattle.engine_world.proofs.Moves.{alone-leads}
 use Rattle.engine_world.proofs.OnePiece.{set-same, frame-there}
+use Rattle.engine_world.proofs.InPlace.{SessionInPlace, StageInPlace}
 
 -- ---- what a session keeps over its call's stages
 
@@ -68,38 +69,38 @@ module _ (m : Machine) (hub : Hub) (pieces : List FramePiece) (session : ℕ) wh
   pub keeps : (a : State) → SessionStands m hub pieces session a → Keeps m hub pieces session a
   keeps a s = record { phase = s.phase; seated = s.seated; cursors = s.cursors; noted = s.noted }
 
-  pub stands-at : (a : State) → Keeps m hub pieces session a → StageStands a.stage m hub.dir.leaves pieces session a → SessionStands m hub pieces session a
+  pub stands-at : (a : State) → Keeps m hub pieces session a → StageInPlace a.stage m hub.dir.leaves pieces session a → SessionInPlace m hub pieces session a
   stands-at a k s = record { phase = k.phase; seated = k.seated; cursors = k.cursors; noted = k.noted; stage = s }
 
   pub clears-keep : (call : KeyCall) (target : Target) (answer : Answer (List ℕ)) (a : State) → Keeps m hub pieces session a → Keeps m hub pieces session (clears call target answer a)
   clears-keep call target answer a k = record { phase = k.phase; seated = record { opened = k.seated.opened; phase = k.seated.phase }; cursors = k.cursors; noted = k.noted }
 
 module _ (m : Machine) (hub : Hub) (pieces : List FramePiece) (session : ℕ) (call : KeyCall) (target : Target) (a : State) (k : Keeps m hub pieces session a) (on : IsOnLeaf m hub.dir.leaves session call target) where
-  pub clears-stand : (answer : Answer (List ℕ)) → SessionStands m hub pieces session (clears call target answer a)
+  pub clears-stand : (answer : Answer (List ℕ)) → SessionInPlace m hub pieces session (clears call target answer a)
   clears-stand answer = stands-at m hub pieces session (clears call target answer a) (clears-keep m hub pieces session call target answer a k) (looked m hub.dir.leaves session call target on)
 
-  pub older-stands : SessionStands m hub pieces session (at_stage (stage.History call target) a)
+  pub older-stands : SessionInPlace m hub pieces session (at_stage (stage.History call target) a)
   older-stands = stands-at m hub pieces session (at_stage (stage.History call target) a)
       (record { phase = k.phase; seated = record { opened = k.seated.opened; phase = k.seated.phase }; cursors = k.cursors; noted = k.noted }) on
 
-  misses-stand : (answer : Answer (List ℕ)) → SessionStands m hub pieces session (misses call target answer a)
+  misses-stand : (answer : Answer (List ℕ)) → SessionInPlace m hub pieces session (misses call target answer a)
   misses-stand answer = stands-at m hub pieces session (misses call target answer a)
       (record { phase = k.phase; seated = record { opened = k.seated.opened; phase = k.seated.phase }; cursors = k.cursors; noted = k.noted }) on
 
-  lands-stand : (cursor : ℕ) (answer : Answer (List ℕ)) → SessionStands m hub pieces session (lands cursor call target answer a)
+  lands-stand : (cursor : ℕ) (answer : Answer (List ℕ)) → SessionInPlace m hub pieces session (lands cursor call target answer a)
   lands-stand cursor answer = stands-at m hub pieces session (lands cursor call target answer a)
       (record { phase = k.phase; seated = record { opened = k.seated.opened; phase = k.seated.phase }; cursors = placed-same a.word target a.cursors cursor ∙ k.cursors; noted = k.noted })
       (looked m hub.dir.leaves session call target on)
 
-  moves-stand : (cursor : ℕ) (answer : Answer (List ℕ)) → SessionStands m hub pieces session (moves cursor call target answer a)
+  moves-stand : (cursor : ℕ) (answer : Answer (List ℕ)) → SessionInPlace m hub pieces session (moves cursor call target answer a)
   moves-stand cursor (answers.Value v) = lands-stand cursor (answers.Value v)
   moves-stand cursor (answers.Row key v) = lands-stand cursor (answers.Row key v)
   moves-stand cursor (answers.Refused refusal.NotFound) = misses-stand (answers.Refused refusal.NotFound)
   moves-stand cursor answer = clears-stand answer
 
-  pub answered-stands : (answer : Answer (List ℕ)) → SessionStands m hub pieces session (answered call target answer a)
+  pub answered-stands : (answer : Answer (List ℕ)) → SessionInPlace m hub pieces session (answered call target answer a)
   answered-stands answer = by (cursor_in call) where
-    by : (o : Option ℕ) → SessionStands m hub pieces session (of_some (clears call target answer a) (λ cursor. moves cursor call target answer a) o)
+    by : (o : Option ℕ) → SessionInPlace m hub pieces session (of_some (clears call target answer a) (λ cursor. moves cursor call target answer a) o)
     by None = clears-stand answer
     by (Some cursor) = moves-stand cursor answer
 
@@ -219,8 +220,8 @@ module _ (e : Engine) (w : World) (session frame : ℕ) (a : State) (p : FramePi
   look-made a' p' x is made = subst (λ o. LookMade o call view target p a p' a') x.held (subst (λ g. FrameMadeAt g view p a p' a') is made)
 
   -- the step of a call at its look
-  pub goes-placed : (made : Made) → a.stage ≡ stage.Look call target → GoesOn (Placed (call_in call a) target.table (4 + further_left call target e.hub.dir.leaves)) w.machine session made → GoesOn (doing_in e.hub.dir.leaves session a) w.machine session made
-  goes-placed made is goes = subst (λ g. GoesOn (doing_at g e.hub.dir.leaves session a) w.machine session made) (sym is) goes
+  pub goes-placed : (made : Made) → a.stage ≡ stage.Look call target → GoesOn (w.again session) (Placed (call_in call a) target.table (4 + further_left call target e.hub.dir.leaves)) w.machine session made → GoesOn (w.again session) (doing_in e.hub.dir.leaves session a) w.machine session made
+  goes-placed made is goes = subst (λ g. GoesOn (w.again session) (doing_at g e.hub.dir.leaves session a) w.machine session made) (sym is) goes
 
   pub pieces-same : (p' : FramePiece) (leaf : HeldLeaf) (x : AtLeaf e w session frame a p view call target) → slice_get e.pieces frame ≡ Some p → p' ≡ record p { frame = Some (with_leaf leaf x.was) } → leaf ≡ x.was.leaf
       → slice_set e.pieces frame p' ≡ e.pieces
@@ -231,7 +232,7 @@ module _ (e : Engine) (w : World) (session frame : ℕ) (a : State) (p : FramePi
   -- a look that changes no leaf
   pub quiet-leads : (a' : State) (p' : FramePiece) (leaf : HeldLeaf) (x : AtLeaf e w session frame a p view call target) → Stands e w → slice_get e.sessions session ≡ Some a → slice_get e.pieces frame ≡ Some p
       → p' ≡ record p { frame = Some (with_leaf leaf x.was) } → leaf ≡ x.was.leaf
-      → GoesOn (doing_in e.hub.dir.leaves session a) w.machine session (made_in e.hub.dir.leaves w.machine session a') → SessionStands w.machine e.hub e.pieces session a'
+      → GoesOn (w.again session) (doing_in e.hub.dir.leaves session a) w.machine session (made_in e.hub.dir.leaves w.machine session a') → SessionInPlace w.machine e.hub e.pieces session a'
       → Leads (with_session (with_piece e frame p') session a') w session reply.More
   quiet-leads a' p' leaf x st at there is same goes mine = subst (λ l. Leads (with_session (record e { pieces = l }) session a') w session reply.More) (sym (pieces-same p' leaf x there is same))
       (alone-leads e w session a a' e.hazards reply.More st at goes mine)
@@ -243,7 +244,7 @@ module _ (e : Engine) (w : World) (session frame : ℕ) (a a' : State) (p p' : F
     (is : p' ≡ record p { frame = Some (with_leaf leaf x.was) }) (same : leaf ≡ x.was.leaf) where
   -- it finds this outcome
   pub looks-lead : (outcome : Outcome) (event : Event) (answer : Answer (List ℕ)) → LookAnswer (call_in call a) w.machine session x.transaction target.table outcome event → Tells outcome answer
-      → LooksOn (call_in call a) w.machine answer event (4 + further_left call target e.hub.dir.leaves) (made_in e.hub.dir.leaves w.machine session a') → SessionStands w.machine e.hub e.pieces session a' → Leads (with_session (with_piece e frame p') session a') w session reply.More
+      → LooksOn (call_in call a) w.machine answer event (4 + further_left call target e.hub.dir.leaves) (made_in e.hub.dir.leaves w.machine session a') → SessionInPlace w.machine e.hub e.pieces session a' → Leads (with_session (with_piece e frame p') session a') w session reply.More
   looks-lead outcome event answer finds tells goes mine = quiet-leads e w session frame a p view call target a' p' leaf x st at there is same
       (goes-placed e w session frame a p view call target (made_in e.hub.dir.leaves w.machine session a') look (inr (inl (record {
         transaction = x.transaction;
@@ -257,6 +258,6 @@ module _ (e : Engine) (w : World) (session frame : ℕ) (a a' : State) (p p' : F
       })))) mine
 
   -- or memory was too short
-  pub shorts-lead : GoesTo (Decided (answers.Refused refusal.NoMemory) Nothing) (4 + further_left call target e.hub.dir.leaves) w.machine (made_in e.hub.dir.leaves w.machine session a') → SessionStands w.machine e.hub e.pieces session a' → Leads (with_session (with_piece e frame p') session a') w session reply.More
+  pub shorts-lead : GoesTo (Decided (answers.Refused refusal.NoMemory) Nothing) (4 + further_left call target e.hub.dir.leaves) w.machine (made_in e.hub.dir.leaves w.machine session a') → SessionInPlace w.machine e.hub e.pieces session a' → Leads (with_session (with_piece e frame p') session a') w session reply.More
   shorts-lead goes mine = quiet-leads e w session frame a p view call target a' p' leaf x st at there is same
-      (goes-placed e w session frame a p view call target (made_in e.hub.dir.leaves w.machine session a') look (inr (inr goes))) mine
+      (goes-placed e w session frame a p view call target (made_in e.hub.dir.leaves w.machine session a') look (inr (inr (inl goes)))) mine

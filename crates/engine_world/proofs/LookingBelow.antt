@@ -58,6 +58,7 @@ use Rattle.engine_world.proofs.EditedChains.{own-of}
 use Rattle.engine_world.proofs.EditedLeaves.{got-member, leaf-framed, lies-in, some-at, start-within, start-below}
 use Rattle.engine_world.proofs.EditMoves.{the-one, known-phase, alive-only, noted-of, session-on, asked-on}
 use Rattle.engine_world.proofs.StampingLeaves.{decide-doing, decide-stage}
+use Rattle.engine_world.proofs.InPlace.{StageInPlace}
 
 -- ---- below the newest update
 
@@ -182,7 +183,7 @@ run-doing leaves stamps (suc n) keys session a running all = refl
 
 run-stage : (stamps : CommitStamps) (n keys : ℕ) (m : Machine) (leaves : List Leaf) (pieces : List FramePiece) (session : ℕ) (a : State) (t : Transaction) → n ≤ length a.written → keys ≡ length a.written → transaction_of m session ≡ Some t
     → t.phase ≡ ModelRunning → IsOrdered stamps m pieces t a n
-    → StageStands (orders stamps n (stamps_then stamps keys (stage.Decide stamps))) m leaves pieces session (at_stage (orders stamps n (stamps_then stamps keys (stage.Decide stamps))) a)
+    → StageInPlace (orders stamps n (stamps_then stamps keys (stage.Decide stamps))) m leaves pieces session (at_stage (orders stamps n (stamps_then stamps keys (stage.Decide stamps))) a)
 run-stage stamps zero keys m leaves pieces session a t within all there running done = decide-stage stamps keys m leaves pieces session a t (omega (arith, all)) there running done none where
   none : IsEdited (stamps_in ModelRunning stamps) m pieces t a keys
   none i k low at = let inside = slice_get_within a.written i k at in absurd (omega (arith, low, inside, all))
@@ -197,7 +198,7 @@ prepared-alive : (t : Transaction) (stamp : ℕ) → t.phase ≡ ModelPrepared s
 prepared-alive t stamp prepared ending = subst IsEnding prepared ending
 
 prepared-stage : (stamps : CommitStamps) (n stamp : ℕ) (m : Machine) (leaves : List Leaf) (pieces : List FramePiece) (session : ℕ) (a : State) (t : Transaction) → n ≤ length a.written → transaction_of m session ≡ Some t → t.phase ≡ ModelPrepared stamp
-    → IsOrdered stamps m pieces t a n → StageStands (orders stamps n (stage.Decide stamps)) m leaves pieces session (at_stage (orders stamps n (stage.Decide stamps)) a)
+    → IsOrdered stamps m pieces t a n → StageInPlace (orders stamps n (stage.Decide stamps)) m leaves pieces session (at_stage (orders stamps n (stage.Decide stamps)) a)
 prepared-stage stamps zero stamp m leaves pieces session a t within there prepared done = (
   alive-only m session t there (prepared-alive t stamp prepared),
   λ x at. subst (λ (z : Transaction). DecidesStand z.phase stamps m pieces z (at_stage (stage.Decide stamps) a)) (the-one m session t x there at)
@@ -214,7 +215,7 @@ state_ordered a p stamps left ph = let with = with_prev stamps (prev_in p.frame 
 run-ordered : OrdersLaw → (e : Engine) (w : World) (session : ℕ) (a : State) (p : FramePiece) (stamps : CommitStamps) (left : ℕ) (t : Transaction) → OrdersAt e w session a p stamps left t → a.phase ≡ phase.Running → t.phase ≡ ModelRunning
     → IsOrdered stamps w.machine e.pieces t a left → Leads (engine_with e session e.hub e.pieces e.hazards (state_ordered a p stamps left phase.Running)) w session reply.More
 run-ordered law e w session a p stamps left t o in-phase running now = alone-leads e w session a (state_ordered a p stamps left phase.Running) e.hazards reply.More o.st o.at
-    (subst (λ d. GoesOn d w.machine session (record { told = reply.More; machine = w.machine; doing = doing_in e.hub.dir.leaves session (state_ordered a p stamps left phase.Running) })) (sym (ap (λ x. doing_at x e.hub.dir.leaves session a) o.same))
+    (subst (λ d. GoesOn (w.again session) d w.machine session (record { told = reply.More; machine = w.machine; doing = doing_in e.hub.dir.leaves session (state_ordered a p stamps left phase.Running) })) (sym (ap (λ x. doing_at x e.hub.dir.leaves session a) o.same))
     (asked-on (commit_in stamps) (left + (length a.written + decide_left a)) (n + (length a.written + decide_left a)) w.machine session (doing_in e.hub.dir.leaves session (state_ordered a p stamps left phase.Running))
     (let low = start-below a.written left o.some.0 in omega (arith, low)) (run-doing e.hub.dir.leaves with n (length a.written) session a in-phase refl)))
     (session-on w.machine e.hub e.pieces e.pieces session a (orders with n (stamps_then with (length a.written) (stage.Decide with))) (slots-same e.pieces) (o.st.sessions session a o.at)
@@ -229,7 +230,7 @@ run-ordered law e w session a p stamps left t o in-phase running now = alone-lea
 prepared-ordered : OrdersLaw → (e : Engine) (w : World) (session : ℕ) (a : State) (p : FramePiece) (stamps : CommitStamps) (left : ℕ) (t : Transaction) (stamp : ℕ) → OrdersAt e w session a p stamps left t → t.phase ≡ ModelPrepared stamp
     → IsOrdered stamps w.machine e.pieces t a left → Leads (engine_with e session e.hub e.pieces e.hazards (state_ordered a p stamps left (phase.Prepared stamp))) w session reply.More
 prepared-ordered law e w session a p stamps left t stamp o prepared now = alone-leads e w session a (state_ordered a p stamps left (phase.Prepared stamp)) e.hazards reply.More o.st o.at
-    (subst (λ d. GoesOn d w.machine session (record { told = reply.More; machine = w.machine; doing = doing_in e.hub.dir.leaves session (state_ordered a p stamps left (phase.Prepared stamp)) })) (sym (ap (λ x. doing_at x e.hub.dir.leaves session a) o.same))
+    (subst (λ d. GoesOn (w.again session) d w.machine session (record { told = reply.More; machine = w.machine; doing = doing_in e.hub.dir.leaves session (state_ordered a p stamps left (phase.Prepared stamp)) })) (sym (ap (λ x. doing_at x e.hub.dir.leaves session a) o.same))
     (asked-on (commit_in stamps) (left + (length a.written + decide_left a)) doing.0 w.machine session (doing_in e.hub.dir.leaves session (state_ordered a p stamps left (phase.Prepared stamp)))
     (let low = start-below a.written left o.some.0 in let few = doing.1 in omega (arith, low, few)) doing.2))
     (session-on w.machine e.hub e.pieces e.pieces session a (orders with n (stage.Decide with)) (slots-same e.pieces) (o.st.sessions session a o.at)

@@ -28,13 +28,14 @@ use Rattle.engine_world.proofs.Moves.{leads}
 use Rattle.engine_world.proofs.EditedChains.{marks-edit}
 use Rattle.engine_world.proofs.EditedLeaves.{LeafEdited, piece_edited, start-within, start-below}
 use Rattle.engine_world.proofs.EditMoves.{the-one, alive-only, own-named, session-on, asked-on, at-frame, pieces_edited, edit-leaf, edit-moves}
+use Rattle.engine_world.proofs.InPlace.{StageInPlace}
 
 marks-doing : (leaves : List Leaf) (stamp n session : ℕ) (a : State) → doing_in leaves session (at_stage (marks stamp n) a) ≡ Asked (Prepare stamp) (n + 1)
 marks-doing leaves stamp zero session a = refl
 marks-doing leaves stamp (suc n) session a = refl
 
 marks-stage : (stamp n : ℕ) (m : Machine) (leaves : List Leaf) (pieces : List FramePiece) (session : ℕ) (a : State) (t : Transaction) → n ≤ length a.written → transaction_of m session ≡ Some t → t.phase ≡ Running
-    → IsEdited (edit.Mark stamp) m pieces t a n → StageStands (marks stamp n) m leaves pieces session (at_stage (marks stamp n) a)
+    → IsEdited (edit.Mark stamp) m pieces t a n → StageInPlace (marks stamp n) m leaves pieces session (at_stage (marks stamp n) a)
 marks-stage stamp zero m leaves pieces session a t within there running done = (
   alive-only m session t there (running-alive t running),
   λ x at. subst (λ (z : Transaction). MarksStand z.phase stamp m pieces z (at_stage (stage.Release stamp) a)) (the-one m session t x there at)
@@ -56,7 +57,7 @@ marked law e w session frame a a' p p' view stamp left st at same here piece see
   by-stage now = at-frame e w session frame (frame_at a.written left) p' (piece_edited (edit.Mark stamp) (name_of w.machine t) a.written left p) a' (at_stage (marks stamp n) a) frames
       (made.0 ∙ ap (λ x. piece_edited (edit.Mark stamp) x a.written left p) (own-named e.hub session view w.machine t seen st.txns there)) made.1
       (leads e w session a (at_stage (marks stamp n) a) e.hub later e.hazards w.machine reply.More st at
-      (subst (λ d. GoesOn d w.machine session (record { told = reply.More; machine = w.machine; doing = doing_in e.hub.dir.leaves session (at_stage (marks stamp n) a) })) (sym (ap (λ x. doing_at x e.hub.dir.leaves session a) same))
+      (subst (λ d. GoesOn (w.again session) d w.machine session (record { told = reply.More; machine = w.machine; doing = doing_in e.hub.dir.leaves session (at_stage (marks stamp n) a) })) (sym (ap (λ x. doing_at x e.hub.dir.leaves session a) same))
       (asked-on (Prepare stamp) (left + 1) (n + 1) w.machine session (doing_in e.hub.dir.leaves session (at_stage (marks stamp n) a)) (let low = start-below a.written left now.0.0 in omega arith) (marks-doing e.hub.dir.leaves stamp n session a)))
       (edit-moves e w session (at_stage (marks stamp n) a) t (edit.Mark stamp) later a.written n st there l
       (session-on w.machine e.hub e.pieces later session a (marks stamp n) l.slots s

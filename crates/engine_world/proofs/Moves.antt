@@ -1,5 +1,5 @@
 -- One event of one session, and the engine goes on to stand.
-use Rattle.std.proofs.Common.{◌≡◌, ◌≢◌, ◌<◌, ℕ, zero, suc, refl, ap, sym, ◌∙◌, List, [], ◌∷◌, length, inl, inr, subst, arith}
+use Rattle.std.proofs.Common.{◌≡◌, ◌≢◌, ◌<◌, ◌≤◌, ◌+◌, ◌*◌, ◌^◌, ℕ, Bool, zero, suc, refl, ap, sym, ◌∙◌, List, [], ◌∷◌, length, inl, inr, subst, arith}
 use Rattle.std.specs.Prelude.{Some, reverse, slice_get, slice_set}
 use Rattle.std.proofs.lemmas.Bool.{cases_eq}
 use Rattle.std.proofs.lemmas.List.{get_or-set_same, get_or-set_other, length-set}
@@ -14,16 +14,20 @@ use Rattle.catalog.specs.Known.{AreTables, Known}
 use Rattle.call_steps.specs.declared.frame.FramePiece.{FramePiece}
 use Rattle.call_steps.specs.declared.hub.Hub.{Hub}
 use Rattle.call_steps.specs.declared.reply.Reply.{Reply}
+use Rattle.call_steps.specs.declared.stage.Stage.{Stage}
+use Rattle.call_steps.specs.declared.stage.Stage.TheVariants as stage
 use Rattle.call_steps.specs.State.{State}
 use Rattle.engine_world.specs.Worlds.{World, Resting, doing_of}
 use Rattle.engine_world.specs.Laws.{Leads}
 use Rattle.engine_world.specs.Steps.{GoesOn}
 use Rattle.engine_world.specs.Doings.{doing_in}
-use Rattle.engine_world.specs.Leaves.{LeavesOwned, TablesBegun}
+use Rattle.engine_world.specs.Leaves.{FramesStand, LeavesOwned, TablesBegun, generation_at, word_at}
+use Rattle.engine_world.specs.Stages.{IsNoticed}
 use Rattle.engine_world.specs.Stands.{Engine, Stands, SessionStands}
 use Rattle.engine_world.proofs.Beside.{Beside}
 use Rattle.engine_world.proofs.Events.{all-same, beside-same}
 use Rattle.engine_world.proofs.Homes.{LeavesStand}
+use Rattle.engine_world.proofs.InPlace.{SessionInPlace, StageInPlace, noticed-in-place, session-stands}
 use Rattle.engine_world.proofs.Others.{others-go-on}
 
 -- ---- lists by index
@@ -41,8 +45,8 @@ get-set-other (x ∷ xs) (suc i) (suc j) y other = get-set-other xs i j y (λ e.
 
 -- ---- one event
 
--- what an event of a session has to show, beside what it leaves to the others
-pub record Moves (e : Engine) (w : World) (session : ℕ) (hub : Hub) (pieces : List FramePiece) (a : State) (next : Machine) : Type 0 where
+-- what an event of a session has to show, beside what it leaves to the others, also where the leaf that its call has found has gone out
+pub record MovesOn (e : Engine) (w : World) (session : ℕ) (hub : Hub) (pieces : List FramePiece) (a : State) (next : Machine) : Type 0 where
   pub valid : Valid next
   pub beside : Beside session w.machine next e.hub hub e.pieces pieces
   pub fault : hub.fault ≡ e.hub.fault
@@ -51,6 +55,67 @@ pub record Moves (e : Engine) (w : World) (session : ℕ) (hub : Hub) (pieces : 
   pub made : tables next.history ≡ tables w.machine.history
   pub leaves : LeavesStand next w.shelf e.hub.dir.leaves pieces e.states
   pub mine : SessionStands next hub pieces session a
+  pub noticed : IsNoticed a.stage pieces (w.again session)
+
+-- and where it has not
+pub record Moves (e : Engine) (w : World) (session : ℕ) (hub : Hub) (pieces : List FramePiece) (a : State) (next : Machine) : Type 0 where
+  pub valid : Valid next
+  pub beside : Beside session w.machine next e.hub hub e.pieces pieces
+  pub fault : hub.fault ≡ e.hub.fault
+  pub stamps : hub.stamps ≡ e.hub.stamps
+  pub txns : TableStands hub.txns next
+  pub made : tables next.history ≡ tables w.machine.history
+  pub leaves : LeavesStand next w.shelf e.hub.dir.leaves pieces e.states
+  pub mine : SessionInPlace next hub pieces session a
+
+pub moves-on : (e : Engine) (w : World) (session : ℕ) (hub : Hub) (pieces : List FramePiece) (a : State) (next : Machine) → Moves e w session hub pieces a next → MovesOn e w session hub pieces a next
+moves-on e w session hub pieces a next v = record {
+  valid = v.valid;
+  beside = v.beside;
+  fault = v.fault;
+  stamps = v.stamps;
+  txns = v.txns;
+  made = v.made;
+  leaves = v.leaves;
+  mine = session-stands next hub pieces session a v.mine;
+  noticed = noticed-in-place next w.shelf e.hub.dir.leaves pieces e.states v.leaves a.stage session a (w.again session)
+      (subst (λ (d : Directory). StageInPlace a.stage next d.leaves pieces session a) v.beside.dir v.mine.stage);
+}
+
+-- where each frame keeps its generation, what was noticed is
+pub noticed-stays : (at : Stage) (pieces later : List FramePiece) (again : Bool) → ((frame : ℕ) → generation_at later frame ≡ generation_at pieces frame) → IsNoticed at pieces again → IsNoticed at later again
+noticed-stays (stage.Publish call target) pieces later again same x = λ past. x (subst (λ n. target.word + 2 < 4 * n) (same target.frame) past)
+noticed-stays (stage.Validate call target) pieces later again same x = λ past. x (subst (λ n. target.word + 2 < 4 * n) (same target.frame) past)
+noticed-stays at pieces later again same x = tt
+
+-- so is each frame as it was
+pub frames-stay : (pieces later : List FramePiece) (states : List ℕ) → ((frame : ℕ) → generation_at later frame ≡ generation_at pieces frame) → FramesStand pieces states → FramesStand later states
+frames-stay pieces later states same stand frame = record {
+  below = subst (λ n. n < 2 ^ 62) (sym (same frame)) (stand frame).below;
+  word = subst (λ n. 4 * n ≤ word_at states frame + 2) (sym (same frame)) (stand frame).word;
+}
+
+-- the world may tell it to other sessions too
+pub again-as : (e : Engine) (w : World) (again : ℕ → Bool) → Stands e w → ((session : ℕ) (a : State) → slice_get e.sessions session ≡ Some a → IsNoticed a.stage e.pieces (w.again session) → IsNoticed a.stage e.pieces (again session)) → Stands e (record w { again = again })
+again-as e w again st over = record {
+  valid = st.valid;
+  fault = st.fault;
+  stamps = st.stamps;
+  txns = st.txns;
+  catalog = st.catalog;
+  made = st.made;
+  dir = st.dir;
+  begun = st.begun;
+  owned = st.owned;
+  leaves = st.leaves;
+  frames = st.frames;
+  count = st.count;
+  doings = st.doings;
+  doing = st.doing;
+  sessions = st.sessions;
+  systems = st.systems;
+  noticed = λ session a at. over session a at (st.noticed session a at);
+}
 
 -- the engine and the world after it
 abbrev pub engine_with : Engine → ℕ → Hub → List FramePiece → List ℕ → State → Engine
@@ -59,9 +124,9 @@ engine_with e session hub pieces hazards a = record e { hub = hub; pieces = piec
 abbrev pub world_with : World → List Leaf → ℕ → State → Machine → World
 world_with w leaves session a next = record w { machine = next; sessions = slice_set w.sessions session (doing_in leaves session a) }
 
-pub moves : (e : Engine) (w : World) (session : ℕ) (old a : State) (hub : Hub) (pieces : List FramePiece) (hazards : List ℕ) (next : Machine) → Stands e w → slice_get e.sessions session ≡ Some old
-    → Moves e w session hub pieces a next → Stands (engine_with e session hub pieces hazards a) (world_with w e.hub.dir.leaves session a next)
-moves e w session old a hub pieces hazards next st at v = record {
+pub goes-on : (e : Engine) (w : World) (session : ℕ) (old a : State) (hub : Hub) (pieces : List FramePiece) (hazards : List ℕ) (next : Machine) → Stands e w → slice_get e.sessions session ≡ Some old
+    → MovesOn e w session hub pieces a next → Stands (engine_with e session hub pieces hazards a) (world_with w e.hub.dir.leaves session a next)
+goes-on e w session old a hub pieces hazards next st at v = record {
   valid = v.valid;
   fault = v.fault ∙ (st.fault ∙ sym v.beside.machine.apart.fault);
   stamps = v.stamps ∙ (st.stamps ∙ sym (λ i. record { oldest = v.beside.machine.oldest i; stable = v.beside.machine.stable i }));
@@ -72,6 +137,7 @@ moves e w session old a hub pieces hazards next st at v = record {
   begun = subst (λ (d : Directory). TablesBegun hub.tables.tables d.leaves) (sym v.beside.dir) (subst (λ (k : Known). TablesBegun k.tables e.hub.dir.leaves) (sym v.beside.tables) st.begun);
   owned = subst (λ (d : Directory). LeavesOwned hub.tables.tables d.leaves) (sym v.beside.dir) (subst (λ (k : Known). LeavesOwned k.tables e.hub.dir.leaves) (sym v.beside.tables) st.owned);
   leaves = subst (λ (d : Directory). LeavesStand next w.shelf d.leaves pieces e.states) (sym v.beside.dir) v.leaves;
+  frames = frames-stay e.pieces pieces e.states v.beside.slots.generations st.frames;
   count = length-set e.sessions session a ∙ (st.count ∙ sym v.beside.machine.count);
   doings = length-set w.sessions session (doing_in e.hub.dir.leaves session a) ∙ (st.doings ∙ sym (length-set e.sessions session a));
   doing = λ r b there. subst (λ (d : Directory). doing_of (world_with w e.hub.dir.leaves session a next) r ≡ doing_in d.leaves r b) (sym v.beside.dir) (elim (cases_eq r session) [
@@ -83,6 +149,10 @@ moves e w session old a hub pieces hazards next st at v = record {
     | inr other ↦ others-go-on session w.machine next e.hub hub e.pieces pieces r b v.beside other st.valid (st.sessions r b (sym (get-set-other e.sessions session r a other) ∙ there))
   ];
   systems = st.systems;
+  noticed = λ r b there. elim (cases_eq r session) [
+    | inl same ↦ mine-noticed r b same there
+    | inr other ↦ noticed-stays b.stage e.pieces pieces (w.again r) v.beside.slots.generations (st.noticed r b (sym (get-set-other e.sessions session r a other) ∙ there))
+  ];
 } where
   inside : session < length e.sessions
   inside = slice_get_within e.sessions session old at
@@ -97,24 +167,36 @@ moves e w session old a hub pieces hazards next st at v = record {
   mine-stands : (r : ℕ) (b : State) → r ≡ session → slice_get (slice_set e.sessions session a) r ≡ Some b → SessionStands next hub pieces r b
   mine-stands r b same there = subst (λ i. SessionStands next hub pieces i b) (sym same) (subst (λ x. SessionStands next hub pieces session x) (this r b same there) v.mine)
 
+  mine-noticed : (r : ℕ) (b : State) → r ≡ session → slice_get (slice_set e.sessions session a) r ≡ Some b → IsNoticed b.stage pieces (w.again r)
+  mine-noticed r b same there = subst (λ i. IsNoticed b.stage pieces (w.again i)) (sym same) (subst (λ (x : State). IsNoticed x.stage pieces (w.again session)) (this r b same there) v.noticed)
+
+pub moves : (e : Engine) (w : World) (session : ℕ) (old a : State) (hub : Hub) (pieces : List FramePiece) (hazards : List ℕ) (next : Machine) → Stands e w → slice_get e.sessions session ≡ Some old
+    → Moves e w session hub pieces a next → Stands (engine_with e session hub pieces hazards a) (world_with w e.hub.dir.leaves session a next)
+moves e w session old a hub pieces hazards next st at v = goes-on e w session old a hub pieces hazards next st at (moves-on e w session hub pieces a next v)
+
 -- ---- the world's step with it
 
-pub leads : (e : Engine) (w : World) (session : ℕ) (old a : State) (hub : Hub) (pieces : List FramePiece) (hazards : List ℕ) (next : Machine) (told : Reply) → Stands e w → slice_get e.sessions session ≡ Some old
-    → GoesOn (doing_in e.hub.dir.leaves session old) w.machine session (record { told = told; machine = next; doing = doing_in e.hub.dir.leaves session a }) → Moves e w session hub pieces a next
+pub leads-on : (e : Engine) (w : World) (session : ℕ) (old a : State) (hub : Hub) (pieces : List FramePiece) (hazards : List ℕ) (next : Machine) (told : Reply) → Stands e w → slice_get e.sessions session ≡ Some old
+    → GoesOn (w.again session) (doing_in e.hub.dir.leaves session old) w.machine session (record { told = told; machine = next; doing = doing_in e.hub.dir.leaves session a }) → MovesOn e w session hub pieces a next
     → Leads (engine_with e session hub pieces hazards a) w session told
-leads e w session old a hub pieces hazards next told st at goes v = (
+leads-on e w session old a hub pieces hazards next told st at goes v = (
   world_with w e.hub.dir.leaves session a next,
   record {
     made = record { told = told; machine = next; doing = doing_in e.hub.dir.leaves session a };
-    goes = subst (λ d. GoesOn d w.machine session (record { told = told; machine = next; doing = doing_in e.hub.dir.leaves session a })) (sym (st.doing session old at)) goes;
+    goes = subst (λ d. GoesOn (w.again session) d w.machine session (record { told = told; machine = next; doing = doing_in e.hub.dir.leaves session a })) (sym (st.doing session old at)) goes;
     tells = refl;
     leaves = refl;
   },
-  moves e w session old a hub pieces hazards next st at v,
+  goes-on e w session old a hub pieces hazards next st at v,
 )
 
+pub leads : (e : Engine) (w : World) (session : ℕ) (old a : State) (hub : Hub) (pieces : List FramePiece) (hazards : List ℕ) (next : Machine) (told : Reply) → Stands e w → slice_get e.sessions session ≡ Some old
+    → GoesOn (w.again session) (doing_in e.hub.dir.leaves session old) w.machine session (record { told = told; machine = next; doing = doing_in e.hub.dir.leaves session a }) → Moves e w session hub pieces a next
+    → Leads (engine_with e session hub pieces hazards a) w session told
+leads e w session old a hub pieces hazards next told st at goes v = leads-on e w session old a hub pieces hazards next told st at goes (moves-on e w session hub pieces a next v)
+
 -- the session's state alone changes, and a hazard word
-pub alone : (e : Engine) (w : World) (session : ℕ) (a : State) → Stands e w → SessionStands w.machine e.hub e.pieces session a → Moves e w session e.hub e.pieces a w.machine
+pub alone : (e : Engine) (w : World) (session : ℕ) (a : State) → Stands e w → SessionInPlace w.machine e.hub e.pieces session a → Moves e w session e.hub e.pieces a w.machine
 alone e w session a st mine = record {
   valid = st.valid;
   beside = all-same session w.machine w.machine e.hub e.pieces (beside-same session w.machine);
@@ -127,6 +209,6 @@ alone e w session a st mine = record {
 }
 
 pub alone-leads : (e : Engine) (w : World) (session : ℕ) (old a : State) (hazards : List ℕ) (told : Reply) → Stands e w → slice_get e.sessions session ≡ Some old
-    → GoesOn (doing_in e.hub.dir.leaves session old) w.machine session (record { told = told; machine = w.machine; doing = doing_in e.hub.dir.leaves session a }) → SessionStands w.machine e.hub e.pieces session a
+    → GoesOn (w.again session) (doing_in e.hub.dir.leaves session old) w.machine session (record { told = told; machine = w.machine; doing = doing_in e.hub.dir.leaves session a }) → SessionInPlace w.machine e.hub e.pieces session a
     → Leads (engine_with e session e.hub e.pieces hazards a) w session told
 alone-leads e w session old a hazards told st at goes mine = leads e w session old a e.hub e.pieces hazards w.machine told st at goes (alone e w session a st mine)

@@ -151,8 +151,8 @@ module _ (d : Directory) (made : List Leaf) (n : Leaf) (is : IsDirectory d) (c :
 
 -- ---- a table that comes to a directory
 
-abbrev pub new_leaf : ℕ → ℕ → ℕ → Leaf
-new_leaf table id frame = record { id = id; table = table; entry = first_entry; frame = Some (record { frame = frame; generation = 0 }) }
+abbrev pub new_leaf : ℕ → ℕ → ℕ → ℕ → Leaf
+new_leaf table id frame generation = record { id = id; table = table; entry = first_entry; frame = Some (record { frame = frame; generation = generation }) }
 
 -- none of these has the id
 changed-none : (id : ℕ) (f : Leaf → Leaf) (leaves : List Leaf) → ((l : Leaf) → Contains leaves l → id ≢ l.id) → changed id f leaves ≡ leaves
@@ -173,8 +173,8 @@ filter-there p (x ∷ leaves) l c = elim (cases_Bool (p x)) [
   | inr isnt ↦ later x l leaves (filter-there p leaves l (rw isnt at c))
 ]
 
-pub comes : (old new : Directory) (table id frame : ℕ) → IsDirectory old → ((l : Leaf) → Contains old.leaves l → l.table ≢ table) → HasFirstLeaf old new table id frame → IsCome old.leaves new.leaves (new_leaf table id frame)
-comes old new table id frame is none h = record {
+pub comes : (old new : Directory) (table id frame generation : ℕ) → IsDirectory old → ((l : Leaf) → Contains old.leaves l → l.table ≢ table) → HasFirstLeaf old new table id frame generation → IsCome old.leaves new.leaves (new_leaf table id frame generation)
+comes old new table id frame generation is none h = record {
   before = lower table old.leaves;
   behind = greater table old.leaves;
   low = lows-filter table old.leaves;
@@ -188,7 +188,7 @@ comes old new table id frame is none h = record {
   bare = record { id = id; table = table; entry = first_entry; frame = None }
 
   f : Leaf → Leaf
-  f = in_frame (Some (record { frame = frame; generation = 0 }))
+  f = in_frame (Some (record { frame = frame; generation = generation }))
 
   all-none : All (λ l. l.table ≢ table) old.leaves
   all-none i d within = none (get_or old.leaves i d) (Contains-get_or old.leaves i d within)
@@ -196,8 +196,8 @@ comes old new table id frame is none h = record {
   fresh : (l : Leaf) → Contains old.leaves l → id ≢ l.id
   fresh l there e = let below = All-contains (λ (l : Leaf). l.id < old.next) old.leaves l is.below there in let from = h.added.fresh.ascend.0 in omega (arith, below, from, e)
 
-  whole : changed id (in_frame (Some (record { frame = frame; generation = 0 }))) (lower table old.leaves ++ ((record { id = id; table = table; entry = first_entry; frame = None }) ∷ greater table old.leaves))
-      ≡ lower table old.leaves ++ (new_leaf table id frame ∷ greater table old.leaves)
+  whole : changed id (in_frame (Some (record { frame = frame; generation = generation }))) (lower table old.leaves ++ ((record { id = id; table = table; entry = first_entry; frame = None }) ∷ greater table old.leaves))
+      ≡ lower table old.leaves ++ (new_leaf table id frame generation ∷ greater table old.leaves)
   whole = changed-append id f (lower table old.leaves) (bare ∷ greater table old.leaves)
       ∙ ((λ i. changed-none id f (lower table old.leaves) (λ l c. fresh l (filter-there (λ l. nat_lt l.table table) old.leaves l c)) i ++ changed id f (bare ∷ greater table old.leaves))
-      ∙ ap (λ (ls : List Leaf). lower table old.leaves ++ ls) (rw (eq-eqb id id refl) (ap (λ (ls : List Leaf). new_leaf table id frame ∷ ls) (changed-none id f (greater table old.leaves) (λ l c. fresh l (filter-there (λ l. nat_lt table l.table) old.leaves l c))))))
+      ∙ ap (λ (ls : List Leaf). lower table old.leaves ++ ls) (rw (eq-eqb id id refl) (ap (λ (ls : List Leaf). new_leaf table id frame generation ∷ ls) (changed-none id f (greater table old.leaves) (λ l c. fresh l (filter-there (λ l. nat_lt table l.table) old.leaves l c))))))

@@ -1,5 +1,5 @@
 -- The slots that were noted for the writes of a transaction.
-use Rattle.std.proofs.Common.{◌≡◌, ◌≢◌, ◌<◌, ℕ, zero, suc, refl, ap, sym, ◌∙◌, true, List, [], ◌∷◌, inl, inr, subst}
+use Rattle.std.proofs.Common.{◌≡◌, ◌≢◌, ◌<◌, ℕ, zero, suc, refl, ap, sym, ◌∙◌, true, List, [], ◌∷◌, inl, inr, subst, arith}
 use Rattle.std.specs.Prelude.{Option, Some, None, find, slice_get}
 use Rattle.std.proofs.lemmas.Bool.{cases_Bool, both_ways}
 use Rattle.kv_model.specs.Holds.{Member}
@@ -71,6 +71,8 @@ stay-same leaves pieces later stays = record {
   tables = λ table key frame e other. stays.tables frame;
   slots = λ table key frame other i e at. stays.slots frame other i at;
   bare = λ frame none. absurd cc;
+  older = λ frame. let same = stays.generations frame in omega (arith, same);
+  past = λ l target there is none. absurd cc;
 }
 
 -- a key stays in its frame

@@ -24,7 +24,7 @@ use Rattle.call_steps.specs.declared.frame.Frame.{Frame}
 use Rattle.call_steps.specs.declared.frame.FramePiece.{FramePiece}
 use Rattle.call_steps.specs.declared.written.WrittenKey.{WrittenKey}
 use Rattle.row_page.specs.Rows.{Row}
-use Rattle.engine_world.specs.Leaves.{IsLaid, LeafInFrame, LeafStands, IsSlotOf, frame_in, slots_in, table_at}
+use Rattle.engine_world.specs.Leaves.{IsLaid, LeafInFrame, LeafStands, IsSlotOf, frame_in, generation_at, slots_in, table_at}
 use Rattle.engine_world.proofs.Beside.{SlotsStay, BringsOnly, OthersUpdates}
 use Rattle.engine_world.proofs.Homes.{LeavesStand, one-leaf}
 use Rattle.engine_world.proofs.Moves.{get-set-same, get-set-other}
@@ -76,9 +76,21 @@ module _ (pieces : List FramePiece) (frame : ℕ) (p p' : FramePiece) (at : slic
   pub slots-other : (place : ℕ) → place ≢ frame → slots_in (slice_set pieces frame p') place ≡ slots_in pieces place
   slots-other place other = ap (λ o. of_some [] (λ (f : Frame). f.leaf.chains) o) (frame-other place other)
 
-  -- the piece stays with its table, and each key of it keeps its slot
-  pub slots-stay : table_of p' ≡ table_of p → ((key : List ℕ) (i : ℕ) → slot_of key (slots_of p) ≡ Some i → slot_of key (slots_of p') ≡ Some i) → SlotsStay pieces (slice_set pieces frame p')
-  slots-stay table keeps = record { tables = tables; slots = slots } where
+  pub generation-set : generation_at (slice_set pieces frame p') frame ≡ p'.generation
+  generation-set = ap (of_some 0 (λ (q : FramePiece). q.generation)) (get-set-same pieces frame p p' at)
+
+  pub generation-other : (place : ℕ) → place ≢ frame → generation_at (slice_set pieces frame p') place ≡ generation_at pieces place
+  generation-other place other = ap (of_some 0 (λ (q : FramePiece). q.generation)) (get-set-other pieces frame place p' other)
+
+  generations-stay : p'.generation ≡ p.generation → (place : ℕ) → generation_at (slice_set pieces frame p') place ≡ generation_at pieces place
+  generations-stay same place = elim (cases_eq place frame) [
+    | inl here ↦ ap (generation_at (slice_set pieces frame p')) here ∙ (generation-set ∙ (same ∙ (sym (ap (of_some 0 (λ (q : FramePiece). q.generation)) at) ∙ ap (generation_at pieces) (sym here))))
+    | inr other ↦ generation-other place other
+  ]
+
+  -- the piece stays with its table and generation, and each key of it keeps its slot
+  pub slots-stay : p'.generation ≡ p.generation → table_of p' ≡ table_of p → ((key : List ℕ) (i : ℕ) → slot_of key (slots_of p) ≡ Some i → slot_of key (slots_of p') ≡ Some i) → SlotsStay pieces (slice_set pieces frame p')
+  slots-stay same table keeps = record { generations = generations-stay same; tables = tables; slots = slots } where
     tables : (place : ℕ) → table_at (slice_set pieces frame p') place ≡ table_at pieces place
     tables place = elim (cases_eq place frame) [
       | inl same ↦ ap (λ j. table_at (slice_set pieces frame p') j) same ∙ (ap (λ o. of_some 0 (λ (f : Frame). f.table) o) frame-set
@@ -108,11 +120,11 @@ module _ (pieces : List FramePiece) (frame : ℕ) (p p' : FramePiece) (at : slic
 
   -- a leaf of another frame is where it was
   abbrev laid-other : (states : List ℕ) (l : Leaf) → (x : IsLaid pieces states l) → x.framed.frame ≢ frame → IsLaid (slice_set pieces frame p') states l
-  laid-other states l x other = record { framed = x.framed; placed = x.placed; frame = x.frame; there = frame-other x.framed.frame other ∙ x.there; table = x.table; id = x.id; word = x.word }
+  laid-other states l x other = record { framed = x.framed; placed = x.placed; frame = x.frame; there = frame-other x.framed.frame other ∙ x.there; table = x.table; id = x.id; generation = generation-other x.framed.frame other ∙ x.generation; below = x.below; word = x.word }
 
-  here-stands : (next : Machine) (shelf : ℕ → List Row) (states : List ℕ) (leaves : List Leaf) (home : Leaf) (f' : Frame) → (x : IsLaid pieces states home) → x.framed.frame ≡ frame → IsNow next shelf leaves home p' f'
+  here-stands : p'.generation ≡ p.generation → (next : Machine) (shelf : ℕ → List Row) (states : List ℕ) (leaves : List Leaf) (home : Leaf) (f' : Frame) → (x : IsLaid pieces states home) → x.framed.frame ≡ frame → IsNow next shelf leaves home p' f'
       → LeafInFrame next shelf leaves (slice_set pieces frame p') states home
-  here-stands next shelf states leaves home f' x same now = record {
+  here-stands aged next shelf states leaves home f' x same now = record {
     laid = record {
       framed = x.framed;
       placed = x.placed;
@@ -120,6 +132,8 @@ module _ (pieces : List FramePiece) (frame : ℕ) (p p' : FramePiece) (at : slic
       there = ap (frame_in (slice_set pieces frame p')) same ∙ (frame-set ∙ now.is);
       table = now.table;
       id = now.id;
+      generation = generations-stay aged x.framed.frame ∙ x.generation;
+      below = x.below;
       word = x.word;
     };
     keys = now.keys;
@@ -128,15 +142,15 @@ module _ (pieces : List FramePiece) (frame : ℕ) (p p' : FramePiece) (at : slic
   }
 
   -- the leaf in the piece stands, and so do the others
-  pub leaves-on : (m next : Machine) (shelf : ℕ → List Row) (states : List ℕ) (d : Directory) (home : Leaf) (f' : Frame) → IsDirectory d → LeavesStand m shelf d.leaves pieces states → Contains d.leaves home → (x : IsLaid pieces states home) → x.framed.frame ≡ frame
+  pub leaves-on : p'.generation ≡ p.generation → (m next : Machine) (shelf : ℕ → List Row) (states : List ℕ) (d : Directory) (home : Leaf) (f' : Frame) → IsDirectory d → LeavesStand m shelf d.leaves pieces states → Contains d.leaves home → (x : IsLaid pieces states home) → x.framed.frame ≡ frame
       → IsNow next shelf d.leaves home p' f'
       → ((l : Leaf) → Contains d.leaves l → l ≢ home → (key : List ℕ) (chain : List Update) (row : Option (Version Change)) → leaf_under l.table key d.leaves ≡ Some l → StandsFor m l.table key chain row [] → StandsFor next l.table key chain row [])
       → LeavesStand next shelf d.leaves (slice_set pieces frame p') states
-  leaves-on m next shelf states d home f' is stand home_there x same now elsewhere l there = by (stand l there) where
+  leaves-on aged m next shelf states d home f' is stand home_there x same now elsewhere l there = by (stand l there) where
     framed : (old : LeafInFrame m shelf d.leaves pieces states l) → LeafInFrame next shelf d.leaves (slice_set pieces frame p') states l
     framed old = elim (cases_eq old.laid.framed.frame frame) [
       | inl here ↦ subst (λ (n : Leaf). LeafInFrame next shelf d.leaves (slice_set pieces frame p') states n)
-          (one-leaf d pieces states home l is home_there there x old.laid (same ∙ sym here)) (here-stands next shelf states d.leaves home f' x same now)
+          (one-leaf d pieces states home l is home_there there x old.laid (same ∙ sym here)) (here-stands aged next shelf states d.leaves home f' x same now)
       | inr other ↦ record {
         laid = laid-other states l old.laid other;
         keys = λ key under. elsewhere l there (λ one. other (moved old one)) key (chain_at key old.laid.frame.leaf.chains) (shown_at key old.laid.frame.leaf.page) under (old.keys key under);

@@ -23,6 +23,7 @@ use Rattle.engine_world.proofs.HubMoves.{leaves-go-on}
 use Rattle.engine_world.proofs.Others.{others-stay}
 use Rattle.engine_world.proofs.OwnStates.{none-ends}
 use Rattle.engine_world.proofs.SystemEvents.{leaves-same, past-all}
+use Rattle.engine_world.specs.Stages.{IsNoticed}
 
 abbrev world_opened : World → World
 world_opened w = record w { machine = after w.machine OpenSession; sessions = w.sessions ++ Resting ∷ [] }
@@ -90,6 +91,7 @@ opens-go chains e w st = record {
   begun = st.begun;
   owned = st.owned;
   leaves = leaves-go-on chains w.machine OpenSession w.shelf e.hub.dir.leaves e.pieces e.states st.valid tt (λ table key. tt) st.leaves;
+  frames = st.frames;
   count = (let here = length-append e.sessions (opened ∷ []) in let there = length-append w.machine.sessions (None ∷ []) in let same = st.count in omega arith);
   doings = (let here = length-append w.sessions (Resting ∷ []) in let there = length-append e.sessions (opened ∷ []) in let same = st.doings in omega arith);
   doing = λ r b there. elim (append-finds e.sessions opened b r there) [
@@ -103,4 +105,8 @@ opens-go chains e w st = record {
         (subst (λ x. SessionStands (after w.machine OpenSession) (with_opened e).hub e.pieces (length e.sessions) x) last.1 (opened-stands e w st))
   ];
   systems = st.systems;
+  noticed = λ r b there. elim (append-finds e.sessions opened b r there) [
+    | inl old ↦ st.noticed r b old
+    | inr last ↦ subst (λ (x : State). IsNoticed x.stage e.pieces (w.again r)) last.1 tt
+  ];
 }

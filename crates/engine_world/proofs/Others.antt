@@ -2,6 +2,8 @@
 use Rattle.std.proofs.Common.{◌≡◌, ◌≢◌, ◌⊎◌, ◌<◌, ◌≤◌, ◌+◌, ◌*◌, ℕ, Bool, true, refl, ap, sym, ◌∙◌, List, [], inl, inr, subst, arith}
 use Rattle.std.specs.Prelude.{Option, Some, None, option_map, slice_index_or}
 use Rattle.std.specs.List.{Contains}
+use Rattle.std.proofs.lemmas.Bool.{cases_eq}
+use Rattle.std.proofs.lemmas.Option.{same_Some}
 use Rattle.failure.specs.declared.Fault.{Fault}
 use Rattle.kv_model.specs.Allowed.{HasTransaction}
 use Rattle.kv_model.specs.Decisions.{is_there}
@@ -16,7 +18,7 @@ use Rattle.kv_model.specs.Valid.{Valid}
 use Rattle.tree_dir.specs.declared.leaf.Leaf.{Leaf}
 use Rattle.tree_dir.specs.declared.leaf.Framed.{Framed}
 use Rattle.tree_dir.specs.Leaves.{Directory, leaf_under}
-use Rattle.call_steps.specs.Tables.{first_word, target_in}
+use Rattle.call_steps.specs.Tables.{filled, target_in}
 use Rattle.update_chain.specs.declared.update.Update.{Update}
 use Rattle.update_chain.specs.EventLaws.{outcome}
 use Rattle.wt_calls.specs.Calls.{way_in}
@@ -38,7 +40,7 @@ use Rattle.call_steps.specs.State.{State}
 use Rattle.engine_world.specs.Doings.{call_in, doing_at, doing_in, further_from, further_left}
 use Rattle.engine_world.specs.GoingOut.{IsAside, frame_in_hand}
 use Rattle.engine_world.specs.Leaves.{AreNoted, EditedDownTo, IsSlotOf, durable_under, slots_in}
-use Rattle.engine_world.specs.Stages.{AreCommitted, Awaits, IsLeafAt, DecidesStand, DoneStands, EndsOnlyDown, ForTransaction, HasLooked, IsEdited, IsLeafOf, IsOnLeaf, IsOrdered, IsPassed, IsSought, MarksStand, NoneAmong, NoneStands, OrdersStand, ResolvesStand, Seeks, StageStands, StampsStand, UndoesStand, stamps_in, way_of}
+use Rattle.engine_world.specs.Stages.{AreCommitted, Awaits, HasFound, IsLeafAt, DecidesStand, DoneStands, EndsOnlyDown, ForTransaction, HasLooked, IsEdited, IsLeafOf, IsOnLeaf, IsOrdered, IsPassed, IsPast, IsSought, MarksStand, NoneAmong, NoneStands, OrdersStand, ResolvesStand, Seeks, StageStands, StampsStand, UndoesStand, stamps_in, wanted_in, way_of}
 use Rattle.engine_world.specs.Stands.{SessionStands, writes_in}
 use Rattle.engine_world.specs.Walks.{leaves_on, passed, passed_with}
 use Rattle.engine_world.specs.Worlds.{Placed}
@@ -55,6 +57,13 @@ record IsOther (freed : Option ℕ) (session : ℕ) (m next : Machine) (leaves m
   other : r ≢ session
   valid : Valid m
   noted : AreNoted leaves pieces (writes_in m r) b.written
+
+freed-or : (freed : Option ℕ) (frame : ℕ) → (freed ≡ Some frame) ⊎ (freed ≢ Some frame)
+freed-or None frame = inr (λ is. absurd cc)
+freed-or (Some other) frame = elim (cases_eq other frame) [
+  | inl same ↦ inl (ap (λ (n : ℕ). Some n) same)
+  | inr apart ↦ inr (λ is. apart (same_Some other frame is))
+]
 
 -- a stage is not at the leaf that left
 abbrev StaysAside : Option ℕ → Stage → Type 0
@@ -86,7 +95,7 @@ module _ (freed : Option ℕ) (session : ℕ) (m next : Machine) (leaves made : 
   target-now l target stays t = target-from (now l) t.framed ((alike l).frame t.framed t.placed (λ is. stays (is ∙ ap (λ (x : Target). Some x.frame) t.is))) ∙ ap (λ (x : Target). Some x)
       (ap (λ n. target_of n (now l).id t.framed) (alike l).table ∙ (ap (λ n. target_of l.table n t.framed) (alike l).id ∙ t.is)) where
         target_of : ℕ → ℕ → Framed → Target
-        target_of table id f = record { table = table; leaf = id; frame = f.frame; word = first_word }
+        target_of table id f = record { table = table; leaf = id; frame = f.frame; word = filled f.generation }
 
   abbrev leaf-stays : (target : Target) → freed ≢ Some target.frame → IsLeafOf leaves target → IsLeafOf made target
   leaf-stays target stays x = let t = target-is x.0 target x.2 in (now x.0, o.stay.kept.there x.0 x.1, target-now x.0 target stays t)
@@ -132,6 +141,17 @@ module _ (freed : Option ℕ) (session : ℕ) (m next : Machine) (leaves made : 
     still (λ t. (t.phase ≡ Running) × (is_write call ≡ true → 0 < t.id)) (λ t. (t.phase ≡ Running) × (is_write call ≡ true → 0 < t.id)) (λ t there p. p) x.0,
     ((now x.1.0.0, o.stay.kept.there x.1.0.0 x.1.0.1, (alike x.1.0.0).id ∙ x.1.0.2, (alike x.1.0.0).table ∙ x.1.0.3), sought-stays call x.1.0.0 x.1.0.1 x.1.1),
   )
+
+  -- its leaf is where it was found, or the frame is past it
+  found-stays : (call : KeyCall) (target : Target) → HasFound m leaves pieces r call target b → HasFound next made later r call target b
+  unfolding waits
+  found-stays call target x = (waits call (wanted_in target) x.0, by x.1) where
+    by : (target_in x.0.1.0.0 ≡ Some target) ⊎ IsPast pieces target → (target_in (now x.0.1.0.0) ≡ Some target) ⊎ IsPast later target
+    by (inl is) = elim (freed-or freed target.frame) [
+      | inl left ↦ inr (o.stay.past x.0.1.0.0 target x.0.1.0.1 is left)
+      | inr stays ↦ inl (target-now x.0.1.0.0 target stays (target-is x.0.1.0.0 target is))
+    ]
+    by (inr past) = let older = o.stay.older target.frame in inr (omega (arith, past, older))
 
   -- ---- its writes
 
@@ -221,8 +241,8 @@ module _ (freed : Option ℕ) (session : ℕ) (m next : Machine) (leaves made : 
   stays (stage.Begin read) aside x = ends-down x
   stays (stage.Find call) aside x = (ends-down x.0, x.1)
   stays (stage.Fill call wanted) aside x = waits call wanted x
-  stays (stage.Publish call target) aside x = seeks-stay call target (λ is. aside target.frame is refl) x
-  stays (stage.Validate call target) aside x = seeks-stay call target (λ is. aside target.frame is refl) x
+  stays (stage.Publish call target) aside x = found-stays call target x
+  stays (stage.Validate call target) aside x = found-stays call target x
   stays (stage.Look call target) aside x = seeks-stay call target (λ is. aside target.frame is refl) x
   stays (stage.Pass call target) aside x = (on-leaf call target (λ is. aside target.frame is refl) x.0, passed-stays call x.0.1.0 x.0.1.1 x.1)
   stays (stage.History call target) aside x = on-leaf call target (λ is. aside target.frame is refl) x
@@ -313,8 +333,8 @@ waited-kept freed leaves made call wanted kept x = refl
 
 doing-at-kept : (freed : Option ℕ) (m : Machine) (leaves made : List Leaf) (pieces : List FramePiece) (session : ℕ) (a : State) (g : Stage) → LeavesKept freed leaves made → StageStands g m leaves pieces session a → doing_at g made session a ≡ doing_at g leaves session a
 doing-at-kept freed m leaves made pieces session a (stage.Fill call wanted) kept x = ap (λ n. Placed (call_in call a) wanted.table (7 + n)) (waited-kept freed leaves made call wanted kept x.1.0)
-doing-at-kept freed m leaves made pieces session a (stage.Publish call target) kept x = ap (λ n. Placed (call_in call a) target.table (6 + n)) (further-kept freed leaves made call target kept x.0.1)
-doing-at-kept freed m leaves made pieces session a (stage.Validate call target) kept x = ap (λ n. Placed (call_in call a) target.table (5 + n)) (further-kept freed leaves made call target kept x.0.1)
+doing-at-kept freed m leaves made pieces session a (stage.Publish call target) kept x = ap (λ n. Placed (call_in call a) target.table (6 + n)) (waited-kept freed leaves made call (wanted_in target) kept x.0.1.0)
+doing-at-kept freed m leaves made pieces session a (stage.Validate call target) kept x = ap (λ n. Placed (call_in call a) target.table (5 + n)) (waited-kept freed leaves made call (wanted_in target) kept x.0.1.0)
 doing-at-kept freed m leaves made pieces session a (stage.Look call target) kept x = ap (λ n. Placed (call_in call a) target.table (4 + n)) (further-kept freed leaves made call target kept x.0.1)
 doing-at-kept freed m leaves made pieces session a (stage.Pass call target) kept x = ap (λ n. Placed (call_in call a) target.table (3 + n)) (further-kept freed leaves made call target kept x.0.1)
 doing-at-kept freed m leaves made pieces session a g kept x = refl

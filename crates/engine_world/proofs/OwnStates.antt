@@ -14,12 +14,13 @@ use Rattle.call_steps.specs.HubEvents.{known_phase}
 use Rattle.call_steps.specs.State.{State, at_stage}
 use Rattle.engine_world.specs.Doings.{call_in}
 use Rattle.engine_world.specs.Leaves.{AreNoted}
-use Rattle.engine_world.specs.Stages.{EndsOnlyDown, StageStands}
+use Rattle.engine_world.specs.Stages.{EndsOnlyDown}
 use Rattle.engine_world.specs.Stands.{SessionStands, position_in, writes_in}
+use Rattle.engine_world.proofs.InPlace.{SessionInPlace, StageInPlace}
 
 -- with the same phase, writes and positions
 pub restates : (m : Machine) (hub : Hub) (pieces : List FramePiece) (session : ℕ) (a b : State) → b.phase ≡ a.phase → b.written ≡ a.written → map position_in b.cursors ≡ map position_in a.cursors
-    → StageStands b.stage m hub.dir.leaves pieces session b → SessionStands m hub pieces session a → SessionStands m hub pieces session b
+    → StageInPlace b.stage m hub.dir.leaves pieces session b → SessionStands m hub pieces session a → SessionInPlace m hub pieces session b
 restates m hub pieces session a b phase written cursors stands st = record {
   phase = ap phase_in phase ∙ st.phase;
   seated = record { opened = st.seated.opened; phase = st.seated.phase ∙ ap known_phase (sym phase) };

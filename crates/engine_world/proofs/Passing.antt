@@ -64,7 +64,7 @@ module _ (e : Engine) (w : World) (session : ℕ) (a : State) (cursor : ℕ) (wa
 
   ends : leaf_on (way_in way) on.1.0.id e.hub.dir.leaves ≡ None → Goes e w session (beside e.hub (reply.More, answered step target none_found a))
   ends none = alone-leads e w session a (answered step target none_found a) e.hazards reply.More st at
-      (goes-from e.hub.dir.leaves session a (stage.Pass step target) w.machine (made_in e.hub.dir.leaves w.machine session (answered step target none_found a)) is (inr (inl (record {
+      (goes-from (w.again session) e.hub.dir.leaves session a (stage.Pass step target) w.machine (made_in e.hub.dir.leaves w.machine session (answered step target none_found a)) is (inr (inl (record {
         transaction = on.0.0;
         outcome = Refused told.NotFound;
         event = PlaceCursor session cursor None;
@@ -106,7 +106,7 @@ module _ (e : Engine) (w : World) (session : ℕ) (a : State) (cursor : ℕ) (wa
 
     next-goes : Goes e w session (beside e.hub (reply.More, at_stage to a))
     next-goes = alone-leads e w session a (at_stage to a) e.hazards reply.More st at
-        (goes-from e.hub.dir.leaves session a (stage.Pass step target) w.machine (made_in e.hub.dir.leaves w.machine session (at_stage to a)) is (inl (places.left, fewer, does)))
+        (goes-from (w.again session) e.hub.dir.leaves session a (stage.Pass step target) w.machine (made_in e.hub.dir.leaves w.machine session (at_stage to a)) is (inl (places.left, fewer, does)))
         (stands-at w.machine e.hub e.pieces session (at_stage to a)
         (record { phase = kept.phase; seated = record { opened = kept.seated.opened; phase = kept.seated.phase }; cursors = kept.cursors; noted = kept.noted })
         (stands-for w.machine e.hub.dir.leaves e.pieces session a step n there.0 on.0 sought))

@@ -34,7 +34,7 @@ use Rattle.call_steps.specs.Words.{ends, landed, reset, stored_at}
 use Rattle.engine_world.specs.Doings.{doing_in, event_with, landing}
 use Rattle.engine_world.specs.Laws.{ClearsGo, IsClearing, IsReset, Leads, ResetsGo, with_hazard, with_session}
 use Rattle.engine_world.specs.Leaves.{AreNoted}
-use Rattle.engine_world.specs.Stages.{EndsOnlyDown, HasLooked, StageStands}
+use Rattle.engine_world.specs.Stages.{EndsOnlyDown, HasLooked}
 use Rattle.engine_world.specs.Stands.{Engine, Stands, SessionStands, position_in, writes_in}
 use Rattle.engine_world.specs.Steps.{GoesOn, JudgedBy, Made}
 use Rattle.engine_world.specs.Worlds.{World, Decided, Resting}
@@ -44,6 +44,7 @@ use Rattle.engine_world.proofs.HubMoves.{leaves-go-on}
 use Rattle.engine_world.proofs.Moves.{alone-leads, engine_with, leads}
 use Rattle.engine_world.proofs.OwnStates.{alive-ends, has-phase, restates}
 use Rattle.engine_world.proofs.WordEvents.{clear-cursor}
+use Rattle.engine_world.proofs.InPlace.{StageInPlace}
 
 -- ---- one cursor of a transaction that runs is placed, and the call ends
 
@@ -58,7 +59,7 @@ record Places (session cursor : ℕ) (old a : State) (position : Option ModelPos
 
 place-leads : ChainsGoOn → (e : Engine) (w : World) (session : ℕ) (old a : State) (hazards : List ℕ) (told : Reply) (cursor : ℕ) (position : Option ModelPosition)
     → Stands e w → slice_get e.sessions session ≡ Some old → HasTransaction w.machine session (λ t. t.phase ≡ Running) → Places session cursor old a position
-    → GoesOn (doing_in e.hub.dir.leaves session old) w.machine session (record { told = told; machine = after w.machine (PlaceCursor session cursor position); doing = doing_in e.hub.dir.leaves session a })
+    → GoesOn (w.again session) (doing_in e.hub.dir.leaves session old) w.machine session (record { told = told; machine = after w.machine (PlaceCursor session cursor position); doing = doing_in e.hub.dir.leaves session a })
     → Leads (engine_with e session e.hub e.pieces hazards a) w session told
 place-leads chains e w session old a hazards told cursor position st there has p goes =
     leads e w session old a e.hub e.pieces hazards next told st there goes (record {
@@ -75,7 +76,7 @@ place-leads chains e w session old a hazards told cursor position st there has p
         cursors = ap (map position_in) p.cursors ∙ (positions-set old.cursors cursor p.change position p.to ∙ (ap (λ l. slice_set l cursor position) mine.cursors
             ∙ sym (get_or-set_same m.cursors session (slice_set (cursors_of m session) cursor position) [] inside)));
         noted = subst (λ keys. AreNoted e.hub.dir.leaves e.pieces (writes_in m session) keys) (sym p.written) mine.noted;
-        stage = subst (λ s. StageStands s next e.hub.dir.leaves e.pieces session a) (sym p.stage) (alive-ends next session has.0 has.1 (λ ending. subst IsEnding has.2 ending));
+        stage = subst (λ s. StageInPlace s next e.hub.dir.leaves e.pieces session a) (sym p.stage) (alive-ends next session has.0 has.1 (λ ending. subst IsEnding has.2 ending));
       };
     }) where
       m : Machine
@@ -213,8 +214,8 @@ module _ (chains : ChainsGoOn) (e : Engine) (w : World) (session value word : �
   EndsIn s = let made = ends s in Leads (with_session (with_hazard e word value) session made.1) w session made.0
 
   answers-by : (event : Event) → event_with session call target a.key a.answer ≡ event
-      → GoesOn (doing_in e.hub.dir.leaves session old) w.machine session (record { told = reply.Answer a.answer; machine = after w.machine event; doing = Resting })
-  answers-by event by = subst (λ d. GoesOn (Decided a.answer d 1) w.machine session (record { told = reply.Answer a.answer; machine = after w.machine event; doing = Resting })) (sym by) (inr (inl refl))
+      → GoesOn (w.again session) (doing_in e.hub.dir.leaves session old) w.machine session (record { told = reply.Answer a.answer; machine = after w.machine event; doing = Resting })
+  answers-by event by = subst (λ d. GoesOn (w.again session) (Decided a.answer d 1) w.machine session (record { told = reply.Answer a.answer; machine = after w.machine event; doing = Resting })) (sym by) (inr (inl refl))
 
   answers-still : event_with session call target a.key a.answer ≡ Nothing → EndsIn a
   answers-still by = alone-leads e w session old (at_stage stage.Rest (without_answer a)) (slice_set e.hazards word value) (reply.Answer a.answer) st there (answers-by Nothing by)

@@ -50,7 +50,7 @@ prepare-goes chains-go-on prepares-stand e w session stamp a t st at is there ru
     ((calls-stand e.hub.txns w.machine st.valid st.txns).prepares session stamp may)
     (ap (λ (m : Machine). tables m.history) after_is ∙ tables-appended t.writes (PrepareEntry (name_of w.machine t) stamp) w.machine.history refl)
     (prepared-leaves chains-go-on prepares-stand e w session stamp a t st at there running may marked)
-    (subst (λ d. GoesOn d w.machine session (record { told = reply.Answer answers.Done; machine = after w.machine (PrepareAt session stamp); doing = Resting })) (sym (doing-at e.hub.dir.leaves session a (stage.Release stamp) is))
+    (subst (λ d. GoesOn (w.again session) d w.machine session (record { told = reply.Answer answers.Done; machine = after w.machine (PrepareAt session stamp); doing = Resting })) (sym (doing-at e.hub.dir.leaves session a (stage.Release stamp) is))
     (inr (subst (λ d. JudgedBy d w.machine (record { told = reply.Answer answers.Done; machine = after w.machine (PrepareAt session stamp); doing = Resting })) (sym d) (answers.Done, refl, refl))))
     (phased-stands w.machine (after w.machine (PrepareAt session stamp)) e.hub now e.pieces session a b t (Prepared stamp) (st.sessions session a at) there now_in seated refl refl refl
     (phase-ends (after w.machine (PrepareAt session stamp)) session (in_phase (Prepared stamp) t) (Prepared stamp) now_in.there refl (λ z. z))) where

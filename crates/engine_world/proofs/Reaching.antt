@@ -380,8 +380,9 @@ steps-reach kept from m session call (Asked asked left) made reached (inl goes) 
 steps-reach kept from m session call (Asked asked left) made reached (inr judges) = judges-reach kept from session call left made
     (subst (λ x. Judges call x session left made) reached.1 (subst (λ c. Judges c m session left made) reached.0 judges))
 steps-reach kept from m session call (Placed asked table left) made reached (inl goes) = going kept from session call (Placed asked table) left m made goes (λ fewer. reached)
-steps-reach kept from m session call (Placed asked table left) made reached (inr looks) = places-reach kept from session call table left m made reached.1
-    (subst (λ c. Looks c m session table left made ⊎ LooksShort m left made) reached.0 looks)
+steps-reach kept from m session call (Placed asked table left) made reached (inr (inl looks)) = places-reach kept from session call table left m made reached.1 (inl (subst (λ c. Looks c m session table left made) reached.0 looks))
+steps-reach kept from m session call (Placed asked table left) made reached (inr (inr (inl short))) = places-reach kept from session call table left m made reached.1 (inr short)
+steps-reach kept from m session call (Placed asked table left) made reached (inr (inr (inr again))) = let never : false ≡ true = again.0 in absurd cc
 steps-reach kept from m session call (Decided answer event left) made reached (inl goes) = going kept from session call (Decided answer event) left m made goes (λ fewer. reached)
 steps-reach kept from m session call (Decided answer event left) made reached (inr (inl ends)) = at-end kept from session call answer (after m event) made ends reached.1
 steps-reach kept from m session call (Decided answer event left) made reached (inr (inr faults)) = absurd (subst (λ o. TellsFault o left m made) reached.0 faults)

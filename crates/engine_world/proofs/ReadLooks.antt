@@ -36,12 +36,13 @@ use Rattle.engine_world.specs.Doings.{call_in, landing, event_with, further_left
 use Rattle.engine_world.specs.Steps.{Made, GoesTo, LookAnswer, LooksOn}
 use Rattle.engine_world.specs.Laws.{Leads, ReadsGo, RowsGo, ReadsKey, StepsOn, IsLook, with_session, with_piece}
 use Rattle.engine_world.specs.Stages.{IsPassed, IsSought}
-use Rattle.engine_world.specs.Stands.{Engine, Stands, SessionStands}
+use Rattle.engine_world.specs.Stands.{Engine, Stands}
 use Rattle.engine_world.specs.Walks.{passed, passed_with}
 use Rattle.engine_world.proofs.Homes.{LiesIn, lies-or-not}
 use Rattle.engine_world.proofs.Looking.{AtLeaf, at-leaf, look-made, goes-placed, quiet-leads, Keeps, stands-at, answered-stands, older-stands, answered-does, older-does, short-does, made_in, looks-lead, shorts-lead}
 use Rattle.engine_world.proofs.Seeking.{start-same}
 use Rattle.engine_world.proofs.WalkKeys.{before-parts, passed-inside, passed-parts}
+use Rattle.engine_world.proofs.InPlace.{SessionInPlace}
 
 -- ---- what a leaf gives
 
@@ -110,12 +111,12 @@ module _ (e : Engine) (w : World) (session frame : ℕ) (a a' : State) (p p' : F
   short : a' ≡ answered call target no_memory a → Leads (with_session (with_piece e frame p') session a') w session reply.More
   short now = shorts-lead e w session frame a a' p p' view call target leaf x st at there look is same
       (subst (λ b. GoesTo (Decided no_memory Nothing) (4 + further_left call target e.hub.dir.leaves) w.machine (made_in e.hub.dir.leaves w.machine session b)) (sym now) (short-does e.hub.dir.leaves (4 + further_left call target e.hub.dir.leaves) (omega arith) w.machine session call target a))
-      (subst (SessionStands w.machine e.hub e.pieces session) (sym now) (answered-stands w.machine e.hub e.pieces session call target a x.keeps x.on no_memory))
+      (subst (SessionInPlace w.machine e.hub e.pieces session) (sym now) (answered-stands w.machine e.hub e.pieces session call target a x.keeps x.on no_memory))
 
   read-leads : ReadsKey call → (given : Reply) → ReplyStands w.machine session x.transaction target.table a.key [] given → ReadBy given call target a a' → Leads (with_session (with_piece e frame p') session a') w session reply.More
   read-leads reads given stands made = by given stands made where
     gives : (given : Reply) → ReplyStands w.machine session x.transaction target.table a.key [] given
-        → GoesTo (Decided (answer_of given) (event_with session call target a.key (answer_of given))) (4 + further_left call target e.hub.dir.leaves) w.machine (made_in e.hub.dir.leaves w.machine session a') → SessionStands w.machine e.hub e.pieces session a'
+        → GoesTo (Decided (answer_of given) (event_with session call target a.key (answer_of given))) (4 + further_left call target e.hub.dir.leaves) w.machine (made_in e.hub.dir.leaves w.machine session a') → SessionInPlace w.machine e.hub e.pieces session a'
         → Leads (with_session (with_piece e frame p') session a') w session reply.More
     gives given stands goes mine = looks-lead e w session frame a a' p p' view call target leaf x st at there look is same (outcome_of given) (event_with session call target a.key (answer_of given)) (answer_of given)
         (read-finds w.machine session x.transaction call target a given reads stands) (answer-tells given)
@@ -124,7 +125,7 @@ module _ (e : Engine) (w : World) (session frame : ℕ) (a a' : State) (p p' : F
     told : (given : Reply) → ReplyStands w.machine session x.transaction target.table a.key [] given → a' ≡ answered call target (answer_of given) a → Leads (with_session (with_piece e frame p') session a') w session reply.More
     told given stands now = gives given stands
         (subst (λ b. GoesTo (Decided (answer_of given) (event_with session call target a.key (answer_of given))) (4 + further_left call target e.hub.dir.leaves) w.machine (made_in e.hub.dir.leaves w.machine session b)) (sym now) (answered-does e.hub.dir.leaves (4 + further_left call target e.hub.dir.leaves) (omega arith) w.machine session call target a (answer_of given)))
-        (subst (SessionStands w.machine e.hub e.pieces session) (sym now) (answered-stands w.machine e.hub e.pieces session call target a x.keeps x.on (answer_of given)))
+        (subst (SessionInPlace w.machine e.hub e.pieces session) (sym now) (answered-stands w.machine e.hub e.pieces session call target a x.keeps x.on (answer_of given)))
 
     by : (given : Reply) → ReplyStands w.machine session x.transaction target.table a.key [] given → ReadBy given call target a a' → Leads (with_session (with_piece e frame p') session a') w session reply.More
     by (LeafGives value) stands (inl now) = told (LeafGives value) stands now
@@ -133,7 +134,7 @@ module _ (e : Engine) (w : World) (session frame : ℕ) (a a' : State) (p p' : F
     by (Conflicts id) stands now = told (Conflicts id) stands now
     by IsOlder stands now = gives IsOlder stands
         (subst (λ b. GoesTo (Decided (answer_of IsOlder) (event_with session call target a.key (answer_of IsOlder))) (4 + further_left call target e.hub.dir.leaves) w.machine (made_in e.hub.dir.leaves w.machine session b)) (sym now) (older-does e.hub.dir.leaves (4 + further_left call target e.hub.dir.leaves) (omega arith) w.machine session call target a (omega arith)))
-        (subst (SessionStands w.machine e.hub e.pieces session) (sym now) (older-stands w.machine e.hub e.pieces session call target a x.keeps x.on))
+        (subst (SessionInPlace w.machine e.hub e.pieces session) (sym now) (older-stands w.machine e.hub e.pieces session call target a x.keeps x.on))
 
 pub reads-go : HeldReadsStand → ReadsGo
 reads-go reads-stand e w session frame a a' p p' view st at of goes there v made = by a.stage refl of where
@@ -215,7 +216,7 @@ module _ (reads-stand : HeldReadsStand) (e : Engine) (w : World) (session frame 
       (subst (λ c. GoesTo (Decided answer (row_event session cursor target.table outcome)) (4 + further_left step target e.hub.dir.leaves) w.machine (made_in e.hub.dir.leaves w.machine session c)) (sym now)
       (subst (λ v. GoesTo (Decided answer v) (4 + further_left step target e.hub.dir.leaves) w.machine (made_in e.hub.dir.leaves w.machine session (answered step target answer b))) event
       (answered-does e.hub.dir.leaves (4 + further_left step target e.hub.dir.leaves) (omega arith) w.machine session step target b answer)))
-      (subst (SessionStands w.machine e.hub e.pieces session) (sym now) (answered-stands w.machine e.hub e.pieces session step target b k x.on answer))
+      (subst (SessionInPlace w.machine e.hub e.pieces session) (sym now) (answered-stands w.machine e.hub e.pieces session step target b k x.on answer))
 
   -- the leaf has no row on the way: the next one is to be looked at
   none-passed : NoRow view (way_in way) (from_of a cursor target.table) x.was.leaf → (t : Transaction) → transaction_of w.machine session ≡ Some t → (key : List ℕ)
@@ -230,7 +231,7 @@ module _ (reads-stand : HeldReadsStand) (e : Engine) (w : World) (session frame 
   goes-past none t t_there key is = subst (λ (n : ℕ). passed_with (way_in way) e.hub.dir.leaves x.home (is_past (way_in way) (starts_at n (cursor_of w.machine session cursor))) key ≡ true → ReadAnswer w.machine session t n key (Value None)) (sym x.number)
       (λ inside. none-passed none t t_there key (subst (λ (f : Option (List ℕ)). passed_with (way_in way) e.hub.dir.leaves x.home (is_past (way_in way) f) key ≡ true) (sym from-is) inside)) is
 
-  past-stands : NoRow view (way_in way) (from_of a cursor target.table) x.was.leaf → SessionStands w.machine e.hub e.pieces session (at_stage (stage.Pass step target) a)
+  past-stands : NoRow view (way_in way) (from_of a cursor target.table) x.was.leaf → SessionInPlace w.machine e.hub e.pieces session (at_stage (stage.Pass step target) a)
   past-stands none = stands-at w.machine e.hub e.pieces session (at_stage (stage.Pass step target) a)
       (record { phase = x.keeps.phase; seated = record { opened = x.keeps.seated.opened; phase = x.keeps.seated.phase }; cursors = x.keeps.cursors; noted = x.keeps.noted })
       ((x.on.0, (x.home, x.home_there, x.targeted)), goes-past none)
@@ -238,7 +239,7 @@ module _ (reads-stand : HeldReadsStand) (e : Engine) (w : World) (session frame 
   passes : NoRow view (way_in way) (from_of a cursor target.table) x.was.leaf → a' ≡ at_stage (stage.Pass step target) a → Leads (with_session (with_piece e frame p') session a') w session reply.More
   passes none now = quiet-leads e w session frame a p view step target a' p' leaf x st at there is same
       (goes-placed e w session frame a p view step target (made_in e.hub.dir.leaves w.machine session a') look (inl (3 + further_left step target e.hub.dir.leaves, omega arith, ap (made_in e.hub.dir.leaves w.machine session) now)))
-      (subst (SessionStands w.machine e.hub e.pieces session) (sym now) (past-stands none))
+      (subst (SessionInPlace w.machine e.hub e.pieces session) (sym now) (past-stands none))
 
   step-leads : SteppedBy view (way_in way) (from_of a cursor target.table) step target x.was.leaf a a' → Leads (with_session (with_piece e frame p') session a') w session reply.More
   step-leads (inl row) = let lies = gives-lies row.0 (LeafGives row.1) (λ older. absurd cc) row.2.reads in

@@ -26,8 +26,9 @@ use Rattle.call_steps.specs.State.{State}
 use Rattle.txn_table.specs.declared.phase.Phase.TheVariants as phase
 use Rattle.engine_world.specs.Doings.{doing_at, done_left}
 use Rattle.engine_world.specs.Leaves.{EditedDownTo}
-use Rattle.engine_world.specs.Stages.{StageStands, AreCommitted, NoneStands, stamps_in}
+use Rattle.engine_world.specs.Stages.{AreCommitted, NoneStands, stamps_in}
 use Rattle.engine_world.specs.Worlds.{Ending}
+use Rattle.engine_world.proofs.InPlace.{StageInPlace}
 
 -- where no key is past the ones that are left, nothing is said
 pub edited-none : (e : Edit) (name : Name) (pieces : List FramePiece) (keys : List WrittenKey) (left : ℕ) → length keys ≤ left → EditedDownTo e name pieces keys left
@@ -94,7 +95,7 @@ undos-doing leaves zero session g a = (done_left a, omega arith, refl)
 undos-doing leaves (suc n) session g a = (suc n + done_left a, omega arith, refl)
 
 pub stamps-stage : (stamps : CommitStamps) (n : ℕ) (next : Machine) (leaves : List Leaf) (pieces : List FramePiece) (session : ℕ) (g : Stage) (a : State) (t : Transaction) → transaction_of next session ≡ Some (in_phase Resolving t)
-    → AreCommitted stamps next (in_phase Resolving t) → length a.written ≡ n → StageStands (stamps_then stamps n stage.Done) next leaves pieces session (resolving_at g a)
+    → AreCommitted stamps next (in_phase Resolving t) → length a.written ≡ n → StageInPlace (stamps_then stamps n stage.Done) next leaves pieces session (resolving_at g a)
 stamps-stage stamps zero next leaves pieces session g a t there committed none =
     (in_phase Resolving t, there, inl (edited-none edit.Undo (name_of next (in_phase Resolving t)) pieces a.written 0 (omega (arith, none))))
 stamps-stage stamps (suc n) next leaves pieces session g a t there committed some = (
@@ -103,7 +104,7 @@ stamps-stage stamps (suc n) next leaves pieces session g a t there committed som
 )
 
 pub undos-stage : (n : ℕ) (next : Machine) (leaves : List Leaf) (pieces : List FramePiece) (session : ℕ) (g : Stage) (a : State) (t : Transaction) → transaction_of next session ≡ Some (in_phase Resolving t)
-    → NoneStands next (in_phase Resolving t) → length a.written ≡ n → StageStands (undoes n) next leaves pieces session (resolving_at g a)
+    → NoneStands next (in_phase Resolving t) → length a.written ≡ n → StageInPlace (undoes n) next leaves pieces session (resolving_at g a)
 undos-stage zero next leaves pieces session g a t there gone none =
     (in_phase Resolving t, there, inl (edited-none edit.Undo (name_of next (in_phase Resolving t)) pieces a.written 0 (omega (arith, none))))
 undos-stage (suc n) next leaves pieces session g a t there gone some = (

@@ -111,8 +111,8 @@ resolves-go law e w session a st at at-resolve = subst (λ g. Goes e w session (
   stands : EndsOnlyDown w.machine session × ForTransaction w.machine session (λ t. ResolvesStand t.phase t)
   stands = stage-stands e w session a stage.Resolve st at is
 
-  settled : (outcome : Outcome) (event : Event) (made : Made) → decision w.machine session RollbackCall ≡ (outcome, event) → SettledBy outcome event w.machine session (decide_left a) made → GoesOn (doing_in e.hub.dir.leaves session a) w.machine session made
-  settled outcome event made d by = subst (λ x. GoesOn x w.machine session made) (sym (doing-at e.hub.dir.leaves session a stage.Resolve is))
+  settled : (outcome : Outcome) (event : Event) (made : Made) → decision w.machine session RollbackCall ≡ (outcome, event) → SettledBy outcome event w.machine session (decide_left a) made → GoesOn (w.again session) (doing_in e.hub.dir.leaves session a) w.machine session made
+  settled outcome event made d by = subst (λ x. GoesOn (w.again session) x w.machine session made) (sym (doing-at e.hub.dir.leaves session a stage.Resolve is))
       (inr (subst (λ (x : Outcome × Event). SettledBy x.0 x.1 w.machine session (decide_left a) made) (sym d) by))
 
   is-refused : (r : Refusal) → decision w.machine session RollbackCall ≡ refused r → Goes e w session (beside e.hub (refuses r a))

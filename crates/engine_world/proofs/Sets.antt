@@ -46,12 +46,14 @@ sets-go chains e w oldest stable st answer = record {
   begun = st.begun;
   owned = st.owned;
   leaves = leaves-go-on chains w.machine event w.shelf e.hub.dir.leaves e.pieces e.states st.valid may (λ table key. tt) st.leaves;
+  frames = st.frames;
   count = st.count;
   doings = st.doings;
   doing = st.doing;
   sessions = λ r b there. others-stay (length e.sessions) w.machine (after w.machine event) e.hub (record e.hub { stamps = raised e.hub.stamps oldest stable }) e.pieces e.pieces r b beside
       (past-all e.sessions r b there) st.valid (st.sessions r b there);
   systems = st.systems;
+  noticed = st.noticed;
 } where
   event : Event
   event = SetStamps (stamp_of oldest) (stamp_of stable)

@@ -33,6 +33,7 @@ use Rattle.engine_world.proofs.Moves.{leads}
 use Rattle.engine_world.proofs.EditedChains.{stamps-edit, resolved-edit}
 use Rattle.engine_world.proofs.EditedLeaves.{LeafEdited, piece_edited, start-within, start-below}
 use Rattle.engine_world.proofs.EditMoves.{the-one, known-phase, alive-only, own-named, noted-of, ordered-on, session-on, asked-on, ending-on, at-frame, pieces_edited, edit-leaf, edit-moves}
+use Rattle.engine_world.proofs.InPlace.{StageInPlace}
 
 -- ---- what the session does then
 
@@ -47,7 +48,7 @@ done-doing leaves stamps (suc n) session a resolving = ap (λ p. stamping p stam
 -- ---- what stands then
 
 pub decide-stage : (stamps : CommitStamps) (n : ℕ) (m : Machine) (leaves : List Leaf) (pieces : List FramePiece) (session : ℕ) (a : State) (t : Transaction) → n ≤ length a.written → transaction_of m session ≡ Some t → t.phase ≡ ModelRunning
-    → IsOrdered stamps m pieces t a 0 → IsEdited (stamps_in ModelRunning stamps) m pieces t a n → StageStands (stamps_then stamps n (stage.Decide stamps)) m leaves pieces session (at_stage (stamps_then stamps n (stage.Decide stamps)) a)
+    → IsOrdered stamps m pieces t a 0 → IsEdited (stamps_in ModelRunning stamps) m pieces t a n → StageInPlace (stamps_then stamps n (stage.Decide stamps)) m leaves pieces session (at_stage (stamps_then stamps n (stage.Decide stamps)) a)
 decide-stage stamps zero m leaves pieces session a t within there running ordered done = (
   alive-only m session t there (running-alive t running),
   λ x at. subst (λ (z : Transaction). DecidesStand z.phase stamps m pieces z (at_stage (stage.Decide stamps) a)) (the-one m session t x there at)
@@ -57,7 +58,7 @@ decide-stage stamps (suc n) m leaves pieces session a t within there running ord
     ((omega arith, within), (t, there, subst (λ p. StampsStand p stamps m pieces t (at_stage (stage.Stamp stamps (suc n)) a) (suc n)) (sym running) (ordered, done)))
 
 done-stage : (stamps : CommitStamps) (n : ℕ) (m : Machine) (leaves : List Leaf) (pieces : List FramePiece) (session : ℕ) (a : State) (t : Transaction) → n ≤ length a.written → transaction_of m session ≡ Some t → t.phase ≡ ModelResolving
-    → AreCommitted stamps m t → IsEdited (stamps_in ModelResolving stamps) m pieces t a n → StageStands (stamps_then stamps n stage.Done) m leaves pieces session (at_stage (stamps_then stamps n stage.Done) a)
+    → AreCommitted stamps m t → IsEdited (stamps_in ModelResolving stamps) m pieces t a n → StageInPlace (stamps_then stamps n stage.Done) m leaves pieces session (at_stage (stamps_then stamps n stage.Done) a)
 done-stage stamps zero m leaves pieces session a t within there resolving committed done =
     (t, there, subst (λ p. DoneStands p m pieces t (at_stage stage.Done a)) (sym resolving) (inr (stamp_of stamps.commit, or_stamp (stamp_of stamps.durable) (stamp_of stamps.commit), done)))
 done-stage stamps (suc n) m leaves pieces session a t within there resolving committed done =
@@ -86,7 +87,7 @@ run-stamped : MarksLaw → (e : Engine) (w : World) (session : ℕ) (a : State) 
     → StampsStand ModelRunning stamps w.machine e.pieces t a left
     → Leads (with_session (with_piece e (frame_at a.written left) (frame_stamped w.machine a p stamps left t phase.Running)) session (state_stamped a stamps left phase.Running)) w session reply.More
 run-stamped law e w session a p view stamps left t o in-phase running now = leads e w session a (at_stage (stamps_then stamps n (stage.Decide stamps)) a) e.hub later e.hazards w.machine reply.More o.st o.at
-    (subst (λ d. GoesOn d w.machine session (record { told = reply.More; machine = w.machine; doing = doing_in e.hub.dir.leaves session (at_stage (stamps_then stamps n (stage.Decide stamps)) a) }))
+    (subst (λ d. GoesOn (w.again session) d w.machine session (record { told = reply.More; machine = w.machine; doing = doing_in e.hub.dir.leaves session (at_stage (stamps_then stamps n (stage.Decide stamps)) a) }))
     (sym (ap (λ x. doing_at x e.hub.dir.leaves session a) o.same ∙ ap (λ x. stamping x stamps left a) in-phase))
     (asked-on (commit_in stamps) (left + decide_left a) (n + decide_left a) w.machine session (doing_in e.hub.dir.leaves session (at_stage (stamps_then stamps n (stage.Decide stamps)) a))
     (let low = start-below a.written left o.some.0 in omega (arith, low)) (decide-doing e.hub.dir.leaves stamps n session a in-phase)))
@@ -110,7 +111,7 @@ resolve-stamped : StampsLaw → (e : Engine) (w : World) (session : ℕ) (a : St
     → t.phase ≡ ModelResolving → StampsStand ModelResolving stamps w.machine e.pieces t a left
     → Leads (with_session (with_piece e (frame_at a.written left) (frame_stamped w.machine a p stamps left t phase.Resolving)) session (state_stamped a stamps left phase.Resolving)) w session reply.More
 resolve-stamped law e w session a p view stamps left t o in-phase resolving now = leads e w session a (at_stage (stamps_then stamps n stage.Done) a) e.hub later e.hazards w.machine reply.More o.st o.at
-    (subst (λ d. GoesOn d w.machine session (record { told = reply.More; machine = w.machine; doing = doing_in e.hub.dir.leaves session (at_stage (stamps_then stamps n stage.Done) a) }))
+    (subst (λ d. GoesOn (w.again session) d w.machine session (record { told = reply.More; machine = w.machine; doing = doing_in e.hub.dir.leaves session (at_stage (stamps_then stamps n stage.Done) a) }))
     (sym (ap (λ x. doing_at x e.hub.dir.leaves session a) o.same ∙ ap (λ x. stamping x stamps left a) in-phase))
     (ending-on a.answer (left + done_left a) (n + done_left a) w.machine session (doing_in e.hub.dir.leaves session (at_stage (stamps_then stamps n stage.Done) a))
     (let low = start-below a.written left o.some.0 in omega (arith, low)) (done-doing e.hub.dir.leaves stamps n session a in-phase)))

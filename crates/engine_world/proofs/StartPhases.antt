@@ -18,10 +18,11 @@ use Rattle.call_steps.specs.State.{State}
 use Rattle.engine_world.specs.Worlds.{World, Asked}
 use Rattle.engine_world.specs.Doings.{done_left, decide_left, doing_at, undoing}
 use Rattle.engine_world.specs.Leaves.{AreNoted, EditedDownTo, OrderedDownTo}
-use Rattle.engine_world.specs.Stages.{EndsOnlyDown, StageStands, MarksStand, OrdersStand, DecidesStand, ResolvesStand, UndoesStand, stamps_in}
+use Rattle.engine_world.specs.Stages.{EndsOnlyDown, MarksStand, OrdersStand, DecidesStand, ResolvesStand, UndoesStand, stamps_in}
 use Rattle.engine_world.specs.Stands.{Engine, SessionStands}
 use Rattle.engine_world.proofs.HubMoves.{phase-there}
 use Rattle.engine_world.proofs.Arranged.{past-all, member-none, none-in}
+use Rattle.engine_world.proofs.InPlace.{StageInPlace}
 
 -- the keys that were written are these, and the first event this
 abbrev pub with_keys : State → Stage → List WrittenKey → State
@@ -30,7 +31,7 @@ with_keys a g keys = record a { stage = g; written = keys }
 -- the call at its first stage
 abbrev pub StartsWith : Engine → World → ℕ → State → Stage → Call → List WrittenKey → Type 0
 StartsWith e w session a g c keys =
-    (left : ℕ) × (doing_at g e.hub.dir.leaves session (with_keys a g keys) ≡ Asked c left) × StageStands g w.machine e.hub.dir.leaves e.pieces session (with_keys a g keys)
+    (left : ℕ) × (doing_at g e.hub.dir.leaves session (with_keys a g keys) ≡ Asked c left) × StageInPlace g w.machine e.hub.dir.leaves e.pieces session (with_keys a g keys)
 
 module _ (e : Engine) (w : World) (session : ℕ) (a : State) (mine : SessionStands w.machine e.hub e.pieces session a) (ends : EndsOnlyDown w.machine session) where
   -- the transaction's phase is the session's

@@ -1,7 +1,9 @@
 -- The start of a call.
-use Rattle.std.proofs.Common.{◌≡◌, ℕ, zero, suc, refl, ap, sym, ◌∙◌, List, [], ◌∷◌, length, subst}
-use Rattle.std.specs.Prelude.{Some, slice_get, slice_set}
+use Rattle.std.proofs.Common.{◌≡◌, ℕ, zero, suc, false, refl, ap, sym, ◌∙◌, List, [], ◌∷◌, length, inl, inr, subst}
+use Rattle.std.specs.Prelude.{Some, if◌then◌else◌, slice_get, slice_set}
+use Rattle.std.proofs.lemmas.Bool.{cases_eq, ne_eqb}
 use Rattle.std.proofs.lemmas.List.Sorted.{IsPermutation-sym, length_permutation}
+use Rattle.std.proofs.lemmas.Option.{same_Some}
 use Rattle.wt_code.specs.declared.answers.Answer.TheVariants as answers
 use Rattle.wt_code.specs.declared.refusals.Refusal.TheVariants as told
 use Rattle.wt_code.specs.declared.refusals.Invalid.TheVariants as why
@@ -22,14 +24,15 @@ use Rattle.call_steps.specs.declared.written.WrittenKey.{WrittenKey}
 use Rattle.call_steps.specs.Stages.{first_mark, first_order, first_undo}
 use Rattle.call_steps.specs.Starts.{AreArranged, Arranges, asks, StartsAt, StartsIn, stamps_given}
 use Rattle.call_steps.specs.State.{State, at_stage}
-use Rattle.engine_world.specs.Worlds.{World, Doing, Resting, Asked, Placed, Decided, Ending, doing_of}
+use Rattle.engine_world.specs.Worlds.{World, Doing, Resting, Asked, Placed, Decided, Ending, doing_of, unset}
 use Rattle.engine_world.specs.Doings.{doing_at, doing_in, find_left, stamping, undoing}
 use Rattle.engine_world.specs.Steps.{BeginsIn, MayBegin}
-use Rattle.engine_world.specs.Stages.{EndsOnlyDown, StageStands}
+use Rattle.engine_world.specs.Stages.{EndsOnlyDown, IsNoticed}
 use Rattle.engine_world.specs.Stands.{Engine, Stands, SessionStands}
 use Rattle.engine_world.specs.Laws.{StartsGo, with_session}
 use Rattle.engine_world.proofs.Events.{all-same, beside-same}
-use Rattle.engine_world.proofs.Moves.{moves, world_with}
+use Rattle.engine_world.proofs.InPlace.{SessionInPlace, StageInPlace, noticed-in-place}
+use Rattle.engine_world.proofs.Moves.{again-as, get-set-same, moves, world_with}
 use Rattle.engine_world.proofs.HubMoves.{stage-stands, doing-at}
 use Rattle.engine_world.proofs.Arranged.{members-kept}
 use Rattle.engine_world.proofs.StartPhases.{with_keys, StartsWith, by-mark, by-order, by-undo}
@@ -99,13 +102,13 @@ module _ (e : Engine) (w : World) (session : ℕ) (a : State) (st : Stands e w) 
   -- ---- a session at rest
 
   -- the session begins the call in this state
-  start-as : (new a' : State) (c : Call) (told : Reply) (left : ℕ) → a.stage ≡ stage.Rest → told ≡ reply.Started → a' ≡ new → doing_in e.hub.dir.leaves session new ≡ Asked c left → SessionStands w.machine e.hub e.pieces session new
+  start-as : (new a' : State) (c : Call) (told : Reply) (left : ℕ) → a.stage ≡ stage.Rest → told ≡ reply.Started → a' ≡ new → doing_in e.hub.dir.leaves session new ≡ Asked c left → SessionInPlace w.machine e.hub e.pieces session new
       → Begins e w session c told a'
   start-as new a' c told left rest started is does stands = subst (λ (x : State). Begins e w session c told x) (sym is) (
-    world_with w e.hub.dir.leaves session new w.machine,
-    subst (λ (d : Doing). BeginsIn d w session c told (world_with w e.hub.dir.leaves session new w.machine)) (sym (st.doing session a at ∙ doing-at e.hub.dir.leaves session a stage.Rest rest))
-        (left, started, ap (λ (d : Doing). record w { sessions = slice_set w.sessions session d }) does),
-    moves e w session a new e.hub e.pieces e.hazards w.machine st at (record {
+    begun,
+    subst (λ (d : Doing). BeginsIn d w session c told begun) (sym (st.doing session a at ∙ doing-at e.hub.dir.leaves session a stage.Rest rest))
+        (left, started, ap (λ (d : Doing). record w { sessions = slice_set w.sessions session d; again = unset session w.again }) does),
+    again-as (with_session e session new) (world_with w e.hub.dir.leaves session new w.machine) (unset session w.again) (moves e w session a new e.hub e.pieces e.hazards w.machine st at (record {
       valid = st.valid;
       beside = all-same session w.machine w.machine e.hub e.pieces (beside-same session w.machine);
       fault = refl;
@@ -114,12 +117,23 @@ module _ (e : Engine) (w : World) (session : ℕ) (a : State) (st : Stands e w) 
       made = refl;
       leaves = st.leaves;
       mine = stands;
-    }),
-  )
+    })) noticed,
+  ) where
+    begun : World
+    begun = record (world_with w e.hub.dir.leaves session new w.machine) { again = unset session w.again }
+
+    -- it has found nothing yet, and of the others nothing is unset
+    noticed : (r : ℕ) (b : State) → slice_get (slice_set e.sessions session new) r ≡ Some b → IsNoticed b.stage e.pieces (w.again r) → IsNoticed b.stage e.pieces (unset session w.again r)
+    noticed r b there was = elim (cases_eq r session) [
+      | inl same ↦ let is : new ≡ b = same_Some new b (sym (get-set-same e.sessions session a new at) ∙ (ap (slice_get (slice_set e.sessions session new)) (sym same) ∙ there)) in
+          subst (λ (x : State). IsNoticed x.stage e.pieces (unset session w.again r)) is
+          (noticed-in-place w.machine w.shelf e.hub.dir.leaves e.pieces e.states st.leaves new.stage session new (unset session w.again r) stands.stage)
+      | inr other ↦ subst (λ x. IsNoticed b.stage e.pieces (if x then false else w.again r)) (sym (ne_eqb r session other)) was
+    ]
 
   -- what it wrote is as it was
-  asked-stands : (g : Stage) (name key value : List ℕ) → StageStands g w.machine e.hub.dir.leaves e.pieces session (record a { stage = g; name = name; key = key; value = value })
-      → SessionStands w.machine e.hub e.pieces session (record a { stage = g; name = name; key = key; value = value })
+  asked-stands : (g : Stage) (name key value : List ℕ) → StageInPlace g w.machine e.hub.dir.leaves e.pieces session (record a { stage = g; name = name; key = key; value = value })
+      → SessionInPlace w.machine e.hub e.pieces session (record a { stage = g; name = name; key = key; value = value })
   asked-stands g name key value stands = record {
     phase = mine.phase;
     seated = record { opened = mine.seated.opened; phase = mine.seated.phase };
@@ -129,8 +143,8 @@ module _ (e : Engine) (w : World) (session : ℕ) (a : State) (st : Stands e w) 
   }
 
   -- what it wrote is arranged by leaf
-  arranged-stands : (g : Stage) (keys : List WrittenKey) → AreArranged a.written keys → StageStands g w.machine e.hub.dir.leaves e.pieces session (with_keys a g keys)
-      → SessionStands w.machine e.hub e.pieces session (with_keys a g keys)
+  arranged-stands : (g : Stage) (keys : List WrittenKey) → AreArranged a.written keys → StageInPlace g w.machine e.hub.dir.leaves e.pieces session (with_keys a g keys)
+      → SessionInPlace w.machine e.hub e.pieces session (with_keys a g keys)
   arranged-stands g keys arranged stands = record {
     phase = mine.phase;
     seated = record { opened = mine.seated.opened; phase = mine.seated.phase };

@@ -50,6 +50,7 @@ use Rattle.engine_world.proofs.OnePiece.{brings-others}
 use Rattle.engine_world.proofs.EditedChains.{undos-edit}
 use Rattle.engine_world.proofs.EditedLeaves.{LeafEdited, leaf-edited, piece_edited, start-within, start-below}
 use Rattle.engine_world.proofs.EditMoves.{known-phase, own-named, noted-of, noted-on, has-written, session-on, ending-on, at-frame, pieces_edited, edit-leaf, edit-moves}
+use Rattle.engine_world.proofs.InPlace.{StageInPlace}
 
 -- ---- what the session does then
 
@@ -94,7 +95,7 @@ done-in ModelFailed m pieces t a undone done = absurd undone
 done-in (ModelPrepared stamp) m pieces t a undone done = absurd undone
 
 undoes-stage : (n : ℕ) (m : Machine) (leaves : List Leaf) (pieces : List FramePiece) (session : ℕ) (a : State) (t : Transaction) → n ≤ length a.written → transaction_of m session ≡ Some t → Undone t.phase m t
-    → IsEdited edit.Undo m pieces t a n → StageStands (undoes n) m leaves pieces session (at_stage (undoes n) a)
+    → IsEdited edit.Undo m pieces t a n → StageInPlace (undoes n) m leaves pieces session (at_stage (undoes n) a)
 undoes-stage zero m leaves pieces session a t within there undone done = (t, there, done-in t.phase m pieces t (at_stage stage.Done a) undone done)
 undoes-stage (suc n) m leaves pieces session a t within there undone done = ((omega arith, within), (t, there, undo-in t.phase m pieces t (at_stage (stage.Undo (suc n)) a) (suc n) undone done))
 
@@ -126,7 +127,7 @@ over-undone : UndosLaw → (e : Engine) (w : World) (session : ℕ) (a : State) 
     → IsEdited edit.Undo w.machine e.pieces t a left
     → Leads (with_session (with_piece e (frame_at a.written left) (frame_undone w.machine a p left t)) session (at_stage (undoes (starts_at a left)) a)) w session reply.More
 over-undone law e w session a p left t o over undone done = leads e w session a (at_stage (undoes n) a) e.hub later e.hazards w.machine reply.More o.st o.at
-    (subst (λ d. GoesOn d w.machine session (record { told = reply.More; machine = w.machine; doing = doing_in e.hub.dir.leaves session (at_stage (undoes n) a) }))
+    (subst (λ d. GoesOn (w.again session) d w.machine session (record { told = reply.More; machine = w.machine; doing = doing_in e.hub.dir.leaves session (at_stage (undoes n) a) }))
     (sym (ap (λ x. doing_at x e.hub.dir.leaves session a) o.same ∙ undoing-over a.phase left a over))
     (ending-on a.answer (left + done_left a) (n + done_left a) w.machine session (doing_in e.hub.dir.leaves session (at_stage (undoes n) a)) (let low = start-below a.written left o.some.0 in omega (arith, low)) (undoes-doing e.hub.dir.leaves n session a over)))
     (edit-moves e w session (at_stage (undoes n) a) t edit.Undo later a.written n o.st o.there l
@@ -185,7 +186,7 @@ decided-early m session t x more there early some =
       page = ap (of_some false (λ (z : Transaction). undoes_first z.phase z.writes)) there ∙ (ap (undoes_first t.phase) some ∙ undoes-early t.phase x more early)
 
 settles-early : (m : Machine) (session left fewer : ℕ) (t : Transaction) (x : Write) (more : List Write) (d : Doing) → transaction_of m session ≡ Some t → transaction_of (gone m session t) session ≡ Some (in_phase ModelLeaving t) → IsEarly t.phase
-    → t.writes ≡ x ∷ more → fewer < left → d ≡ Ending answers.Done fewer → GoesOn (Asked Rollback left) m session (record { told = reply.More; machine = gone m session t; doing = d })
+    → t.writes ≡ x ∷ more → fewer < left → d ≡ Ending answers.Done fewer → GoesOn false (Asked Rollback left) m session (record { told = reply.More; machine = gone m session t; doing = d })
 settles-early m session left fewer t x more d there later early some less is = inr (subst (λ (y : Outcome × Event). SettledBy y.0 y.1 m session left made) (sym (decided-early m session t x more there early some)) (
   answers.Done,
   refl,
@@ -222,7 +223,7 @@ first-undone : UndosLaw → ChainsGoOn → (e : Engine) (w : World) (session : �
     → left ≡ length a.written → doing_in e.hub.dir.leaves session a ≡ Asked Rollback (left + done_left a)
     → Leads (with_session (with_piece e (frame_at a.written left) (frame_undone w.machine a p left t)) session (at_stage (undoes (starts_at a left)) (leaving_state a))) w session reply.More
 first-undone law chains-go-on e w session a p left t o early knows all doing = leads e w session a (at_stage (undoes n) (leaving_state a)) e.hub later e.hazards m reply.More o.st o.at
-    (subst (λ d. GoesOn d w.machine session (record { told = reply.More; machine = m; doing = doing_in e.hub.dir.leaves session (at_stage (undoes n) (leaving_state a)) })) (sym doing)
+    (subst (λ d. GoesOn (w.again session) d w.machine session (record { told = reply.More; machine = m; doing = doing_in e.hub.dir.leaves session (at_stage (undoes n) (leaving_state a)) })) (sym doing)
     (settles-early w.machine session (left + done_left a) (n + done_left a) t some.0 some.1 (doing_in e.hub.dir.leaves session (at_stage (undoes n) (leaving_state a))) o.there v.there early some.2 (let low = start-below a.written left o.some.0 in omega (arith, low))
     (undoes-doing e.hub.dir.leaves n session (leaving_state a) tt)))
     (record {

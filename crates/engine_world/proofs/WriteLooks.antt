@@ -58,7 +58,7 @@ use Rattle.engine_world.specs.Doings.{call_in, further_left, landing}
 use Rattle.engine_world.specs.Steps.{Made, GoesTo, LookAnswer, LooksOn}
 use Rattle.engine_world.specs.Laws.{Leads, WritesGo, WritesKey, IsLook, with_session, with_piece}
 use Rattle.engine_world.specs.Leaves.{AreNoted, IsSlotOf, frame_of, slots_in, table_at}
-use Rattle.engine_world.specs.Stands.{Engine, Stands, SessionStands, writes_in}
+use Rattle.engine_world.specs.Stands.{Engine, Stands, writes_in}
 use Rattle.engine_world.proofs.Beside.{SlotsStay}
 use Rattle.engine_world.proofs.Events.{event-beside, all-same}
 use Rattle.engine_world.proofs.Homes.{LiesIn, frame-of-leaf}
@@ -68,6 +68,7 @@ use Rattle.engine_world.proofs.OnePiece.{slots_of, table_of, slots-set, slots-st
 use Rattle.engine_world.proofs.Notes.{led-own, own-member, noted-on}
 use Rattle.engine_world.proofs.Found.{Written, Accepted, Unmet, Conflicting, WriteCases, write-cases}
 use Rattle.engine_world.proofs.Looking.{AtLeaf, at-leaf, look-made, goes-placed, pieces-same, Keeps, stands-at, clears-keep, clears-stand, clears-does, made_in, looks-lead, shorts-lead}
+use Rattle.engine_world.proofs.InPlace.{SessionInPlace}
 
 -- ---- parts
 
@@ -132,8 +133,8 @@ module _ (e : Engine) (w : World) (session frame : ℕ) (a : State) (p p' : Fram
       (subst (λ v. GoesTo (Decided answer v) left next (made_in e.hub.dir.leaves next session (clears x.call x.target answer b))) (ap (λ o. of_some Nothing (λ cursor. landing session cursor x.target b.key answer) o) writes.none)
       (clears-does e.hub.dir.leaves left enough next session x.call x.target b answer))
 
-  cleared : (answer : Answer (List ℕ)) → x.later ≡ clears x.call x.target answer x.before → SessionStands w.machine e.hub e.pieces session x.later
-  cleared answer now = subst (SessionStands w.machine e.hub e.pieces session) (sym now) (clears-stand w.machine e.hub e.pieces session x.call x.target x.before k l.on answer)
+  cleared : (answer : Answer (List ℕ)) → x.later ≡ clears x.call x.target answer x.before → SessionInPlace w.machine e.hub e.pieces session x.later
+  cleared answer now = subst (SessionInPlace w.machine e.hub e.pieces session) (sym now) (clears-stand w.machine e.hub e.pieces session x.call x.target x.before k l.on answer)
 
   -- memory was too short
   short-leads : x.leaf_after ≡ x.leaf → x.later ≡ clears x.call x.target no_memory x.before → Led
@@ -166,7 +167,7 @@ module _ (e : Engine) (w : World) (session frame : ℕ) (a : State) (p p' : Fram
         txns = (calls-stand e.hub.txns w.machine st.valid st.txns).others event tt may;
         made = refl;
         leaves = leaves-go-on chains-go w.machine event w.shelf e.hub.dir.leaves e.pieces e.states st.valid may (λ table key. tt) st.leaves;
-        mine = subst (SessionStands next e.hub e.pieces session) (sym c.now) mine;
+        mine = subst (SessionInPlace next e.hub e.pieces session) (sym c.now) mine;
       })) where
         event : Event
         event = RefuseWrite session
@@ -200,7 +201,7 @@ module _ (e : Engine) (w : World) (session frame : ℕ) (a : State) (p p' : Fram
           noted = subst (λ o. AreNoted e.hub.dir.leaves e.pieces o x.before.written) writes-same k.noted;
         }
 
-        mine : SessionStands next e.hub e.pieces session (conflicts x.call x.target c.other x.before)
+        mine : SessionInPlace next e.hub e.pieces session (conflicts x.call x.target c.other x.before)
         mine = stands-at next e.hub e.pieces session (conflicts x.call x.target c.other x.before) (clears-keep next e.hub e.pieces session x.call x.target answer failed keeps-failed)
             (in_phase Failed l.transaction, now, inr (refl, writes.none))
 
@@ -262,7 +263,7 @@ module _ (e : Engine) (w : World) (session frame : ℕ) (a : State) (p p' : Fram
       stamps = refl;
       txns = (calls-stand e.hub.txns w.machine st.valid st.txns).others event tt may;
       made = refl;
-      leaves = leaves-on e.pieces frame p p' there w.machine next w.shelf e.states e.hub.dir l.home (with_leaf x.leaf_after l.was) st.dir st.leaves l.home_there l.laid l.laid_at (record {
+      leaves = leaves-on e.pieces frame p p' there aged w.machine next w.shelf e.states e.hub.dir l.home (with_leaf x.leaf_after l.was) st.dir st.leaves l.home_there l.laid l.laid_at (record {
         is = ap (λ (q : FramePiece). q.frame) is;
         table = l.table;
         id = l.id;
@@ -270,7 +271,7 @@ module _ (e : Engine) (w : World) (session frame : ℕ) (a : State) (p p' : Fram
         bare = outside;
         lies = subst (λ (h : HeldLeaf). 1 ≤ length h.page → h.page ≡ w.shelf l.home.id) (sym whole) l.lies;
       }) elsewhere;
-      mine = subst (SessionStands next e.hub pieces session) (sym later) mine;
+      mine = subst (SessionInPlace next e.hub pieces session) (sym later) mine;
     }) where
       chains : slots_of p ≡ l.was.leaf.chains
       chains = ap (λ o. of_some [] (λ (f : Frame). f.leaf.chains) o) l.held
@@ -284,8 +285,11 @@ module _ (e : Engine) (w : World) (session frame : ℕ) (a : State) (p p' : Fram
       chains_after : slots_of p' ≡ x.leaf_after.chains
       chains_after = ap slots_of is
 
+      aged : p'.generation ≡ p.generation
+      aged = ap (λ (q : FramePiece). q.generation) is
+
       stays : SlotsStay e.pieces pieces
-      stays = slots-stay e.pieces frame p p' there (ap table_of is ∙ sym (ap (of_some 0 (λ (f : Frame). f.table)) l.held)) (λ key j from. ap (slot_of key) (chains_after ∙ after_is) ∙ installs_keep_slots x.before.key key u l.was.leaf.chains j (ap (slot_of key) (sym chains) ∙ from))
+      stays = slots-stay e.pieces frame p p' there aged (ap table_of is ∙ sym (ap (of_some 0 (λ (f : Frame). f.table)) l.held)) (λ key j from. ap (slot_of key) (chains_after ∙ after_is) ∙ installs_keep_slots x.before.key key u l.was.leaf.chains j (ap (slot_of key) (sym chains) ∙ from))
 
       brings : (key : List ℕ) (v : Update) → Member v (chain_at key (slots_of p')) → v.version.window.name ≢ name_of w.machine l.transaction → Member v (chain_at key (slots_of p))
       brings key v member other = elim (member-with x.before.key key u v l.was.leaf.chains (subst (λ z. Member v (chain_at key z)) (chains_after ∙ after_is) member)) [
@@ -323,7 +327,7 @@ module _ (e : Engine) (w : World) (session frame : ℕ) (a : State) (p p' : Fram
       slot : WrittenKey
       slot = record { frame = x.target.frame; slot = i.slot }
 
-      mine : SessionStands next e.hub pieces session (clears x.call x.target answers.Done middle)
+      mine : SessionInPlace next e.hub pieces session (clears x.call x.target answers.Done middle)
       mine = stands-at next e.hub pieces session (clears x.call x.target answers.Done middle)
           (clears-keep next e.hub pieces session x.call x.target answers.Done middle (subst (Keeps next e.hub pieces session) (sym i.state) (keeps-noted led refl)))
           (written x.target.table x.before.key x.change l.transaction, now, inl l.running) where

@@ -1,5 +1,5 @@
 -- What an engine at rest leaves whose leaf gives way to others, which are in no frame.
-use Rattle.std.specs.Prelude.{◌≡◌, ◌≢◌, ◌<◌, ◌≤◌, ℕ, List, Some, None, IfSome, slice_get, slice_set}
+use Rattle.std.specs.Prelude.{◌≡◌, ◌≢◌, ◌<◌, ◌≤◌, ◌+◌, ◌^◌, ℕ, List, Some, None, IfSome, slice_get, slice_set}
 use Rattle.std.specs.List.{Contains}
 use Rattle.kv_model.specs.AgreementLaws.{head_of}
 use Rattle.kv_model.specs.History.{line}
@@ -13,6 +13,8 @@ use Rattle.tree_dir.specs.Leaves.{Directory, GaveWay, IsDirectory, TakePlace, le
 use Rattle.txn_table.specs.declared.phase.Phase.TheVariants.{Idle}
 use Rattle.call_steps.specs.declared.stage.Stage.TheVariants as stage
 use Rattle.call_steps.specs.State.{State, first_pinned}
+use Rattle.call_steps.specs.Tables.{empty}
+use Rattle.engine_world.specs.Leaves.{emptied, generation_at}
 use Rattle.engine_world.specs.Stands.{Engine, Stands}
 use Rattle.engine_world.specs.Worlds.{World}
 
@@ -33,12 +35,12 @@ pub record IsShelved (m : Machine) (old next : Directory) (made : List Leaf) (be
   pub bare : (n : Leaf) → Contains made n → (key : List ℕ) → leaf_under n.table key next.leaves ≢ Some n → shown_at key (shelf n.id) ≡ None
   pub durable : (n : Leaf) → Contains made n → (key : List ℕ) → IfSome (shown_at key (shelf n.id)) (λ v. v.window.durable ≤ m.oldest)
 
--- the engine with another directory, and a frame that has no leaf
+-- the engine with another directory, and a frame that its leaf has left
 abbrev pub without_leaf : Engine → Directory → ℕ → Engine
-without_leaf e dir frame = record e { hub = record e.hub { dir = dir }; pieces = slice_set e.pieces frame (record { generation = 0; frame = None }); states = slice_set e.states frame 0 }
+without_leaf e dir frame = record e { hub = record e.hub { dir = dir }; pieces = slice_set e.pieces frame (emptied e.pieces frame); states = slice_set e.states frame (empty (generation_at e.pieces frame + 1)) }
 
 -- nobody sees it
 abbrev pub LeavesGiveWay : Type 0
 LeavesGiveWay = (e : Engine) (w : World) (l : Leaf) (framed : Framed) (dir : Directory) (entries : List Entry) (ids : List ℕ) (shelf : ℕ → List Row) → Stands e w → IsIdle e → w.machine.checkpoint ≡ None
-    → Contains e.hub.dir.leaves l → l.frame ≡ Some framed → TakePlace l.id entries e.hub.dir.leaves → GaveWay e.hub.dir dir l.id entries ids → IsDirectory dir
+    → Contains e.hub.dir.leaves l → l.frame ≡ Some framed → generation_at e.pieces framed.frame + 1 < 2 ^ 62 → TakePlace l.id entries e.hub.dir.leaves → GaveWay e.hub.dir dir l.id entries ids → IsDirectory dir
     → IsShelved w.machine e.hub.dir dir (leaves_with l.table ids entries) w.shelf shelf → Stands (without_leaf e dir framed.frame) (record w { shelf = shelf })

@@ -1,5 +1,5 @@
 -- The leaves of an engine, and what stands in the slots that a transaction wrote.
-use Rattle.std.specs.Prelude.{◌≡◌, ◌≢◌, ◌⊎◌, ◌≤◌, ℕ, List, [], length, Option, Some, None, option_and_then, option_map, slice_get, slice_index_or}
+use Rattle.std.specs.Prelude.{◌≡◌, ◌≢◌, ◌⊎◌, ◌<◌, ◌≤◌, ◌+◌, ◌*◌, ◌^◌, ℕ, List, [], length, Option, Some, None, option_and_then, option_map, slice_get, slice_index_or}
 use Rattle.std.specs.List.{Contains}
 use Rattle.stamp.specs.declared.Name.{Name}
 use Rattle.kv_model.specs.History.{Table, Write, line}
@@ -21,7 +21,7 @@ use Rattle.call_steps.specs.declared.frame.Frame.{Frame}
 use Rattle.call_steps.specs.declared.frame.FramePiece.{FramePiece}
 use Rattle.call_steps.specs.declared.written.WrittenKey.{WrittenKey}
 use Rattle.call_steps.specs.Leaves.{chain_in}
-use Rattle.call_steps.specs.Tables.{first_word}
+use Rattle.call_steps.specs.Tables.{filled}
 
 abbrev pub frame_in : List FramePiece → ℕ → Option Frame
 frame_in pieces frame = option_and_then (λ (p : FramePiece). p.frame) (slice_get pieces frame)
@@ -33,8 +33,23 @@ slots_in pieces frame = of_some [] (λ (f : Frame). f.leaf.chains) (frame_in pie
 abbrev pub table_at : List FramePiece → ℕ → ℕ
 table_at pieces frame = of_some 0 (λ (f : Frame). f.table) (frame_in pieces frame)
 
+abbrev pub generation_at : List FramePiece → ℕ → ℕ
+generation_at pieces frame = of_some 0 (λ (p : FramePiece). p.generation) (slice_get pieces frame)
+
 abbrev pub word_at : List ℕ → ℕ → ℕ
 word_at states frame = slice_index_or states frame 0
+
+-- the piece of a frame that its leaf has left
+abbrev pub emptied : List FramePiece → ℕ → FramePiece
+emptied pieces frame = record { generation = generation_at pieces frame + 1; frame = None }
+
+-- its generation is one that there may be, and its state word is not behind it, also where the frame is locked
+pub record FrameStands (pieces : List FramePiece) (states : List ℕ) (frame : ℕ) : Type 0 where
+  pub below : generation_at pieces frame < 2 ^ 62
+  pub word : 4 * generation_at pieces frame ≤ word_at states frame + 2
+
+abbrev pub FramesStand : List FramePiece → List ℕ → Type 0
+FramesStand pieces states = (frame : ℕ) → FrameStands pieces states frame
 
 -- the frame that has the leaf of a key
 abbrev pub frame_of : List Leaf → ℕ → List ℕ → Option ℕ
@@ -48,7 +63,9 @@ pub record IsLaid (pieces : List FramePiece) (states : List ℕ) (l : Leaf) : Ty
   pub there : frame_in pieces framed.frame ≡ Some frame
   pub table : frame.table ≡ l.table
   pub id : frame.id ≡ l.id
-  pub word : word_at states framed.frame ≡ first_word
+  pub generation : generation_at pieces framed.frame ≡ framed.generation
+  pub below : framed.generation < 2 ^ 62
+  pub word : word_at states framed.frame ≡ filled framed.generation
 
 -- the leaf is in a frame: its chains and rows stand for the keys that lie in it, and it has none of others
 pub record LeafInFrame (m : Machine) (shelf : ℕ → List Row) (leaves : List Leaf) (pieces : List FramePiece) (states : List ℕ) (l : Leaf) : Type 0 where

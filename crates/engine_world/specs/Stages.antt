@@ -1,5 +1,5 @@
 -- What stands at each stage of a session's call.
-use Rattle.std.specs.Prelude.{◌≡◌, ◌⊎◌, ◌<◌, ◌≤◌, ℕ, Bool, true, List, [], length, Some, None}
+use Rattle.std.specs.Prelude.{◌≡◌, ◌⊎◌, ◌<◌, ◌≤◌, ◌+◌, ◌*◌, ℕ, Bool, true, List, [], length, Some, None}
 use Rattle.std.specs.List.{Contains}
 use Rattle.wt_code.specs.declared.refusals.Refusal.TheVariants.{NotFound}
 use Rattle.kv_model.specs.History.{Write, line}
@@ -28,7 +28,7 @@ use Rattle.call_steps.specs.declared.stage.Wanted.{Wanted}
 use Rattle.call_steps.specs.Stages.{is_write, cursor_in}
 use Rattle.call_steps.specs.State.{State, is_pinned_at}
 use Rattle.call_steps.specs.Tables.{target_in}
-use Rattle.engine_world.specs.Leaves.{EditedDownTo, OrderedDownTo}
+use Rattle.engine_world.specs.Leaves.{EditedDownTo, OrderedDownTo, generation_at}
 use Rattle.engine_world.specs.Walks.{passed, passed_with}
 
 -- of the session's transaction, where it has one
@@ -69,6 +69,19 @@ Seeks m leaves session call target a = (on : IsOnLeaf m leaves session call targ
 abbrev pub Awaits : Machine → List Leaf → ℕ → KeyCall → Wanted → State → Type 0
 Awaits m leaves session call wanted a =
     HasTransaction m session (λ t. (t.phase ≡ Running) × (is_write call ≡ true → 0 < t.id)) × ((at : IsLeafAt leaves wanted) × IsSought m leaves session a call at.0)
+
+-- the leaf that a target names, in whatever frame
+abbrev pub wanted_in : Target → Wanted
+wanted_in target = record { table = target.table; leaf = target.leaf }
+
+-- the leaf has gone out of this frame, which has no more the state word that was found
+abbrev pub IsPast : List FramePiece → Target → Type 0
+IsPast pieces target = target.word + 2 < 4 * generation_at pieces target.frame
+
+-- the call has found its leaf, which is where it was found, or has gone out since
+abbrev pub HasFound : Machine → List Leaf → List FramePiece → ℕ → KeyCall → Target → State → Type 0
+HasFound m leaves pieces session call target a =
+    (awaits : Awaits m leaves session call (wanted_in target) a) × ((target_in awaits.1.0.0 ≡ Some target) ⊎ IsPast pieces target)
 
 -- a walk found no row in its leaf either
 abbrev pub IsPassed : Machine → List Leaf → ℕ → KeyCall → Leaf → Type 0
@@ -165,8 +178,8 @@ StageStands stage.Rest m leaves pieces session a = EndsOnlyDown m session
 StageStands (stage.Begin read) m leaves pieces session a = EndsOnlyDown m session
 StageStands (stage.Find call) m leaves pieces session a = EndsOnlyDown m session × NamesOnly call a
 StageStands (stage.Fill call wanted) m leaves pieces session a = Awaits m leaves session call wanted a
-StageStands (stage.Publish call target) m leaves pieces session a = Seeks m leaves session call target a
-StageStands (stage.Validate call target) m leaves pieces session a = Seeks m leaves session call target a
+StageStands (stage.Publish call target) m leaves pieces session a = HasFound m leaves pieces session call target a
+StageStands (stage.Validate call target) m leaves pieces session a = HasFound m leaves pieces session call target a
 StageStands (stage.Look call target) m leaves pieces session a = Seeks m leaves session call target a
 StageStands (stage.Pass call target) m leaves pieces session a = GoesPast m leaves session call target
 StageStands (stage.History call target) m leaves pieces session a = IsOnLeaf m leaves session call target
@@ -183,3 +196,9 @@ StageStands stage.Resolve m leaves pieces session a = EndsOnlyDown m session × 
 StageStands (stage.Undo left) m leaves pieces session a = IsLeft left a × HasTransaction m session (λ t. UndoesStand t.phase m pieces t a left)
 StageStands stage.Done m leaves pieces session a = HasTransaction m session (λ t. DoneStands t.phase m pieces t a)
 StageStands (stage.Unpin cursor) m leaves pieces session a = (transaction_of m session ≡ None) × (is_pinned_at a.cursors cursor ≡ true)
+
+-- where the leaf that was found has gone out, the call may be told so
+abbrev pub IsNoticed : Stage → List FramePiece → Bool → Type 0
+IsNoticed (stage.Publish call target) pieces again = IsPast pieces target → again ≡ true
+IsNoticed (stage.Validate call target) pieces again = IsPast pieces target → again ≡ true
+IsNoticed _ pieces again = Unit {0}

@@ -19,8 +19,8 @@ use Rattle.call_steps.specs.HubEvents.{IsSeated}
 use Rattle.call_steps.specs.State.{State}
 use Rattle.engine_world.specs.Worlds.{World, doing_of}
 use Rattle.engine_world.specs.Doings.{doing_in}
-use Rattle.engine_world.specs.Leaves.{LeafStands, AreNoted, TablesBegun, LeavesOwned}
-use Rattle.engine_world.specs.Stages.{StageStands}
+use Rattle.engine_world.specs.Leaves.{LeafStands, FramesStand, AreNoted, TablesBegun, LeavesOwned}
+use Rattle.engine_world.specs.Stages.{IsNoticed, StageStands}
 
 -- the data of an engine: what the sessions share, the frames with their state words, and the sessions with their hazard words
 pub record Engine : Type 0 where
@@ -59,8 +59,10 @@ pub record Stands (e : Engine) (w : World) : Type 0 where
   pub begun : TablesBegun e.hub.tables.tables e.hub.dir.leaves
   pub owned : LeavesOwned e.hub.tables.tables e.hub.dir.leaves
   pub leaves : (l : Leaf) → Contains e.hub.dir.leaves l → LeafStands w.machine w.shelf e.hub.dir.leaves e.pieces e.states l
+  pub frames : FramesStand e.pieces e.states
   pub count : length e.sessions ≡ length w.machine.sessions
   pub doings : length w.sessions ≡ length e.sessions
   pub doing : (session : ℕ) (a : State) → slice_get e.sessions session ≡ Some a → doing_of w session ≡ doing_in e.hub.dir.leaves session a
   pub sessions : (session : ℕ) (a : State) → slice_get e.sessions session ≡ Some a → SessionStands w.machine e.hub e.pieces session a
+  pub noticed : (session : ℕ) (a : State) → slice_get e.sessions session ≡ Some a → IsNoticed a.stage e.pieces (w.again session)
   pub systems : map (option_map system_call_in) e.systems ≡ w.systems

@@ -1,11 +1,11 @@
 -- What a step of a session's call may reply, and what it leaves.
-use Rattle.std.specs.Prelude.{◌≡◌, ◌⊎◌, ◌<◌, ℕ, List, [], Option, Some, None, slice_set}
+use Rattle.std.specs.Prelude.{◌≡◌, ◌⊎◌, ◌<◌, ℕ, Bool, true, List, [], Option, Some, None, slice_set}
 use Rattle.failure.specs.declared.Fault.{Fault}
 use Rattle.item.specs.declared.Change.TheVariants.{Put as PutOf, Remove as RemoveOf}
 use Rattle.wt_code.specs.declared.answers.Answer.{Answer}
 use Rattle.wt_code.specs.declared.answers.Answer.TheVariants as answers
 use Rattle.wt_code.specs.declared.refusals.Refusal.{Refusal}
-use Rattle.wt_code.specs.declared.refusals.Refusal.TheVariants.{NoMemory, Panic, Invalid}
+use Rattle.wt_code.specs.declared.refusals.Refusal.TheVariants.{Again, NoMemory, Panic, Invalid}
 use Rattle.wt_code.specs.declared.refusals.Invalid.TheVariants.{InCall, NoCall}
 use Rattle.kv_model.specs.History.{Table, tables, named}
 use Rattle.kv_model.specs.Machine.{Machine, Transaction, transaction_of, Event, EndTransaction, Nothing, after}
@@ -15,7 +15,7 @@ use Rattle.kv_model.specs.Calls.{Call, Begin, GetKey, PutKey, RemoveKey, SeekKey
 use Rattle.kv_model.specs.Told.{Tells}
 use Rattle.call_steps.specs.declared.reply.Reply.{Reply}
 use Rattle.call_steps.specs.declared.reply.Reply.TheVariants as reply
-use Rattle.engine_world.specs.Worlds.{Doing, Resting, Asked, Placed, Decided, Ending, World, doing_of}
+use Rattle.engine_world.specs.Worlds.{Doing, Resting, Asked, Placed, Decided, Ending, World, doing_of, unset}
 
 -- what a step leaves: its reply, the machine, and what the session does then
 pub record Made : Type 0 where
@@ -107,6 +107,10 @@ pub record Looks (call : Call) (m : Machine) (session table left : ℕ) (made : 
 abbrev pub LooksShort : Machine → ℕ → Made → Type 0
 LooksShort m left made = GoesTo (Decided (answers.Refused NoMemory) Nothing) left m made
 
+-- its leaf has gone out since it was found: the frame has another state word
+abbrev pub LooksAgain : Bool → Machine → ℕ → Made → Type 0
+LooksAgain again m left made = (again ≡ true) × ((word : ℕ) × GoesTo (Decided (answers.Refused (Again word)) Nothing) left m made)
+
 -- ---- steps
 
 -- after the answer was decided, the hub may tell a fault in its place
@@ -119,24 +123,24 @@ abbrev pub EndsUnless : Option Fault → Answer (List ℕ) → Machine → ℕ �
 EndsUnless None answer m session left made = Finishes answer left (after m (EndTransaction session)) made
 EndsUnless (Some fault) answer m session left made = EndsWith (answers.Refused (Panic fault)) m made
 
--- a step of the call: it stays as it is with fewer steps left, or does what comes next
-abbrev pub GoesOn : Doing → Machine → ℕ → Made → Type 0
-GoesOn Resting m session made = made ≡ record { told = reply.Answer (answers.Refused (Invalid NoCall)); machine = m; doing = Resting }
-GoesOn (Asked call left) m session made = GoesTo (Asked call) left m made ⊎ Judges call m session left made
-GoesOn (Placed call table left) m session made = GoesTo (Placed call table) left m made ⊎ (Looks call m session table left made ⊎ LooksShort m left made)
-GoesOn (Decided answer event left) m session made = GoesTo (Decided answer event) left m made ⊎ (EndsWith answer (after m event) made ⊎ TellsFault m.fault left m made)
-GoesOn (Ending answer left) m session made = GoesTo (Ending answer) left m made ⊎ EndsUnless m.fault answer m session left made
+-- a step of the call: it stays as it is with fewer steps left, or does what comes next; again: its leaf may have gone out since it was found
+abbrev pub GoesOn : Bool → Doing → Machine → ℕ → Made → Type 0
+GoesOn again Resting m session made = made ≡ record { told = reply.Answer (answers.Refused (Invalid NoCall)); machine = m; doing = Resting }
+GoesOn again (Asked call left) m session made = GoesTo (Asked call) left m made ⊎ Judges call m session left made
+GoesOn again (Placed call table left) m session made = GoesTo (Placed call table) left m made ⊎ (Looks call m session table left made ⊎ (LooksShort m left made ⊎ LooksAgain again m left made))
+GoesOn again (Decided answer event left) m session made = GoesTo (Decided answer event) left m made ⊎ (EndsWith answer (after m event) made ⊎ TellsFault m.fault left m made)
+GoesOn again (Ending answer left) m session made = GoesTo (Ending answer) left m made ⊎ EndsUnless m.fault answer m session left made
 
 -- one step of the session's call
 pub record MayGo (w : World) (session : ℕ) (told : Reply) (later : World) : Type 0 where
   pub made : Made
-  pub goes : GoesOn (doing_of w session) w.machine session made
+  pub goes : GoesOn (w.again session) (doing_of w session) w.machine session made
   pub tells : told ≡ made.told
   pub leaves : later ≡ record w { machine = made.machine; sessions = slice_set w.sessions session made.doing }
 
 -- a call begins, unless the session has one
 abbrev pub BeginsIn : Doing → World → ℕ → Call → Reply → World → Type 0
-BeginsIn Resting w session call told next = (left : ℕ) × (told ≡ reply.Started) × (next ≡ record w { sessions = slice_set w.sessions session (Asked call left) })
+BeginsIn Resting w session call told next = (left : ℕ) × (told ≡ reply.Started) × (next ≡ record w { sessions = slice_set w.sessions session (Asked call left); again = unset session w.again })
 BeginsIn _ w session call told next = (told ≡ reply.Answer (answers.Refused (Invalid InCall))) × (next ≡ w)
 
 abbrev pub MayBegin : World → ℕ → Call → Reply → World → Type 0

@@ -1,5 +1,5 @@
 -- What the opening of a session, a create, a set, a checkpoint in one go and a failed write of the device leave of an engine that stands for a world, and with what an engine starts.
-use Rattle.std.specs.Prelude.{◌≡◌, ◌≢◌, ◌<◌, ◌≤◌, ◌+◌, ℕ, List, [], ◌∷◌, ◌++◌, ◌⊎◌, length, map, reverse, Option, None, Some, Ok, slice_set}
+use Rattle.std.specs.Prelude.{◌≡◌, ◌≢◌, ◌<◌, ◌≤◌, ◌+◌, ℕ, false, List, [], ◌∷◌, ◌++◌, ◌⊎◌, length, map, reverse, Option, None, Some, Ok, slice_set}
 use Rattle.std.specs.List.{Contains}
 use Rattle.std.specs.Option.{option_to_list}
 use Rattle.failure.specs.declared.Fault.{Fault}
@@ -28,8 +28,8 @@ use Rattle.catalog.specs.Creates.{IsCreated, asked}
 use Rattle.catalog.specs.declared.created.Created.TheVariants.{New}
 use Rattle.call_steps.specs.declared.frame.FramePiece.{FramePiece}
 use Rattle.call_steps.specs.State.{opened}
-use Rattle.call_steps.specs.Tables.{first_word}
-use Rattle.engine_world.specs.Leaves.{IsLaid, LeavesOwned, TablesBegun, frame_in}
+use Rattle.call_steps.specs.Tables.{filled}
+use Rattle.engine_world.specs.Leaves.{FramesStand, IsLaid, LeavesOwned, TablesBegun, frame_in, generation_at}
 use Rattle.engine_world.specs.Stands.{Engine, Stands}
 use Rattle.engine_world.specs.Worlds.{World, Resting}
 
@@ -49,25 +49,25 @@ SetsGo = (e : Engine) (w : World) (oldest stable : Option ℕ) → Stands e w �
 abbrev pub first_entry : Entry
 first_entry = record { key = []; link = nowhere }
 
--- the table is in the directory, with a leaf of this id, which is in this frame
-pub record HasFirstLeaf (old new : Directory) (table id frame : ℕ) : Type 0 where
+-- the table is in the directory, with a leaf of this id, which is in this frame at this generation
+pub record HasFirstLeaf (old new : Directory) (table id frame generation : ℕ) : Type 0 where
   pub between : Directory
   pub added : HasTable old between table (first_entry ∷ []) (id ∷ [])
-  pub placed : new ≡ record between { leaves = changed id (in_frame (Some (record { frame = frame; generation = 0 }))) between.leaves }
+  pub placed : new ≡ record between { leaves = changed id (in_frame (Some (record { frame = frame; generation = generation }))) between.leaves }
 
 -- the piece of that leaf
-abbrev pub first_piece : Table → ℕ → FramePiece
-first_piece t id = record { generation = 0; frame = Some (record { table = t.number; id = id; leaf = record { page = []; chains = [] } }) }
+abbrev pub first_piece : ℕ → Table → ℕ → FramePiece
+first_piece generation t id = record { generation = generation; frame = Some (record { table = t.number; id = id; leaf = record { page = []; chains = [] } }) }
 
 -- a table more, with one leaf, which is empty, in a frame that had none
 abbrev pub with_table : Engine → Known → Directory → Table → ℕ → ℕ → Engine
 with_table e known dir t id frame =
-    record e { hub = record e.hub { tables = known; dir = dir }; pieces = slice_set e.pieces frame (first_piece t id); states = slice_set e.states frame first_word }
+    record e { hub = record e.hub { tables = known; dir = dir }; pieces = slice_set e.pieces frame (first_piece (generation_at e.pieces frame) t id); states = slice_set e.states frame (filled (generation_at e.pieces frame)) }
 
 abbrev pub CreatesGo : Type 0
 CreatesGo = (e : Engine) (w : World) (name : List ℕ) (formats : Formats) (known : Known) (dir : Directory) (place id frame : ℕ) → Stands e w
     → IsCreated e.hub.tables (asked e.hub.tables name formats) known (New place) → AreTables known
-    → HasFirstLeaf e.hub.dir dir (asked e.hub.tables name formats).number id frame → IsDirectory dir
+    → HasFirstLeaf e.hub.dir dir (asked e.hub.tables name formats).number id frame (generation_at e.pieces frame) → IsDirectory dir
     → frame_in e.pieces frame ≡ None → frame < length e.pieces → frame < length e.states
     → Stands (with_table e known dir (asked e.hub.tables name formats) id frame) (record w { machine = after w.machine (CreateTable (asked e.hub.tables name formats)) })
 
@@ -83,9 +83,9 @@ FramesGrow = (e : Engine) (w : World) → Stands e w → Stands (with_frame e) w
 abbrev pub with_leaf : Engine → Leaf → ℕ → List Row → Engine
 with_leaf e l frame rows =
     record e {
-      hub = record e.hub { dir = record e.hub.dir { leaves = changed l.id (in_frame (Some (record { frame = frame; generation = 0 }))) e.hub.dir.leaves } };
-      pieces = slice_set e.pieces frame (record { generation = 0; frame = Some (record { table = l.table; id = l.id; leaf = record { page = rows; chains = [] } }) });
-      states = slice_set e.states frame first_word;
+      hub = record e.hub { dir = record e.hub.dir { leaves = changed l.id (in_frame (Some (record { frame = frame; generation = generation_at e.pieces frame }))) e.hub.dir.leaves } };
+      pieces = slice_set e.pieces frame (record { generation = generation_at e.pieces frame; frame = Some (record { table = l.table; id = l.id; leaf = record { page = rows; chains = [] } }) });
+      states = slice_set e.states frame (filled (generation_at e.pieces frame));
     }
 
 -- nobody sees it
@@ -144,12 +144,13 @@ pub record Begins (c : Content) (shelf : ℕ → List Row) (e : Engine) : Type 0
   pub begun : TablesBegun e.hub.tables.tables e.hub.dir.leaves
   pub owned : LeavesOwned e.hub.tables.tables e.hub.dir.leaves
   pub leaves : (l : Leaf) → Contains e.hub.dir.leaves l → LeafStarts c shelf e.hub.dir.leaves e.pieces e.states l
+  pub frames : FramesStand e.pieces e.states
   pub sessions : e.sessions ≡ []
   pub systems : map (λ x. None) e.systems ≡ e.systems
 
 -- the machine that an opening makes, with nobody at work
 abbrev pub first_world : Content → (ℕ → List Row) → Engine → World
-first_world c shelf e = record { machine = start c; sessions = []; systems = map (λ x. None) e.systems; shelf = shelf }
+first_world c shelf e = record { machine = start c; sessions = []; systems = map (λ x. None) e.systems; shelf = shelf; again = λ session. false }
 
 abbrev pub EnginesStart : Type 0
 EnginesStart = (c : Content) (shelf : ℕ → List Row) (e : Engine) → IsRegular c → Begins c shelf e → Stands e (first_world c shelf e)

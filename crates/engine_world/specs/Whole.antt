@@ -55,9 +55,9 @@ ReachesOn kept from session call made =
     ((made.told ≡ reply.More) × Reached kept from session call made.doing made.machine)
     ⊎ ((answer : Answer (List ℕ)) × (made.told ≡ reply.Answer answer) × SessionAnswers (around_kept kept) from session call answer made.machine)
 
--- a step brings a call that began with nobody between nearer to its answer
+-- a step brings a call that began with nobody between, so that no leaf went out meanwhile, nearer to its answer
 abbrev pub StepsReach : Type 0
-StepsReach = (kept : Option Refusal) (from m : Machine) (session : ℕ) (call : Call) (doing : Doing) (made : Made) → Reached kept from session call doing m → GoesOn doing m session made → ReachesOn kept from session call made
+StepsReach = (kept : Option Refusal) (from m : Machine) (session : ℕ) (call : Call) (doing : Doing) (made : Made) → Reached kept from session call doing m → GoesOn false doing m session made → ReachesOn kept from session call made
 
 -- so does the refusal that its leaf cannot be had
 abbrev pub KeptOutReaches : Type 0

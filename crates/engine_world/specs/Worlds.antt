@@ -1,5 +1,5 @@
 -- The machine of an engine, with the calls that are under way and what stands in leaves that are in no frame.
-use Rattle.std.specs.Prelude.{ℕ, List, Option, slice_index_or}
+use Rattle.std.specs.Prelude.{ℕ, Bool, false, ◌==◌, List, Option, if◌then◌else◌, slice_index_or}
 use Rattle.wt_code.specs.declared.answers.Answer.{Answer}
 use Rattle.kv_model.specs.Machine.{Machine, Event}
 use Rattle.kv_model.specs.Calls.{Call}
@@ -25,6 +25,12 @@ pub record World : Type 0 where
   pub systems : List (Option Call)
   -- by the id of a leaf: the rows of its block
   pub shelf : ℕ → List Row
+  -- by session: a leaf has gone out of its frame since the session's call found it
+  pub again : ℕ → Bool
 
 abbrev pub doing_of : World → ℕ → Doing
 doing_of w session = slice_index_or w.sessions session Resting
+
+-- none has since this session's call found one
+abbrev pub unset : ℕ → (ℕ → Bool) → ℕ → Bool
+unset session again other = if other == session then false else again other

@@ -2,7 +2,7 @@
 //! that its proof rests on.
 
 ghost use Rattle.engine_world.specs.GivingWay.{LeavesGiveWay};
-ghost use Rattle.engine_world.specs.GoingOut.{LeavesGoOut};
+ghost use Rattle.engine_world.specs.GoingOut.{LeavesGoOut, LeavesGoOutUnseen};
 ghost use Rattle.engine_world.specs.Systems.{CheckpointsGo, CreatesGo, DownsGo, EnginesStart, FramesGrow, LeavesCome, OpensGo, SetsGo};
 
 use kv_model::frames_are_alike;
@@ -47,9 +47,15 @@ pub fn leaves_come()
     ensures { LeavesCome }
 {}
 
-/// A leaf goes out of its frame as it was read, while no call is at it: nobody sees it.
+/// A leaf goes out of its frame as it was read, while no call is at it: calls that have found it, and
+/// have not come to it yet, may be told so.
 pub fn leaves_go_out()
     ensures { LeavesGoOut }
+{}
+
+/// Where no call has found it, nobody sees it.
+pub fn leaves_go_out_unseen()
+    ensures { LeavesGoOutUnseen }
 {}
 
 /// While nobody is at work, a leaf that is in a frame gives way to others, which are in none and whose

@@ -10,7 +10,7 @@ pub fn starts_go()
     ensures { StartsGo }
 {}
 
-/// A load of a state word: the frame has the leaf that was found.
+/// A load of a state word: the frame has the leaf that was found, or the call is refused.
 pub fn loads_go()
     ensures { LoadGoes }
 {}

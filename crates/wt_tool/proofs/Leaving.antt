@@ -16,6 +16,7 @@ use Rattle.engine_world.specs.Stands.{Stands}
 use Rattle.engine_world.specs.Systems.{first_world}
 use Rattle.engine_world.specs.Worlds.{World}
 use Rattle.ckpt_step.specs.Floors.{Follows}
+use Rattle.ckpt_step.specs.declared.lives.Lone.{Lone}
 use Rattle.ckpt_step.specs.Grounds.{AreRoots}
 use Rattle.ckpt_step.specs.Plain.{IsBareStill, IsPlain, StartsPlain}
 use Rattle.ckpt_step.specs.Rooms.{Written}
@@ -31,9 +32,9 @@ use Rattle.wt_tool.proofs.Quiet.{first_quiet}
 
 -- ---- a store that was opened on the device
 
-bare_roots : (known : List Table) (leaves : List Leaf) (written : Written) (places : List TreePlace) (old : Option Stored) → AreRoots known leaves written places old → IsBareStill old
-bare_roots known leaves written places None roots = tt
-bare_roots known leaves written places (Some s) roots = roots.bare
+bare_roots : (known : List Table) (lives : List Lone) (leaves : List Leaf) (written : Written) (places : List TreePlace) (old : Option Stored) → AreRoots known lives leaves written places old → IsBareStill old
+bare_roots known lives leaves written places None roots = tt
+bare_roots known lives leaves written places (Some s) roots = roots.bare
 
 module _ {D : Type 0} (g : Ghosts D) (disk : D) (s : Store) (on : IsOpened (g.seen disk) (g.may_leave disk) s) where
   module _ (content : Content) (each : EachReads (g.may_leave disk) content) (seen : Reads (g.seen disk) content) where
@@ -55,6 +56,7 @@ module _ {D : Type 0} (g : Ghosts D) (disk : D) (s : Store) (on : IsOpened (g.se
             old = on.old;
             on = on.on;
             follows = subst (λ (c : Content). Follows on.old s.engine.hub s.ground (first_world c on.shelf s.engine)) same on.follows;
+            none = on.none;
             opens = opens;
             one = ((start content).completed, inl refl, opens);
           };
@@ -68,7 +70,7 @@ module _ {D : Type 0} (g : Ghosts D) (disk : D) (s : Store) (on : IsOpened (g.se
     -- no commit had a stamp
     pub first_plain : StartsPlain → IsPlain (start content)
     first_plain law = subst (λ (c : Content). IsPlain (start c)) same
-        (law (g.seen disk) on.old on.on.stands.seen_has (bare_roots _ _ _ _ on.old on.on.roots))
+        (law (g.seen disk) on.old on.on.stands.seen_has (bare_roots _ _ _ _ _ on.old on.on.roots))
 
     -- the command holds it
     pub first_holds : StartsPlain → ((c : List ℕ) → g.left_since disk (g.moment disk) c → g.may_leave disk c) → Holds g disk (start content).completed s disk first_of

@@ -26,6 +26,7 @@ use Rattle.stored.specs.Records.{Record}
 use Rattle.recover_open.proofs.Devices.{damage_no_content, kept_is}
 use Rattle.recover_open.proofs.Steps.{refused_further}
 use Rattle.recover_open.specs.Recoveries.{RecoveryRefused}
+use Rattle.ckpt_step.specs.declared.lives.Lone.{Lone}
 use Rattle.ckpt_step.specs.Grounds.{AreRoots}
 use Rattle.ckpt_step.specs.Rooms.{Written, known_in}
 use Rattle.engine_store.specs.declared.store.Store.{Store}
@@ -63,8 +64,8 @@ run_below : (old : Option Stored) → HasNumbers old → (content_was old).run <
 run_below None numbers = omega (arith)
 run_below (Some s) numbers = numbers.0
 
-bare_still : (known : List Table) (leaves : List Leaf) (written : Written) (places : List TreePlace) (s : Stored) → AreRoots known leaves written places (Some s) → IsBare s.kept
-bare_still known leaves written places s roots = roots.bare
+bare_still : (known : List Table) (lives : List Lone) (leaves : List Leaf) (written : Written) (places : List TreePlace) (s : Stored) → AreRoots known lives leaves written places (Some s) → IsBare s.kept
+bare_still known lives leaves written places s roots = roots.bare
 
 -- of a store that was opened on a disk that reads and was looked at
 module _ {D : Type 0} (g : Ghosts D) (old mid : D) (s : Store) (looked : Looked g old mid) (on : IsOpenedOn g mid s) (content : Content) (reads : Reads (g.seen old) content) where
@@ -82,7 +83,7 @@ module _ {D : Type 0} (g : Ghosts D) (old mid : D) (s : Store) (looked : Looked 
 
   pub may_open : MayOpen (point_of g (start content) old)
   may_open = record {
-    narrow = λ wide. wide.2 (bare_still _ _ _ _ wide.0 (subst (λ (o : Option Stored). AreRoots s.engine.hub.tables.tables s.engine.hub.dir.leaves (known_in s.ground.parts) s.ground.trees.items o) (one_there wide.0 wide.1) opened.on.roots));
+    narrow = λ wide. wide.2 (bare_still _ _ _ _ _ wide.0 (subst (λ (o : Option Stored). AreRoots s.engine.hub.tables.tables s.ground.lives s.engine.hub.dir.leaves (known_in s.ground.parts) s.ground.trees.items o) (one_there wide.0 wide.1) opened.on.roots));
     numbers = λ used. absurd (omega (arith, used.2, (subst (λ (o : Option Stored). HasNumbers o) (one_there used.0 used.1) opened.numbers).1));
     run = λ same. omega (arith, same, subst (λ (c : Content). c.run < last_number) (sym was) (run_below opened.old opened.numbers));
   }

@@ -1,17 +1,22 @@
-use Rattle.std.proofs.Common.{inl, inr, ◌≡◌, ◌∙◌, ◌≤◌, sym, ap, subst, arith, ℕ, length}
+use Rattle.std.proofs.Common.{inl, inr, ◌≡◌, ◌∙◌, ◌≤◌, sym, ap, subst, arith, refl, ℕ, List, Option, Err, length}
 use Rattle.disk_model.specs.Ranges.{length_put}
-use Rattle.disk_model.specs.Crash.{LeavesOnly}
-use Rattle.disk_model.proofs.Crash.{started, widened}
+use Rattle.disk_model.specs.Crash.{Keeps, LeavesOnly}
+use Rattle.disk_model.specs.declared.disk.Disk.{Ghosts}
+use Rattle.disk_model.proofs.Crash.{keeps_refl, started, widened}
 use Rattle.extent_list.specs.Space.{Taken, HasNoRoom}
 use Rattle.le_codec.specs.Images.{block_of}
 use Rattle.device_layout.specs.declared.addr.Addr.{Addr}
 use Rattle.device_layout.specs.declared.slot.Slot.{Slot}
+use Rattle.block_mgr.specs.Blocks.{Books, Has}
 use Rattle.block_mgr.specs.Cells.{done as done_cells}
 use Rattle.block_mgr.proofs.WriteLemmas.{taken_low}
 use Rattle.device_layout.specs.Slots.{slot_at}
 use Rattle.checkpoint_core.specs.Stands.{blocks_of, placed_at}
-use Rattle.checkpoint_core.specs.Finishes.{IsOld}
-use Rattle.checkpoint_core.proofs.Recording.{block_length, block_some, wrote_old, written_now}
+use Rattle.checkpoint_core.specs.Finishes.{IsOld, KeepsAfter, ReadsThen}
+use Rattle.stored.specs.Stored.{Stored}
+use Rattle.wt_code.specs.declared.store_error.StoreError.{StoreError}
+use Rattle.wt_code.specs.declared.store_error.StoreError.TheVariants.{NoMemory, NoSpace, Read, Down}
+use Rattle.checkpoint_core.proofs.Recording.{keeps, block_length, block_some, wrote_old, written_now}
 use Rattle.checkpoint_core.proofs.Capturing.{freed_back, live_added}
 use Rattle.checkpoint_core.proofs.Holding.{in_use_same}
 use Rattle.checkpoint_core.proofs.Installing.{finished, not_finished, not_read, not_written}
@@ -120,3 +125,35 @@ returns-in-Err-sync_and_install-clause-reads g c h old new stands ready sequence
     let back = freed_back c.free.new.self.cells books c.write.new.self a wrote.added (omega (arith, wrote.address.place.some)) c.free.ensures.cells in
     not_read D c.free.new.self old new made c.write.new.disk c.sync_and_install.new.disk c.in-Err-sync_and_install.error (c.in-Err-sync_and_install.ensures.reads (c.write.ensures.disk.same ∙ h) old made done slot_is (next c.new.result (ap (λ (s : Slot). s.sequence) c.new.ensures)))
     done.seen_has (in_use_same books.cells c.free.new.self.cells (blocks_of old) back stands.in_use) (omega (arith, c.free.ensures.end, wrote.ready h))
+
+keeps_unwritten : {D : Type 0} (g : Ghosts D) (books : Books) (before after : D) (e : StoreError) → (e ≡ NoMemory → after ≡ before) → (e ≡ NoSpace → after ≡ before) → (e ≡ Read → ⊥) → KeepsAfter g books before after (Err e)
+keeps_unwritten g books before after NoMemory none full read = rw (none refl) (keeps_refl (Has books.cells) (g.seen before))
+keeps_unwritten g books before after NoSpace none full read = rw (full refl) (keeps_refl (Has books.cells) (g.seen before))
+keeps_unwritten g books before after Read none full read = absurd (read refl)
+keeps_unwritten g books before after (Down fault) none full read = tt
+
+pub returns-in-Err-clause-keeps : goal.returns-in-Err-clause-keeps
+returns-in-Err-clause-keeps g c h old new stands ready sequence next =
+    keeps_unwritten g.D.Disk c.args.blocks.now c.args.disk.now c.write.new.disk c.in-Err.error c.in-Err.ensures.no_memory (λ is. (c.in-Err.ensures.no_space is).0) c.in-Err.ensures.no_read
+
+keeps_uninstalled : {D : Type 0} (g : Ghosts D) (books : Books) (before mid after : D) (old : Option Stored) (new : Stored) (e : StoreError) → Keeps (Has books.cells) (g.seen before) (g.seen mid) → ReadsThen g old new mid after (Err e) → KeepsAfter g books before after (Err e)
+keeps_uninstalled g books before mid after old new NoMemory kept reads = subst (λ (l : List ℕ). Keeps (Has books.cells) (g.seen before) l) (sym reads.0) kept
+keeps_uninstalled g books before mid after old new NoSpace kept reads = subst (λ (l : List ℕ). Keeps (Has books.cells) (g.seen before) l) (sym reads.0) kept
+keeps_uninstalled g books before mid after old new Read kept reads = subst (λ (l : List ℕ). Keeps (Has books.cells) (g.seen before) l) (sym reads.0) kept
+keeps_uninstalled g books before mid after old new (Down fault) kept reads = tt
+
+pub returns-in-Err-sync_and_install-clause-keeps : goal.returns-in-Err-sync_and_install-clause-keeps
+returns-in-Err-sync_and_install-clause-keeps g c h old new stands ready sequence next =
+    let D = g.D.Disk in
+    let seen = D.seen c.args.disk.now in
+    let books = c.args.blocks.now in
+    let a = c.in-Ok.addr in
+    let wrote = c.in-Ok.ensures in
+    let capacity = D.capacity c.args.disk.now in
+    let low : a.offset ≤ length seen = omega (arith, (c.requires.ready h).1, taken_low books.space c.write.new.self.space a.size capacity a.offset wrote.taken) in
+    let made = placed_at new a in
+    let slot_is : made.slot ≡ c.new.result = named_is _ _ _ _ sequence c.new.ensures in
+    let done = written_now seen (D.seen c.write.new.disk) c.args.image.items (D.may_leave c.args.disk.now) (D.may_leave c.write.new.disk) books c.write.new.self.space capacity old new a stands ready wrote.units.0 c.requires.some wrote.address wrote.taken low (wrote.written h) wrote.images in
+    let kept = keeps seen (D.seen c.write.new.disk) c.args.image.items books c.write.new.self.space capacity new a ready wrote.units.0 wrote.address wrote.taken low (wrote.written h) in
+    keeps_uninstalled D books c.args.disk.now c.write.new.disk c.sync_and_install.new.disk old made c.in-Err-sync_and_install.error kept
+    (c.in-Err-sync_and_install.ensures.reads (c.write.ensures.disk.same ∙ h) old made done slot_is (next c.new.result (ap (λ (s : Slot). s.sequence) c.new.ensures)))

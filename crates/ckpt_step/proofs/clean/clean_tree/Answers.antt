@@ -1,9 +1,10 @@
-use Rattle.std.proofs.Common.{◌≡◌, ◌∙◌, ap, subst}
+use Rattle.std.proofs.Common.{◌≡◌, ◌∙◌, ap, false, subst}
 use Rattle.std.specs.Prelude.{slice_get}
 use Rattle.std.specs.List.{Contains}
 use Rattle.kv_model.specs.History.{Table}
 use Rattle.tree_dir.specs.declared.leaf.Leaf.{Leaf}
 use Rattle.tree_dir.specs.Leaves.{leaves_of}
+use Rattle.ckpt_step.specs.Lives.{is_live}
 use Rattle.ckpt_step.specs.Rooms.{known_in}
 use Rattle.ckpt_step.specs.Steps.{IsKept}
 use Rattle.ckpt_step.proofs.Members.{some_same}
@@ -18,5 +19,5 @@ returns-then-keeps_all-clause-still c w s stands none sees t at old bytes still 
     let tree = c.in_ok-tree.tree.now in
     let there = read_at c.args.was.trees.now c.args.place tree c.in_ok-tree.ensures.lookup.3.0 c.in_ok-tree.ensures.lookup.3.1 in
     let table : c.in_ok-table.table.now ≡ t = some_same (c.in_ok-table.ensures ∙ (ap (λ k. slice_get k.tables c.args.place) c.tables.ensures.are ∙ at)) in
-    still_table c.captures_are_newest.ensures e w s stands none sees had c.args.was.floor c.args.was.trees.now t c.args.place at old bytes still apart has follows
-    (subst (λ (u : Table). (l : Leaf) → Contains (leaves_of u.number e.hub.dir.leaves) l → IsKept e had c.args.was.floor l) (c.table-2.view_is ∙ table) (c.keeps_all.ensures c.if-keeps_all.true)) tree there
+    still_table c.captures_are_newest.ensures e w s stands none sees had c.args.was.floor c.args.was.trees.now t c.args.place at old bytes still apart c.args.was.lives.now has follows
+    (subst (λ (u : Table). (l : Leaf) → Contains (leaves_of u.number e.hub.dir.leaves) l → (is_live c.args.was.lives.now l ≡ false) × IsKept e had c.args.was.floor l) (c.table-2.view_is ∙ table) (c.keeps_all.ensures c.if-keeps_all.true)) tree there

@@ -11,8 +11,9 @@ use Rattle.tree_dir.specs.Leaves.{leaves_of}
 use Rattle.engine_world.specs.Stands.{Stands}
 use Rattle.engine_world.specs.Worlds.{World}
 use Rattle.ckpt_step.specs.Drafting.{Drafting}
-use Rattle.ckpt_step.specs.Floors.{FollowsFrom}
+use Rattle.ckpt_step.specs.Floors.{AreOnDevice, FollowsFrom}
 use Rattle.ckpt_step.specs.Goings.{HasPartsAt, MayGo}
+use Rattle.ckpt_step.specs.Lives.{live_addrs}
 use Rattle.ckpt_step.specs.Rooms.{known_in}
 use Rattle.ckpt_step.proofs.leaves.take_leaves.Given as goal
 
@@ -25,8 +26,8 @@ invariant-loop-leaf g l = record {
   front : List Leaf;
   all : leaves_of l.table l.engine.hub.dir.leaves ≡ front ++ l.leaves;
   drafts : IsTrue (g.D.Disk.honest l.fn.disk) → (w : World) → Stands l.engine w → NoneResolves w.machine → SeesCommitted w.machine (length w.machine.history) l.snapshot.sight → (i : ℕ) (t : Table) → slice_get l.engine.hub.tables.tables i ≡ Some t → t.number ≡ l.table
-      → (old : Option Stored) (first : Books) → MayGo (g.D.Disk.seen l.fn.disk) (g.D.Disk.may_leave l.fn.disk) first l.fn.blocks old l.was.trees.now i → HasPartsAt old l.engine.hub.dir.leaves (known_in l.was.parts.now) l.was.trees.now t i
-      → FollowsFrom old l.engine.hub.tables.tables l.engine.hub.dir.leaves (known_in l.was.parts.now) l.was.trees.now l.was.floor w
+      → (old : Option Stored) (first : Books) → MayGo (g.D.Disk.seen l.fn.disk) (g.D.Disk.may_leave l.fn.disk) first l.fn.blocks old l.was.trees.now (live_addrs l.was.lives.now (leaves_of t.number l.engine.hub.dir.leaves)) i → HasPartsAt old l.was.lives.now l.engine.hub.dir.leaves (known_in l.was.parts.now) l.was.trees.now t i
+      → FollowsFrom old l.engine.hub.tables.tables l.was.lives.now l.engine.hub.dir.leaves (known_in l.was.parts.now) l.was.trees.now l.was.floor w → AreOnDevice (g.D.Disk.seen l.fn.disk) l.was.lives.now l.engine.hub.dir.leaves w.shelf
       → Drafting g.D.Disk old first l.engine.hub.dir.leaves (known_in l.was.parts.now) w t.number l.fn.blocks l.blocks l.fn.taken.parts.items l.taken.parts.items l.fn.taken.captured.items l.taken.captured.items l.fn.disk l.disk front l.draft;
 }
 

@@ -6,9 +6,9 @@ use Rattle.snapshot.specs.Matters.{NoneResolves, SeesCommitted}
 use Rattle.stored.specs.Stored.{Stored}
 use Rattle.engine_world.specs.Stands.{Stands}
 use Rattle.engine_world.specs.Worlds.{World}
-use Rattle.ckpt_step.specs.Floors.{FollowsFrom}
+use Rattle.ckpt_step.specs.Floors.{AreOnDevice, FollowsFrom}
 use Rattle.ckpt_step.specs.Goings.{Going}
-use Rattle.ckpt_step.specs.Grounds.{AreRoots, AreWritten}
+use Rattle.ckpt_step.specs.Grounds.{AreRoots, AreSince, AreWritten}
 use Rattle.ckpt_step.specs.Halves.{Half}
 use Rattle.ckpt_step.specs.Rooms.{known_in}
 use Rattle.ckpt_step.specs.Trees.{AreTold, placed_by}
@@ -22,7 +22,7 @@ invariant-loop-place g l = record {
   ready : IsTrue (g.D.Disk.honest l.disk) → end_of l.blocks.space ≤ length (g.D.Disk.seen l.disk);
   count : length l.taken.trees.items ≡ l.place;
   going : IsTrue (g.D.Disk.honest l.fn.disk) → (w : World) → Stands l.engine w → NoneResolves w.machine → SeesCommitted w.machine (length w.machine.history) l.snapshot.sight → (old : Option Stored)
-      → Half (g.D.Disk.seen l.fn.disk) (g.D.Disk.may_leave l.fn.disk) l.fn.blocks old [] [] [] → AreRoots l.engine.hub.tables.tables l.engine.hub.dir.leaves (known_in l.was.parts.now) l.was.trees.now old → AreWritten l.engine.hub.tables.tables l.engine.hub.dir (known_in l.was.parts.now) l.was.trees.now
-      → FollowsFrom old l.engine.hub.tables.tables l.engine.hub.dir.leaves (known_in l.was.parts.now) l.was.trees.now l.was.floor w
-      → Going g.D.Disk old l.was.trees.now l.engine.hub.dir.leaves (known_in l.was.parts.now) w l.engine.hub.tables.tables l.fn.blocks l.blocks (placed_by l.was.trees.now l.taken.trees.items) l.taken.parts.items l.taken.captured.items l.place l.fn.disk l.disk;
+      → Half (g.D.Disk.seen l.fn.disk) (g.D.Disk.may_leave l.fn.disk) l.fn.blocks old l.was.lives.now [] [] [] → AreRoots l.engine.hub.tables.tables l.was.lives.now l.engine.hub.dir.leaves (known_in l.was.parts.now) l.was.trees.now old → AreWritten l.engine.hub.tables.tables l.was.lives.now l.engine.hub.dir (known_in l.was.parts.now) l.was.trees.now → AreSince old l.was.lives.now l.engine.hub.dir (known_in l.was.parts.now)
+      → FollowsFrom old l.engine.hub.tables.tables l.was.lives.now l.engine.hub.dir.leaves (known_in l.was.parts.now) l.was.trees.now l.was.floor w → AreOnDevice (g.D.Disk.seen l.fn.disk) l.was.lives.now l.engine.hub.dir.leaves w.shelf
+      → Going g.D.Disk old l.was.trees.now l.was.lives.now l.engine.hub.dir.leaves (known_in l.was.parts.now) w l.engine.hub.tables.tables l.fn.blocks l.blocks (placed_by l.was.trees.now l.taken.trees.items) l.taken.parts.items l.taken.captured.items l.place l.fn.disk l.disk;
 }

@@ -1,8 +1,9 @@
-use Rattle.std.proofs.Common.{List, Option, sym, subst}
+use Rattle.std.proofs.Common.{◌++◌, List, Option, sym, subst}
 use Rattle.device_layout.specs.declared.addr.Addr.{Addr}
 use Rattle.kv_model.specs.Holds.{Member}
 use Rattle.tree_open.specs.declared.place.TreePlace.{TreePlace}
 use Rattle.ckpt_step.specs.Halves.{AreOldBlocks}
+use Rattle.ckpt_step.specs.Lives.{addrs_in}
 use Rattle.ckpt_step.specs.Trees.{addrs_of, kept_by}
 use Rattle.ckpt_step.proofs.writing.settle.Goals as goal
 
@@ -10,5 +11,5 @@ pub returns-clause-cells : goal.returns-clause-cells
 returns-clause-cells c old captured a was kept own fresh cells u =
     let past = sym c.deref.ensures.value in
     let told = sym c.deref-2.ensures.value in
-    c.let_go.ensures.cells old captured a (subst (λ (l : List TreePlace). AreOldBlocks old (addrs_of l)) past was)
+    c.let_go.ensures.cells old captured a (subst (λ (l : List TreePlace). AreOldBlocks old c.args.ground.now.lives (addrs_of l ++ addrs_in c.args.ground.now.lives)) past was)
     (subst (λ (l : List TreePlace). (x : Addr) → Member x (addrs_of (kept_by l c.deref-2.result.now)) → Member x captured) past (subst (λ (l : List (Option TreePlace)). (x : Addr) → Member x (addrs_of (kept_by c.args.ground.now.trees.items l)) → Member x captured) told kept)) own fresh cells u

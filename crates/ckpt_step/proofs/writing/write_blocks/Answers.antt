@@ -15,13 +15,14 @@ use Rattle.ckpt_step.proofs.Told.{placed_length}
 use Rattle.ckpt_step.proofs.writing.write_blocks.Goals as goal
 
 pub returns-in-Err-clause-puts : goal.returns-in-Err-clause-puts
-returns-in-Err-clause-puts g c h w stands none sees old half roots written is_number follows =
+returns-in-Err-clause-puts g c h w stands none sees old half roots written since is_number follows device =
     let D = g.D.Disk in
     let hub = c.args.engine.now.hub in
     let known = hub.tables.tables in
     let leaves = hub.dir.leaves in
     let stand = c.args.ground.now in
     let had = known_in stand.parts in
+    let lives = stand.lives in
     let books = stand.place.blocks in
     let before = c.args.disk.now in
     let mid = c.write_trees.new.disk in
@@ -30,17 +31,18 @@ returns-in-Err-clause-puts g c h w stands none sees old half roots written is_nu
     let taken = c.write_trees.new.taken.captured.items in
     let places = placed_by stand.trees.items told in
     let past = c.deref.ensures.value in
-    let some = subst (λ (l : List TreePlace). SomeWritten D old w known leaves had books c.write_trees.new.blocks (placed_by l told) more taken before mid c.in-Err.error) past (c.in-Err.ensures.writes h w stands none sees old half (subst (λ (l : List TreePlace). AreRoots known leaves had l old) (sym past) roots) (subst (λ (l : List TreePlace). AreWritten known hub.dir had l) (sym past) written) (subst (λ (l : List TreePlace). FollowsFrom old known leaves had l stand.floor w) (sym past) follows)) in
-    trees_failed D old w known leaves had books places more taken before c.write_trees.new.blocks mid c.in-Err.error some
+    let some = subst (λ (l : List TreePlace). SomeWritten D old lives w known leaves had books c.write_trees.new.blocks (placed_by l told) more taken before mid c.in-Err.error) past (c.in-Err.ensures.writes h w stands none sees old half (subst (λ (l : List TreePlace). AreRoots known lives leaves had l old) (sym past) roots) (subst (λ (l : List TreePlace). AreWritten known lives hub.dir had l) (sym past) written) since (subst (λ (l : List TreePlace). FollowsFrom old known lives leaves had l stand.floor w) (sym past) follows) device) in
+    trees_failed D old lives w known leaves had books places more taken before c.write_trees.new.blocks mid c.in-Err.error some
 
 pub returns-in_default-clause-puts : goal.returns-in_default-clause-puts
-returns-in_default-clause-puts g c h w stands none sees old half roots written is_number follows =
+returns-in_default-clause-puts g c h w stands none sees old half roots written since is_number follows device =
     let D = g.D.Disk in
     let hub = c.args.engine.now.hub in
     let known = hub.tables.tables in
     let leaves = hub.dir.leaves in
     let stand = c.args.ground.now in
     let had = known_in stand.parts in
+    let lives = stand.lives in
     let books = stand.place.blocks in
     let before = c.args.disk.now in
     let mid = c.write_trees.new.disk in
@@ -49,17 +51,18 @@ returns-in_default-clause-puts g c h w stands none sees old half roots written i
     let taken = c.write_trees.new.taken.captured.items in
     let places = placed_by stand.trees.items told in
     let past = c.deref.ensures.value in
-    let all = subst (λ (l : List TreePlace). AllWritten D old w known leaves had books c.write_trees.new.blocks (placed_by l told) more taken before mid) past (c.in-Ok.ensures.writes h w stands none sees old half (subst (λ (l : List TreePlace). AreRoots known leaves had l old) (sym past) roots) (subst (λ (l : List TreePlace). AreWritten known hub.dir had l) (sym past) written) (subst (λ (l : List TreePlace). FollowsFrom old known leaves had l stand.floor w) (sym past) follows)) in
-    no_image D old w known leaves had books places more taken before mid c.write_trees.new.blocks all
+    let all = subst (λ (l : List TreePlace). AllWritten D old lives w known leaves had books c.write_trees.new.blocks (placed_by l told) more taken before mid) past (c.in-Ok.ensures.writes h w stands none sees old half (subst (λ (l : List TreePlace). AreRoots known lives leaves had l old) (sym past) roots) (subst (λ (l : List TreePlace). AreWritten known lives hub.dir had l) (sym past) written) since (subst (λ (l : List TreePlace). FollowsFrom old known lives leaves had l stand.floor w) (sym past) follows) device) in
+    no_image D old lives w known leaves had books places more taken before mid c.write_trees.new.blocks all
 
 pub returns-in_default-reserve_parts-clause-puts : goal.returns-in_default-reserve_parts-clause-puts
-returns-in_default-reserve_parts-clause-puts g c h w stands none sees old half roots written is_number follows =
+returns-in_default-reserve_parts-clause-puts g c h w stands none sees old half roots written since is_number follows device =
     let D = g.D.Disk in
     let hub = c.args.engine.now.hub in
     let known = hub.tables.tables in
     let leaves = hub.dir.leaves in
     let stand = c.args.ground.now in
     let had = known_in stand.parts in
+    let lives = stand.lives in
     let books = stand.place.blocks in
     let before = c.args.disk.now in
     let mid = c.write_trees.new.disk in
@@ -68,17 +71,18 @@ returns-in_default-reserve_parts-clause-puts g c h w stands none sees old half r
     let taken = c.write_trees.new.taken.captured.items in
     let places = placed_by stand.trees.items told in
     let past = c.deref.ensures.value in
-    let all = subst (λ (l : List TreePlace). AllWritten D old w known leaves had books c.write_trees.new.blocks (placed_by l told) more taken before mid) past (c.in-Ok.ensures.writes h w stands none sees old half (subst (λ (l : List TreePlace). AreRoots known leaves had l old) (sym past) roots) (subst (λ (l : List TreePlace). AreWritten known hub.dir had l) (sym past) written) (subst (λ (l : List TreePlace). FollowsFrom old known leaves had l stand.floor w) (sym past) follows)) in
-    no_image D old w known leaves had books places more taken before mid c.write_trees.new.blocks all
+    let all = subst (λ (l : List TreePlace). AllWritten D old lives w known leaves had books c.write_trees.new.blocks (placed_by l told) more taken before mid) past (c.in-Ok.ensures.writes h w stands none sees old half (subst (λ (l : List TreePlace). AreRoots known lives leaves had l old) (sym past) roots) (subst (λ (l : List TreePlace). AreWritten known lives hub.dir had l) (sym past) written) since (subst (λ (l : List TreePlace). FollowsFrom old known lives leaves had l stand.floor w) (sym past) follows) device) in
+    no_image D old lives w known leaves had books places more taken before mid c.write_trees.new.blocks all
 
 pub returns-in_default-image_of-clause-puts : goal.returns-in_default-image_of-clause-puts
-returns-in_default-image_of-clause-puts g c h w stands none sees old half roots written is_number follows =
+returns-in_default-image_of-clause-puts g c h w stands none sees old half roots written since is_number follows device =
     let D = g.D.Disk in
     let hub = c.args.engine.now.hub in
     let known = hub.tables.tables in
     let leaves = hub.dir.leaves in
     let stand = c.args.ground.now in
     let had = known_in stand.parts in
+    let lives = stand.lives in
     let books = stand.place.blocks in
     let before = c.args.disk.now in
     let mid = c.write_trees.new.disk in
@@ -87,20 +91,21 @@ returns-in_default-image_of-clause-puts g c h w stands none sees old half roots 
     let taken = c.write_trees.new.taken.captured.items in
     let places = placed_by stand.trees.items told in
     let past = c.deref.ensures.value in
-    let all = subst (λ (l : List TreePlace). AllWritten D old w known leaves had books c.write_trees.new.blocks (placed_by l told) more taken before mid) past (c.in-Ok.ensures.writes h w stands none sees old half (subst (λ (l : List TreePlace). AreRoots known leaves had l old) (sym past) roots) (subst (λ (l : List TreePlace). AreWritten known hub.dir had l) (sym past) written) (subst (λ (l : List TreePlace). FollowsFrom old known leaves had l stand.floor w) (sym past) follows)) in
-    no_image D old w known leaves had books places more taken before mid c.write_trees.new.blocks all
+    let all = subst (λ (l : List TreePlace). AllWritten D old lives w known leaves had books c.write_trees.new.blocks (placed_by l told) more taken before mid) past (c.in-Ok.ensures.writes h w stands none sees old half (subst (λ (l : List TreePlace). AreRoots known lives leaves had l old) (sym past) roots) (subst (λ (l : List TreePlace). AreWritten known lives hub.dir had l) (sym past) written) since (subst (λ (l : List TreePlace). FollowsFrom old known lives leaves had l stand.floor w) (sym past) follows) device) in
+    no_image D old lives w known leaves had books places more taken before mid c.write_trees.new.blocks all
 
 nowhere_at : Addr
 nowhere_at = record { offset = 0; size = 0; sum = 0 }
 
 pub returns-in-Ok-finish-clause-puts : goal.returns-in-Ok-finish-clause-puts
-returns-in-Ok-finish-clause-puts g c h w stands none sees old half roots written is_number follows =
+returns-in-Ok-finish-clause-puts g c h w stands none sees old half roots written since is_number follows device =
     let D = g.D.Disk in
     let hub = c.args.engine.now.hub in
     let known = hub.tables.tables in
     let leaves = hub.dir.leaves in
     let stand = c.args.ground.now in
     let had = known_in stand.parts in
+    let lives = stand.lives in
     let books = stand.place.blocks in
     let before = c.args.disk.now in
     let mid = c.write_trees.new.disk in
@@ -113,25 +118,26 @@ returns-in-Ok-finish-clause-puts g c h w stands none sees old half roots written
     let number = stand.number in
     let count = placed_length stand.trees.items told (subst (λ (l : List TreePlace). AreKept l told) past c.in-Ok.ensures.told.kept) ∙ c.in-Ok.ensures.count in
     let ascend = stands.catalog.numbers in
-    let all = subst (λ (l : List TreePlace). AllWritten D old w known leaves had books c.write_trees.new.blocks (placed_by l told) more taken before mid) past (c.in-Ok.ensures.writes h w stands none sees old half (subst (λ (l : List TreePlace). AreRoots known leaves had l old) (sym past) roots) (subst (λ (l : List TreePlace). AreWritten known hub.dir had l) (sym past) written) (subst (λ (l : List TreePlace). FollowsFrom old known leaves had l stand.floor w) (sym past) follows)) in
+    let all = subst (λ (l : List TreePlace). AllWritten D old lives w known leaves had books c.write_trees.new.blocks (placed_by l told) more taken before mid) past (c.in-Ok.ensures.writes h w stands none sees old half (subst (λ (l : List TreePlace). AreRoots known lives leaves had l old) (sym past) roots) (subst (λ (l : List TreePlace). AreWritten known lives hub.dir had l) (sym past) written) since (subst (λ (l : List TreePlace). FollowsFrom old known lives leaves had l stand.floor w) (sym past) follows) device) in
     let img : IsImageOf w.machine number known places image =
     subst (λ (l : List TreePlace). IsImageOf w.machine number known (placed_by l told) image) (c.deref-3.ensures.value ∙ c.reserve_for.ensures.items)
     (subst (λ (l : List (Option TreePlace)). IsImageOf w.machine number known (placed_by c.deref-3.result.now l) image) c.deref-4.ensures.value (c.in-Ok-image_of.ensures.image w stands none)) in
     let counts : (x : List ℕ) → D.may_leave mid x → D.left_since mid (D.moment before) x = λ x there. g.met.D.Disk.counts_now mid (D.moment before) x all.left.later there in
     let honest : IsTrue (D.honest mid) = c.write_trees.ensures.disk.same ∙ h in
-    let base = ready D old w known leaves had books places more taken before mid c.write_trees.new.blocks all hub.tables.next ascend count image number is_number img counts nowhere_at in
+    let base = ready D old lives w known leaves had books places more taken before mid c.write_trees.new.blocks all hub.tables.next ascend count image number is_number img counts nowhere_at in
     let next : (slot : Slot) → slot.sequence ≡ number + 1 → IsNext (chosen_of old) slot = λ slot is. next_slot (D.seen mid) old number slot all.half.runs.stands.seen_has is_number is in
-    all_put D old w known leaves had books places more taken before mid c.write_trees.new.blocks all hub.tables.next ascend count image number is_number img counts c.finish.new.blocks c.finish.new.disk c.in-Ok-finish.addr c.write_trees.ensures.disk.room
+    all_put D old lives w known leaves had books places more taken before mid c.write_trees.new.blocks all hub.tables.next ascend count image number is_number img counts c.finish.new.blocks c.finish.new.disk c.in-Ok-finish.addr c.write_trees.ensures.disk.room
     (c.in-Ok-finish.ensures.finishes honest old _ all.half.runs.stands base img.is.sequence next) (c.in-Ok-finish.ensures.reads honest old _ all.half.runs.stands base img.is.sequence next) c.in-Ok-finish.ensures.last c.in-Ok-finish.ensures.units c.in-Ok-finish.ensures.ended
 
 pub returns-in-Err-finish-clause-puts : goal.returns-in-Err-finish-clause-puts
-returns-in-Err-finish-clause-puts g c h w stands none sees old half roots written is_number follows =
+returns-in-Err-finish-clause-puts g c h w stands none sees old half roots written since is_number follows device =
     let D = g.D.Disk in
     let hub = c.args.engine.now.hub in
     let known = hub.tables.tables in
     let leaves = hub.dir.leaves in
     let stand = c.args.ground.now in
     let had = known_in stand.parts in
+    let lives = stand.lives in
     let books = stand.place.blocks in
     let before = c.args.disk.now in
     let mid = c.write_trees.new.disk in
@@ -144,16 +150,16 @@ returns-in-Err-finish-clause-puts g c h w stands none sees old half roots writte
     let number = stand.number in
     let count = placed_length stand.trees.items told (subst (λ (l : List TreePlace). AreKept l told) past c.in-Ok.ensures.told.kept) ∙ c.in-Ok.ensures.count in
     let ascend = stands.catalog.numbers in
-    let all = subst (λ (l : List TreePlace). AllWritten D old w known leaves had books c.write_trees.new.blocks (placed_by l told) more taken before mid) past (c.in-Ok.ensures.writes h w stands none sees old half (subst (λ (l : List TreePlace). AreRoots known leaves had l old) (sym past) roots) (subst (λ (l : List TreePlace). AreWritten known hub.dir had l) (sym past) written) (subst (λ (l : List TreePlace). FollowsFrom old known leaves had l stand.floor w) (sym past) follows)) in
+    let all = subst (λ (l : List TreePlace). AllWritten D old lives w known leaves had books c.write_trees.new.blocks (placed_by l told) more taken before mid) past (c.in-Ok.ensures.writes h w stands none sees old half (subst (λ (l : List TreePlace). AreRoots known lives leaves had l old) (sym past) roots) (subst (λ (l : List TreePlace). AreWritten known lives hub.dir had l) (sym past) written) since (subst (λ (l : List TreePlace). FollowsFrom old known lives leaves had l stand.floor w) (sym past) follows) device) in
     let img : IsImageOf w.machine number known places image =
     subst (λ (l : List TreePlace). IsImageOf w.machine number known (placed_by l told) image) (c.deref-3.ensures.value ∙ c.reserve_for.ensures.items)
     (subst (λ (l : List (Option TreePlace)). IsImageOf w.machine number known (placed_by c.deref-3.result.now l) image) c.deref-4.ensures.value (c.in-Ok-image_of.ensures.image w stands none)) in
     let counts : (x : List ℕ) → D.may_leave mid x → D.left_since mid (D.moment before) x = λ x there. g.met.D.Disk.counts_now mid (D.moment before) x all.left.later there in
     let honest : IsTrue (D.honest mid) = c.write_trees.ensures.disk.same ∙ h in
-    let base = ready D old w known leaves had books places more taken before mid c.write_trees.new.blocks all hub.tables.next ascend count image number is_number img counts nowhere_at in
+    let base = ready D old lives w known leaves had books places more taken before mid c.write_trees.new.blocks all hub.tables.next ascend count image number is_number img counts nowhere_at in
     let next : (slot : Slot) → slot.sequence ≡ number + 1 → IsNext (chosen_of old) slot = λ slot is. next_slot (D.seen mid) old number slot all.half.runs.stands.seen_has is_number is in
-    not_put D old w known leaves had books places more taken before mid c.write_trees.new.blocks all hub.tables.next ascend count image number is_number img counts c.finish.new.blocks c.finish.new.disk nowhere_at c.in-Err-finish.error c.write_trees.ensures.disk.room
-    (c.in-Err-finish.ensures.finishes honest old _ all.half.runs.stands base img.is.sequence next) (c.in-Err-finish.ensures.reads honest old _ all.half.runs.stands base img.is.sequence next) c.in-Err-finish.ensures.back
+    not_put D old lives w known leaves had books places more taken before mid c.write_trees.new.blocks all hub.tables.next ascend count image number is_number img counts c.finish.new.blocks c.finish.new.disk nowhere_at c.in-Err-finish.error c.write_trees.ensures.disk.room
+    (c.in-Err-finish.ensures.finishes honest old _ all.half.runs.stands base img.is.sequence next) (c.in-Err-finish.ensures.reads honest old _ all.half.runs.stands base img.is.sequence next) (c.in-Err-finish.ensures.keeps honest old _ all.half.runs.stands base img.is.sequence next) c.in-Err-finish.ensures.back
 
 pub finish-requires-clause-ready : goal.finish-requires-clause-ready
 finish-requires-clause-ready g c h =

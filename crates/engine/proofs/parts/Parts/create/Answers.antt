@@ -13,7 +13,7 @@ use Rattle.catalog.specs.declared.created.Created.TheVariants.{New, Same}
 use Rattle.leaf_frame.specs.Leaf.{HeldLeaf}
 use Rattle.call_steps.specs.declared.frame.FramePiece.{FramePiece}
 use Rattle.call_steps.specs.declared.hub.Hub.{Hub}
-use Rattle.call_steps.specs.Tables.{first_word}
+use Rattle.call_steps.specs.Tables.{filled}
 use Rattle.engine_world.specs.Stands.{Engine, Stands}
 use Rattle.engine_world.specs.Systems.{HasFirstLeaf, first_piece}
 use Rattle.engine_world.specs.Worlds.{World}
@@ -161,17 +161,17 @@ returns-in-Ok-add_leaf-clause-makes c = λ w st. comes (λ (x : Engine). Makes x
       id : ℕ
       id = c.in-Ok-add_leaf.id
 
-      first : HasFirstLeaf e.hub.dir c.add_leaf.new.dir t.number id (length e.pieces)
-      first = subst (λ (f : ℕ). HasFirstLeaf e.hub.dir c.add_leaf.new.dir t.number id f) c.in-Ok.ensures.number
-          (subst (λ (n : ℕ). HasFirstLeaf e.hub.dir c.add_leaf.new.dir n id c.in-Ok.frame) c.next_number-number.ensures c.in-Ok-add_leaf.ensures.first)
+      first : HasFirstLeaf e.hub.dir c.add_leaf.new.dir t.number id (length e.pieces) 0
+      first = subst (λ (f : ℕ). HasFirstLeaf e.hub.dir c.add_leaf.new.dir t.number id f 0) c.in-Ok.ensures.number
+          (subst (λ (n : ℕ). HasFirstLeaf e.hub.dir c.add_leaf.new.dir n id c.in-Ok.frame 0) c.next_number-number.ensures c.in-Ok-add_leaf.ensures.first)
 
-      pieces-are : c.push_reserved.new.self.items ≡ e.pieces ++ first_piece t id ∷ []
+      pieces-are : c.push_reserved.new.self.items ≡ e.pieces ++ first_piece 0 t id ∷ []
       pieces-are = c.push_reserved.ensures.items
           ∙ (ap (λ (ps : List FramePiece). ps ++ c.piece_of.result ∷ []) c.room_for_one.ensures.pieces
-          ∙ ap (λ (p : FramePiece). e.pieces ++ p ∷ []) (c.piece_of.ensures ∙ (ap (λ (l : HeldLeaf). piece_of c.next_number-number.result id l) c.new-leaf.ensures ∙ ap (λ (n : ℕ). piece_of n id (record { page = []; chains = [] })) c.next_number-number.ensures)))
+          ∙ ap (λ (p : FramePiece). e.pieces ++ p ∷ []) (c.piece_of.ensures ∙ (ap (λ (l : HeldLeaf). piece_of 0 c.next_number-number.result id l) c.new-leaf.ensures ∙ ap (λ (n : ℕ). piece_of 0 n id (record { page = []; chains = [] })) c.next_number-number.ensures)))
 
-      states-are : c.push_reserved-in-Ok-add_leaf.new.self.items ≡ e.states ++ first_word ∷ []
-      states-are = c.push_reserved-in-Ok-add_leaf.ensures.items ∙ ap (λ (ws : List ℕ). ws ++ first_word ∷ []) c.room_for_one.ensures.states
+      states-are : c.push_reserved-in-Ok-add_leaf.new.self.items ≡ e.states ++ filled 0 ∷ []
+      states-are = c.push_reserved-in-Ok-add_leaf.ensures.items ∙ (ap (λ (ws : List ℕ). ws ++ c.filled.result ∷ []) c.room_for_one.ensures.states ∙ ap (λ (n : ℕ). e.states ++ n ∷ []) c.filled.ensures)
 
       -- the engine that is left
       comes : (Holds : Engine → Type 0) → Holds (created e c.create.new.self c.add_leaf.new.dir t id)
@@ -197,17 +197,17 @@ returns-in-Ok-add_leaf-clause-sound c = comes (λ (x : Engine). IsSound x)
       id : ℕ
       id = c.in-Ok-add_leaf.id
 
-      first : HasFirstLeaf e.hub.dir c.add_leaf.new.dir t.number id (length e.pieces)
-      first = subst (λ (f : ℕ). HasFirstLeaf e.hub.dir c.add_leaf.new.dir t.number id f) c.in-Ok.ensures.number
-          (subst (λ (n : ℕ). HasFirstLeaf e.hub.dir c.add_leaf.new.dir n id c.in-Ok.frame) c.next_number-number.ensures c.in-Ok-add_leaf.ensures.first)
+      first : HasFirstLeaf e.hub.dir c.add_leaf.new.dir t.number id (length e.pieces) 0
+      first = subst (λ (f : ℕ). HasFirstLeaf e.hub.dir c.add_leaf.new.dir t.number id f 0) c.in-Ok.ensures.number
+          (subst (λ (n : ℕ). HasFirstLeaf e.hub.dir c.add_leaf.new.dir n id c.in-Ok.frame 0) c.next_number-number.ensures c.in-Ok-add_leaf.ensures.first)
 
-      pieces-are : c.push_reserved.new.self.items ≡ e.pieces ++ first_piece t id ∷ []
+      pieces-are : c.push_reserved.new.self.items ≡ e.pieces ++ first_piece 0 t id ∷ []
       pieces-are = c.push_reserved.ensures.items
           ∙ (ap (λ (ps : List FramePiece). ps ++ c.piece_of.result ∷ []) c.room_for_one.ensures.pieces
-          ∙ ap (λ (p : FramePiece). e.pieces ++ p ∷ []) (c.piece_of.ensures ∙ (ap (λ (l : HeldLeaf). piece_of c.next_number-number.result id l) c.new-leaf.ensures ∙ ap (λ (n : ℕ). piece_of n id (record { page = []; chains = [] })) c.next_number-number.ensures)))
+          ∙ ap (λ (p : FramePiece). e.pieces ++ p ∷ []) (c.piece_of.ensures ∙ (ap (λ (l : HeldLeaf). piece_of 0 c.next_number-number.result id l) c.new-leaf.ensures ∙ ap (λ (n : ℕ). piece_of 0 n id (record { page = []; chains = [] })) c.next_number-number.ensures)))
 
-      states-are : c.push_reserved-in-Ok-add_leaf.new.self.items ≡ e.states ++ first_word ∷ []
-      states-are = c.push_reserved-in-Ok-add_leaf.ensures.items ∙ ap (λ (ws : List ℕ). ws ++ first_word ∷ []) c.room_for_one.ensures.states
+      states-are : c.push_reserved-in-Ok-add_leaf.new.self.items ≡ e.states ++ filled 0 ∷ []
+      states-are = c.push_reserved-in-Ok-add_leaf.ensures.items ∙ (ap (λ (ws : List ℕ). ws ++ c.filled.result ∷ []) c.room_for_one.ensures.states ∙ ap (λ (n : ℕ). e.states ++ n ∷ []) c.filled.ensures)
 
       -- the engine that is left
       comes : (Holds : Engine → Type 0) → Holds (created e c.create.new.self c.add_leaf.new.dir t id)
@@ -316,9 +316,9 @@ returns-in-Ok-add_leaf-clause-goes c = subst (λ (x : Engine). HubGoesOn x.hub (
   id : ℕ
   id = c.in-Ok-add_leaf.id
 
-  first : HasFirstLeaf e.hub.dir c.add_leaf.new.dir t.number id (length e.pieces)
-  first = subst (λ (f : ℕ). HasFirstLeaf e.hub.dir c.add_leaf.new.dir t.number id f) c.in-Ok.ensures.number
-      (subst (λ (n : ℕ). HasFirstLeaf e.hub.dir c.add_leaf.new.dir n id c.in-Ok.frame) c.next_number-number.ensures c.in-Ok-add_leaf.ensures.first)
+  first : HasFirstLeaf e.hub.dir c.add_leaf.new.dir t.number id (length e.pieces) 0
+  first = subst (λ (f : ℕ). HasFirstLeaf e.hub.dir c.add_leaf.new.dir t.number id f 0) c.in-Ok.ensures.number
+      (subst (λ (n : ℕ). HasFirstLeaf e.hub.dir c.add_leaf.new.dir n id c.in-Ok.frame 0) c.next_number-number.ensures c.in-Ok-add_leaf.ensures.first)
 
 pub returns-in-Err-add_leaf-clause-goes : goal.returns-in-Err-add_leaf-clause-goes
 returns-in-Err-add_leaf-clause-goes c = subst (λ (x : Engine). HubGoesOn x.hub (record e.hub { tables = c.take_back.new.self; dir = c.add_leaf.new.dir })) c.self.view_is (goes-with e (record e.hub { tables = c.take_back.new.self; dir = c.add_leaf.new.dir }) sound refl refl (c.take_back.ensures e.hub.tables t made.2) c.in-Err-add_leaf.ensures.kept) where

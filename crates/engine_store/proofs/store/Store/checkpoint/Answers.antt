@@ -17,7 +17,7 @@ pub returns-in-Ok-clause-takes : goal.returns-in-Ok-clause-takes
 returns-in-Ok-clause-takes g c = λ h first_disk w first made held plain.
     relieved_by g.D.Disk first_disk c.args.disk.now c.checkpoint.new.disk (λ later d left. g.met.D.Disk.counts_now _ _ d later left) (λ d left. g.met.D.Disk.only_now _ d left) (g.met.D.Disk.reads_an_image c.args.disk.now h)
     c.args.self.now c.relieve.new.self w first made held c.checkpoint.ensures.disk.later c.checkpoint.ensures.disk.room c.checkpoints_open.ensures c.downs_go.ensures plain c.checkpoints_have_newest.ensures c.checkpoint.new.ground c.checkpoint.new.engine
-    (λ old on follows. c.in-Ok.ensures.takes h w held.stands held.idle old on follows) (λ fault down. not_down fault c.checkpoint.result c.in-Ok.is (c.checkpoint.ensures.down fault down).0) c.args.self.now.frames c.args.self.now.clock c.relieve.ensures
+    (λ old on follows device. c.in-Ok.ensures.takes h w held.stands held.idle old on follows device) (λ fault down. not_down fault c.checkpoint.result c.in-Ok.is (c.checkpoint.ensures.down fault down).0) c.args.self.now.frames c.args.self.now.clock c.relieve.ensures
 
 pub returns-in-Ok-clause-told : goal.returns-in-Ok-clause-told
 returns-in-Ok-clause-told g c = λ start le.
@@ -37,8 +37,8 @@ returns-in-Ok-clause-ready g c =
 pub returns-in-Err-clause-takes : goal.returns-in-Err-clause-takes
 returns-in-Err-clause-takes g c = λ h first_disk w first made held plain.
     checkpoints_by g.D.Disk first_disk c.args.disk.now c.checkpoint.new.disk (λ later d left. g.met.D.Disk.counts_now _ _ d later left) (λ d left. g.met.D.Disk.only_now _ d left) (g.met.D.Disk.reads_an_image c.args.disk.now h)
-    c.args.self.now (record c.args.self.now { engine = c.checkpoint.new.engine; ground = c.checkpoint.new.ground }) w first made held c.checkpoint.ensures.disk.later c.checkpoint.ensures.disk.room c.checkpoints_open.ensures c.downs_go.ensures plain (Err c.in-Err.refusal)
-    (λ old on follows. c.in-Err.ensures.takes h w held.stands held.idle old on follows) c.in-Err.ensures.down
+    c.args.self.now (record c.args.self.now { engine = c.checkpoint.new.engine; ground = c.checkpoint.new.ground }) w first made held c.checkpoint.ensures.disk.later c.checkpoint.ensures.disk.room c.checkpoints_open.ensures c.downs_go.ensures plain (Err c.in-Err.refusal) c.in-Err.ensures.lives
+    (λ old on follows device. c.in-Err.ensures.takes h w held.stands held.idle old on follows device) c.in-Err.ensures.down
 
 pub returns-in-Err-clause-told : goal.returns-in-Err-clause-told
 returns-in-Err-clause-told g c = λ start le.

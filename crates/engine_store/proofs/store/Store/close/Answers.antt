@@ -15,19 +15,19 @@ pub checkpoint-requires-clause-trees : goal.checkpoint-requires-clause-trees
 checkpoint-requires-clause-trees g c = omega (arith, no_fewer c.args.self.now.engine.hub.tables.tables c.roll_back_all.new.self.hub.tables.tables c.roll_back_all.ensures.goes.tables, c.requires.ready.trees)
 
 pub returns-clause-closes : goal.returns-clause-closes
-returns-clause-closes g c = λ h w st free old on follows.
+returns-clause-closes g c = λ h w st free old on follows device.
     let D = g.D.Disk in
     let before = c.args.self.now in
     let middle = c.roll_back_all.new.self in
     let may = may_roll before.engine c.may_close.result c.in-Ok.field-0 c.may_close.ensures.told c.in-Ok.is w st free in
     let stands = c.roll_back_all.ensures.rolled_back w st may in
-    let r = is_rolled (D.seen c.args.disk.now) (D.may_leave c.args.disk.now) old w before.ground before.engine middle c.roll_back_all.ensures.goes st stands on follows in
+    let r = is_rolled (D.seen c.args.disk.now) (D.may_leave c.args.disk.now) old w before.ground before.engine middle c.roll_back_all.ensures.goes st stands on follows device in
     closes_last D old w before (record c.args.self.now { engine = c.checkpoint.new.engine; ground = c.checkpoint.new.ground }) c.args.disk.now c.checkpoint.new.disk c.checkpoint.result
     (record {
       may = may;
       middle = middle;
       stands = stands;
-      takes = c.checkpoint.ensures.takes h (rolled w) stands (checkpoint_rolled w.machine ∙ free) old r.on r.follows;
+      takes = c.checkpoint.ensures.takes h (rolled w) stands (checkpoint_rolled w.machine ∙ free) old r.on r.follows r.since;
     })
 
 pub returns-clause-shuts : goal.returns-clause-shuts
@@ -40,8 +40,8 @@ returns-clause-shuts g c = λ h first_disk w first made held plain.
     let goes = c.plain_stays.ensures.rolls_back w.machine held.stands.valid plain in
     shuts_by D first_disk c.args.disk.now (g.met.D.Disk.reads_an_image c.args.disk.now h) before w first made held plain may goes middle stands c.roll_back_all.ensures.goes
     c.checkpoint.new.disk (λ later d left. g.met.D.Disk.counts_now _ _ d later left) (λ d left. g.met.D.Disk.only_now _ d left) c.checkpoint.ensures.disk.later c.checkpoint.ensures.disk.room c.checkpoints_open.ensures c.downs_go.ensures
-    (record c.args.self.now { engine = c.checkpoint.new.engine; ground = c.checkpoint.new.ground }) c.checkpoint.result
-    (λ old on follows. c.checkpoint.ensures.takes h (rolled w) stands (checkpoint_rolled w.machine ∙ held.idle) old on follows)
+    (record c.args.self.now { engine = c.checkpoint.new.engine; ground = c.checkpoint.new.ground }) c.checkpoint.result c.checkpoint.ensures.lives
+    (λ old on follows device. c.checkpoint.ensures.takes h (rolled w) stands (checkpoint_rolled w.machine ∙ held.idle) old on follows device)
 
 pub returns-clause-told : goal.returns-clause-told
 returns-clause-told g c = λ start le.

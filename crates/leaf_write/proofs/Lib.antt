@@ -1,0 +1,4 @@
+mod Lists
+pub mod Adding
+mod OneLeaf
+mod Going
