@@ -80,6 +80,13 @@ impl SessionState {
         first_pinned(&self.cursors)
     }
 
+    /// The keys that its transaction wrote, each once, by their places. `O(1)`.
+    pub fn written(&self) -> &[WrittenKey]
+        ensures { result.now ≡ self.now.written }
+    {
+        self.written.as_slice()
+    }
+
     pub(crate) fn go_to(&mut self, stage: Stage)
         ensures { self.new ≡ at_stage stage self.old }
     {

@@ -1,4 +1,4 @@
--- A block of a leaf that is gone is let go of: what was written since stays so, and so does what the next checkpoint stands on.
+-- A block to which no leaf leads any more is let go of: what was written since stays so, and so does what the next checkpoint stands on.
 use Rattle.std.specs.Prelude.{◌≡◌, ℕ, true, List, Option, None, Some, refl}
 use Rattle.std.specs.List.{Contains}
 use Rattle.std.proofs.Common.{sym, ◌∙◌, ap}
@@ -24,13 +24,13 @@ use Rattle.ckpt_step.proofs.LonesMore.{gone_distinct, gone_from, gone_keeps}
 use Rattle.ckpt_step.proofs.OutBlocks.{lone_less}
 use Rattle.ckpt_step.proofs.OutLives.{both_same, live_by}
 
-module _ (old : Option Stored) (lives : List Lone) (lone : AreLone old lives) (x : Lone) (there : Member x lives) (leaves : List Leaf) (gone : (l : Leaf) → Contains leaves l → l.id ≡ x.leaf → ⊥) where
+module _ (old : Option Stored) (lives : List Lone) (lone : AreLone old lives) (x : Lone) (there : Member x lives) (leaves : List Leaf) (gone : (l : Leaf) → Contains leaves l → l.id ≡ x.leaf → l.entry.link.addr.offset ≡ x.addr.offset → ⊥) where
   abbrev fewer : List Lone
   fewer = gone_at lives x.addr.offset
 
   -- a block of a leaf that is there is another
-  pub other : (y : Lone) (l : Leaf) → Member y lives → Contains leaves l → y.leaf ≡ l.id → y.addr.offset ≡ x.addr.offset → ⊥
-  other y l mine c id at = gone l c (sym id ∙ ap (λ (z : Lone). z.leaf) (one_lone lives y x lone.distinct mine there at))
+  pub other : (y : Lone) (l : Leaf) → Member y lives → Contains leaves l → y.leaf ≡ l.id → y.addr.offset ≡ l.entry.link.addr.offset → y.addr.offset ≡ x.addr.offset → ⊥
+  other y l mine c id here at = gone l c (sym id ∙ ap (λ (z : Lone). z.leaf) (one_lone lives y x lone.distinct mine there at)) (sym here ∙ at)
 
   pub live_fewer : (l : Leaf) → Contains leaves l → is_live fewer l ≡ is_live lives l
   live_fewer l c = both_same (is_live fewer l) (is_live lives l) up down
@@ -41,7 +41,7 @@ module _ (old : Option Stored) (lives : List Lone) (lone : AreLone old lives) (x
       down : is_live lives l ≡ true → is_live fewer l ≡ true
       down live =
           let one = live_as lives l live in
-          live_by fewer one.lone l (gone_distinct x.addr.offset lives lone.distinct) (gone_keeps x.addr.offset lives one.lone one.there (other one.lone l one.there c one.id)) one.at one.id
+          live_by fewer one.lone l (gone_distinct x.addr.offset lives lone.distinct) (gone_keeps x.addr.offset lives one.lone one.there (other one.lone l one.there c one.id one.at)) one.at one.id
 
   parted_fewer : (table : ℕ) (written : Written) (place : TreePlace) (tree : TableTree) → IsParted lives leaves table written place tree → IsParted fewer leaves table written place tree
   parted_fewer table written place tree parted = record {
@@ -70,7 +70,7 @@ module _ (old : Option Stored) (lives : List Lone) (lone : AreLone old lives) (x
   device_fewer seen shelf device l c live = device l c (sym (live_fewer l c) ∙ live)
 
 -- of a directory
-module _ (old : Option Stored) (lives : List Lone) (lone : AreLone old lives) (x : Lone) (there : Member x lives) (d : Directory) (gone : (l : Leaf) → Contains d.leaves l → l.id ≡ x.leaf → ⊥) (written : Written) where
+module _ (old : Option Stored) (lives : List Lone) (lone : AreLone old lives) (x : Lone) (there : Member x lives) (d : Directory) (gone : (l : Leaf) → Contains d.leaves l → l.id ≡ x.leaf → l.entry.link.addr.offset ≡ x.addr.offset → ⊥) (written : Written) where
   pub written_fewer : (known : List Table) (places : List TreePlace) → AreWritten known lives d written places → AreWritten known (gone_at lives x.addr.offset) d written places
   written_fewer known places were = record {
     later = were.later;
@@ -83,6 +83,6 @@ module _ (old : Option Stored) (lives : List Lone) (lone : AreLone old lives) (x
     given = λ y mine. since.given y (gone_from x.addr.offset lives y mine);
     leaf = λ l c live.
         let one = since.leaf l c (sym (live_fewer old lives lone x there d.leaves gone l c) ∙ live) in
-        record { there = gone_keeps x.addr.offset lives (record { leaf = l.id; addr = l.entry.link.addr }) one.there (λ at. other old lives lone x there d.leaves gone (record { leaf = l.id; addr = l.entry.link.addr }) l one.there c refl at); none = one.none };
+        record { there = gone_keeps x.addr.offset lives (record { leaf = l.id; addr = l.entry.link.addr }) one.there (λ at. other old lives lone x there d.leaves gone (record { leaf = l.id; addr = l.entry.link.addr }) l one.there c refl refl at); none = one.none };
     apart = λ l c live. since.apart l c (sym (live_fewer old lives lone x there d.leaves gone l c) ∙ live);
   }

@@ -42,6 +42,15 @@ leaf_before (l ∷ leaves) (x ∷ next) n goes there = elim (split x n next ther
   | inr more ↦ let was = leaf_before leaves next n goes.1 more in (was.0, later l was.0 leaves was.1, was.2)
 ]
 
+-- each of those that were there went on
+pub leaf_after : (leaves next : List Leaf) (l : Leaf) → LeavesGoOn leaves next → Contains leaves l → (n : Leaf) × Contains next n × LeafGoesOn l n
+leaf_after [] next l goes there = absurd (omega (arith, there.1))
+leaf_after (x ∷ leaves) [] l goes there = absurd goes
+leaf_after (x ∷ leaves) (n ∷ next) l goes there = elim (split x l leaves there) [
+  | inl here ↦ (n, head-in n next, subst (λ (y : Leaf). LeafGoesOn y n) here goes.0)
+  | inr more ↦ let went = leaf_after leaves next l goes.1 more in (went.0, later n went.0 next went.1, went.2)
+]
+
 -- a leaf that is found, and the one that it goes on to
 abbrev BothGo : Option Leaf → Option Leaf → Type 0
 BothGo None None = Unit {0}

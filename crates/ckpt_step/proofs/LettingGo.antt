@@ -7,8 +7,9 @@ use Rattle.call_steps.specs.declared.hub.Hub.{Hub}
 use Rattle.engine.proofs.LeavesCome.{named-there}
 use Rattle.engine.specs.Directories.{LeafGoesOn, LeavesGoOn}
 use Rattle.engine_world.proofs.Homes.{same-id}
-use Rattle.engine_world.proofs.LeavesChanged.{IsMild, contains-source, under-from, under-to}
+use Rattle.engine_world.proofs.LeavesChanged.{IsMild, contains-map, contains-source, under-from, under-to}
 use Rattle.engine_world.specs.Worlds.{World}
+use Rattle.kv_model.specs.History.{Table}
 use Rattle.kv_model.specs.Holds.{Member}
 use Rattle.row_page.specs.Rows.{Row}
 use Rattle.stored.specs.Stored.{Stored}
@@ -20,7 +21,7 @@ use Rattle.tree_open.specs.declared.place.TreePlace.{TreePlace}
 use Rattle.tree_write.specs.Steps.{links_in}
 use Rattle.tree_write.specs.Writes.{LeadApart}
 use Rattle.ckpt_step.specs.Floors.{AreLivesOn, Follows, IsAsItLies, IsLeafBefore}
-use Rattle.ckpt_step.specs.Grounds.{AreRoots, AreSince, AreWritten, StandsOn}
+use Rattle.ckpt_step.specs.Grounds.{AreLedTo, AreRoots, AreSince, AreWritten, StandsOn}
 use Rattle.ckpt_step.specs.Lives.{is_live}
 use Rattle.ckpt_step.specs.Parts.{IsPart, IsParted, LieIn, has_rows, part_in, part_leaves, part_of, parts_of}
 use Rattle.ckpt_step.specs.Rooms.{Written, known_in}
@@ -160,6 +161,21 @@ module _ (hub : Hub) (l : Leaf) (dir : IsDirectory hub.dir) (named : leaf_named 
         (subst (λ (es : List Entry). LeadApart (links_in es)) (parts_same written (leaves_of b.leaf.table after) (leaves_of b.leaf.table leaves) (out_of l.id b.leaf.table leaves)) (since.apart b.leaf b.there (live_then lives n b live)));
   }
 
+  led_now : (known : List Table) (lives : List Lone) → AreLedTo known lives leaves → AreLedTo known lives after
+  led_now known lives led x mine =
+      let one = led x mine in
+      let back = out_back l.id one.leaf in
+      record {
+        leaf = out l.id one.leaf;
+        there = contains-map (out l.id) leaves one.leaf one.there;
+        id = sym back.id ∙ one.id;
+        addr = ap (λ (e : Entry). e.link.addr) (sym back.entry) ∙ one.addr;
+        place = one.place;
+        table = one.table;
+        at = one.at;
+        own = sym back.table ∙ one.own;
+      }
+
   -- ---- what is written of leaves
 
   module _ (written : Written) (unwritten : written l.id ≡ None) where
@@ -227,6 +243,7 @@ module _ (hub : Hub) (l : Leaf) (dir : IsDirectory hub.dir) (named : leaf_named 
     roots = roots_now g.lives (known_in g.parts) g.trees.items old on.roots;
     written = written_now (known_in g.parts) unwritten g.lives g.trees.items rows on.written;
     since = since_now old g.lives (known_in g.parts) on.since;
+    led = led_now hub.tables.tables g.lives on.led;
   }
 
 pub grounds_let_go : (seen : List ℕ) (images : List ℕ → Type 0) → GroundsLetGo seen images

@@ -116,3 +116,9 @@ mod OldBlocks
 mod OutWay
 mod OutSteps
 mod OutEnds
+mod LedNewest
+mod LedOut
+mod LedLives
+mod LedWay
+mod LedSteps
+mod LedEnds

@@ -51,7 +51,7 @@ stands_in e w table l held stands there same loaded = elim (stands.leaves l ther
 -- ---- what is captured of it
 
 -- a row's key is shown
-shown_there : (rows : List Row) (r : Row) → Member r rows → shown_at r.0 rows ≡ None → ⊥
+pub shown_there : (rows : List Row) (r : Row) → Member r rows → shown_at r.0 rows ≡ None → ⊥
 shown_there [] r there none = there
 shown_there (x ∷ rows) r there none = elim (cases_Bool (bytes_eq x.0 r.0)) [
   | inl is ↦ absurd (none_some (sym (let some : Some (version_in x.1) ≡ None = rw is at none in some)))

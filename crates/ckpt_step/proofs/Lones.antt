@@ -7,13 +7,14 @@ use Rattle.block_mgr.specs.declared.cell.Cell.{Cell}
 use Rattle.block_mgr.specs.Cells.{fresh, nothing}
 use Rattle.block_mgr.specs.Open.{found_cell}
 use Rattle.device_layout.specs.declared.addr.Addr.{Addr}
+use Rattle.kv_model.specs.History.{Table}
 use Rattle.kv_model.specs.Holds.{Member}
 use Rattle.stored.specs.Stored.{Stored}
 use Rattle.stored.specs.TableTree.{Entry}
 use Rattle.tree_dir.specs.declared.leaf.Leaf.{Leaf}
 use Rattle.tree_dir.specs.Leaves.{Directory}
 use Rattle.tree_write.specs.Captures.{AreDistinct}
-use Rattle.ckpt_step.specs.Grounds.{AreLone, AreSince, found_in, start_cell}
+use Rattle.ckpt_step.specs.Grounds.{AreLedTo, AreLone, AreSince, found_in, start_cell}
 use Rattle.ckpt_step.specs.Halves.{IsOldBlock, body_cell, held_cell, record_cell}
 use Rattle.ckpt_step.specs.Lives.{NoneLive, addrs_in, has_at, is_live, is_of, live_addrs, lone_at, with_lives, with_lone}
 use Rattle.ckpt_step.specs.Rooms.{Written}
@@ -237,3 +238,6 @@ no_since old dir written = record {
   leaf = λ l there live. absurd (false≢true live);
   apart = λ l there live. absurd (false≢true live);
 }
+
+pub no_led : (known : List Table) (leaves : List Leaf) → AreLedTo known [] leaves
+no_led known leaves x there = absurd there

@@ -39,6 +39,7 @@ stands_looked bytes seen was images hub g old same fewer on = record {
   roots = on.roots;
   written = on.written;
   since = on.since;
+  led = on.led;
 }
 
 module _ {D : Type 0} (g : Ghosts D) (before mid : D) (looked : Looked g before mid) (only : (c : List ℕ) → g.left_since before (g.moment before) c → g.may_leave before c) (old : Option Stored) where

@@ -30,7 +30,7 @@ use Rattle.ckpt_step.specs.CutOuts.{AreAhead, AreOldAt, IsCutOut}
 use Rattle.ckpt_step.specs.Parts.{IsPart}
 use Rattle.ckpt_step.specs.Steps.{IsLoaded}
 use Rattle.ckpt_step.specs.WritesOut.{AreRowsIn, IsNotOld}
-use Rattle.ckpt_step.specs.declared.writing_out.LeafCut.{LeafCut}
+use Rattle.ckpt_step.specs.declared.cutting_out.LeafCut.{LeafCut}
 use Rattle.ckpt_step.proofs.LoadedLeaves.{captured_lie, captured_newest, stands_in}
 use Rattle.ckpt_step.proofs.Members.{in_back, in_front}
 use Rattle.ckpt_step.proofs.OrderedByName.{all_join}

@@ -3,13 +3,16 @@ use Rattle.std.specs.Prelude.{◌≡◌, ◌≢◌, ◌⊎◌, ℕ, ◌<◌, ◌
 use Rattle.std.specs.List.{Contains}
 use Rattle.std.proofs.Common.{inl, inr, sym, ◌∙◌, ap, subst, arith}
 use Rattle.std.proofs.lemmas.Bool.{eq-eqb, ne_eqb, false≢true}
+use Rattle.device_layout.specs.declared.addr.Addr.{Addr}
 use Rattle.engine_world.proofs.Homes.{same-id}
+use Rattle.kv_model.specs.History.{Table}
 use Rattle.kv_model.specs.Holds.{Member}
 use Rattle.stored.specs.TableTree.{Entry}
 use Rattle.tree_dir.specs.declared.leaf.Leaf.{Leaf}
 use Rattle.tree_dir.specs.GivingWay.{StandFor}
 use Rattle.tree_dir.specs.Leaves.{Directory, GaveWay, IsDirectory, TakePlace, leaves_of, leaves_with}
 use Rattle.tree_write.specs.Captures.{AreDistinct}
+use Rattle.ckpt_step.specs.Grounds.{IsLedTo}
 use Rattle.ckpt_step.specs.Lives.{NoneLive, addrs_in, is_live, is_of, lone_at}
 use Rattle.ckpt_step.specs.Parts.{part_in, part_of, parts_of}
 use Rattle.ckpt_step.specs.Rooms.{Written}
@@ -47,6 +50,10 @@ found_lone (z ∷ lives) y distinct (inr later) =
 pub live_by : (lives : List Lone) (y : Lone) (x : Leaf) → AreDistinct (addrs_in lives) → Member y lives → y.addr.offset ≡ x.entry.link.addr.offset → y.leaf ≡ x.id → is_live lives x ≡ true
 live_by lives y x distinct there at id =
     ap (λ (o : ℕ). is_of x.id (lone_at lives o)) (sym at) ∙ (ap (λ (o : Option Lone). is_of x.id o) (found_lone lives y distinct there) ∙ eq-eqb y.leaf x.id id)
+
+-- one to which a leaf leads is that leaf
+pub led_live : (known : List Table) (lives : List Lone) (leaves : List Leaf) (x : Lone) → AreDistinct (addrs_in lives) → Member x lives → (b : IsLedTo known leaves x) → is_live lives b.leaf ≡ true
+led_live known lives leaves x distinct there b = live_by lives x b.leaf distinct there (ap (λ (a : Addr). a.offset) (sym b.addr)) (sym b.id)
 
 pub both_same : (a b : Bool) → (a ≡ true → b ≡ true) → (b ≡ true → a ≡ true) → a ≡ b
 both_same true b on off = sym (on refl)

@@ -36,7 +36,7 @@ use Rattle.ckpt_step.proofs.WithParts.{in_alike, own_some, parts_both}
 -- ---- links that lead apart
 
 -- where a block was put the live tree had none
-placed_dead : (books : Books) (a : Addr) (size : ℕ) → IsPlaced books a → HasLive books.cells a.offset size → ⊥
+pub placed_dead : (books : Books) (a : Addr) (size : ℕ) → IsPlaced books a → HasLive books.cells a.offset size → ⊥
 placed_dead books a size placed (u, at, sized, live) =
     let same : u ≡ placed.unit = (let offset = placed.offset in omega (arith, at, offset)) in
     false≢true (ap (λ (c : Cell). c.is_live) (sym placed.none ∙ ap (cell_at books.cells) (sym same)) ∙ live)

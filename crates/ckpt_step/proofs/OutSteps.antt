@@ -35,6 +35,8 @@ use Rattle.tree_dir.specs.Slots.{new_leaf}
 use Rattle.tree_dir.specs.Leaves.{Directory, GaveWay, TakePlace, leaf_named, leaf_under, leaves_with}
 use Rattle.tree_write.specs.Captures.{IsSafe, MayWrite}
 use Rattle.tree_write.specs.Drafts.{HasLeaves, addrs_to}
+use Rattle.stored.specs.Tree.{join}
+use Rattle.tree_write.specs.Cuts.{AreFullLeaves}
 use Rattle.tree_write.specs.Sizes.{LacksAll}
 use Rattle.tree_write.specs.Steps.{keys_of, part_keys}
 use Rattle.tree_write.proofs.LeafKeys.{keys_length}
@@ -42,15 +44,15 @@ use Rattle.wt_code.specs.declared.store_error.StoreError.{StoreError}
 use Rattle.wt_code.specs.declared.store_error.StoreError.TheVariants.{NoMemory, Read}
 use Rattle.ckpt_step.specs.declared.ground.Ground.{Ground}
 use Rattle.ckpt_step.specs.declared.lives.Lone.{Lone}
-use Rattle.ckpt_step.specs.declared.writing_out.LeafCut.{LeafCut}
+use Rattle.ckpt_step.specs.declared.cutting_out.LeafCut.{LeafCut}
 use Rattle.ckpt_step.specs.CutOuts.{HasMoved, HasNotMoved, IsCutOut, IsSameBut, LetGo, NotPut}
 use Rattle.ckpt_step.specs.Floors.{AreLivesOn, AreOnDevice, Follows, FollowsFrom}
 use Rattle.ckpt_step.specs.Frees.{without_all}
 use Rattle.ckpt_step.specs.Giving.{StandsStill}
-use Rattle.ckpt_step.specs.Grounds.{AreRoots, AreSince, AreWritten, StandsOn, start_cell}
+use Rattle.ckpt_step.specs.Grounds.{AreLedTo, AreRoots, AreSince, AreWritten, StandsOn, start_cell}
 use Rattle.ckpt_step.specs.Holding.{AreNewAt, addrs_if, gone_if, held_all, named_all, own_of}
 use Rattle.ckpt_step.specs.Rooms.{Rooms, known_in}
-use Rattle.ckpt_step.specs.WritesOut.{WrittenOut}
+use Rattle.ckpt_step.specs.WritesOut.{AreRowsIn, WrittenOut}
 use Rattle.ckpt_step.proofs.HeldLives.{are_more, named_ids, named_is}
 use Rattle.ckpt_step.proofs.HalfCells.{may_of}
 use Rattle.ckpt_step.proofs.LeavesNow.{device_kept}
@@ -86,6 +88,7 @@ stands_back seen later images left hub g g' old on books may within end synced u
   roots = from (λ p t l. AreRoots hub.tables.tables l hub.dir.leaves (known_in p) t.items old) on.roots;
   written = from (λ p t l. AreWritten hub.tables.tables l hub.dir (known_in p) t.items) on.written;
   since = from (λ p t l. AreSince old l hub.dir (known_in p)) on.since;
+  led = from (λ p t l. AreLedTo hub.tables.tables l hub.dir.leaves) on.led;
 } where
   from : (P : Rooms → Vec TreePlace Global → List Lone → Type 0) → P g.parts g.trees g.lives → P g'.parts g'.trees g'.lives
   from P was =
@@ -117,10 +120,10 @@ first_made table (id ∷ ids) (e ∷ es) many same some is = (new_leaf table id 
 
 module _ {D : Type 0} (g : Ghosts D) (before start : D) (looked : Looked g before start) (only : (c : List ℕ) → g.left_since before (g.moment before) c → g.may_leave before c) (old : Option Stored) (w : World) (stand : Ground) (e : Engine) (id : ℕ)
     (on : StandsOn (g.seen before) (g.may_leave before) e.hub stand old) (follows : Follows old e.hub stand w) (device : AreLivesOn (g.seen before) e.hub stand w) where
-  only_looked : LeavesOnly g before start (IsOld (g.may_leave before) old)
+  pub only_looked : LeavesOnly g before start (IsOld (g.may_leave before) old)
   only_looked = looked_only g before start (IsOld (g.may_leave before) old) looked (λ c is. inl (only c is))
 
-  all_left : (after : D) → LeavesOnly g start after (IsOld (g.may_leave start) old) → LeavesOnly g before after (IsOld (g.may_leave before) old)
+  pub all_left : (after : D) → LeavesOnly g start after (IsOld (g.may_leave start) old) → LeavesOnly g before after (IsOld (g.may_leave before) old)
   all_left after more = joined g before start after _ _ only_looked more old_before
     where
       old_before : (c : List ℕ) → IsOld (g.may_leave start) old c → IsOld (g.may_leave before) old c
@@ -130,7 +133,7 @@ module _ {D : Type 0} (g : Ghosts D) (before start : D) (looked : Looked g befor
   pub stood : StandsOn (g.seen start) (g.may_leave start) e.hub stand old
   stood = stands_looked (g.seen before) (g.seen start) (g.may_leave before) (g.may_leave start) e.hub stand old looked.content looked.images on
 
-  device_start : AreLivesOn (g.seen start) e.hub stand w
+  pub device_start : AreLivesOn (g.seen start) e.hub stand w
   device_start = subst (λ (bytes : List ℕ). AreLivesOn bytes e.hub stand w) (sym looked.content) device
 
   -- blocks may be written
@@ -141,11 +144,14 @@ module _ {D : Type 0} (g : Ghosts D) (before start : D) (looked : Looked g befor
   pub not_begun_out : NotPut g old w stand stand e e id before start Read
   not_begun_out = record { left = only_looked; on = λ safe. stood; follows = λ safe. follows; since = λ safe. device_start; same = refl; full = λ is. absurd (cc) }
 
-  module _ (cut : LeafCut) (is : IsCutOut e id cut) (stands : Stands e w) (none : NoneResolves w.machine) (law : CapturesAreNewest) (after : D) (books : Books) where
-    -- not all images were written
-    pub given_back : (x : StoreError) (g' : Ground) → LeavesGivenBack g old stand.place.blocks books start after (own_images e id cut is).leaves x → (IsSafe x → end_of books.space ≤ length (g.seen after)) → books.is_held ≡ stand.place.blocks.is_held → g'.place.blocks ≡ books → g'.lives ≡ stand.lives → g'.parts ≡ stand.parts → IsSameBut stand g'
+  pub not_begun_without : NotPut g old w stand stand e e id before start NoMemory
+  not_begun_without = record { left = only_looked; on = λ safe. stood; follows = λ safe. follows; since = λ safe. device_start; same = refl; full = λ is. absurd (cc) }
+
+  module _ (after : D) (books : Books) (images : List (List Row)) where
+    -- not all of these images were written, which have the newest versions of the leaf's keys
+    pub given_back_all : (l : Leaf) → leaf_named id e.hub.dir.leaves ≡ Some l → AreRowsIn w.machine e.hub.dir.leaves l (join images) → AreFullLeaves images → (x : StoreError) (g' : Ground) → LeavesGivenBack g old stand.place.blocks books start after images x → (IsSafe x → end_of books.space ≤ length (g.seen after)) → books.is_held ≡ stand.place.blocks.is_held → g'.place.blocks ≡ books → g'.lives ≡ stand.lives → g'.parts ≡ stand.parts → IsSameBut stand g'
         → NotPut g old w stand g' e e id before after x
-    given_back x g' back within held blocks lives parts same = record {
+    given_back_all l named newest fill x g' back within held blocks lives parts same = record {
       left = all_left after back.left;
       on = λ safe. stands_back (g.seen start) (g.seen after) (g.may_leave start) (g.may_leave after) e.hub stand g' old stood books (back.may safe) (within safe) (ap (λ (b : Books). end_of b.space) blocks) (ap (λ (b : Books). b.is_synced) blocks)
           (subst (λ (b : Books). AreUnits b.cells b.space) (sym blocks) (back.may safe).units) (ap (λ (b : Books). b.is_held) blocks ∙ held) (λ u. ap (λ (b : Books). cell_at b.cells u) blocks ∙ back.cells u) lives parts same;
@@ -158,23 +164,23 @@ module _ {D : Type 0} (g : Ghosts D) (before start : D) (looked : Looked g befor
         has = on.stands.seen_has;
         space = stand.place.blocks.space;
         space_is = free_space (g.seen before) (g.may_leave before) stand.place.blocks old stand.lives on.stands on.since.lone on.cells on.units on.within;
-        leaf = is.leaf;
-        there = is.there;
-        images = (own_images e id cut is).leaves;
-        are = newest_rows e id cut is w law stands none;
-        full = (own_images e id cut is).full;
-        lacks = subst (λ (n : ℕ). LacksAll stand.place.blocks.space n (leaf_sizes (own_images e id cut is).leaves)) looked.capacity (back.lacks no_space);
+        leaf = l;
+        there = named;
+        images = images;
+        are = newest;
+        full = fill;
+        lacks = subst (λ (n : ℕ). LacksAll stand.place.blocks.space n (leaf_sizes images)) looked.capacity (back.lacks no_space);
       };
     }
 
-    module _ (es : List Entry) (wrote : LeavesWritten g old stand.place.blocks books start after (own_images e id cut is).leaves es) (within : end_of books.space ≤ length (g.seen after)) (held : books.is_held ≡ stand.place.blocks.is_held)
+    module _ (es : List Entry) (wrote : LeavesWritten g old stand.place.blocks books start after images es) (within : end_of books.space ≤ length (g.seen after)) (held : books.is_held ≡ stand.place.blocks.is_held)
         (mid : Ground) (blocks : mid.place.blocks ≡ books) (lives : mid.lives ≡ stand.lives) (parts : mid.parts ≡ stand.parts) (same : IsSameBut stand mid) where
-      new_at : AreNewAt stand.lives es
+      pub new_at : AreNewAt stand.lives es
       new_at = placed_new old stand.lives stood.since.lone stand.place.blocks stood.cells es wrote.added.placed wrote.added.distinct
 
       -- there was no memory for the rest
-      pub moved_back : (e' : Engine) (g' : Ground) → HasNotMoved e e' mid g' id cut.table es → NotPut g old w stand g' e e' id before after NoMemory
-      moved_back e' g' back =
+      pub moved_back_all : (table : ℕ) (e' : Engine) (g' : Ground) → HasNotMoved e e' mid g' id table es → NotPut g old w stand g' e e' id before after NoMemory
+      moved_back_all table e' g' back =
           let now : g'.lives ≡ stand.lives = back.lives (subst (λ (l : List Lone). AreNewAt l es) (sym lives) new_at) ∙ lives in
           let kept : g'.parts ≡ stand.parts = back.parts ∙ parts in
           let alike : IsSameBut stand g' = record { slot = back.same.slot ∙ same.slot; number = back.same.number ∙ same.number; trees = back.same.trees ∙ same.trees; floor = back.same.floor ∙ same.floor } in
@@ -189,6 +195,18 @@ module _ {D : Type 0} (g : Ghosts D) (before start : D) (looked : Looked g befor
             same = back.engine;
             full = λ no_space. absurd (cc);
           }
+
+  module _ (cut : LeafCut) (is : IsCutOut e id cut) (stands : Stands e w) (none : NoneResolves w.machine) (law : CapturesAreNewest) (after : D) (books : Books) where
+    -- not all images were written
+    pub given_back : (x : StoreError) (g' : Ground) → LeavesGivenBack g old stand.place.blocks books start after (own_images e id cut is).leaves x → (IsSafe x → end_of books.space ≤ length (g.seen after)) → books.is_held ≡ stand.place.blocks.is_held → g'.place.blocks ≡ books → g'.lives ≡ stand.lives → g'.parts ≡ stand.parts → IsSameBut stand g'
+        → NotPut g old w stand g' e e id before after x
+    given_back x g' back within held blocks lives parts same = given_back_all after books (own_images e id cut is).leaves is.leaf is.there (newest_rows e id cut is w law stands none) (own_images e id cut is).full x g' back within held blocks lives parts same
+
+    module _ (es : List Entry) (wrote : LeavesWritten g old stand.place.blocks books start after (own_images e id cut is).leaves es) (within : end_of books.space ≤ length (g.seen after)) (held : books.is_held ≡ stand.place.blocks.is_held)
+        (mid : Ground) (blocks : mid.place.blocks ≡ books) (lives : mid.lives ≡ stand.lives) (parts : mid.parts ≡ stand.parts) (same : IsSameBut stand mid) where
+      -- there was no memory for the rest
+      pub moved_back : (e' : Engine) (g' : Ground) → HasNotMoved e e' mid g' id cut.table es → NotPut g old w stand g' e e' id before after NoMemory
+      moved_back e' g' back = moved_back_all after books (own_images e id cut is).leaves es wrote within held mid blocks lives parts same cut.table e' g' back
 
       -- the leaf gave way
       module _ (laws : LeavesGiveWay) (keys : keys_of es ≡ part_keys cut.low cut.images.items) (fits : AllByRecursion (λ (x : Entry). LinkFits x.link) es) (e' : Engine) (g' : Ground) (moved : HasMoved e e' mid g' id cut.table es) where
@@ -242,7 +260,7 @@ module _ {D : Type 0} (g : Ghosts D) (before start : D) (looked : Looked g befor
           stand = stand_for;
           later = stood.written.later;
           others = λ other differ. moved.others other (λ met. differ (met ∙ sym id_is)) ∙ ap (λ (p : Rooms). known_in p other) parts;
-          more = are_more id l.table stand.lives moved.way.ids es gave.fresh.many stood.since.lone.distinct new_at;
+          more = are_more id l.table stand.lives moved.way.ids es gave.fresh.many stood.since.lone.distinct (new_at after books (own_images e id cut is).leaves es wrote within held mid blocks lives parts same);
           distinct = stood.since.lone.distinct;
         }
 

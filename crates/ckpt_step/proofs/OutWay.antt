@@ -13,6 +13,7 @@ use Rattle.checkpoint_core.proofs.Holding.{in_use_same, still_long}
 use Rattle.checkpoint_core.specs.Stands.{Stands as StandsHere, blocks_of}
 use Rattle.device_layout.specs.declared.addr.Addr.{Addr}
 use Rattle.device_layout.specs.declared.link.Link.{Link}
+use Rattle.engine_world.proofs.Homes.{same-id}
 use Rattle.engine_world.specs.GivingWay.{IsShelved}
 use Rattle.engine_world.specs.Stands.{Engine, Stands}
 use Rattle.engine_world.specs.Worlds.{World}
@@ -37,7 +38,7 @@ use Rattle.ckpt_step.specs.CutOuts.{IsSameBut, LetGo}
 use Rattle.ckpt_step.specs.Floors.{AreLivesOn, AreOnDevice, Follows, FollowsFrom}
 use Rattle.ckpt_step.specs.Frees.{without, without_all}
 use Rattle.ckpt_step.specs.Goings.{HasPartsAt}
-use Rattle.ckpt_step.specs.Grounds.{AreLone, AreRoots, AreSince, AreWritten, StandsOn, start_cell}
+use Rattle.ckpt_step.specs.Grounds.{AreLedTo, AreLone, AreRoots, AreSince, AreWritten, IsLedTo, StandsOn, start_cell}
 use Rattle.ckpt_step.specs.Holding.{addrs_if, gone_at, gone_if, own_of}
 use Rattle.ckpt_step.specs.Lives.{has_at, is_live}
 use Rattle.ckpt_step.specs.Parts.{has_rows, part_of, parts_of}
@@ -47,7 +48,7 @@ use Rattle.ckpt_step.proofs.DeadLones.{device_fewer, follows_fewer, live_fewer, 
 use Rattle.ckpt_step.proofs.GivingLeaves.{other_id}
 use Rattle.ckpt_step.proofs.LeavesNow.{device_kept}
 use Rattle.ckpt_step.proofs.Links.{some_rows}
-use Rattle.ckpt_step.proofs.LonesMore.{gone_none, of_none}
+use Rattle.ckpt_step.proofs.LonesMore.{gone_from, gone_none, of_none}
 use Rattle.ckpt_step.proofs.Lones.{lone_old, none_found_at}
 use Rattle.ckpt_step.proofs.Members.{all_of, map_member, none_some, some_same}
 use Rattle.ckpt_step.proofs.OldBlocks.{in_use_less}
@@ -55,7 +56,7 @@ use Rattle.ckpt_step.proofs.OldParts.{part_at, unwritten_part}
 use Rattle.ckpt_step.proofs.OldTrees.{are_live_leaves, leaves_apart, leaves_there, live_of_old}
 use Rattle.ckpt_step.proofs.OutBlocks.{cells_less, cells_next, lone_next}
 use Rattle.ckpt_step.proofs.OutFollows.{device_out, follows_out}
-use Rattle.ckpt_step.proofs.OutLives.{IsOut, giving, live_new, over}
+use Rattle.ckpt_step.proofs.OutLives.{IsOut, giving, led_live, live_new, over}
 use Rattle.ckpt_step.proofs.OutParts.{roots_out, since_out, written_out}
 use Rattle.ckpt_step.proofs.OutShelf.{AreImagesOut, shelf_out, shelved_out}
 use Rattle.ckpt_step.proofs.TableLeaves.{contains_of, in_table}
@@ -190,6 +191,29 @@ module _ (seen later : List ℕ) (images left : List ℕ → Type 0) (e : Engine
   since_now : AreSince old next n has
   since_now = since_out d n l entries ids had has g.lives next o some_lead in_entries g.place.blocks added.placed added.distinct there_now apart_now old on.since lone_now
 
+  -- each but the leaf's own is that of a leaf that is there
+  led_now : (x : Lone) → Member x next → (Member x g.lives → x.addr ≡ l.entry.link.addr → is_live g.lives l ≡ true → ⊥) → IsLedTo known n.leaves x
+  led_now x mine other = elim (o.more.from x mine) [
+    | inl was ↦ (let one = on.led x was in record { leaf = one.leaf; there = o.stand.others one.leaf one.there (stays was one); id = one.id; addr = one.addr; place = one.place; table = one.table; at = one.at; own = one.own })
+    | inr (m, own, same) ↦
+        let c = contains_of (leaves_with l.table ids entries) m own in
+        record {
+          leaf = m;
+          there = o.stand.news m c;
+          id = ap (λ (y : Lone). y.leaf) (sym same);
+          addr = ap (λ (y : Lone). y.addr) (sym same);
+          place = owned.0;
+          table = owned.1;
+          at = owned.2;
+          own = (o.stand.own m c).0 ∙ owned.3;
+        }
+  ]
+    where
+      stays : Member x g.lives → (one : IsLedTo known d.leaves x) → one.leaf.id ≡ l.id → ⊥
+      stays was one same =
+          let it : one.leaf ≡ l = same-id d one.leaf l o.was one.there o.there same in
+          other was (sym one.addr ∙ ap (λ (y : Leaf). y.entry.link.addr) it) (subst (λ (y : Leaf). is_live g.lives y ≡ true) it (led_live known g.lives d.leaves x on.since.lone.distinct was one))
+
   abbrev pub shelf : ℕ → List Row
   shelf = shelf_out d n l entries ids had has g.lives next o later w.machine rows own w.shelf
 
@@ -218,6 +242,7 @@ module _ (seen later : List ℕ) (images left : List ℕ → Type 0) (e : Engine
     pub roots : AreRoots known fewer n.leaves has g.trees.items old
     pub written : AreWritten known fewer n has g.trees.items
     pub since : AreSince old fewer n has
+    pub led : AreLedTo known fewer n.leaves
     pub follow_on : FollowsFrom old known fewer n.leaves has g.trees.items g.floor (record w { shelf = shelf })
     pub on_disk : AreOnDevice later fewer n.leaves shelf
     pub live : (x : Leaf) → Contains (leaves_with l.table ids entries) x → is_live fewer x ≡ true
@@ -241,6 +266,7 @@ module _ (seen later : List ℕ) (images left : List ℕ → Type 0) (e : Engine
     roots = roots_now;
     written = written_now;
     since = since_now;
+    led = λ x mine. led_now x mine (λ was at live. false≢true (sym dead ∙ live));
     follow_on = follows_now;
     on_disk = device_now;
     live = λ x c. live_new d n l entries ids had has g.lives next o x c;
@@ -255,8 +281,8 @@ module _ (seen later : List ℕ) (images left : List ℕ → Type 0) (e : Engine
     mine_in : Member mine next
     mine_in = o.more.keeps mine (on.since.leaf l o.there live).there
 
-    gone_id : (x : Leaf) → Contains n.leaves x → x.id ≡ l.id → ⊥
-    gone_id x c same_id = other_id d n l entries ids (over d n l entries ids had has g.lives next o) has (giving d n l entries ids had has g.lives next o) x c same_id
+    gone_id : (x : Leaf) → Contains n.leaves x → x.id ≡ l.id → x.entry.link.addr.offset ≡ l.entry.link.addr.offset → ⊥
+    gone_id x c same_id at = other_id d n l entries ids (over d n l entries ids had has g.lives next o) has (giving d n l entries ids had has g.lives next o) x c same_id
 
     own_some : own_of g.lives (Some l) ≡ Some l.entry.link.addr
     own_some = rw live refl
@@ -275,6 +301,7 @@ module _ (seen later : List ℕ) (images left : List ℕ → Type 0) (e : Engine
       roots = roots_fewer old next lone_now mine mine_in n.leaves gone_id known has g.trees.items old roots_now;
       written = written_fewer old next lone_now mine mine_in n gone_id has known g.trees.items written_now;
       since = since_fewer old next lone_now mine mine_in n gone_id has since_now;
+      led = λ x there. led_now x (gone_from l.entry.link.addr.offset next x there) (λ was at own. gone_none l.entry.link.addr.offset next lone_now.distinct x there (ap (λ (a : Addr). a.offset) at));
       follow_on = follows_fewer old next lone_now mine mine_in n.leaves gone_id old known has g.trees.items g.floor (record w { shelf = shelf }) follows_now;
       on_disk = device_fewer old next lone_now mine mine_in n.leaves gone_id later shelf device_now;
       live = λ x c. live_fewer old next lone_now mine mine_in n.leaves gone_id x (o.stand.news x c) ∙ live_new d n l entries ids had has g.lives next o x c;
@@ -300,6 +327,7 @@ module _ (seen later : List ℕ) (images left : List ℕ → Type 0) (e : Engine
     roots = subst (λ (places : List TreePlace). AreRoots known g'.lives n.leaves has places old) (sym (ap (λ (v : Vec TreePlace Global). v.items) same.trees)) less.roots;
     written = subst (λ (places : List TreePlace). AreWritten known g'.lives n has places) (sym (ap (λ (v : Vec TreePlace Global). v.items) same.trees)) less.written;
     since = less.since;
+    led = less.led;
   }
 
   pub follows_ground : Follows old (record e.hub { dir = n }) g' (record w { shelf = shelf })

@@ -26,7 +26,7 @@ use Rattle.tree_open.specs.declared.place.TreePlace.{TreePlace}
 use Rattle.ckpt_step.specs.declared.ground.Ground.{Ground}
 use Rattle.call_steps.specs.declared.hub.Hub.{Hub}
 use Rattle.tree_dir.specs.Leaves.{IsDirectory}
-use Rattle.ckpt_step.specs.Grounds.{AreSince, AreWritten, HasRoots, StandsOn, found_in, start_cell}
+use Rattle.ckpt_step.specs.Grounds.{AreLedTo, AreSince, AreWritten, HasRoots, StandsOn, found_in, start_cell}
 use Rattle.ckpt_step.specs.Parts.{AreOfLeaves, with_parts}
 use Rattle.ckpt_step.specs.Rooms.{Written, known_in}
 use Rattle.ckpt_step.specs.declared.lives.Lone.{Lone}
@@ -37,7 +37,7 @@ use Rattle.ckpt_step.specs.Records.{trees_by_name}
 use Rattle.ckpt_step.specs.Runs.{IsDone, made_of}
 use Rattle.ckpt_step.specs.Trees.{trees_blocks}
 use Rattle.ckpt_step.proofs.Cells.{Begins, found_is, found_of, start-none, start-record, which}
-use Rattle.ckpt_step.proofs.Lones.{no_since}
+use Rattle.ckpt_step.proofs.Lones.{no_led, no_since}
 use Rattle.ckpt_step.proofs.PlacedTrees.{addr_block, block_addr}
 use Rattle.ckpt_step.proofs.Made.{all_blocks, body_are, made_roots, table_blocks, tables_are}
 use Rattle.ckpt_step.proofs.Members.{all_made, all_of, flat_member, member_flat}
@@ -172,6 +172,7 @@ module _ (seen : List ℕ) (books : Books) (old : Option Stored) (lives : List L
     roots = from (λ ts ps x. HasRoots ts g.lives hub.dir.leaves x ps new) (subst (λ (y : List Lone). HasRoots known y hub.dir.leaves (with_parts had more) places new) (sym none) (made_roots known next ascend places trees count done.bytes done.there r a bare done.tables hub.dir.leaves (with_parts had more) parted));
     written = from (λ ts ps x. AreWritten ts g.lives hub.dir x ps) (new_written hub.dir known places had more g.lives is count of later);
     since = subst (λ (y : List Lone). AreSince (Some new) y hub.dir (known_in g.parts)) (sym none) (no_since (Some new) hub.dir (known_in g.parts));
+    led = subst (λ (y : List Lone). AreLedTo hub.tables.tables y hub.dir.leaves) (sym none) (no_led hub.tables.tables hub.dir.leaves);
   } where
     from : (P : List Table → List TreePlace → Written → Type 0) → P known places (with_parts had more) → P hub.tables.tables g.trees.items (known_in g.parts)
     from P made =

@@ -17,7 +17,7 @@ use Rattle.checkpoint_core.proofs.Holding.{in_use_same, still_long}
 use Rattle.device_leaf.proofs.Writes.{stands_begun}
 use Rattle.ckpt_step.specs.declared.ground.Ground.{Ground}
 use Rattle.call_steps.specs.declared.hub.Hub.{Hub}
-use Rattle.ckpt_step.specs.Grounds.{AreRoots, AreSince, AreWritten, StandsOn, start_cell}
+use Rattle.ckpt_step.specs.Grounds.{AreLedTo, AreRoots, AreSince, AreWritten, StandsOn, start_cell}
 use Rattle.ckpt_step.specs.Lives.{addrs_in}
 use Rattle.ckpt_step.specs.declared.lives.Lone.{Lone}
 use Rattle.ckpt_step.specs.Rooms.{Written, known_in}
@@ -66,6 +66,7 @@ module _ (seen : List ℕ) (images : List ℕ → Type 0) (hub : Hub) (ascend : 
     roots = from (λ x l y. AreRoots hub.tables.tables y hub.dir.leaves x l old) on.roots;
     written = from (λ x l y. AreWritten hub.tables.tables y hub.dir x l) on.written;
     since = from (λ x l y. AreSince old y hub.dir x) on.since;
+    led = from (λ x l y. AreLedTo hub.tables.tables y hub.dir.leaves) on.led;
   } where
     same : known_in after.parts ≡ known_in g.parts
     same = fun_ext parts

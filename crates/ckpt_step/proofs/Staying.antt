@@ -23,7 +23,7 @@ use Rattle.tree_open.specs.declared.place.TreePlace.{TreePlace}
 use Rattle.tree_write.specs.Steps.{links_in}
 use Rattle.tree_write.specs.Writes.{LeadApart}
 use Rattle.ckpt_step.specs.Floors.{AreLivesOn, Follows, GoesOn, IsLeafBefore, IsOnDevice, newest_before}
-use Rattle.ckpt_step.specs.Grounds.{AreRoots, AreSince, AreWritten, StandsOn}
+use Rattle.ckpt_step.specs.Grounds.{AreLedTo, AreRoots, AreSince, AreWritten, StandsOn}
 use Rattle.ckpt_step.specs.Lives.{is_live}
 use Rattle.ckpt_step.specs.Parts.{IsPart, IsParted, own_part, part_in, part_leaves, part_of, parts_of}
 use Rattle.ckpt_step.specs.Rooms.{Written, known_in}
@@ -31,7 +31,7 @@ use Rattle.ckpt_step.specs.Stays.{GroundsStay}
 use Rattle.ckpt_step.specs.declared.ground.Ground.{Ground}
 use Rattle.ckpt_step.specs.declared.lives.Lone.{Lone}
 use Rattle.ckpt_step.proofs.ByPlace.{place_one}
-use Rattle.ckpt_step.proofs.GoingLeaves.{leaf_before, lies_was, of_there, part_of_same, part_on, part_same, parts_same, there_of, under_from}
+use Rattle.ckpt_step.proofs.GoingLeaves.{leaf_after, leaf_before, lies_was, of_there, part_of_same, part_on, part_same, parts_same, there_of, under_from}
 use Rattle.ckpt_step.proofs.LivesGoOn.{known_or_not, live_on, none_live_then, on_device}
 use Rattle.ckpt_step.proofs.Lones.{later_dead}
 use Rattle.ckpt_step.proofs.Members.{get_within, none_some, some_same}
@@ -105,6 +105,21 @@ module _ (hub next : Hub) (goes : HubGoesOn hub next) (was : IsDirectory hub.dir
           subst (λ (k : ℕ). LeadApart (links_in (parts_of written (leaves_of k next.dir.leaves)))) (sym one.own)
           (subst (λ (es : List Entry). LeadApart (links_in es)) (sym (parts_same written (leaves_of one.table.number hub.dir.leaves) (leaves_of one.table.number next.dir.leaves) (goes.dir.kept one.place one.table one.at))) own);
     }
+
+  led_on : (lives : List Lone) → AreLedTo known lives hub.dir.leaves → AreLedTo next.tables.tables lives next.dir.leaves
+  led_on lives led x mine =
+      let one = led x mine in
+      let after = leaf_after (leaves_of one.table.number hub.dir.leaves) (leaves_of one.table.number next.dir.leaves) one.leaf (goes.dir.kept one.place one.table one.at) (there_of one.table.number hub.dir.leaves one.leaf one.there one.own) in
+      record {
+        leaf = after.0;
+        there = of_there one.table.number next.dir.leaves after.0 after.1;
+        id = after.2.id ∙ one.id;
+        addr = ap (λ (e : Entry). e.link.addr) after.2.entry ∙ one.addr;
+        place = one.place;
+        table = one.table;
+        at = goes.tables one.place one.table one.at;
+        own = after.2.table ∙ one.own;
+      }
 
   dead_then : (lives : List Lone) (n : Leaf) (b : Before n) → is_live lives n ≡ false → is_live lives b.leaf ≡ false
   dead_then lives n b dead = sym (live_on lives b.leaf n b.goes_on) ∙ dead
@@ -225,6 +240,7 @@ module _ (hub next : Hub) (goes : HubGoesOn hub next) (was : IsDirectory hub.dir
     roots = roots_on g.lives (known_in g.parts) g.trees.items old on.roots;
     written = written_on g.lives (known_in g.parts) g.trees.items on.written;
     since = since_on g.lives old (known_in g.parts) on.since;
+    led = led_on g.lives on.led;
   }
 
 pub grounds_stay : (seen : List ℕ) (images : List ℕ → Type 0) → GroundsStay seen images

@@ -32,7 +32,7 @@ use Rattle.engine_world.specs.Systems.{with_fault}
 use Rattle.engine_world.specs.Worlds.{World}
 use Rattle.engine.specs.Frames.{HasGivenWay}
 use Rattle.ckpt_step.specs.declared.ground.Ground.{Ground}
-use Rattle.ckpt_step.specs.declared.writing_out.LeafCut.{LeafCut}
+use Rattle.ckpt_step.specs.declared.cutting_out.LeafCut.{LeafCut}
 use Rattle.ckpt_step.specs.Floors.{AreLivesOn, Follows}
 use Rattle.ckpt_step.specs.Frees.{without_all}
 use Rattle.ckpt_step.specs.Grounds.{StandsOn}

@@ -68,6 +68,21 @@ pub record AreSince (old : Option Stored) (lives : List Lone) (dir : Directory) 
   pub leaf : (l : Leaf) → Contains dir.leaves l → is_live lives l ≡ true → IsSince lives written l
   pub apart : (l : Leaf) → Contains dir.leaves l → is_live lives l ≡ true → LeadApart (links_in (parts_of written (leaves_of l.table dir.leaves)))
 
+-- It is the block of a leaf of one of these tables, whose entry leads there.
+pub record IsLedTo (known : List Table) (leaves : List Leaf) (x : Lone) : Type 0 where
+  pub leaf : Leaf
+  pub there : Contains leaves leaf
+  pub id : leaf.id ≡ x.leaf
+  pub addr : leaf.entry.link.addr ≡ x.addr
+  pub place : ℕ
+  pub table : Table
+  pub at : slice_get known place ≡ Some table
+  pub own : leaf.table ≡ table.number
+
+-- so is each: none is of a leaf that is gone
+abbrev pub AreLedTo : List Table → List Lone → List Leaf → Type 0
+AreLedTo known lives leaves = (x : Lone) → Member x lives → IsLedTo known leaves x
+
 -- ---- the ground
 
 -- The checkpoint has the first of these tables, as many as there are places, each with its tree there, which has the parts of the table's leaves.
@@ -99,3 +114,4 @@ pub record StandsOn (seen : List ℕ) (images : List ℕ → Type 0) (hub : Hub)
   pub roots : AreRoots hub.tables.tables g.lives hub.dir.leaves (known_in g.parts) g.trees.items old
   pub written : AreWritten hub.tables.tables g.lives hub.dir (known_in g.parts) g.trees.items
   pub since : AreSince old g.lives hub.dir (known_in g.parts)
+  pub led : AreLedTo hub.tables.tables g.lives hub.dir.leaves

@@ -23,3 +23,5 @@ pub mod Lives
 pub mod Holding
 pub mod WritesOut
 pub mod CutOuts
+pub mod Evicts
+pub mod EvictSteps

@@ -6,18 +6,23 @@
 //! has the checkpoint before or the new one, whole, and that what is refused gives back what it wrote;
 //! and that the new one opens as the checkpoint that the machine takes (`checkpoints_open`). Says what
 //! may take the place of a leaf that leaves memory, and that the next checkpoint stands then as before;
-//! and writes out a leaf that changed, so that the next checkpoint keeps its blocks. Leaves to the
-//! caller to open the device, when a checkpoint may come, and which leaves leave.
+//! and writes a leaf that changed out while nobody is at work (`write_out`), or evicts it to a block of
+//! its own whoever is (`evict`), so that the next checkpoint keeps its blocks.
+//! Leaves to the caller to open the device, when a checkpoint may come, and which leaves leave.
 #![tactic(auto)]
 
 mod before;
 mod books;
 mod clean;
+mod cutting_out;
+mod evicting;
 mod giving;
 mod ground;
 mod laws;
 mod leaves;
 mod lives;
+mod moving_in;
+mod moving_out;
 mod parts;
 mod record;
 mod roots;
@@ -27,6 +32,7 @@ mod trees;
 mod writing;
 mod writing_out;
 
+pub use evicting::{Evicted, evict};
 pub use giving::entries_in_place;
 pub use ground::Ground;
 pub use laws::{

@@ -26,6 +26,7 @@ pub mod FramesMore
 pub mod LeavesCome
 pub mod GivingWay
 pub mod GoingOut
+pub mod Evictions
 pub mod EachBelow
 pub mod Directories
 pub mod Owning

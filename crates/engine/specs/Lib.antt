@@ -11,5 +11,6 @@ pub mod Checkpoints
 pub mod Closes
 pub mod Waits
 pub mod Frames
+pub mod Evictions
 pub mod Directories
 pub mod Told

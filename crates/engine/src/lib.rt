@@ -18,6 +18,7 @@
 mod called;
 mod checkpoint;
 mod close;
+mod evicting;
 mod frames;
 mod giving;
 mod going_out;
@@ -33,6 +34,7 @@ mod waiting;
 
 pub use called::Called;
 pub use checkpoint::EngineMarks;
+pub use evicting::{Horizon, Stays};
 pub use local::Local;
 pub use runs::run_steps;
 pub use step::{Actor, Step};

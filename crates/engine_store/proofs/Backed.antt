@@ -1,5 +1,5 @@
 -- What holds between two calls goes on over a call of an actor, by which the disk is at most looked at.
-use Rattle.std.proofs.Common.{◌≡◌, ◌∙◌, ◌≤◌, ℕ, List, [], ◌∷◌, length, Option, refl, sym, ap, subst, inl, inr, arith}
+use Rattle.std.proofs.Common.{◌≡◌, ◌∙◌, ◌≤◌, ℕ, List, [], ◌∷◌, length, Option, refl, sym, subst, inl, inr, arith}
 use Rattle.disk_model.specs.Crash.{Each, Looked}
 use Rattle.disk_model.specs.Disk.{NoMore}
 use Rattle.disk_model.specs.declared.disk.Disk.{Ghosts}
@@ -16,7 +16,7 @@ use Rattle.engine_world.specs.Stands.{Stands}
 use Rattle.engine_world.specs.Worlds.{World}
 use Rattle.engine.specs.Directories.{HubGoesOn}
 use Rattle.ckpt_step.specs.declared.ground.Ground.{Ground}
-use Rattle.ckpt_step.specs.Floors.{Follows, GoesOn}
+use Rattle.ckpt_step.specs.Floors.{AreLivesOn, Follows, GoesOn}
 use Rattle.ckpt_step.specs.Grounds.{StandsOn}
 use Rattle.ckpt_step.proofs.Floors.{goes_same}
 use Rattle.ckpt_step.proofs.Staying.{grounds_stay, no_fewer}
@@ -46,6 +46,7 @@ stands_looked bytes seen was images hub g old same fewer on = record {
   roots = on.roots;
   written = on.written;
   since = on.since;
+  led = on.led;
 }
 
 pub ready_goes : (s s' : Store) → HubGoesOn s.engine.hub s'.engine.hub → s'.ground ≡ s.ground → IsReady s → IsReady s'
@@ -60,21 +61,24 @@ module _ {D : Type 0} (g : Ghosts D) (s s' : Store) (before after : D) (looked :
   record Moved (old : Option Stored) (v : World) : Type 0 where
     on : StandsOn (g.seen after) (g.may_leave after) s'.engine.hub s'.ground old
     follows : Follows old s'.engine.hub s'.ground v
+    since : AreLivesOn (g.seen after) s'.engine.hub s'.ground v
 
-  moved : (old : Option Stored) (w v : World) → IsDirectory s.engine.hub.dir → IsDirectory s'.engine.hub.dir → AreTables s'.engine.hub.tables → GoesOn w.machine v.machine → v.shelf ≡ w.shelf → StandsOn (g.seen before) (g.may_leave before) s.engine.hub s.ground old → Follows old s.engine.hub s.ground w → Moved old v
-  moved old w v was now are on shelf stands follows =
+  moved : (old : Option Stored) (w v : World) → IsDirectory s.engine.hub.dir → IsDirectory s'.engine.hub.dir → AreTables s'.engine.hub.tables → GoesOn w.machine v.machine → v.shelf ≡ w.shelf → StandsOn (g.seen before) (g.may_leave before) s.engine.hub s.ground old → Follows old s.engine.hub s.ground w → AreLivesOn (g.seen before) s.engine.hub s.ground w → Moved old v
+  moved old w v was now are on shelf stands follows device =
       let stay = grounds_stay (g.seen before) (g.may_leave before) s.engine.hub s'.engine.hub s.ground old goes was now are stands in
       record {
         on = subst (λ (x : Ground). StandsOn (g.seen after) (g.may_leave after) s'.engine.hub x old) (sym ground)
             (stands_looked (g.seen before) (g.seen after) (g.may_leave before) (g.may_leave after) s'.engine.hub s.ground old looked.content looked.images stay.0);
         follows = subst (λ (x : Ground). Follows old s'.engine.hub x v) (sym ground) (stay.1 w v on shelf follows);
+        since = subst (λ (x : Ground). AreLivesOn (g.seen after) s'.engine.hub x v) (sym ground)
+            (subst (λ (l : List ℕ). AreLivesOn l s'.engine.hub s.ground v) (sym looked.content) (stay.2 w v shelf device));
       }
 
   pub backed_goes : (w : World) → IsDirectory s.engine.hub.dir → IsDirectory s'.engine.hub.dir → AreTables s'.engine.hub.tables → IsBacked g s before w → IsBacked g s' after w
   backed_goes w was now are backed up =
       let b = backed (sym goes.fault ∙ up) in
-      let m = moved b.0 w w was now are (goes_same w.machine) refl b.1 b.2 in
-      (b.0, m.on, m.follows, ap (λ (x : Ground). x.lives) ground ∙ b.3)
+      let m = moved b.0 w w was now are (goes_same w.machine) refl b.1 b.2 b.3 in
+      (b.0, m.on, m.follows, m.since)
 
   -- ---- what is held
 
@@ -84,12 +88,12 @@ module _ {D : Type 0} (g : Ghosts D) (s s' : Store) (before after : D) (looked :
     idle = on.keeps.checkpoint ∙ held.idle;
     on = λ up.
         let x = held.on (sym on.keeps.fault ∙ up) in
-        let m = moved x.old w later held.stands.dir stands.dir stands.catalog on.machine on.shelf x.on x.follows in
+        let m = moved x.old w later held.stands.dir stands.dir stands.catalog on.machine on.shelf x.on x.follows x.since in
         record {
           old = x.old;
           on = m.on;
           follows = m.follows;
-          none = ap (λ (x : Ground). x.lives) ground ∙ x.none;
+          since = m.since;
           opens = subst (λ (c : Completed). OpensAs (content_was x.old) c) (sym on.keeps.completed) x.opens;
           one = x.one;
         };
@@ -114,7 +118,7 @@ module _ {D : Type 0} (g : Ghosts D) (s s' : Store) (before after : D) (looked :
 -- ---- where a call begins
 
 pub backed_held : {D : Type 0} (g : Ghosts D) (start disk : D) (s : Store) (w : World) (first : Completed) (made : List Installed) → IsHeld g start s disk w first made → IsBacked g s disk w
-backed_held g start disk s w first made held up = let x = held.on (sym held.stands.fault ∙ up) in (x.old, x.on, x.follows, x.none)
+backed_held g start disk s w first made held up = let x = held.on (sym held.stands.fault ∙ up) in (x.old, x.on, x.follows, x.since)
 
 pub reached_first : {D : Type 0} (g : Ghosts D) (s : Store) (disk : D) (w : World) → Stands s.engine w → IsBacked g s disk w → IsReached g s disk w w
 reached_first g s disk w stands backed = record { backed = backed; stands = stands; fault = refl; shelf = refl }

@@ -32,11 +32,11 @@ use Rattle.engine_start.specs.declared.table_entries.TableEntries.{TableEntries}
 use Rattle.engine_start.specs.Entries.{IsUnread, entries_of}
 use Rattle.ckpt_step.specs.Floors.{Follows, FollowsFrom, IsAsItLies}
 use Rattle.ckpt_step.specs.declared.lives.Lone.{Lone}
-use Rattle.ckpt_step.specs.Grounds.{AreRoots, AreSince, AreWritten, found_in, start_cell}
+use Rattle.ckpt_step.specs.Grounds.{AreLedTo, AreRoots, AreSince, AreWritten, found_in, start_cell}
 use Rattle.ckpt_step.specs.Parts.{part_leaves, part_of}
 use Rattle.ckpt_step.specs.Rooms.{Rooms, Written, known_in}
 use Rattle.ckpt_step.specs.Trees.{HasTreeAt, table_root}
-use Rattle.ckpt_step.proofs.Lones.{no_since}
+use Rattle.ckpt_step.proofs.Lones.{no_led, no_since}
 use Rattle.ckpt_step.proofs.Members.{none_some}
 use Rattle.ckpt_step.proofs.TableLeaves.{contains_of, in_table, member_of, table_in}
 use Rattle.engine_store.specs.declared.store.Store.{Store}
@@ -193,6 +193,7 @@ opened_of bytes images s found = record {
     roots = subst (λ (x : List Lone). AreRoots s.engine.hub.tables.tables x s.engine.hub.dir.leaves (known_in s.ground.parts) s.ground.trees.items found.old) (sym none) found.on.roots;
     written = subst (λ (x : List Lone). AreWritten s.engine.hub.tables.tables x s.engine.hub.dir (known_in s.ground.parts) s.ground.trees.items) (sym none) found.on.written;
     since = subst (λ (x : List Lone). AreSince found.old x s.engine.hub.dir (known_in s.ground.parts)) (sym none) (no_since found.old s.engine.hub.dir (known_in s.ground.parts));
+    led = subst (λ (x : List Lone). AreLedTo s.engine.hub.tables.tables x s.engine.hub.dir.leaves) (sym none) (no_led s.engine.hub.tables.tables s.engine.hub.dir.leaves);
   };
   floor = found.on.floor;
   none = none;

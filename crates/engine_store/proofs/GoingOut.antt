@@ -17,7 +17,7 @@ use Rattle.engine.specs.Frames.{HasGoneOut, MayGoOut}
 use Rattle.engine.specs.declared.step.Actor.{Actor}
 use Rattle.engine.specs.declared.step.Step.{Step}
 use Rattle.ckpt_step.specs.declared.ground.Ground.{Ground}
-use Rattle.ckpt_step.specs.Floors.{Follows}
+use Rattle.ckpt_step.specs.Floors.{AreLivesOn, Follows}
 use Rattle.ckpt_step.specs.Grounds.{StandsOn}
 use Rattle.ckpt_step.specs.Rooms.{known_in}
 use Rattle.ckpt_step.specs.Stays.{GroundsLetGo, let_go}
@@ -45,6 +45,7 @@ module _ {D : Type 0} (g : Ghosts D) where
     on = λ disk old on. (
       subst (λ (e : Engine). StandsOn (g.seen disk) (g.may_leave disk) e.hub s'.ground old) (sym engine) (subst (λ (x : Ground). StandsOn (g.seen disk) (g.may_leave disk) s.engine.hub x old) (sym ground) on),
       λ w follows. subst (λ (e : Engine). Follows old e.hub s'.ground w) (sym engine) (subst (λ (x : Ground). Follows old s.engine.hub x w) (sym ground) follows),
+      λ w device. subst (λ (e : Engine). AreLivesOn (g.seen disk) e.hub s'.ground w) (sym engine) (subst (λ (x : Ground). AreLivesOn (g.seen disk) s.engine.hub x w) (sym ground) device),
     );
     goes = λ h goes. subst (λ (e : Engine). HubGoesOn (all_out h) e.hub) (sym engine) goes;
   }
@@ -59,7 +60,7 @@ module _ {D : Type 0} (g : Ghosts D) where
     on = λ disk old on.
         let x = one.on disk old on in
         let y = two.on disk old x.0 in
-        (y.0, λ w follows. y.1 w (x.1 w follows));
+        (y.0, (λ w follows. y.1 w (x.1 w follows)), λ w device. y.2 w (x.2 w device));
     goes = λ h goes. two.goes h (one.goes h goes);
   }
 
@@ -88,6 +89,7 @@ module _ {D : Type 0} (g : Ghosts D) where
           let same : let_go s.engine.hub l.id ≡ e.hub = ap (let_go s.engine.hub) own ∙ sym hub_is in (
             subst (λ (h : Hub). StandsOn (g.seen disk) (g.may_leave disk) h s.ground old) same x.0,
             λ w follows. subst (λ (h : Hub). Follows old h s.ground w) same (x.1 w follows),
+            λ w device. subst (λ (h : Hub). AreLivesOn (g.seen disk) h s.ground w) same (x.2 w device),
           );
       goes = λ h goes. subst (λ (x : Hub). HubGoesOn (all_out h) x) (sym hub_is) (out_on h s.engine.hub id l dir whole.leads.1 whole.leads.2 goes);
     }
@@ -108,7 +110,7 @@ module _ {D : Type 0} (g : Ghosts D) where
       on = λ up.
           let x = held.on up in
           let y = out.on disk x.old x.on in
-          record { old = x.old; on = y.0; follows = y.1 w x.follows; none = ap (λ (k : Ground). k.lives) out.ground ∙ x.none; opens = x.opens; one = x.one };
+          record { old = x.old; on = y.0; follows = y.1 w x.follows; since = y.2 w x.since; opens = x.opens; one = x.one };
       images = held.images;
       last = held.last;
       ever = held.ever;

@@ -30,6 +30,7 @@ pub mod Contents
 pub mod Installing
 pub mod Relieving
 pub mod Taking
+pub mod WritingOut
 pub mod Shutting
 pub mod Reopening
 pub mod MildWorlds

@@ -18,6 +18,7 @@ use Rattle.tree_dir.specs.declared.leaf.Leaf.{Leaf}
 use Rattle.engine_world.specs.Systems.{first_world}
 use Rattle.engine_world.specs.Worlds.{World}
 use Rattle.ckpt_step.specs.declared.lives.Lone.{Lone}
+use Rattle.ckpt_step.specs.Floors.{AreLivesOn}
 use Rattle.ckpt_step.specs.Grounds.{AreRoots}
 use Rattle.ckpt_step.specs.Plain.{IsBareStill, StartsPlain}
 use Rattle.ckpt_step.specs.Rooms.{Written, known_in}
@@ -30,6 +31,7 @@ use Rattle.engine_store.specs.Opened.{IsOpened, LacksNumbers, OpenRefused}
 use Rattle.engine_store.proofs.Backed.{stands_looked}
 use Rattle.engine_store.proofs.Contents.{start_opens, still_reads}
 use Rattle.engine_store.proofs.Installing.{past_later, stays_on}
+use Rattle.engine_store.proofs.NoLives.{none_on}
 use Rattle.engine_store.proofs.Refusing.{spoilt_no_content}
 
 bare_still : (known : List Table) (lives : List Lone) (leaves : List Leaf) (written : Written) (places : List TreePlace) (old : Option Stored) → AreRoots known lives leaves written places old → IsBareStill old
@@ -58,7 +60,7 @@ module _ {D : Type 0} (g : Ghosts D) (start_disk before after : D) (looked : Loo
       old = on.old;
       on = stands_looked (g.seen before) (g.seen after) (g.may_leave before) (g.may_leave after) s.engine.hub s.ground on.old looked.content looked.images on.on;
       follows = on.follows;
-      none = on.none;
+      since = subst (λ (l : List ℕ). AreLivesOn l s.engine.hub s.ground w) (sym looked.content) on.since;
       opens = on.opens;
       one = on.one;
     };
@@ -101,7 +103,7 @@ module _ {D : Type 0} (g : Ghosts D) (start_disk before after : D) (looked : Loo
     held_reopened = record {
       stands = is.world;
       idle = refl;
-      on = λ up. record { old = is.old; on = is.on; follows = is.follows; none = is.none; opens = opens; one = one };
+      on = λ up. record { old = is.old; on = is.on; follows = is.follows; since = none_on (g.seen after) s'.engine.hub s'.ground (first_world content is.shelf s'.engine) is.none; opens = opens; one = one };
       images = images_looked;
       last = last_reopened held.last;
       ever = ever_looked;
@@ -120,6 +122,7 @@ module _ {D : Type 0} (g : Ghosts D) (start_disk before after : D) (looked : Loo
       shelf = is.shelf;
       held = held_reopened;
       plain = plain (g.seen after) is.old is.on.stands.seen_has (bare_still s'.engine.hub.tables.tables s'.ground.lives s'.engine.hub.dir.leaves (known_in s'.ground.parts) s'.ground.trees.items is.old is.on.roots);
+      none = is.none;
     }
 
   -- ---- it is not
@@ -148,4 +151,5 @@ module _ {D : Type 0} (g : Ghosts D) (start_disk before after : D) (looked : Loo
     seen = looked.content;
     capacity = looked.capacity;
     held = subst (λ (x : Store). IsHeld g start_disk x after w first made) (sym same) held_looked;
+    none = λ none. subst (λ (x : Store). x.ground.lives ≡ []) (sym same) none;
   }

@@ -2,15 +2,14 @@
 use Rattle.std.specs.Prelude.{◌≡◌, ℕ, ◌==◌, true, false, List, [], ◌∷◌, Option, Some, None, slice_get, refl}
 use Rattle.std.specs.List.{Contains}
 use Rattle.std.proofs.Common.{inl, inr, sym, ◌∙◌, ap, subst, append-nil}
-use Rattle.std.proofs.lemmas.Bool.{cases_Bool, eqb-true}
+use Rattle.std.proofs.lemmas.Bool.{cases_Bool, eqb-true, false≢true}
 use Rattle.kv_model.specs.History.{Table}
 use Rattle.kv_model.specs.Holds.{Member}
 use Rattle.row_page.specs.Rows.{Row}
 use Rattle.stored.specs.Stored.{Stored}
-use Rattle.stored.specs.TableTree.{Entry, TableTree}
+use Rattle.stored.specs.TableTree.{Entry, TableTree, root_entry}
 use Rattle.stored.specs.Tree.{join}
 use Rattle.device_leaf.specs.Leaves.{LeafIs}
-use Rattle.recover_open.specs.Leaves.{AreUnder}
 use Rattle.tree_open.specs.declared.place.TreePlace.{TreePlace}
 use Rattle.tree_dir.specs.declared.leaf.Leaf.{Leaf}
 use Rattle.tree_dir.specs.Leaves.{leaf_named}
@@ -20,18 +19,19 @@ use Rattle.engine_world.specs.Stands.{Engine, Stands}
 use Rattle.engine_world.specs.Worlds.{World}
 use Rattle.engine.specs.Waits.{IsAway}
 use Rattle.ckpt_step.specs.declared.ground.Ground.{Ground}
-use Rattle.ckpt_step.specs.Floors.{Follows}
+use Rattle.ckpt_step.specs.Floors.{AreLivesOn, Follows, IsOnDevice}
 use Rattle.ckpt_step.specs.Grounds.{AreRoots, StandsOn}
+use Rattle.ckpt_step.specs.Lives.{is_live}
 use Rattle.ckpt_step.specs.Parts.{LieIn, has_rows, part_leaves, part_of}
 use Rattle.ckpt_step.specs.Rooms.{Written, known_in}
 use Rattle.ckpt_step.specs.Trees.{HasTreeAt}
 use Rattle.ckpt_step.proofs.Behind.{part_has}
+use Rattle.ckpt_step.proofs.Links.{some_rows}
 use Rattle.ckpt_step.proofs.Members.{none_some, some_same}
 use Rattle.ckpt_step.proofs.OldTrees.{leaves_apart, leaves_there, on_device}
 use Rattle.ckpt_step.proofs.TableLeaves.{contains_of, once_of}
-use Rattle.engine_store.specs.Loads.{ShelfIsOn, low_behind}
+use Rattle.engine_store.specs.Loads.{ShelfIsOn}
 use Rattle.engine_store.proofs.LowKeys.{lie_under}
-use Rattle.engine_store.proofs.NoLives.{none_is}
 
 -- ---- the leaf of an id
 
@@ -74,8 +74,8 @@ module _ (seen : List ℕ) (images : List ℕ → Type 0) (e : Engine) (g : Grou
     lie : LieIn e.hub.dir.leaves table.number l (join (part_leaves place tree (part_of written l)))
     same : join (part_leaves place tree (part_of written l)) ≡ rows
 
-  in_tree : (old : Option Stored) (w : World) (l : Leaf) → StandsOn seen images e.hub g old → Follows old e.hub g w → g.lives ≡ [] → Contains e.hub.dir.leaves l → l.frame ≡ None → IsInTree old l (w.shelf l.id)
-  in_tree old w l on follows none there away = by_place (slice_get g.trees.items at) refl
+  in_tree : (old : Option Stored) (w : World) (l : Leaf) → StandsOn seen images e.hub g old → Follows old e.hub g w → is_live g.lives l ≡ false → Contains e.hub.dir.leaves l → l.frame ≡ None → IsInTree old l (w.shelf l.id)
+  in_tree old w l on follows dead there away = by_place (slice_get g.trees.items at) refl
     where
       owned : (place : ℕ) × (t : Table) × (slice_get e.hub.tables.tables place ≡ Some t) × (l.table ≡ t.number)
       owned = stands.owned l there
@@ -89,7 +89,6 @@ module _ (seen : List ℕ) (images : List ℕ → Type 0) (e : Engine) (g : Grou
       by_old : (p : TreePlace) → slice_get g.trees.items at ≡ Some p → (o : Option Stored) → old ≡ o → IsInTree old l (w.shelf l.id)
       by_old p is None nothing = absurd (none_some (subst (λ (l : List TreePlace). slice_get l at ≡ Some p) (subst (λ (o : Option Stored). AreRoots e.hub.tables.tables g.lives e.hub.dir.leaves written g.trees.items o) nothing on.roots) is))
       by_old p is (Some s) some =
-          let dead = none_is g.lives none l in
           let on_s = subst (λ (o : Option Stored). StandsOn seen images e.hub g o) some on in
           let tree = on_s.roots.trees at t p owned.2 is in
           let apart : LeadApart p.leaves.items = subst LeadApart (leaves_there g.trees.items at p is)
@@ -106,26 +105,56 @@ module _ (seen : List ℕ) (images : List ℕ → Type 0) (e : Engine) (g : Grou
           }
 
       by_place : (o : Option TreePlace) → slice_get g.trees.items at ≡ o → IsInTree old l (w.shelf l.id)
-      by_place None nowhere = absurd ((on.written.made_since at t l owned.2 nowhere there owned.3 (none_is g.lives none l)).1 away)
+      by_place None nowhere = absurd ((on.written.made_since at t l owned.2 nowhere there owned.3 dead).1 away)
       by_place (Some p) is = by_old p is old refl
 
-  pub shelf_on : (old : Option Stored) (w : World) (id : ℕ) → StandsOn seen images e.hub g old → Follows old e.hub g w → g.lives ≡ [] → now.shelf ≡ w.shelf → IsAway e.hub.dir.leaves id → written id ≡ None → ShelfIsOn seen e.hub.dir now.shelf id
-  shelf_on old w id on follows nobody shelf (l, there, away) none =
-      let found = named id e.hub.dir.leaves l there in
-      let own : l.id ≡ id = found.1 in
-      let x = in_tree old w l on follows nobody (contains_of e.hub.dir.leaves l found.0) away in
-      let unwritten : written l.id ≡ None = ap written own ∙ none in
-      let rows : w.shelf l.id ≡ now.shelf id = ap w.shelf own ∙ ap (λ (f : ℕ → List Row). f id) (sym shelf) in
+  -- a leaf of the checkpoint's trees
+  kept_on : (old : Option Stored) (w : World) (l : Leaf) → StandsOn seen images e.hub g old → Follows old e.hub g w → is_live g.lives l ≡ false → Contains e.hub.dir.leaves l → l.frame ≡ None → written l.id ≡ None → leaf_named l.id e.hub.dir.leaves ≡ Some l → ShelfIsOn seen e.hub.dir w.shelf l.id
+  kept_on old w l on follows dead there away unwritten named =
+      let x = in_tree old w l on follows dead there away in
       record {
         leaf = l;
-        there = there;
+        there = named;
         under = λ has.
             let part = part_one written l unwritten has in
-            let joined : join (part_leaves x.place x.tree (l.entry ∷ [])) ≡ now.shelf id = ap (λ (p : List Entry). join (part_leaves x.place x.tree p)) (sym part) ∙ (x.same ∙ rows) in
+            let joined : join (part_leaves x.place x.tree (l.entry ∷ [])) ≡ w.shelf l.id = ap (λ (p : List Entry). join (part_leaves x.place x.tree p)) (sym part) ∙ x.same in
             record {
               leaf = subst (λ (r : List Row). LeafIs seen l.entry.link r) joined (one_leaf seen x.place x.tree l.entry (subst (λ (p : List Entry). HasLeaves seen p (part_leaves x.place x.tree p)) part x.has));
-              keys = subst (λ (i : ℕ). AreUnder l.entry (low_behind i e.hub.dir.leaves) (now.shelf id)) own
-                  (lie_under x.table.number e.hub.dir.leaves l (now.shelf id) (once_of e.hub.dir.leaves stands.dir.once) (subst (λ (r : List Row). LieIn e.hub.dir.leaves x.table.number l r) (x.same ∙ rows) x.lie));
+              keys = lie_under x.table.number e.hub.dir.leaves l (w.shelf l.id) (once_of e.hub.dir.leaves stands.dir.once) (subst (λ (r : List Row). LieIn e.hub.dir.leaves x.table.number l r) x.same x.lie);
             };
-        none = λ has. sym rows ∙ (sym x.same ∙ ap (λ (p : List Entry). join (part_leaves x.place x.tree p)) (part_none written l unwritten has));
+        none = λ has. sym x.same ∙ ap (λ (p : List Entry). join (part_leaves x.place x.tree p)) (part_none written l unwritten has);
       }
+
+  -- one that was written since
+  since_on : (shelf : ℕ → List Row) (l : Leaf) → IsOnDevice seen e.hub.dir.leaves shelf l → leaf_named l.id e.hub.dir.leaves ≡ Some l → ShelfIsOn seen e.hub.dir shelf l.id
+  since_on shelf l on named = record {
+    leaf = l;
+    there = named;
+    under = λ has. record {
+      leaf = on.on.0.1;
+      keys = lie_under l.table e.hub.dir.leaves l (shelf l.id) (once_of e.hub.dir.leaves stands.dir.once) (subst (λ (r : List Row). LieIn e.hub.dir.leaves l.table l r) (append-nil (shelf l.id)) on.is.lie);
+    };
+    none = λ has. absurd (false≢true (sym has ∙ some_rows (root_entry l.entry.link) (shelf l.id) on.on.0.1.bears on.is.some.0));
+  }
+
+  pub shelf_on : (old : Option Stored) (w : World) (id : ℕ) → StandsOn seen images e.hub g old → Follows old e.hub g w → AreLivesOn seen e.hub g w → now.shelf ≡ w.shelf → IsAway e.hub.dir.leaves id → written id ≡ None → ShelfIsOn seen e.hub.dir now.shelf id
+  shelf_on old w id on follows device shelf (l, there, away) none =
+      subst (λ (s : ℕ → List Row). ShelfIsOn seen e.hub.dir s id) (sym shelf) (subst (λ (i : ℕ). ShelfIsOn seen e.hub.dir w.shelf i) own by_kind)
+    where
+      found : Member l e.hub.dir.leaves × (l.id ≡ id)
+      found = named id e.hub.dir.leaves l there
+
+      own : l.id ≡ id
+      own = found.1
+
+      among : Contains e.hub.dir.leaves l
+      among = contains_of e.hub.dir.leaves l found.0
+
+      its : leaf_named l.id e.hub.dir.leaves ≡ Some l
+      its = ap (λ (i : ℕ). leaf_named i e.hub.dir.leaves) own ∙ there
+
+      by_kind : ShelfIsOn seen e.hub.dir w.shelf l.id
+      by_kind = elim (cases_Bool (is_live g.lives l)) [
+        | inl live ↦ since_on w.shelf l (device l among live) its
+        | inr dead ↦ kept_on old w l on follows dead among away (ap written own ∙ none) its
+      ]

@@ -1,5 +1,5 @@
 -- What a close answers as the machine's Close, and what it leaves of what holds between two calls.
-use Rattle.std.specs.Prelude.{Bool, true, false, nat_le, slice_index_or, OnErr}
+use Rattle.std.specs.Prelude.{Bool, true, false, nat_le, OnErr, slice_index_or}
 use Rattle.std.proofs.lemmas.Bool.{false≢true, cases_lt, cases_Bool, leb-true, le-leb}
 use Rattle.std.proofs.Common.{◌≡◌, ℕ, suc, ◌+◌, ◌<◌, ◌≤◌, List, [], ◌∷◌, ◌++◌, Option, Some, None, Result, Ok, Err, refl, sym, ap, subst, ◌∙◌, inl, inr, arith}
 use Rattle.failure.specs.declared.Fault.{Fault}
@@ -32,6 +32,7 @@ use Rattle.engine.specs.Directories.{HubGoesOn}
 use Rattle.ckpt_step.specs.Floors.{AreLivesOn, Follows}
 use Rattle.ckpt_step.specs.Grounds.{StandsOn}
 use Rattle.ckpt_step.specs.declared.ground.Ground.{Ground}
+use Rattle.ckpt_step.specs.declared.lives.Lone.{Lone}
 use Rattle.ckpt_step.specs.Laws.{CheckpointsOpen}
 use Rattle.ckpt_step.specs.Plain.{GoesPlain, IsPlain}
 use Rattle.ckpt_step.proofs.Floors.{goes_rolled}
@@ -45,7 +46,6 @@ use Rattle.engine_store.specs.Held.{CheckpointsOn, IsGrounded, IsHeld, Shuts}
 use Rattle.engine_store.specs.Images.{OpensToLast}
 use Rattle.engine_store.proofs.Closings.{free_of, up_of}
 use Rattle.engine_store.proofs.Contents.{most_number}
-use Rattle.engine_store.proofs.NoLives.{none_on}
 use Rattle.engine_store.proofs.Taking.{by_takes, number_held}
 
 -- ---- what is decided
@@ -127,7 +127,7 @@ module _ (m : Machine) (number : ℕ) (up : m.fault ≡ None) (idle : m.checkpoi
 
 -- ---- the answer, from that of the checkpoint
 
-module _ (old new : Device) (before : Option Stored) (has : HasStill before old.seen) (w : World) (may : MayClose w) (goes : GoesPlain w.machine (rolled_back w.machine)) where
+module _ (lives : List Lone) (old new : Device) (before : Option Stored) (has : HasStill before old.seen) (w : World) (may : MayClose w) (goes : GoesPlain w.machine (rolled_back w.machine)) where
   abbrev m : Machine
   m = w.machine
 
@@ -144,7 +144,7 @@ module _ (old new : Device) (before : Option Stored) (has : HasStill before old.
   none session = none_left m u up free session
 
   -- the last number was taken
-  last_taken : (answer : Answer (List ℕ)) (next : Machine) → IsNumberOf old.seen last_number → answer ≡ Refused (Refusal_Limit TooMany) → next ≡ rolled_back m → CloseTakes old new w answer next
+  last_taken : (answer : Answer (List ℕ)) (next : Machine) → IsNumberOf old.seen last_number → answer ≡ Refused (Refusal_Limit TooMany) → next ≡ rolled_back m → CloseTakes lives old new w answer next
   last_taken answer next counted is same = inr (inr (
     last_number,
     StoredWhole,
@@ -157,7 +157,7 @@ module _ (old new : Device) (before : Option Stored) (has : HasStill before old.
     same ∙ sym (rolls_first m u up free []),
   ))
 
-  by_start : (answer : Answer (List ℕ)) (next : Machine) (number : ℕ) (start : Result (Unit {0}) Refusal) → IsNumberOf old.seen number → MayStart (rolled_back m) number start → StartedAs old new (rolled_back m) answer next start → CloseTakes old new w answer next
+  by_start : (answer : Answer (List ℕ)) (next : Machine) (number : ℕ) (start : Result (Unit {0}) Refusal) → IsNumberOf old.seen number → MayStart (rolled_back m) number start → StartedAs lives old new (rolled_back m) answer next start → CloseTakes lives old new w answer next
   by_start answer next number (Err r) counted barred (is, same) =
       let last = barred_last (rolled_back m) number (goes.fault ∙ up) goes.plain.idle none r barred in
       last_taken answer next (subst (λ (n : ℕ). IsNumberOf old.seen n) (most_number old.seen before number has counted last.1) counted) (is ∙ ap (λ (x : Refusal). let a : Answer (List ℕ) = Refused x in a) last.0) same
@@ -173,12 +173,12 @@ module _ (old new : Device) (before : Option Stored) (has : HasStill before old.
     stored.leaves ∙ sym (rolls_first m u up free (last_stored stored.storing).1),
   ))
 
-  closes_by : (answer : Answer (List ℕ)) (next : Machine) → CheckpointTakes old new (rolled_back m) answer next → CloseTakes old new w answer next
+  closes_by : (answer : Answer (List ℕ)) (next : Machine) → CheckpointTakes lives old new (rolled_back m) answer next → CloseTakes lives old new w answer next
   closes_by answer next (inl (is, same)) = inl (record { is = is; up = up; idle = free; left = same })
   closes_by answer next (inr (number, start, counted, may_start, so)) = by_start answer next number start counted may_start so
 
-refused_takes : (old new : Device) (w : World) (r : Refusal) (number : ℕ) → IsNumberOf old.seen number → close_told w.machine.fault (busy_in w) ≡ Err r → CloseTakes old new w (Refused r) w.machine
-refused_takes old new w r number counted why = inr (inr (
+refused_takes : (lives : List Lone) (old new : Device) (w : World) (r : Refusal) (number : ℕ) → IsNumberOf old.seen number → close_told w.machine.fault (busy_in w) ≡ Err r → CloseTakes lives old new w (Refused r) w.machine
+refused_takes lives old new w r number counted why = inr (inr (
   number,
   StoredWhole,
   NotDone r,
@@ -223,10 +223,11 @@ module _ {D : Type 0} (g : Ghosts D) (start_disk before : D) (image : g.may_leav
         next = w.machine;
         now = made;
         behind = record { later = record { faults = omega arith; moment = omega arith }; capacity = refl; has = λ up. let on = held.on up in (on.old, on.on.stands.seen_has, on.on.stands.seen_has) };
-        takes = let n = number_held g start_disk before image s w first made held in refused_takes (device_of g before) (device_of g before) w r n.0 n.1 why;
+        takes = let n = number_held g start_disk before image s w first made held in refused_takes s.ground.lives (device_of g before) (device_of g before) w r n.0 n.1 why;
         installs = inl refl;
         held = held;
         plain = plain;
+        none = λ none. none;
       }))
 
   module _ (may : MayClose w) (goes : GoesPlain w.machine (rolled_back w.machine)) (middle : Engine) (stands : Stands middle (rolled w)) (hub : HubGoesOn s.engine.hub middle.hub) where
@@ -235,12 +236,12 @@ module _ {D : Type 0} (g : Ghosts D) (start_disk before : D) (image : g.may_leav
 
     grounded_rolled : IsGrounded (g.seen before) (g.may_leave before) s w (may_open_to (first ∷ []) made) → IsGrounded (g.seen before) (g.may_leave before) s1 (rolled w) (may_open_to (first ∷ []) made)
     grounded_rolled on =
-        let r = is_rolled (g.seen before) (g.may_leave before) on.old w s.ground s.engine middle hub held.stands stands on.on on.follows (none_on (g.seen before) s.engine.hub s.ground w on.none) in
+        let r = is_rolled (g.seen before) (g.may_leave before) on.old w s.ground s.engine middle hub held.stands stands on.on on.follows on.since in
         record {
           old = on.old;
           on = r.on;
           follows = r.follows;
-          none = on.none;
+          since = r.since;
           opens = subst (λ (k : Completed). OpensAs (content_was on.old) k) (sym goes.completed) on.opens;
           one = on.one;
         }
@@ -261,17 +262,18 @@ module _ {D : Type 0} (g : Ghosts D) (start_disk before : D) (image : g.may_leav
     }
 
     module _ (after : D) (counts : g.moment before ≤ g.moment after → (c : List ℕ) → g.may_leave after c → g.left_since after (g.moment before) c) (only : (c : List ℕ) → g.left_since after (g.moment after) c → g.may_leave after c)
-        (count : g.faults before ≤ g.faults after) (room : g.capacity after ≡ g.capacity before) (law : CheckpointsOpen) (downs : DownsGo) (s' : Store) (result : Result (Unit {0}) Refusal) (lives : OnErr result (s'.ground.lives ≡ s.ground.lives)) where
+        (count : g.faults before ≤ g.faults after) (room : g.capacity after ≡ g.capacity before) (law : CheckpointsOpen) (downs : DownsGo) (s' : Store) (result : Result (Unit {0}) Refusal) where
       from_checkpoint : CheckpointsOn g start_disk (rolled w) first made s1 s' before after w.shelf result → Shuts g start_disk w first made s s' before after result
       from_checkpoint t = record {
         next = t.next;
         now = t.now;
         behind = t.behind;
-        takes = closes_by (device_of g before) (device_of g after) on_rolled.old on_rolled.on.stands.seen_has w may goes (answer_of result) t.next t.takes;
+        takes = closes_by s.ground.lives (device_of g before) (device_of g after) on_rolled.old on_rolled.on.stands.seen_has w may goes (answer_of result) t.next t.takes;
         installs = t.installs;
         held = t.held;
         plain = t.plain;
+        none = t.none;
       }
 
-      pub shuts_by : ((old : Option Stored) → StandsOn (g.seen before) (g.may_leave before) middle.hub s.ground old → Follows old middle.hub s.ground (rolled w) → AreLivesOn (g.seen before) middle.hub s.ground (rolled w) → Takes g old (rolled w) s.ground s'.ground middle s'.engine before after result) → Shuts g start_disk w first made s s' before after result
-      shuts_by takes = from_checkpoint (by_takes g start_disk before after counts only image s1 s' (rolled w) first made held_rolled on_rolled count room law downs goes.plain result lives (takes on_rolled.old on_rolled.on on_rolled.follows (none_on (g.seen before) middle.hub s.ground (rolled w) on_rolled.none)))
+      pub shuts_by : OnErr result (s'.ground.lives ≡ s.ground.lives) → ((old : Option Stored) → StandsOn (g.seen before) (g.may_leave before) middle.hub s.ground old → Follows old middle.hub s.ground (rolled w) → AreLivesOn (g.seen before) middle.hub s.ground (rolled w) → Takes g old (rolled w) s.ground s'.ground middle s'.engine before after result) → Shuts g start_disk w first made s s' before after result
+      shuts_by lives takes = from_checkpoint (by_takes g start_disk before after counts only image s1 s' (rolled w) first made held_rolled on_rolled count room law downs goes.plain result lives (takes on_rolled.old on_rolled.on on_rolled.follows on_rolled.since))

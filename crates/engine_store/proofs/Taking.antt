@@ -1,6 +1,6 @@
 -- What a checkpoint in one event leaves of what holds between two calls.
-use Rattle.std.proofs.Common.{◌≡◌, ◌⊎◌, ◌≤◌, ℕ, List, [], ◌∷◌, ◌++◌, reverse, Option, Some, None, Result, Ok, Err, refl, sym, ap, subst, ◌∙◌, inl, inr, arith}
 use Rattle.std.specs.Prelude.{OnErr}
+use Rattle.std.proofs.Common.{◌≡◌, ◌⊎◌, ◌≤◌, ℕ, List, [], ◌∷◌, ◌++◌, reverse, Option, Some, None, Result, Ok, Err, refl, sym, ap, subst, ◌∙◌, inl, inr, arith}
 use Rattle.std.proofs.lemmas.List.{reverse-reverse}
 use Rattle.failure.specs.Counts.{Rose}
 use Rattle.failure.specs.declared.Fault.{Fault}
@@ -27,15 +27,13 @@ use Rattle.engine_world.specs.Worlds.{World}
 use Rattle.engine_world.proofs.HubMoves.{decided-down}
 use Rattle.engine.specs.Checkpoints.{MayStart}
 use Rattle.ckpt_step.specs.declared.ground.Ground.{Ground}
-use Rattle.ckpt_step.specs.declared.lives.Lone.{Lone}
 use Rattle.ckpt_step.specs.Checkpoints.{IsCheckpointOf}
 use Rattle.ckpt_step.specs.Floors.{AreLivesOn, Follows}
 use Rattle.ckpt_step.specs.Giving.{CheckpointsHaveNewest, HasNewest}
-use Rattle.ckpt_step.specs.Grounds.{AreRoots, StandsOn, number_of}
+use Rattle.ckpt_step.specs.Grounds.{AreLedTo, AreRoots, StandsOn, number_of}
 use Rattle.ckpt_step.specs.Laws.{CheckpointsOpen}
 use Rattle.ckpt_step.specs.Plain.{IsPlain}
 use Rattle.ckpt_step.specs.Rooms.{known_in}
-use Rattle.ckpt_step.specs.Sizes.{HasRoomFor, IsFullFor}
 use Rattle.ckpt_step.specs.Takes.{Fallen, NotTaken, Taken, Takes, WhyNot}
 use Rattle.engine_store.specs.declared.eviction.Clock.{Clock}
 use Rattle.engine_store.specs.declared.store.Store.{Store}
@@ -79,12 +77,12 @@ module _ {D : Type 0} (g : Ghosts D) (start_disk before after : D)
   last_on kept (inr (pending, there, each)) = inr (pending, there, λ c left. old_opens c (old_now kept c left))
 
   -- nothing was installed
-  kept_held : (next : World) → Stands s'.engine next → next.machine.checkpoint ≡ None → next.machine.completed ≡ w.machine.completed → KeptAll
-      → (next.machine.fault ≡ None → StandsOn (g.seen after) (g.may_leave after) s'.engine.hub s'.ground grounded.old × Follows grounded.old s'.engine.hub s'.ground next × (s'.ground.lives ≡ [])) → IsHeld g start_disk s' after next first made
+  pub kept_held : (next : World) → Stands s'.engine next → next.machine.checkpoint ≡ None → next.machine.completed ≡ w.machine.completed → KeptAll
+      → (next.machine.fault ≡ None → StandsOn (g.seen after) (g.may_leave after) s'.engine.hub s'.ground grounded.old × Follows grounded.old s'.engine.hub s'.ground next × AreLivesOn (g.seen after) s'.engine.hub s'.ground next) → IsHeld g start_disk s' after next first made
   kept_held next stands idle same kept on = record {
     stands = stands;
     idle = idle;
-    on = λ up. record { old = grounded.old; on = (on up).0; follows = (on up).1; none = (on up).2; opens = subst (λ (k : Completed). OpensAs (content_was grounded.old) k) (sym same) grounded.opens; one = grounded.one };
+    on = λ up. record { old = grounded.old; on = (on up).0; follows = (on up).1; since = (on up).2; opens = subst (λ (k : Completed). OpensAs (content_was grounded.old) k) (sym same) grounded.opens; one = grounded.one };
     images = λ c left. old_opens c (old_now kept c left);
     last = subst (λ (k : Completed). OpensToLast (g.may_leave after) first k made) (sym same) (last_on kept held.last);
     ever = joined g start_disk before after (OpensToOne first made) Old held.ever kept (λ c old. any_one first made c (old_opens c old));
@@ -121,7 +119,7 @@ module _ {D : Type 0} (g : Ghosts D) (start_disk before after : D)
         old = Some new;
         on = on;
         follows = follows;
-        none = none;
+        since = none_on (g.seen after) s'.engine.hub s'.ground next none;
         opens = subst (λ (k : Completed). OpensAs (content_of new) k) (sym same) new_opens;
         one = (own.checkpoint, last_opens (first ∷ []) made own, new_opens);
       };
@@ -171,14 +169,19 @@ module _ {D : Type 0} (g : Ghosts D) (start_disk before after : D)
     counted = numbered (g.seen before) grounded.old grounded.on.stands.seen_has
 
     -- the leaves of the engine, with what it wrote, part the machine's tables
-    parted : ArePartedOn (g.seen before) m s.engine.hub.dir.leaves (known_in s.ground.parts)
+    parted : ArePartedOn (g.seen before) m s.ground.lives s.engine.hub.dir.leaves (known_in s.ground.parts)
     parted = record {
       old = grounded.old;
       has = grounded.on.stands.seen_has;
       places = s.ground.trees.items;
-      roots = subst (λ (x : List Lone). AreRoots (reverse (tables m.history)) x s.engine.hub.dir.leaves (known_in s.ground.parts) s.ground.trees.items grounded.old) grounded.none
-          (subst (λ (l : List Table). AreRoots l s.ground.lives s.engine.hub.dir.leaves (known_in s.ground.parts) s.ground.trees.items grounded.old) known grounded.on.roots);
+      roots = subst (λ (l : List Table). AreRoots l s.ground.lives s.engine.hub.dir.leaves (known_in s.ground.parts) s.ground.trees.items grounded.old) known grounded.on.roots;
       begun = subst (λ (l : List Table). TablesBegun l s.engine.hub.dir.leaves) known held.stands.begun;
+      dir = s.engine.hub.dir;
+      leaves_are = refl;
+      since = grounded.on.since;
+      led = subst (λ (l : List Table). AreLedTo l s.ground.lives s.engine.hub.dir.leaves) known grounded.on.led;
+      shelf = w.shelf;
+      on = grounded.since;
     }
       where
         known : s.engine.hub.tables.tables ≡ reverse (tables m.history)
@@ -210,19 +213,24 @@ module _ {D : Type 0} (g : Ghosts D) (start_disk before after : D)
         next = checkpointed m;
         now = made ++ installed None ∷ [];
         behind = record { later = is_later t.leaves.later; capacity = room; has = (t.new, number, t.is, t.on.stands.seen_has) };
-        takes = inr (number, Ok tt, counted, t.may, record { storing = StoredWhole; takes = (s.engine.hub.dir.leaves, known_in s.ground.parts, parted, subst (λ (x : List Lone). HasRoomFor (g.seen before) (g.capacity before) x s.engine.hub.dir.leaves (known_in s.ground.parts) m) grounded.none t.had_room); told = refl; leaves = refl });
+        takes = inr (number, Ok tt, counted, t.may, record { storing = StoredWhole; takes = (s.engine.hub.dir.leaves, known_in s.ground.parts, parted, t.had_room); told = refl; leaves = refl });
         installs = refl;
         held = done_held t.new (installed None) (opens_new t.new t.is) t.leaves (record w { machine = checkpointed m; shelf = r.shelf }) r.stands refl refl refl t.each r.on r.follows r.none (new_opens t.new t.is (g.seen after) t.on.stands.seen_has);
         plain = record { idle = refl; suffice = λ table key. record { reached = (plain.suffice table key).reached } };
+        none = λ was. r.none;
       }
 
-    refused_by : (r : Refusal) → WhyNot (Rose (g.faults before) (g.faults after)) (g.seen before) (g.capacity before) s.ground.lives s.engine.hub.dir.leaves (known_in s.ground.parts) m number r → CheckpointTakes (device_of g before) (device_of g after) m (Refused r) m
+    refused_by : (r : Refusal) → WhyNot (Rose (g.faults before) (g.faults after)) (g.seen before) (g.capacity before) s.ground.lives s.engine.hub.dir.leaves (known_in s.ground.parts) m number r → CheckpointTakes s.ground.lives (device_of g before) (device_of g after) m (Refused r) m
     refused_by r (inl barred) = inr (number, Err r, counted, barred, (refl, refl))
     refused_by r (inr (inl none)) = inl (cc, refl)
-    refused_by r (inr (inr (may, inl (is, full)))) = inr (number, Ok tt, counted, may, record { storing = NoPlace; takes = (s.engine.hub.dir.leaves, known_in s.ground.parts, parted, subst (λ (x : List Lone). IsFullFor (g.seen before) (g.capacity before) x s.engine.hub.dir.leaves (known_in s.ground.parts) m) grounded.none full); told = cc; leaves = refl })
+    refused_by r (inr (inr (may, inl (is, full)))) = inr (number, Ok tt, counted, may, record { storing = NoPlace; takes = (s.engine.hub.dir.leaves, known_in s.ground.parts, parted, full); told = cc; leaves = refl })
     refused_by r (inr (inr (may, inr (is, rose)))) = inr (number, Ok tt, counted, may, record { storing = ReadFailed; takes = rose; told = cc; leaves = refl })
 
-    not_taken : (r : Refusal) → s'.ground.lives ≡ s.ground.lives → NotTaken g grounded.old w s.ground s'.ground s.engine s'.engine before after r → Gives (Err r)
+    -- of leaves that were written since there are those that there were
+    abbrev KeepsLives : Type 0
+    KeepsLives = s'.ground.lives ≡ s.ground.lives
+
+    not_taken : (r : Refusal) → KeepsLives → NotTaken g grounded.old w s.ground s'.ground s.engine s'.engine before after r → Gives (Err r)
     not_taken r lives n = record {
       next = m;
       now = made;
@@ -233,19 +241,20 @@ module _ {D : Type 0} (g : Ghosts D) (start_disk before after : D)
           (λ up. (
             subst (λ (e : Engine). StandsOn (g.seen after) (g.may_leave after) e.hub s'.ground grounded.old) (sym n.same) n.on,
             subst (λ (e : Engine). Follows grounded.old e.hub s'.ground w) (sym n.same) n.follows,
-            lives ∙ grounded.none,
+            subst (λ (e : Engine). AreLivesOn (g.seen after) e.hub s'.ground w) (sym n.same) n.since,
           ));
       plain = plain;
+      none = λ none. lives ∙ none;
     }
 
-    module _ (fault : Fault) (may : MayStart m number (Ok tt)) (rose : Rose (g.faults before) (g.faults after)) (is : s'.engine ≡ with_fault s.engine fault) where
+    module _ (fault : Fault) (lives : KeepsLives) (may : MayStart m number (Ok tt)) (rose : Rose (g.faults before) (g.faults after)) (is : s'.engine ≡ with_fault s.engine fault) where
       abbrev down : Machine
       down = after_event m (GoDown fault)
 
       fell_stands : Stands s'.engine (record w { machine = down })
       fell_stands = subst (λ (e : Engine). Stands e (record w { machine = down })) (sym is) (downs s.engine w fault held.stands)
 
-      fell_takes : CheckpointTakes (device_of g before) (device_of g after) m (Refused DiskFault) down
+      fell_takes : CheckpointTakes s.ground.lives (device_of g before) (device_of g after) m (Refused DiskFault) down
       fell_takes = inr (number, Ok tt, counted, may, record { storing = WriteFailed fault; takes = rose; told = refl; leaves = refl })
 
       fell_plain : IsPlain down
@@ -263,6 +272,7 @@ module _ {D : Type 0} (g : Ghosts D) (start_disk before after : D)
         installs = inl refl;
         held = kept_held (record w { machine = down }) fell_stands held.idle refl kept (λ up. absurd (not_up up));
         plain = fell_plain;
+        none = λ none. lives ∙ none;
       }
 
       fell_at : (new : Stored) → IsCheckpointOf m number new → LeavesOnly g before after (IsEither (g.may_leave before) grounded.old new) → Gives (Err DiskFault)
@@ -274,18 +284,19 @@ module _ {D : Type 0} (g : Ghosts D) (start_disk before after : D)
         installs = inr (refl, (fault, refl), refl);
         held = gate_held new (installed (Some DiskFault)) (opens_new new checkpoint) left (record w { machine = down }) fell_stands held.idle refl refl not_up;
         plain = fell_plain;
+        none = λ none. lives ∙ none;
       }
 
-    fallen : (r : Refusal) → Fallen g grounded.old w s.ground s'.ground s.engine s'.engine before after r → Gives (Err r)
-    fallen r f = subst (λ (x : Refusal). Gives (Err x)) (sym f.is) (elim f.leaves [
-      | inl kept ↦ fell_before f.fault f.may f.rose f.down kept
-      | inr (new, checkpoint, left) ↦ fell_at f.fault f.may f.rose f.down new checkpoint left
+    fallen : (r : Refusal) → KeepsLives → Fallen g grounded.old w s.ground s'.ground s.engine s'.engine before after r → Gives (Err r)
+    fallen r lives f = subst (λ (x : Refusal). Gives (Err x)) (sym f.is) (elim f.leaves [
+      | inl kept ↦ fell_before f.fault lives f.may f.rose f.down kept
+      | inr (new, checkpoint, left) ↦ fell_at f.fault lives f.may f.rose f.down new checkpoint left
     ])
 
-    pub by_takes : (result : Result (Unit {0}) Refusal) → OnErr result (s'.ground.lives ≡ s.ground.lives) → Takes g grounded.old w s.ground s'.ground s.engine s'.engine before after result → Gives result
+    pub by_takes : (result : Result (Unit {0}) Refusal) → OnErr result KeepsLives → Takes g grounded.old w s.ground s'.ground s.engine s'.engine before after result → Gives result
     by_takes (Ok end) lives t = taken s'.ground s'.engine t (record { shelf = w.shelf; stands = t.stands; on = taken_on s'.ground s'.engine t; follows = taken_follows s'.ground s'.engine t; none = t.none })
     by_takes (Err r) lives (inl n) = not_taken r lives n
-    by_takes (Err r) lives (inr f) = fallen r f
+    by_takes (Err r) lives (inr f) = fallen r lives f
 
 -- ---- of one that is down
 
@@ -295,11 +306,11 @@ module _ {D : Type 0} (g : Ghosts D) (start_disk disk : D) (image : g.may_leave 
   number_held = let any = held.images (g.seen disk) image in number_read (g.seen disk) any.2.0 any.2.1
 
   -- how many frames there are, and which leaves go out, says nothing of what is held
-  clock_held : (n : ℕ) (k : Clock) → IsHeld g start_disk (record s { frames = n; clock = k }) disk w first made
+  pub clock_held : (n : ℕ) (k : Clock) → IsHeld g start_disk (record s { frames = n; clock = k }) disk w first made
   clock_held n k = record {
     stands = held.stands;
     idle = held.idle;
-    on = λ up. let x = held.on up in record { old = x.old; on = x.on; follows = x.follows; none = x.none; opens = x.opens; one = x.one };
+    on = λ up. let x = held.on up in record { old = x.old; on = x.on; follows = x.follows; since = x.since; opens = x.opens; one = x.one };
     images = held.images;
     last = held.last;
     ever = held.ever;
@@ -316,6 +327,7 @@ module _ {D : Type 0} (g : Ghosts D) (start_disk disk : D) (image : g.may_leave 
     installs = inl refl;
     held = clock_held n k;
     plain = plain;
+    none = λ none. none;
   }
     where
       not_both : w.machine.fault ≡ None → ⊥
@@ -332,7 +344,7 @@ module _ {D : Type 0} (g : Ghosts D) (start_disk disk : D) (image : g.may_leave 
 -- ---- of either
 
 -- but for how many frames there are, and which leaves go out
-same_store : (s s' : Store) → s'.engine ≡ s.engine → s'.ground ≡ s.ground → s' ≡ record s { frames = s'.frames; clock = s'.clock }
+pub same_store : (s s' : Store) → s'.engine ≡ s.engine → s'.ground ≡ s.ground → s' ≡ record s { frames = s'.frames; clock = s'.clock }
 same_store s s' engine place =
     ap (λ (e : Engine). let x : Store = record s' { engine = e } in x) engine
     ∙ ap (λ (p : Ground). let x : Store = record s' { engine = s.engine; ground = p } in x) place
@@ -341,13 +353,12 @@ module _ {D : Type 0} (g : Ghosts D) (start_disk before after : D)
     (counts : g.moment before ≤ g.moment after → (c : List ℕ) → g.may_leave after c → g.left_since after (g.moment before) c) (only : (c : List ℕ) → g.left_since after (g.moment after) c → g.may_leave after c)
     (image : g.may_leave before (g.seen before)) (s s' : Store) (w : World) (first : Completed) (made : List Installed) (held : IsHeld g start_disk s before w first made)
     (count : g.faults before ≤ g.faults after) (room : g.capacity after ≡ g.capacity before) (law : CheckpointsOpen) (downs : DownsGo) (plain : IsPlain w.machine) (result : Result (Unit {0}) Refusal)
-    (lives : OnErr result (s'.ground.lives ≡ s.ground.lives))
     (takes : (old : Option Stored) → StandsOn (g.seen before) (g.may_leave before) s.engine.hub s.ground old → Follows old s.engine.hub s.ground w → AreLivesOn (g.seen before) s.engine.hub s.ground w → Takes g old w s.ground s'.ground s.engine s'.engine before after result)
-    (down : (fault : Fault) → s.engine.hub.fault ≡ Some fault → (result ≡ Err (Panic fault)) × (s'.engine ≡ s.engine) × (s'.ground ≡ s.ground) × (after ≡ before)) where
+    (down : (fault : Fault) → s.engine.hub.fault ≡ Some fault → (result ≡ Err (Panic fault)) × (s'.engine ≡ s.engine) × (s'.ground ≡ s.ground) × (after ≡ before)) (lives : OnErr result (s'.ground.lives ≡ s.ground.lives)) where
   by_fault : (f : Option Fault) → w.machine.fault ≡ f → CheckpointsOn g start_disk w first made s s' before after w.shelf result
   by_fault None up =
       let on = held.on up in
-      by_takes g start_disk before after counts only image s s' w first made held on count room law downs plain result lives (takes on.old on.on on.follows (none_on (g.seen before) s.engine.hub s.ground w on.none))
+      by_takes g start_disk before after counts only image s s' w first made held on count room law downs plain result lives (takes on.old on.on on.follows on.since)
   by_fault (Some fault) is =
       let told = down fault (held.stands.fault ∙ is) in
       by_down g start_disk before image s w first made held s' after result fault is plain told.0 (same_store s s' told.1 told.2) told.3
@@ -372,7 +383,7 @@ module _ {D : Type 0} (g : Ghosts D) (start_disk before after : D)
   by_up (Some fault) is = absurd (up fault (held.stands.fault ∙ is))
   by_up None is =
       let on = held.on is in
-      let t = takes on.old on.on on.follows (none_on (g.seen before) s.engine.hub s.ground w on.none) in
+      let t = takes on.old on.on on.follows on.since in
       let r = goes.relieves after (Some t.new) (record w { machine = checkpointed w.machine }) t.stands refl
       (taken_on g start_disk before after counts only image s s' w first made held on count room law downs plain stand e t)
       (taken_follows g start_disk before after counts only image s s' w first made held on count room law downs plain stand e t)

@@ -19,6 +19,7 @@ use Rattle.checkpoint_core.specs.Stands.{HasStill}
 use Rattle.engine_world.specs.Worlds.{World}
 use Rattle.engine.specs.Checkpoints.{MayStart}
 use Rattle.engine.specs.Closes.{unfinished_in}
+use Rattle.ckpt_step.specs.declared.lives.Lone.{Lone}
 use Rattle.ckpt_step.specs.Checkpoints.{IsCheckpointOf}
 use Rattle.engine_store.specs.Devices.{Device, Installed, IsLater, IsNumberOf, IsUsedUp, IsWide, MayTakeAt, last_number}
 
@@ -27,23 +28,23 @@ abbrev pub answer_of : Result (Unit {0}) Refusal → Answer (List ℕ)
 answer_of (Ok done) = Done
 answer_of (Err r) = Refused r
 
--- how the device took what was written, and what that leaves
-pub record IsStored (old new : Device) (m : Machine) (answer : Answer (List ℕ)) (next : Machine) : Type 0 where
+-- how the device took what was written, beside the blocks of these leaves, and what that leaves
+pub record IsStored (lives : List Lone) (old new : Device) (m : Machine) (answer : Answer (List ℕ)) (next : Machine) : Type 0 where
   pub storing : Storing
-  pub takes : MayTakeAt old new m storing
+  pub takes : MayTakeAt lives old new m storing
   pub told : Tells (last_stored storing).0 answer
   pub leaves : next ≡ after_all m (last_stored storing).1
 
 -- the answer where the start of a checkpoint is decided so
-abbrev pub StartedAs : Device → Device → Machine → Answer (List ℕ) → Machine → Result (Unit {0}) Refusal → Type 0
-StartedAs old new m answer next (Err r) = (answer ≡ Refused r) × (next ≡ m)
-StartedAs old new m answer next (Ok done) = IsStored old new m answer next
+abbrev pub StartedAs : List Lone → Device → Device → Machine → Answer (List ℕ) → Machine → Result (Unit {0}) Refusal → Type 0
+StartedAs lives old new m answer next (Err r) = (answer ≡ Refused r) × (next ≡ m)
+StartedAs lives old new m answer next (Ok done) = IsStored lives old new m answer next
 
--- a checkpoint in one event, of a machine that has none running
-abbrev pub CheckpointTakes : Device → Device → Machine → Answer (List ℕ) → Machine → Type 0
-CheckpointTakes old new m answer next =
+-- a checkpoint in one event, of a machine that has none running; lives: the leaves that were written since the last one
+abbrev pub CheckpointTakes : List Lone → Device → Device → Machine → Answer (List ℕ) → Machine → Type 0
+CheckpointTakes lives old new m answer next =
     IsShort m answer next
-    ⊎ ((number : ℕ) × (start : Result (Unit {0}) Refusal) × IsNumberOf old.seen number × MayStart m number start × StartedAs old new m answer next start)
+    ⊎ ((number : ℕ) × (start : Result (Unit {0}) Refusal) × IsNumberOf old.seen number × MayStart m number start × StartedAs lives old new m answer next start)
 
 -- what the device has behind a call that takes a checkpoint of this machine: that one where it is done, the one before where it is refused and the engine stays up
 abbrev pub HasBehind : Device → Device → Machine → Machine → Answer (List ℕ) → Type 0
@@ -58,19 +59,19 @@ pub record IsLeft (old new : Device) (m next : Machine) (answer : Answer (List �
   pub has : HasBehind old new m next answer
 
 -- what a close rests on between two lines
-abbrev pub around_at : World → Device → Device → Around
-around_at w old new = record {
+abbrev pub around_at : List Lone → World → Device → Device → Around
+around_at lives w old new = record {
   in_call = is_there (slice_index_or w.systems 0 None);
   unfinished = unfinished_in w;
   IsNumber = IsNumberOf old.seen;
   uncaptured = 0;
-  MayTake = MayTakeAt old new;
+  MayTake = MayTakeAt lives old new;
   MayKeepOut = λ r. ⊥;
 }
 
 -- a close, for which memory may be short
-abbrev pub CloseTakes : Device → Device → World → Answer (List ℕ) → Machine → Type 0
-CloseTakes old new w answer next = IsCloseShort (around_at w old new) w.machine answer next ⊎ SystemAnswers (around_at w old new) w.machine Close answer next
+abbrev pub CloseTakes : List Lone → Device → Device → World → Answer (List ℕ) → Machine → Type 0
+CloseTakes lives old new w answer next = IsCloseShort (around_at lives w old new) w.machine answer next ⊎ SystemAnswers (around_at lives w old new) w.machine Close answer next
 
 -- what a call installed that takes this checkpoint, or was installing at a fault of its gate, behind those before
 abbrev pub Installs : Answer (List ℕ) → Completed → Device → Machine → List Installed → List Installed → Type 0

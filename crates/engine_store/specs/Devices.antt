@@ -12,10 +12,14 @@ use Rattle.stored.specs.Stored.{Stored as OnDevice, IsOn, IsBlank}
 use Rattle.checkpoint_core.specs.Stands.{HasStill}
 use Rattle.recover_open.specs.Bare.{IsBare}
 use Rattle.kv_model.specs.History.{tables}
+use Rattle.row_page.specs.Rows.{Row}
 use Rattle.tree_dir.specs.declared.leaf.Leaf.{Leaf}
+use Rattle.tree_dir.specs.Leaves.{Directory}
 use Rattle.tree_open.specs.declared.place.TreePlace.{TreePlace}
 use Rattle.engine_world.specs.Leaves.{TablesBegun}
-use Rattle.ckpt_step.specs.Grounds.{AreRoots}
+use Rattle.ckpt_step.specs.declared.lives.Lone.{Lone}
+use Rattle.ckpt_step.specs.Floors.{AreOnDevice}
+use Rattle.ckpt_step.specs.Grounds.{AreLedTo, AreRoots, AreSince}
 use Rattle.ckpt_step.specs.Rooms.{Written}
 use Rattle.ckpt_step.specs.Sizes.{HasRoomFor, IsFullFor}
 
@@ -79,18 +83,24 @@ IsWide bytes = (s : OnDevice) × IsOn bytes s × (IsBare s.kept → ⊥)
 abbrev pub IsUsedUp : List ℕ → Type 0
 IsUsedUp bytes = (s : OnDevice) × IsOn bytes s × (2 ^ 32 + length s.kept.tables ≤ s.kept.next_table + TABLES_MAX)
 
--- Leaves by which the machine's tables are parted, and by which the trees of the device's checkpoint are: of each what that checkpoint has. None was written since.
-pub record ArePartedOn (bytes : List ℕ) (m : Machine) (leaves : List Leaf) (written : Written) : Type 0 where
+-- Leaves of a directory by which the machine's tables are parted, and by which the trees of the device's checkpoint are: of each what that checkpoint has, but of those that were written since, each with some rows, in a block that the checkpoint has not. Of these there are no others than such leaves (led), and the device has the rows of each (on).
+pub record ArePartedOn (bytes : List ℕ) (m : Machine) (lives : List Lone) (leaves : List Leaf) (written : Written) : Type 0 where
   pub old : Option OnDevice
   pub has : HasStill old bytes
   pub places : List TreePlace
-  pub roots : AreRoots (reverse (tables m.history)) [] leaves written places old
+  pub roots : AreRoots (reverse (tables m.history)) lives leaves written places old
   pub begun : TablesBegun (reverse (tables m.history)) leaves
+  pub dir : Directory
+  pub leaves_are : dir.leaves ≡ leaves
+  pub since : AreSince old lives dir written
+  pub led : AreLedTo (reverse (tables m.history)) lives leaves
+  pub shelf : ℕ → List Row
+  pub on : AreOnDevice bytes lives leaves shelf
 
--- how a device takes the blocks of a checkpoint: each has a place, or one of them finds none
-abbrev pub MayTakeAt : Device → Device → Machine → Storing → Type 0
-MayTakeAt old new m Stored = (leaves : List Leaf) × (written : Written) × ArePartedOn old.seen m leaves written × HasRoomFor old.seen old.capacity [] leaves written m
-MayTakeAt old new m NoPlace = (leaves : List Leaf) × (written : Written) × ArePartedOn old.seen m leaves written × IsFullFor old.seen old.capacity [] leaves written m
-MayTakeAt old new m ReadFailed = Rose old.faults new.faults
-MayTakeAt old new m (Damaged offset want found) = ⊥
-MayTakeAt old new m (WriteFailed fault) = Rose old.faults new.faults
+-- how a device takes the blocks of a checkpoint, beside those of these leaves, which were written since the last one: each has a place, or one of them finds none
+abbrev pub MayTakeAt : List Lone → Device → Device → Machine → Storing → Type 0
+MayTakeAt lives old new m Stored = (leaves : List Leaf) × (written : Written) × ArePartedOn old.seen m lives leaves written × HasRoomFor old.seen old.capacity lives leaves written m
+MayTakeAt lives old new m NoPlace = (leaves : List Leaf) × (written : Written) × ArePartedOn old.seen m lives leaves written × IsFullFor old.seen old.capacity lives leaves written m
+MayTakeAt lives old new m ReadFailed = Rose old.faults new.faults
+MayTakeAt lives old new m (Damaged offset want found) = ⊥
+MayTakeAt lives old new m (WriteFailed fault) = Rose old.faults new.faults

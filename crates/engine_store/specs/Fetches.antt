@@ -1,5 +1,5 @@
 -- How far a session's call has come whose leaves are read from the device.
-use Rattle.std.specs.Prelude.{◌≡◌, ℕ, zero, suc, [], Option, None, Some, Result, Ok, Err}
+use Rattle.std.specs.Prelude.{◌≡◌, ℕ, zero, suc, Option, None, Some, Result, Ok, Err}
 use Rattle.failure.specs.Counts.{Rose}
 use Rattle.disk_model.specs.declared.disk.Disk.{Ghosts}
 use Rattle.wt_code.specs.declared.refusals.Refusal.{Refusal}
@@ -15,15 +15,15 @@ use Rattle.engine.specs.declared.step.Step.{Step}
 use Rattle.engine.specs.declared.step.Step.TheVariants.{Go}
 use Rattle.engine.specs.Waits.{turns_in}
 use Rattle.engine.specs.Whole.{IsUnderWay, KeptBy, MayCallKept}
-use Rattle.ckpt_step.specs.Floors.{Follows}
+use Rattle.ckpt_step.specs.Floors.{AreLivesOn, Follows}
 use Rattle.ckpt_step.specs.Grounds.{StandsOn}
 use Rattle.engine_store.specs.declared.store.Store.{Store}
 use Rattle.engine_store.specs.Calls.{Basis, EndsIn, GoesOrKept, MayAnswerSo}
 use Rattle.engine_store.specs.Loads.{IsCause, IsCaused}
 
--- While the engine is up, the ground is that of the disk's checkpoint, since which no leaf was written, and follows this world: its shelf has the leaves that are in no frame.
+-- While the engine is up, the ground is that of the disk's checkpoint, and follows this world: its shelf has the leaves that are in no frame. Those that were written since are on the disk.
 abbrev pub IsBacked : {D : Type 0} → Ghosts D → Store → D → World → Type 0
-IsBacked g s disk w = s.engine.hub.fault ≡ None → (old : Option Stored) × StandsOn (g.seen disk) (g.may_leave disk) s.engine.hub s.ground old × Follows old s.engine.hub s.ground w × (s.ground.lives ≡ [])
+IsBacked g s disk w = s.engine.hub.fault ≡ None → (old : Option Stored) × StandsOn (g.seen disk) (g.may_leave disk) s.engine.hub s.ground old × Follows old s.engine.hub s.ground w × AreLivesOn (g.seen disk) s.engine.hub s.ground w
 
 -- the store stands for a world that came of that one
 pub record IsReached {D : Type 0} (g : Ghosts D) (s : Store) (disk : D) (w now : World) : Type 0 where

@@ -8,7 +8,7 @@ use Rattle.call_steps.specs.declared.hub.Hub.{Hub}
 use Rattle.engine_world.specs.Stands.{Stands}
 use Rattle.engine_world.specs.Worlds.{World}
 use Rattle.engine.specs.Directories.{HubGoesOn}
-use Rattle.ckpt_step.specs.Floors.{Follows}
+use Rattle.ckpt_step.specs.Floors.{AreLivesOn, Follows}
 use Rattle.ckpt_step.specs.Grounds.{StandsOn}
 use Rattle.ckpt_step.specs.Parts.{has_rows}
 use Rattle.ckpt_step.specs.Rooms.{known_in}
@@ -35,5 +35,7 @@ pub record GoOut {D : Type 0} (g : Ghosts D) (s s' : Store) : Type 0 where
   pub hub : s'.engine.hub ≡ record s.engine.hub { dir = s'.engine.hub.dir }
   pub stands : (w : World) → Stands s.engine w → Stands s'.engine w
   pub on : (disk : D) (old : Option Stored) → StandsOn (g.seen disk) (g.may_leave disk) s.engine.hub s.ground old
-      → StandsOn (g.seen disk) (g.may_leave disk) s'.engine.hub s'.ground old × ((w : World) → Follows old s.engine.hub s.ground w → Follows old s'.engine.hub s'.ground w)
+      → StandsOn (g.seen disk) (g.may_leave disk) s'.engine.hub s'.ground old
+      × ((w : World) → Follows old s.engine.hub s.ground w → Follows old s'.engine.hub s'.ground w)
+      × ((w : World) → AreLivesOn (g.seen disk) s.engine.hub s.ground w → AreLivesOn (g.seen disk) s'.engine.hub s'.ground w)
   pub goes : (h : Hub) → HubGoesOn (all_out h) s.engine.hub → HubGoesOn (all_out h) s'.engine.hub

@@ -14,7 +14,7 @@ use Rattle.engine_world.specs.Stands.{Stands}
 use Rattle.engine_world.specs.Systems.{checkpointed, first_world}
 use Rattle.row_page.specs.Rows.{Row}
 use Rattle.engine_world.specs.Worlds.{World}
-use Rattle.ckpt_step.specs.Floors.{Follows}
+use Rattle.ckpt_step.specs.Floors.{AreLivesOn, Follows}
 use Rattle.ckpt_step.specs.Grounds.{StandsOn}
 use Rattle.ckpt_step.specs.Plain.{IsPlain}
 use Rattle.engine_store.specs.declared.store.Store.{Store}
@@ -22,12 +22,12 @@ use Rattle.engine_store.specs.Answers.{CheckpointTakes, CloseTakes, Installs, Is
 use Rattle.engine_store.specs.Devices.{Installed, IsLater, device_of, may_open_to}
 use Rattle.engine_store.specs.Images.{OpensToAny, OpensToLast, OpensToOne, Stays}
 
--- the next checkpoint stands on the one that the device has, since which no leaf was written, and of which the leaves that are not loaded, and those that are clean, have the rows that they had; it opens as the machine's last one, and is one of those to which the device may open
+-- the next checkpoint stands on the one that the device has, of which the leaves that are not loaded, and those that are clean, have the rows that they had; a leaf that was written since has those of its block; it opens as the machine's last one, and is one of those to which the device may open
 pub record IsGrounded (seen : List ℕ) (images : List ℕ → Type 0) (s : Store) (w : World) (these : List Completed) : Type 0 where
   pub old : Option Stored
   pub on : StandsOn seen images s.engine.hub s.ground old
   pub follows : Follows old s.engine.hub s.ground w
-  pub none : s.ground.lives ≡ []
+  pub since : AreLivesOn seen s.engine.hub s.ground w
   pub opens : OpensAs (content_was old) w.machine.completed
   pub one : (k : Completed) × Member k these × OpensAs (content_was old) k
 
@@ -49,10 +49,11 @@ module _ {D : Type 0} (g : Ghosts D) (start_disk : D) where
       pub next : Machine
       pub now : List Installed
       pub behind : IsLeft (device_of g before) (device_of g after) w.machine next (answer_of result)
-      pub takes : CheckpointTakes (device_of g before) (device_of g after) w.machine (answer_of result) next
+      pub takes : CheckpointTakes s.ground.lives (device_of g before) (device_of g after) w.machine (answer_of result) next
       pub installs : Installs (answer_of result) (checkpointed w.machine).completed (device_of g after) next made now
       pub held : IsHeld s' after (record w { machine = next; shelf = shelf }) first now
       pub plain : IsPlain next
+      pub none : s.ground.lives ≡ [] → s'.ground.lives ≡ []
 
     -- leaves may have left their frames
     abbrev pub Checkpoints : Result (Unit {0}) Refusal → Type 0
@@ -63,10 +64,11 @@ module _ {D : Type 0} (g : Ghosts D) (start_disk : D) where
       pub next : Machine
       pub now : List Installed
       pub behind : IsLeft (device_of g before) (device_of g after) (rolled_back w.machine) next (answer_of result)
-      pub takes : CloseTakes (device_of g before) (device_of g after) w (answer_of result) next
+      pub takes : CloseTakes s.ground.lives (device_of g before) (device_of g after) w (answer_of result) next
       pub installs : Installs (answer_of result) (checkpointed (rolled_back w.machine)).completed (device_of g after) next made now
       pub held : IsHeld s' after (record w { machine = next }) first now
       pub plain : IsPlain next
+      pub none : s.ground.lives ≡ [] → s'.ground.lives ≡ []
 
     -- the device is opened anew: to one of the checkpoints that it may open to
     pub record Reopens : Type 0 where
@@ -79,6 +81,7 @@ module _ {D : Type 0} (g : Ghosts D) (start_disk : D) where
       pub shelf : ℕ → List Row
       pub held : IsHeld s' after (first_world content shelf s'.engine) first made
       pub plain : IsPlain (start content)
+      pub none : s'.ground.lives ≡ []
 
     -- it is not
     pub record NotReopened (r : Refusal) : Type 0 where
@@ -87,6 +90,7 @@ module _ {D : Type 0} (g : Ghosts D) (start_disk : D) where
       pub seen : g.seen after ≡ g.seen before
       pub capacity : g.capacity after ≡ g.capacity before
       pub held : IsHeld s' after w first made
+      pub none : s.ground.lives ≡ [] → s'.ground.lives ≡ []
 
     abbrev pub MayReopen : Result (Unit {0}) Refusal → Type 0
     MayReopen (Ok done) = Reopens

@@ -14,3 +14,4 @@ pub mod Fetches
 pub mod Found
 pub mod Held
 pub mod Relieves
+pub mod WritesOut

@@ -46,8 +46,8 @@ impl Clock {
 }
 
 impl Store {
-    /// Behind a call for which leaves were read: while more than `self.frames` frames have leaves, some
-    /// go out of theirs that no call has in hand and no cursor stands on, whose keys were never written
+    /// Behind a call for which leaves were read: while more than `self.frames` frames have leaves, some go
+    /// out of theirs that no call has in hand and no cursor stands on, whose keys were never written
     /// since they were read, and which no checkpoint of this engine wrote. They are read again when a
     /// call needs them. `O(1)` where no leaf was read, else `O(n)` in the frames and sessions.
     #[inline(always)]

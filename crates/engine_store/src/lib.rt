@@ -7,7 +7,8 @@
 //! holds between two calls (`IsHeld`): at each moment a crash leaves what opens to a checkpoint that
 //! was done, or was being installed since. So do the calls of actors, whose leaves are read from the
 //! device when they need them, and leave memory behind a call that read others, or behind a
-//! checkpoint. Of a device where a leaf is at fault it promises that damage is told of such a leaf
+//! checkpoint; those that calls changed go out of it where the caller asks for it and nobody is at work
+//! (`Store::write_out`). Of a device where a leaf is at fault it promises that damage is told of such a leaf
 //! alone, where a call needs it. Leaves to the caller to attach the disk, and to say how many frames
 //! there are.
 #![tactic(auto)]
@@ -23,7 +24,9 @@ mod places;
 mod relief;
 mod store;
 mod tables;
+mod writing_out;
 
 pub use eviction::FRAMES;
 pub use opening::open_on;
 pub use store::Store;
+pub use writing_out::CHANGED_LEAST;

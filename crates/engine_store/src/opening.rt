@@ -24,8 +24,8 @@ use tree_dir::Dir;
 use wt_code::Refusal;
 
 /// An engine with so many frames on what a device holds, without a session. The record and the inner
-/// pages are read, and of the leaves those alone of which an opening may take something out: any other
-/// is read when a call needs it, and damage of it told then. Nothing is written.
+/// pages are read, and of the leaves those alone of which an opening may take something out: any other is read when a call
+/// needs it, and damage of it told then. Nothing is written.
 ///
 /// Refused as `recover_open::survey` says, since such a leaf is at fault, as `75 limit checkpoints`
 /// where no run may follow that of the record, and as `75 limit tables` where its next number leaves

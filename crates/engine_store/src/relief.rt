@@ -15,9 +15,9 @@ use tree_dir::Dir;
 impl Store {
     /// While no session has a call, a transaction or a cursor on a leaf, leaves give way to what the
     /// last completed checkpoint has of them: each one that is in a frame behind the first
-    /// `self.frames`, and each of which it has several images, so that a leaf which grew is parted. A
-    /// leaf stays of which it has no rows, whose frame is at its last generation, or where memory is
-    /// short. They are read again when a call needs them.
+    /// `self.frames`, and each of which it has several images, so that a leaf which grew is parted. A leaf stays of
+    /// which it has no rows, whose frame is at its last generation, or where memory is short. They are read
+    /// again when a call needs them.
     /// `O(n)` in the frames and sessions, and `O(log n)` in the leaves for each image of those.
     pub(crate) fn relieve<D: Disk>(&mut self, alloc: Global)
         ensures { LetsGo D.Disk self.old self.new }

@@ -6,6 +6,7 @@ mod checkpoints;
 mod closings;
 mod leaves;
 mod spoilt;
+mod written_out;
 
 use block_sum::sum;
 use disk_model::MemDisk;

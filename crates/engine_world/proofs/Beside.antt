@@ -1,5 +1,5 @@
 -- What an event of a session leaves to the other sessions.
-use Rattle.std.proofs.Common.{◌≡◌, ◌≢◌, ◌<◌, ◌≤◌, ℕ, true, List, [], length}
+use Rattle.std.proofs.Common.{◌≡◌, ◌≢◌, ◌<◌, ◌≤◌, ℕ, true, List, length}
 use Rattle.std.specs.Prelude.{Option, Some, None}
 use Rattle.std.specs.List.{Contains}
 use Rattle.item.specs.declared.Change.{Change}
@@ -21,6 +21,7 @@ use Rattle.leaf_chains.specs.Slots.{chain_at, slot_of}
 use Rattle.call_steps.specs.declared.frame.FramePiece.{FramePiece}
 use Rattle.call_steps.specs.declared.hub.Hub.{Hub}
 use Rattle.call_steps.specs.declared.stage.Target.{Target}
+use Rattle.call_steps.specs.declared.written.WrittenKey.{WrittenKey}
 use Rattle.call_steps.specs.Tables.{target_in}
 use Rattle.engine_world.specs.Leaves.{frame_of, generation_at, slots_in, table_at}
 use Rattle.engine_world.specs.Stages.{IsPast}
@@ -103,15 +104,18 @@ pub record LeavesKept (freed : Option ℕ) (leaves made : List Leaf) : Type 0 wh
   pub behind : (l : Leaf) → Contains leaves l → low_key (leaf_behind l.id made) ≡ low_key (leaf_behind l.id leaves)
   pub on : (way : Way) (l : Leaf) → Contains leaves l → leaves_on way l.table l.id made ≡ leaves_on way l.table l.id leaves
 
--- and a frame that has one of them stays with its table, and a key in it keeps its slot; the one that its leaf left has none
+-- and a frame that has one of them stays with its table, and a key in it keeps its slot, but in the one that its leaf left
 pub record LeavesStay (freed : Option ℕ) (leaves made : List Leaf) (pieces later : List FramePiece) : Type 0 where
   pub kept : LeavesKept freed leaves made
   pub tables : (table : ℕ) (key : List ℕ) (frame : ℕ) → frame_of leaves table key ≡ Some frame → freed ≢ Some frame → table_at later frame ≡ table_at pieces frame
-  pub slots : (table : ℕ) (key : List ℕ) (frame : ℕ) (other : List ℕ) (i : ℕ) → frame_of leaves table key ≡ Some frame → slot_of other (slots_in pieces frame) ≡ Some i → slot_of other (slots_in later frame) ≡ Some i
-  pub bare : (frame : ℕ) → freed ≡ Some frame → slots_in pieces frame ≡ []
+  pub slots : (table : ℕ) (key : List ℕ) (frame : ℕ) (other : List ℕ) (i : ℕ) → frame_of leaves table key ≡ Some frame → freed ≢ Some frame → slot_of other (slots_in pieces frame) ≡ Some i → slot_of other (slots_in later frame) ≡ Some i
   -- no frame goes back to an older generation, and the one that its leaf left is past it
   pub older : (frame : ℕ) → generation_at pieces frame ≤ generation_at later frame
   pub past : (l : Leaf) (target : Target) → Contains leaves l → target_in l ≡ Some target → freed ≡ Some target.frame → IsPast later target
+
+-- none of these keys is in the frame that its leaf left
+abbrev pub StayWritten : Option ℕ → List WrittenKey → Type 0
+StayWritten freed keys = (k : WrittenKey) → Member k keys → freed ≢ Some k.frame
 
 -- what is left to each session but this one, also while sessions are opened, stamps are raised and tables are made
 pub record Apart (freed : Option ℕ) (session : ℕ) (m next : Machine) (hub later : Hub) (pieces pieces' : List FramePiece) : Type 0 where

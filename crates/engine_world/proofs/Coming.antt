@@ -18,7 +18,7 @@ use Rattle.engine_world.specs.Systems.{LeavesCome, with_leaf}
 use Rattle.engine_world.specs.Worlds.{World}
 use Rattle.engine_world.proofs.FrameWords.{filled-stand, frame-here, generation-here, generations-kept}
 use Rattle.engine_world.proofs.Homes.{LeavesStand, home-at, same-id}
-use Rattle.engine_world.proofs.LeavesChanged.{IsMild, changed-is, changed-stands, contains-source, moved, moved-it, moved-mild, moved-not, stands-beside, stays-in, under-from, under-to}
+use Rattle.engine_world.proofs.LeavesChanged.{IsMild, changed-is, changed-stands, contains-source, frame-mild, moved, moved-it, moved-mild, moved-not, stands-beside, stays-in, under-from, under-to}
 use Rattle.engine_world.proofs.Moves.{noticed-stays}
 use Rattle.update_chain.specs.EventLaws.{StandsFor}
 
@@ -43,10 +43,10 @@ module _ (e : Engine) (w : World) (l : Leaf) (frame : ℕ) (c : IsComing e w l f
   framed = record { frame = frame; generation = generation_at e.pieces frame }
 
   abbrev to : Leaf → Leaf
-  to = moved l.id is_none (Some framed)
+  to = moved l.id is_none (in_frame (Some framed))
 
   mild : IsMild to
-  mild = moved-mild l.id is_none (Some framed)
+  mild = moved-mild l.id is_none (in_frame (Some framed)) (frame-mild (Some framed))
 
   abbrev made : List Leaf
   made = map to leaves
@@ -77,7 +77,7 @@ module _ (e : Engine) (w : World) (l : Leaf) (frame : ℕ) (c : IsComing e w l f
   not-empty other f there same = let clash : None ≡ Some f = sym c.empty ∙ (ap (frame_in e.pieces) (sym same) ∙ there) in absurd cc
 
   made-is : made ≡ (with_leaf e l frame (w.shelf l.id)).hub.dir.leaves
-  made-is = changed-is l.id is_none (Some framed) leaves (λ x there same. ap is_none (ap (λ (y : Leaf). y.frame) (same-leaf x there same) ∙ c.none))
+  made-is = changed-is l.id is_none (in_frame (Some framed)) leaves (λ x there same. ap is_none (ap (λ (y : Leaf). y.frame) (same-leaf x there same) ∙ c.none))
 
   -- ---- the leaves stand
 
@@ -85,7 +85,7 @@ module _ (e : Engine) (w : World) (l : Leaf) (frame : ℕ) (c : IsComing e w l f
   StandNow x = LeafStands w.machine w.shelf made pieces states x
 
   here : to l ≡ in_frame (Some framed) l
-  here = moved-it l.id is_none (Some framed) l refl (ap is_none c.none)
+  here = moved-it l.id is_none (in_frame (Some framed)) l refl (ap is_none c.none)
 
   on-device : LeafOnDevice w.machine w.shelf leaves l
   on-device = elim (c.stands.leaves l c.there) [
@@ -113,8 +113,8 @@ module _ (e : Engine) (w : World) (l : Leaf) (frame : ℕ) (c : IsComing e w l f
   })
 
   other-stands : (x : Leaf) → Contains leaves x → x.id ≢ l.id → StandNow (to x)
-  other-stands x there other = subst StandNow (sym (moved-not l.id is_none (Some framed) x other))
-      (stands-beside w.machine w.shelf e.hub.dir to e.pieces e.states frame piece_now (filled (generation_at e.pieces frame)) x c.stands.dir mild there (moved-not l.id is_none (Some framed) x other) (λ laid. not-empty laid.framed.frame laid.frame laid.there) (c.stands.leaves x there))
+  other-stands x there other = subst StandNow (sym (moved-not l.id is_none (in_frame (Some framed)) x other))
+      (stands-beside w.machine w.shelf w.shelf e.hub.dir to e.pieces e.states frame piece_now (filled (generation_at e.pieces frame)) x c.stands.dir mild there (moved-not l.id is_none (in_frame (Some framed)) x other) refl (λ laid. not-empty laid.framed.frame laid.frame laid.there) (c.stands.leaves x there))
 
   each-stands : LeavesStand w.machine w.shelf made pieces states
   each-stands y there = let s = contains-source to leaves y there in subst StandNow s.2 (elim (cases_eq s.0.id l.id) [
@@ -130,13 +130,11 @@ module _ (e : Engine) (w : World) (l : Leaf) (frame : ℕ) (c : IsComing e w l f
       not-empty f h.stands.laid.frame (ap (frame_in e.pieces) (sym h.at) ∙ h.stands.laid.there)
 
   comes-stands : Stands (record e { hub = record e.hub { dir = record e.hub.dir { leaves = made } }; pieces = pieces; states = states }) w
-  comes-stands = changed-stands e w w.again None to frame piece_now (filled (generation_at e.pieces frame)) (record {
+  comes-stands = changed-stands e w w.again w.shelf None to frame piece_now (filled (generation_at e.pieces frame)) (record {
     stands = c.stands;
     mild = mild;
-    frames = λ x g placed other. stays-in l.id is_none (Some framed) x (ap is_none placed) ∙ placed;
-    only = λ other none. absurd cc;
+    frames = λ x g placed other. stays-in l.id is_none (in_frame (Some framed)) x (ap is_none placed) ∙ placed;
     homes = λ table key other home stays. home-apart table key other home;
-    chains = ap (λ (o : Option Frame). of_some [] (λ (x : Frame). x.leaf.chains) o) c.empty;
     none = ap (λ (o : Option Frame). of_some [] (λ (x : Frame). x.leaf.chains) o) new-frame;
     aside = λ session a at other none. absurd cc;
     dir = subst (λ (ls : List Leaf). IsDirectory (record e.hub.dir { leaves = ls })) (sym made-is) c.dir;

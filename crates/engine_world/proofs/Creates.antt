@@ -200,8 +200,7 @@ module _ (chains : ChainsGoOn) (e : Engine) (w : World) (known : Known) (dir : D
   leaves-stay = record {
     kept = kept;
     tables = λ table key f home other. ap (λ (o : Option Frame). of_some 0 (λ (x : Frame). x.table) o) (old-frame e.pieces frame f (first_piece (generation_at e.pieces frame) t id) (home-apart table key f home));
-    slots = λ table key f other i home slot. ap (λ (o : Option Frame). slot_of other (chains_in o)) (old-frame e.pieces frame f (first_piece (generation_at e.pieces frame) t id) (home-apart table key f home)) ∙ slot;
-    bare = λ f none. absurd cc;
+    slots = λ table key f other i home left slot. ap (λ (o : Option Frame). slot_of other (chains_in o)) (old-frame e.pieces frame f (first_piece (generation_at e.pieces frame) t id) (home-apart table key f home)) ∙ slot;
     older = λ other. let same = same-generation other in omega (arith, same);
     past = λ l target there is none. absurd cc;
   }

@@ -1,227 +1,58 @@
 -- A leaf goes out of its frame, as it was read.
-use Rattle.std.proofs.Common.{◌≡◌, ◌≢◌, ◌<◌, ◌≤◌, ◌+◌, ◌*◌, ◌^◌, ℕ, refl, ap, sym, ◌∙◌, Bool, true, false, List, [], length, map, inl, inr, subst, arith}
-use Rattle.std.specs.Prelude.{Option, Some, None, ◌==◌, ◌||◌, option_and_then, slice_get, slice_set}
-use Rattle.std.specs.List.{Contains}
-use Rattle.std.proofs.lemmas.Bool.{cases_eq, eq-eqb, ne_eqb, or_left, or_right}
-use Rattle.std.proofs.lemmas.Option.{same_Some}
+use Rattle.std.proofs.Common.{◌≡◌, ℕ, refl, ap, sym, ◌∙◌, List, [], subst}
+use Rattle.std.specs.Prelude.{Option, Some, None, slice_get}
 use Rattle.kv_model.specs.Machine.{of_some}
 use Rattle.row_page.specs.Rows.{Row}
 use Rattle.leaf_chains.specs.declared.slot.KeyChain.{KeyChain}
-use Rattle.leaf_chains.specs.Slots.{chain_at}
+use Rattle.leaf_chains.specs.Slots.{chain_at, slot_of}
 use Rattle.rows_shown.specs.Shows.{shown_at}
-use Rattle.tree_dir.specs.declared.leaf.Framed.{Framed}
-use Rattle.tree_dir.specs.declared.leaf.Leaf.{Leaf}
-use Rattle.tree_dir.specs.Leaves.{IsDirectory, leaf_under}
+use Rattle.tree_dir.specs.Leaves.{in_frame}
 use Rattle.call_steps.specs.declared.frame.Frame.{Frame}
-use Rattle.call_steps.specs.declared.frame.FramePiece.{FramePiece}
-use Rattle.call_steps.specs.declared.stage.Stage.{Stage}
-use Rattle.call_steps.specs.declared.stage.Stage.TheVariants as stage
-use Rattle.call_steps.specs.declared.stage.Target.{Target}
 use Rattle.call_steps.specs.State.{State}
-use Rattle.call_steps.specs.Tables.{empty, target_in}
 use Rattle.update_chain.specs.EventLaws.{StandsFor}
-use Rattle.engine_world.specs.GoingOut.{IsAside, IsClearOf, LeavesGoOut, LeavesGoOutUnseen, frame_found, frame_in_hand, frame_named, gone_out, has_found, with_again}
-use Rattle.engine_world.specs.Leaves.{IsLaid, LeafInFrame, LeafStands, emptied, frame_in, generation_at, slots_in}
-use Rattle.engine_world.specs.Stages.{IsNoticed, IsPast}
+use Rattle.engine_world.specs.Evicting.{NoneWroteIn}
+use Rattle.engine_world.specs.GoingOut.{LeavesGoOut, LeavesGoOutUnseen, gone_out, with_again}
+use Rattle.engine_world.specs.Leaves.{slots_in}
 use Rattle.engine_world.specs.Stands.{Engine, Stands}
 use Rattle.engine_world.specs.Worlds.{World}
-use Rattle.engine_world.proofs.FrameWords.{emptied-older, emptied-stand, generation-beside, generation-here, laid-piece}
-use Rattle.engine_world.proofs.Homes.{LeavesStand, in-its-frame, one-leaf, same-id}
-use Rattle.engine_world.proofs.InPlace.{generation-there}
-use Rattle.engine_world.proofs.LeavesChanged.{IsMild, changed-is, changed-stands, contains-source, moved, moved-it, moved-mild, moved-not, stands-beside, stays-in, under-from, under-to}
-use Rattle.engine_world.proofs.OnePiece.{frame-set}
+use Rattle.engine_world.proofs.Emptying.{IsFrameOf, clear-aside, emptied-stands, frame-of, untold}
+use Rattle.engine_world.proofs.LeavesChanged.{frame-mild}
 use Rattle.engine_world.proofs.Moves.{again-as}
 
--- it goes where it is in this frame
-abbrev is_in : ℕ → Option Framed → Bool
-is_in frame o = of_some false (λ (f : Framed). f.frame == frame) o
-
-record IsGoing (e : Engine) (w : World) (l : Leaf) (framed : Framed) (f : Frame) : Type 0 where
-  stands : Stands e w
-  there : Contains e.hub.dir.leaves l
-  placed : l.frame ≡ Some framed
-  filled : frame_in e.pieces framed.frame ≡ Some f
-  chains : f.leaf.chains ≡ []
-  rows : 1 ≤ length f.leaf.page
-  aside : (session : ℕ) (a : State) → slice_get e.sessions session ≡ Some a → IsAside framed.frame a
-  last : generation_at e.pieces framed.frame + 1 < 2 ^ 62
-  dir : IsDirectory (gone_out e l.id framed.frame).hub.dir
-
-module _ (e : Engine) (w : World) (l : Leaf) (framed : Framed) (f : Frame) (c : IsGoing e w l framed f) where
-  abbrev leaves : List Leaf
-  leaves = e.hub.dir.leaves
-
-  abbrev from : Option Framed → Bool
-  from = is_in framed.frame
-
-  abbrev to : Leaf → Leaf
-  to = moved l.id (is_in framed.frame) None
-
-  mild : IsMild to
-  mild = moved-mild l.id from None
-
-  abbrev made : List Leaf
-  made = map to leaves
-
-  abbrev left : FramePiece
-  left = emptied e.pieces framed.frame
-
-  abbrev word : ℕ
-  word = empty (generation_at e.pieces framed.frame + 1)
-
-  abbrev pieces : List FramePiece
-  pieces = slice_set e.pieces framed.frame left
-
-  abbrev states : List ℕ
-  states = slice_set e.states framed.frame word
-
-  same-leaf : (x : Leaf) → Contains leaves x → x.id ≡ l.id → x ≡ l
-  same-leaf x there same = same-id e.hub.dir x l c.stands.dir there c.there same
-
-  is-there : from l.frame ≡ true
-  is-there = ap from c.placed ∙ eq-eqb framed.frame framed.frame refl
-
-  made-is : made ≡ (gone_out e l.id framed.frame).hub.dir.leaves
-  made-is = changed-is l.id from None leaves (λ x there same. ap (λ (y : Leaf). from y.frame) (same-leaf x there same) ∙ is-there)
-
-  mine : LeafInFrame w.machine w.shelf leaves e.pieces e.states l
-  mine = in-its-frame w.machine w.shelf leaves e.pieces e.states l framed c.placed (c.stands.leaves l c.there)
-
-  mine-at : mine.laid.framed ≡ framed
-  mine-at = same_Some mine.laid.framed framed (sym mine.laid.placed ∙ c.placed)
-
-  mine-is : mine.laid.frame ≡ f
-  mine-is = same_Some mine.laid.frame f (sym mine.laid.there ∙ (ap (λ (g : Framed). frame_in e.pieces g.frame) mine-at ∙ c.filled))
-
-  -- it has the rows of its block, and no more
-  page-is : mine.laid.frame.leaf.page ≡ w.shelf l.id
-  page-is = mine.lies (subst (λ (x : Frame). 1 ≤ length x.leaf.page) (sym mine-is) c.rows)
-
-  chains-are : mine.laid.frame.leaf.chains ≡ []
-  chains-are = ap (λ (x : Frame). x.leaf.chains) mine-is ∙ c.chains
-
-  -- none of the others is in its frame
-  frames-apart : (x : Leaf) → Contains leaves x → x.id ≢ l.id → (laid : IsLaid e.pieces e.states x) → laid.framed.frame ≢ framed.frame
-  frames-apart x there other laid same = other (ap (λ (y : Leaf). y.id) (one-leaf e.hub.dir e.pieces e.states x l c.stands.dir there c.there laid mine.laid (same ∙ ap (λ (g : Framed). g.frame) (sym mine-at))))
-
-  -- ---- the leaves stand
-
-  abbrev StandNow : Leaf → Type 0
-  StandNow x = LeafStands w.machine w.shelf made pieces states x
-
-  under-now : (key : List ℕ) → leaf_under (to l).table key made ≡ Some (to l) → leaf_under l.table key leaves ≡ Some l
-  under-now key under = under-from e.hub.dir c.stands.dir to mild l.table key l c.there (ap (λ n. leaf_under n key made) (sym (mild.table l)) ∙ under)
-
-  under-then : (key : List ℕ) → leaf_under l.table key leaves ≡ Some l → leaf_under (to l).table key made ≡ Some (to l)
-  under-then key under = ap (λ n. leaf_under n key made) (mild.table l) ∙ under-to e.hub.dir c.stands.dir to mild l.table key l under
-
-  shelf-is : w.shelf l.id ≡ w.shelf (to l).id
-  shelf-is = ap w.shelf (sym (mild.id l))
-
-  it-stands : StandNow (to l)
-  it-stands = inr (record {
-    none = ap (λ (x : Leaf). x.frame) (moved-it l.id from None l refl is-there);
-    keys = λ key under. subst (λ (rows : List Row). StandsFor w.machine (to l).table key [] (shown_at key rows) []) (page-is ∙ shelf-is)
-        (subst (λ n. StandsFor w.machine n key [] (shown_at key mine.laid.frame.leaf.page) []) (sym (mild.table l))
-        (subst (λ (slots : List KeyChain). StandsFor w.machine l.table key (chain_at key slots) (shown_at key mine.laid.frame.leaf.page) []) chains-are (mine.keys key (under-now key under))));
-    bare = λ key outside. subst (λ (rows : List Row). shown_at key rows ≡ None) (page-is ∙ shelf-is) (mine.bare key (λ under. outside (under-then key under))).1;
-  })
-
-  other-stands : (x : Leaf) → Contains leaves x → x.id ≢ l.id → StandNow (to x)
-  other-stands x there other = subst StandNow (sym (moved-not l.id from None x other))
-      (stands-beside w.machine w.shelf e.hub.dir to e.pieces e.states framed.frame left word x c.stands.dir mild there (moved-not l.id from None x other) (frames-apart x there other) (c.stands.leaves x there))
-
-  each-stands : LeavesStand w.machine w.shelf made pieces states
-  each-stands y there = let s = contains-source to leaves y there in subst StandNow s.2 (elim (cases_eq s.0.id l.id) [
-    | inl same ↦ subst (λ (x : Leaf). StandNow (to x)) (sym (same-leaf s.0 s.1 same)) it-stands
-    | inr other ↦ other-stands s.0 s.1 other
-  ])
-
-  -- ---- the frames
-
-  -- a leaf in another one stays in it
-  elsewhere-stays : (x : Leaf) (g : Framed) → x.frame ≡ Some g → Some framed.frame ≢ Some g.frame → (to x).frame ≡ Some g
-  elsewhere-stays x g placed other = stays-in l.id from None x (ap from placed ∙ ne_eqb g.frame framed.frame (λ same. other (ap (λ n. Some n) (sym same)))) ∙ placed
-
-  gone-slots : slots_in pieces framed.frame ≡ []
-  gone-slots = by (slice_get e.pieces framed.frame) refl where
-    by : (o : Option FramePiece) → slice_get e.pieces framed.frame ≡ o → slots_in pieces framed.frame ≡ []
-    by None none = let clash : None ≡ Some f = sym (ap (option_and_then (λ (p : FramePiece). p.frame)) none) ∙ c.filled in absurd cc
-    by (Some p) at = ap (λ (o : Option Frame). of_some [] (λ (x : Frame). x.leaf.chains) o) (frame-set e.pieces framed.frame p left at)
-
-  -- ---- the generation
-
-  mine-frame : mine.laid.framed.frame ≡ framed.frame
-  mine-frame = ap (λ (g : Framed). g.frame) mine-at
-
-  next-generation : generation_at pieces framed.frame ≡ generation_at e.pieces framed.frame + 1
-  next-generation = generation-here e.pieces framed.frame left (subst (λ n. n < length e.pieces) mine-frame (laid-piece e.pieces e.states l mine.laid))
-
-  past-now : (x : Leaf) (target : Target) → Contains leaves x → target_in x ≡ Some target → Some framed.frame ≡ Some target.frame → IsPast pieces target
-  past-now x target there is same =
-      let frame = same_Some framed.frame target.frame same in
-      let now : generation_at pieces target.frame ≡ generation_at e.pieces target.frame + 1 = subst (λ n. generation_at pieces n ≡ generation_at e.pieces n + 1) frame next-generation in
-      let word = generation-there w.machine w.shelf leaves e.pieces e.states c.stands.leaves target (x, there, is) in
-      omega (arith, now, word)
-
-  -- who has found the leaf may be told so
-  noticed-now : (session : ℕ) (a : State) → slice_get e.sessions session ≡ Some a → (g : Stage) → a.stage ≡ g → IsNoticed g e.pieces (w.again session) → IsNoticed g pieces (has_found e framed.frame session || w.again session)
-  noticed-now session a at g is noticed = by g is noticed where
-    found : (target : Target) → frame_found a.stage ≡ Some target.frame → (IsPast e.pieces target → w.again session ≡ true) → IsPast pieces target → (has_found e framed.frame session || w.again session) ≡ true
-    found target finds knows past = elim (cases_eq target.frame framed.frame) [
-      | inl same ↦ or_left (has_found e framed.frame session) (w.again session)
-          (ap (λ (o : Option State). of_some false (λ (s : State). of_some false (λ n. n == framed.frame) (frame_found s.stage)) o) at ∙ (ap (λ (o : Option ℕ). of_some false (λ n. n == framed.frame) o) finds ∙ eq-eqb target.frame framed.frame same))
-      | inr other ↦ or_right (has_found e framed.frame session) (w.again session)
-          (knows (subst (λ n. target.word + 2 < 4 * n) (generation-beside e.pieces framed.frame left target.frame other) past))
-    ]
-
-    by : (g : Stage) → a.stage ≡ g → IsNoticed g e.pieces (w.again session) → IsNoticed g pieces (has_found e framed.frame session || w.again session)
-    by (stage.Publish call target) is knows = found target (ap frame_found is) knows
-    by (stage.Validate call target) is knows = found target (ap frame_found is) knows
-    by g is knows = tt
-
-  goes-stands : Stands (record e { hub = record e.hub { dir = record e.hub.dir { leaves = made } }; pieces = pieces; states = states }) (with_again e framed.frame w)
-  goes-stands = changed-stands e w (with_again e framed.frame w).again (Some framed.frame) to framed.frame left word (record {
-    stands = c.stands;
-    mild = mild;
-    frames = elsewhere-stays;
-    only = λ other is. sym (same_Some framed.frame other is);
-    homes = λ table key other home stays same. stays (ap (λ n. Some n) (sym same));
-    chains = ap (λ (o : Option Frame). of_some [] (λ (x : Frame). x.leaf.chains) o) c.filled ∙ c.chains;
-    none = gone-slots;
-    aside = λ session a at other is. subst (λ n. IsAside n a) (same_Some framed.frame other is) (c.aside session a at);
-    dir = subst (λ (ls : List Leaf). IsDirectory (record e.hub.dir { leaves = ls })) (sym made-is) c.dir;
-    leaves = each-stands;
-    words = emptied-stand e.pieces e.states l mine.laid framed.frame mine-frame c.last c.stands.frames;
-    older = emptied-older e.pieces e.states l mine.laid framed.frame mine-frame;
-    past = past-now;
-    noticed = λ session a at. noticed-now session a at a.stage refl (c.stands.noticed session a at);
-  })
+-- in a frame without chains nobody wrote
+none-wrote : (e : Engine) (w : World) (frame : ℕ) → Stands e w → slots_in e.pieces frame ≡ [] → (session : ℕ) (a : State) → slice_get e.sessions session ≡ Some a → NoneWroteIn frame a
+none-wrote e w frame st none session a at k member same =
+    let wrote = (st.sessions session a at).noted.wrote k member in
+    let clash : None ≡ Some k.slot = sym (ap (slot_of wrote.0.key) (ap (slots_in e.pieces) same ∙ none)) ∙ wrote.2.slot in absurd cc
 
 pub leaves-go-out : LeavesGoOut
-leaves-go-out e w l framed f st there placed filled chains rows aside last is = subst (λ (ls : List Leaf). Stands (record e { hub = record e.hub { dir = record e.hub.dir { leaves = ls } }; pieces = pieces e w l framed f c; states = states e w l framed f c }) (with_again e framed.frame w))
-    (made-is e w l framed f c) (goes-stands e w l framed f c) where
-      c : IsGoing e w l framed f
-      c = record { stands = st; there = there; placed = placed; filled = filled; chains = chains; rows = rows; aside = aside; last = last; dir = is }
+leaves-go-out e w l framed f st there placed filled chains rows aside last is = emptied-stands e w l framed f (in_frame None) w.shelf (record {
+  stands = st;
+  there = there;
+  placed = placed;
+  filled = filled;
+  mild = frame-mild None;
+  out = refl;
+  others = λ id other. refl;
+  keys = λ key under. subst (λ (xs : List Row). StandsFor w.machine l.table key [] (shown_at key xs) []) page-is
+      (subst (λ (slots : List KeyChain). StandsFor w.machine l.table key (chain_at key slots) (shown_at key f.leaf.page) []) chains (mine.keys key under));
+  bare = λ key outside. subst (λ (xs : List Row). shown_at key xs ≡ None) page-is (mine.bare key outside);
+  aside = λ session a at. (aside session a at, none-wrote e w framed.frame st slots-are session a at);
+  last = last;
+  dir = is;
+}) where
+  mine : IsFrameOf w e.hub.dir.leaves l f
+  mine = frame-of e w l framed st there placed f filled
 
--- ---- no call has found it
+  -- it has the rows of its block, and no more
+  page-is : f.leaf.page ≡ w.shelf l.id
+  page-is = mine.lies rows
 
-clear-aside : (frame : ℕ) (g : Stage) → frame_named g ≢ Some frame → frame_in_hand g ≢ Some frame
-clear-aside frame (stage.Look call target) clear = clear
-clear-aside frame (stage.Pass call target) clear = clear
-clear-aside frame (stage.History call target) clear = clear
-clear-aside frame (stage.ClearCursor call target) clear = clear
-clear-aside frame g clear = λ is. absurd cc
-
-not-found : (e : Engine) (frame session : ℕ) (a : State) → slice_get e.sessions session ≡ Some a → IsClearOf frame a → has_found e frame session ≡ false
-not-found e frame session a at clear = ap (λ (o : Option State). of_some false (λ (s : State). of_some false (λ n. n == frame) (frame_found s.stage)) o) at ∙ by a.stage clear where
-  by : (g : Stage) → frame_named g ≢ Some frame → of_some false (λ n. n == frame) (frame_found g) ≡ false
-  by (stage.Publish call target) clear = ne_eqb target.frame frame (λ same. clear (ap (λ (n : ℕ). Some n) same))
-  by (stage.Validate call target) clear = ne_eqb target.frame frame (λ same. clear (ap (λ (n : ℕ). Some n) same))
-  by g clear = refl
+  slots-are : slots_in e.pieces framed.frame ≡ []
+  slots-are = ap (λ (o : Option Frame). of_some [] (λ (x : Frame). x.leaf.chains) o) filled ∙ chains
 
 pub leaves-go-out-unseen : LeavesGoOutUnseen
 leaves-go-out-unseen e w l framed f st there placed filled chains rows clear last is =
     again-as (gone_out e l.id framed.frame) (with_again e framed.frame w) w.again
     (leaves-go-out e w l framed f st there placed filled chains rows (λ session a at. clear-aside framed.frame a.stage (clear session a at)) last is)
-    (λ session a at noticed. subst (λ b. IsNoticed a.stage (gone_out e l.id framed.frame).pieces (b || w.again session)) (not-found e framed.frame session a at (clear session a at)) noticed)
+    (λ session a at noticed. untold e framed.frame w (gone_out e l.id framed.frame).pieces session a at (clear session a at) noticed)

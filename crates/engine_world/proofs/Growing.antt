@@ -68,8 +68,7 @@ module _ (e : Engine) (w : World) (st : Stands e w) where
   leaves-stay = record {
     kept = kept-same e.hub.dir.leaves;
     tables = λ table key f home other. ap (λ (o : Option Frame). of_some 0 (λ (x : Frame). x.table) o) (frame-same e.pieces f);
-    slots = λ table key f other i home slot. ap (λ (o : Option Frame). slot_of other (of_some [] (λ (x : Frame). x.leaf.chains) o)) (frame-same e.pieces f) ∙ slot;
-    bare = λ f none. absurd cc;
+    slots = λ table key f other i home left slot. ap (λ (o : Option Frame). slot_of other (of_some [] (λ (x : Frame). x.leaf.chains) o)) (frame-same e.pieces f) ∙ slot;
     older = λ f. let same = generation-same e.pieces f in omega (arith, same);
     past = λ l target there is none. absurd cc;
   }

@@ -3,7 +3,7 @@ use Rattle.std.proofs.Common.{◌≡◌, ◌≢◌, ◌≤◌, ℕ, suc, refl, a
 use Rattle.std.specs.Prelude.{Option, Some, None, not, ◌==◌, ◌&&◌, if◌then◌else◌, option_and_then, option_map, slice_get, slice_set}
 use Rattle.std.specs.List.{Contains}
 use Rattle.std.specs.Option.{option_or}
-use Rattle.std.proofs.lemmas.Bool.{cases_eq, eq-eqb, ne_eqb}
+use Rattle.std.proofs.lemmas.Bool.{cases_Bool, cases_eq, eq-eqb, ne_eqb}
 use Rattle.std.proofs.lemmas.List.{get_or-map, get_or-set_other, length-map}
 use Rattle.std.proofs.lemmas.Option.{same_Some}
 use Rattle.kv_model.specs.Holds.{Member}
@@ -11,6 +11,8 @@ use Rattle.kv_model.specs.Machine.{Machine, of_some}
 use Rattle.kv_model.specs.Rows.{Way, Up, Down}
 use Rattle.leaf_chains.specs.Slots.{chain_at, slot_of}
 use Rattle.row_page.specs.Rows.{Row, is_below}
+use Rattle.rows_shown.specs.Shows.{shown_at}
+use Rattle.update_chain.specs.EventLaws.{StandsFor}
 use Rattle.tree_dir.specs.declared.leaf.Framed.{Framed}
 use Rattle.tree_dir.specs.declared.leaf.Leaf.{Leaf}
 use Rattle.tree_dir.specs.Leaves.{Directory, IsDirectory, begins_by, changed, in_frame, leaf_behind, leaf_under, of_table}
@@ -22,6 +24,7 @@ use Rattle.call_steps.specs.declared.frame.FramePiece.{FramePiece}
 use Rattle.call_steps.specs.declared.stage.Target.{Target}
 use Rattle.call_steps.specs.State.{State}
 use Rattle.call_steps.specs.Tables.{target_in}
+use Rattle.engine_world.specs.Evicting.{NoneWroteIn}
 use Rattle.engine_world.specs.GoingOut.{IsAside}
 use Rattle.engine_world.specs.Leaves.{FramesStand, IsLaid, LeafStands, frame_in, frame_of, generation_at, slots_in}
 use Rattle.engine_world.specs.Stages.{IsNoticed, IsPast}
@@ -111,44 +114,58 @@ contains-source f (x ∷ xs) y c = elim (split (f x) y (map f xs) c) [
   | inr there ↦ let s = contains-source f xs y there in (s.0, later x s.0 xs s.1, s.2)
 ]
 
--- ---- one leaf comes to another frame, or to none
+-- ---- one leaf is changed
+
+-- one that comes to another frame, or to none
+pub frame-mild : (to : Option Framed) → IsMild (in_frame to)
+frame-mild to = record { id = λ x. refl; table = λ x. refl; key = λ x. refl }
 
 -- the leaf of this id, where its frame is such a one
-module _ (id : ℕ) (from : Option Framed → Bool) (to : Option Framed) where
+module _ (id : ℕ) (from : Option Framed → Bool) (change : Leaf → Leaf) where
   abbrev pub moved : Leaf → Leaf
-  moved x = if x.id == id then (if from x.frame then in_frame to x else x) else x
+  moved x = if x.id == id then (if from x.frame then change x else x) else x
 
-  one-of : (P : Leaf → Type 0) (x : Leaf) → P (in_frame to x) → P x → P (moved x)
+  one-of : (P : Leaf → Type 0) (x : Leaf) → P (change x) → P x → P (moved x)
   one-of P x here stays = by (x.id == id) (from x.frame) where
-    by : (is out : Bool) → P (if is then (if out then in_frame to x else x) else x)
+    by : (is out : Bool) → P (if is then (if out then change x else x) else x)
     by true true = here
     by true false = stays
     by false out = stays
 
-  pub moved-mild : IsMild moved
-  moved-mild = record { id = λ x. one-of (λ y. y.id ≡ x.id) x refl refl; table = λ x. one-of (λ y. y.table ≡ x.table) x refl refl; key = λ x. one-of (λ y. y.entry.key ≡ x.entry.key) x refl refl }
+  pub moved-mild : IsMild change → IsMild moved
+  moved-mild mild = record { id = λ x. one-of (λ y. y.id ≡ x.id) x (mild.id x) refl; table = λ x. one-of (λ y. y.table ≡ x.table) x (mild.table x) refl; key = λ x. one-of (λ y. y.entry.key ≡ x.entry.key) x (mild.key x) refl }
 
-  pub moved-it : (x : Leaf) → x.id ≡ id → from x.frame ≡ true → moved x ≡ in_frame to x
-  moved-it x same such = ap (λ b. if b then (if from x.frame then in_frame to x else x) else x) (eq-eqb x.id id same) ∙ ap (λ b. if b then in_frame to x else x) such
+  pub moved-it : (x : Leaf) → x.id ≡ id → from x.frame ≡ true → moved x ≡ change x
+  moved-it x same such = ap (λ b. if b then (if from x.frame then change x else x) else x) (eq-eqb x.id id same) ∙ ap (λ b. if b then change x else x) such
 
   pub moved-not : (x : Leaf) → x.id ≢ id → moved x ≡ x
-  moved-not x other = ap (λ b. if b then (if from x.frame then in_frame to x else x) else x) (ne_eqb x.id id other)
+  moved-not x other = ap (λ b. if b then (if from x.frame then change x else x) else x) (ne_eqb x.id id other)
 
   pub stays-in : (x : Leaf) → from x.frame ≡ false → (moved x).frame ≡ x.frame
-  stays-in x not_such = ap (λ b. (if x.id == id then (if b then in_frame to x else x) else x).frame) not_such ∙ by (x.id == id) where
+  stays-in x not_such = ap (λ b. (if x.id == id then (if b then change x else x) else x).frame) not_such ∙ by (x.id == id) where
     by : (is : Bool) → (if is then x else x).frame ≡ x.frame
     by true = refl
     by false = refl
 
   -- where the leaf of this id is in such a one
-  pub changed-is : (leaves : List Leaf) → ((x : Leaf) → Contains leaves x → x.id ≡ id → from x.frame ≡ true) → map moved leaves ≡ changed id (in_frame to) leaves
+  pub changed-is : (leaves : List Leaf) → ((x : Leaf) → Contains leaves x → x.id ≡ id → from x.frame ≡ true) → map moved leaves ≡ changed id change leaves
   changed-is [] such = refl
-  changed-is (x ∷ leaves) such = ap (λ (y : Leaf). y ∷ map moved leaves) one ∙ ap (λ (ls : List Leaf). (if x.id == id then in_frame to x else x) ∷ ls) (changed-is leaves (λ y there. such y (later x y leaves there))) where
-    one : moved x ≡ (if x.id == id then in_frame to x else x)
+  changed-is (x ∷ leaves) such = ap (λ (y : Leaf). y ∷ map moved leaves) one ∙ ap (λ (ls : List Leaf). (if x.id == id then change x else x) ∷ ls) (changed-is leaves (λ y there. such y (later x y leaves there))) where
+    one : moved x ≡ (if x.id == id then change x else x)
     one = elim (cases_eq x.id id) [
-      | inl same ↦ moved-it x same (such x (head-in x leaves) same) ∙ sym (ap (λ b. if b then in_frame to x else x) (eq-eqb x.id id same))
-      | inr other ↦ moved-not x other ∙ sym (ap (λ b. if b then in_frame to x else x) (ne_eqb x.id id other))
+      | inl same ↦ moved-it x same (such x (head-in x leaves) same) ∙ sym (ap (λ b. if b then change x else x) (eq-eqb x.id id same))
+      | inr other ↦ moved-not x other ∙ sym (ap (λ b. if b then change x else x) (ne_eqb x.id id other))
     ]
+
+-- a leaf that is changed twice
+pub changed-twice : (id : ℕ) (f g : Leaf → Leaf) → ((x : Leaf) → (f x).id ≡ x.id) → (leaves : List Leaf) → changed id g (changed id f leaves) ≡ changed id (λ x. g (f x)) leaves
+changed-twice id f g same [] = refl
+changed-twice id f g same (x ∷ leaves) = ap (λ (y : Leaf). y ∷ changed id g (changed id f leaves)) one ∙ ap (λ (ls : List Leaf). (if x.id == id then g (f x) else x) ∷ ls) (changed-twice id f g same leaves) where
+  one : (if (if x.id == id then f x else x).id == id then g (if x.id == id then f x else x) else (if x.id == id then f x else x)) ≡ (if x.id == id then g (f x) else x)
+  one = elim (cases_Bool (x.id == id)) [
+    | inl is ↦ rw is (rw (same x) (rw is refl))
+    | inr isnt ↦ rw isnt (rw isnt refl)
+  ]
 
 -- ---- what is found among them
 
@@ -170,17 +187,17 @@ module _ (d : Directory) (is : IsDirectory d) (f : Leaf → Leaf) (mild : IsMild
 pub frame-beside : (pieces : List FramePiece) (frame : ℕ) (p : FramePiece) (other : ℕ) → other ≢ frame → frame_in (slice_set pieces frame p) other ≡ frame_in pieces other
 frame-beside pieces frame p other elsewhere = ap (λ o. option_and_then (λ (q : FramePiece). q.frame) o) (get-set-other pieces frame other p elsewhere)
 
--- a leaf that does not change, and is in another frame or in none, stands as before
-pub stands-beside : (m : Machine) (shelf : ℕ → List Row) (d : Directory) (f : Leaf → Leaf) (pieces : List FramePiece) (states : List ℕ) (frame : ℕ) (p : FramePiece) (word : ℕ) (x : Leaf) → IsDirectory d → IsMild f → Contains d.leaves x → f x ≡ x
-    → ((laid : IsLaid pieces states x) → laid.framed.frame ≢ frame) → LeafStands m shelf d.leaves pieces states x → LeafStands m shelf (map f d.leaves) (slice_set pieces frame p) (slice_set states frame word) x
-stands-beside m shelf d f pieces states frame p word x is mild there same elsewhere stands = by stands where
+-- a leaf that does not change, and is in another frame or in none, stands as before, where its block has the rows that it had
+pub stands-beside : (m : Machine) (shelf shelf' : ℕ → List Row) (d : Directory) (f : Leaf → Leaf) (pieces : List FramePiece) (states : List ℕ) (frame : ℕ) (p : FramePiece) (word : ℕ) (x : Leaf) → IsDirectory d → IsMild f → Contains d.leaves x → f x ≡ x → shelf x.id ≡ shelf' x.id
+    → ((laid : IsLaid pieces states x) → laid.framed.frame ≢ frame) → LeafStands m shelf d.leaves pieces states x → LeafStands m shelf' (map f d.leaves) (slice_set pieces frame p) (slice_set states frame word) x
+stands-beside m shelf shelf' d f pieces states frame p word x is mild there same rows elsewhere stands = by stands where
   under-now : (key : List ℕ) → leaf_under x.table key (map f d.leaves) ≡ Some x → leaf_under x.table key d.leaves ≡ Some x
   under-now key e = under-from d is f mild x.table key x there (e ∙ ap (λ (y : Leaf). Some y) (sym same))
 
   under-then : (key : List ℕ) → leaf_under x.table key d.leaves ≡ Some x → leaf_under x.table key (map f d.leaves) ≡ Some x
   under-then key e = under-to d is f mild x.table key x e ∙ ap (λ (y : Leaf). Some y) same
 
-  by : LeafStands m shelf d.leaves pieces states x → LeafStands m shelf (map f d.leaves) (slice_set pieces frame p) (slice_set states frame word) x
+  by : LeafStands m shelf d.leaves pieces states x → LeafStands m shelf' (map f d.leaves) (slice_set pieces frame p) (slice_set states frame word) x
   by (inl old) = let apart = elsewhere old.laid in inl (record {
     laid = record {
       framed = old.laid.framed;
@@ -195,29 +212,27 @@ stands-beside m shelf d f pieces states frame p word x is mild there same elsewh
     };
     keys = λ key under. old.keys key (under-now key under);
     bare = λ key outside. old.bare key (λ under. outside (under-then key under));
-    lies = old.lies;
+    lies = λ some. old.lies some ∙ rows;
   })
   by (inr old) = inr (record {
     none = old.none;
-    keys = λ key under. old.keys key (under-now key under);
-    bare = λ key outside. old.bare key (λ under. outside (under-then key under));
+    keys = λ key under. subst (λ (xs : List Row). StandsFor m x.table key [] (shown_at key xs) []) rows (old.keys key (under-now key under));
+    bare = λ key outside. subst (λ (xs : List Row). shown_at key xs ≡ None) rows (old.bare key (λ under. outside (under-then key under)));
   })
 
 -- ---- nobody sees it, but who has found a leaf that goes out
 
--- The leaves change mildly, and a frame without chains comes to have this piece, which has none either. freed: the frame that its leaf left.
-pub record IsChange (e : Engine) (w : World) (again : ℕ → Bool) (freed : Option ℕ) (f : Leaf → Leaf) (frame : ℕ) (p : FramePiece) (word : ℕ) : Type 0 where
+-- The leaves change mildly, the rows of blocks too, and a frame in which nobody wrote comes to have this piece, which has no chains. freed: the frame that its leaf left.
+pub record IsChange (e : Engine) (w : World) (again : ℕ → Bool) (shelf : ℕ → List Row) (freed : Option ℕ) (f : Leaf → Leaf) (frame : ℕ) (p : FramePiece) (word : ℕ) : Type 0 where
   pub stands : Stands e w
   pub mild : IsMild f
   -- the others stay in their frames
   pub frames : (x : Leaf) (g : Framed) → x.frame ≡ Some g → freed ≢ Some g.frame → (f x).frame ≡ Some g
-  pub only : (other : ℕ) → freed ≡ Some other → other ≡ frame
   pub homes : (table : ℕ) (key : List ℕ) (other : ℕ) → frame_of e.hub.dir.leaves table key ≡ Some other → freed ≢ Some other → other ≢ frame
-  pub chains : slots_in e.pieces frame ≡ []
   pub none : slots_in (slice_set e.pieces frame p) frame ≡ []
-  pub aside : (session : ℕ) (a : State) → slice_get e.sessions session ≡ Some a → (other : ℕ) → freed ≡ Some other → IsAside other a
+  pub aside : (session : ℕ) (a : State) → slice_get e.sessions session ≡ Some a → (other : ℕ) → freed ≡ Some other → IsAside other a × NoneWroteIn other a
   pub dir : IsDirectory (record e.hub.dir { leaves = map f e.hub.dir.leaves })
-  pub leaves : LeavesStand w.machine w.shelf (map f e.hub.dir.leaves) (slice_set e.pieces frame p) (slice_set e.states frame word)
+  pub leaves : LeavesStand w.machine shelf (map f e.hub.dir.leaves) (slice_set e.pieces frame p) (slice_set e.states frame word)
   pub words : FramesStand (slice_set e.pieces frame p) (slice_set e.states frame word)
   pub older : (other : ℕ) → generation_at e.pieces other ≤ generation_at (slice_set e.pieces frame p) other
   pub past : (l : Leaf) (target : Target) → Contains e.hub.dir.leaves l → target_in l ≡ Some target → freed ≡ Some target.frame → IsPast (slice_set e.pieces frame p) target
@@ -226,7 +241,7 @@ pub record IsChange (e : Engine) (w : World) (again : ℕ → Bool) (freed : Opt
 abbrev pub changed_by : Engine → (Leaf → Leaf) → ℕ → FramePiece → ℕ → Engine
 changed_by e f frame p word = record e { hub = record e.hub { dir = record e.hub.dir { leaves = map f e.hub.dir.leaves } }; pieces = slice_set e.pieces frame p; states = slice_set e.states frame word }
 
-module _ (e : Engine) (w : World) (again : ℕ → Bool) (freed : Option ℕ) (f : Leaf → Leaf) (frame : ℕ) (p : FramePiece) (word : ℕ) (c : IsChange e w again freed f frame p word) where
+module _ (e : Engine) (w : World) (again : ℕ → Bool) (shelf : ℕ → List Row) (freed : Option ℕ) (f : Leaf → Leaf) (frame : ℕ) (p : FramePiece) (word : ℕ) (c : IsChange e w again shelf freed f frame p word) where
   abbrev leaves : List Leaf
   leaves = e.hub.dir.leaves
 
@@ -249,19 +264,11 @@ module _ (e : Engine) (w : World) (again : ℕ → Bool) (freed : Option ℕ) (f
     on = λ way x there. on-map f c.mild way x.table x.id leaves;
   }
 
-  -- no key has a slot in the frame
-  slots-stay : (other : ℕ) (key : List ℕ) (i : ℕ) → slot_of key (slots_in e.pieces other) ≡ Some i → slot_of key (slots_in pieces other) ≡ Some i
-  slots-stay other key i slot = elim (cases_eq other frame) [
-    | inl same ↦ let clash : None ≡ Some i = sym (ap (slot_of key) (ap (slots_in e.pieces) same ∙ c.chains)) ∙ slot in absurd cc
-    | inr elsewhere ↦ ap (λ (o : Option Frame). slot_of key (of_some [] (λ (x : Frame). x.leaf.chains) o)) (frame-beside e.pieces frame p other elsewhere) ∙ slot
-  ]
-
   leaves-stay : LeavesStay freed leaves made e.pieces pieces
   leaves-stay = record {
     kept = kept;
     tables = λ table key other home stays. ap (λ (o : Option Frame). of_some 0 (λ (x : Frame). x.table) o) (frame-beside e.pieces frame p other (c.homes table key other home stays));
-    slots = λ table key other k i home slot. slots-stay other k i slot;
-    bare = λ other is. ap (slots_in e.pieces) (c.only other is) ∙ c.chains;
+    slots = λ table key other k i home stays slot. ap (λ (o : Option Frame). slot_of k (of_some [] (λ (x : Frame). x.leaf.chains) o)) (frame-beside e.pieces frame p other (c.homes table key other home stays)) ∙ slot;
     older = c.older;
     past = c.past;
   }
@@ -281,7 +288,7 @@ module _ (e : Engine) (w : World) (again : ℕ → Bool) (freed : Option ℕ) (f
     updates = updates-stay;
   }
 
-  pub changed-stands : Stands (changed_by e f frame p word) (record w { again = again })
+  pub changed-stands : Stands (changed_by e f frame p word) (record w { again = again; shelf = shelf })
   changed-stands = record {
     valid = c.stands.valid;
     fault = c.stands.fault;

@@ -14,9 +14,12 @@ pub mod Downs
 pub mod EditMoves
 pub mod EditedChains
 pub mod EditedLeaves
+pub mod Emptying
 pub mod Ends
 pub mod EngineStarts
 pub mod Events
+pub mod EvictedRows
+pub mod Evicting
 pub mod FindChecks
 pub mod Finds
 pub mod Finishing

@@ -1,5 +1,5 @@
 -- The slots that were noted for the writes of a transaction.
-use Rattle.std.proofs.Common.{◌≡◌, ◌≢◌, ◌<◌, ℕ, zero, suc, refl, ap, sym, ◌∙◌, true, List, [], ◌∷◌, inl, inr, subst, arith}
+use Rattle.std.proofs.Common.{◌≡◌, ◌≢◌, ◌<◌, ℕ, zero, suc, refl, ap, ◌∙◌, true, List, [], ◌∷◌, inl, inr, subst, arith}
 use Rattle.std.specs.Prelude.{Option, Some, None, find, slice_get}
 use Rattle.std.proofs.lemmas.Bool.{cases_Bool, both_ways}
 use Rattle.kv_model.specs.Holds.{Member}
@@ -18,7 +18,7 @@ use Rattle.call_steps.specs.declared.frame.FramePiece.{FramePiece}
 use Rattle.call_steps.specs.declared.written.WrittenKey.{WrittenKey}
 use Rattle.call_steps.specs.Leaves.{chain_in}
 use Rattle.engine_world.specs.Leaves.{AreNoted, IsSlotOf, durable_under, frame_of, slots_in}
-use Rattle.engine_world.proofs.Beside.{LeavesKept, LeavesStay, SlotsStay}
+use Rattle.engine_world.proofs.Beside.{LeavesKept, LeavesStay, SlotsStay, StayWritten}
 use Rattle.engine_world.proofs.Homes.{IsHome, frame-from, home-is}
 
 -- ---- one slot
@@ -69,8 +69,7 @@ pub stay-same : (leaves : List Leaf) (pieces later : List FramePiece) → SlotsS
 stay-same leaves pieces later stays = record {
   kept = kept-same leaves;
   tables = λ table key frame e other. stays.tables frame;
-  slots = λ table key frame other i e at. stays.slots frame other i at;
-  bare = λ frame none. absurd cc;
+  slots = λ table key frame other i e left at. stays.slots frame other i at;
   older = λ frame. let same = stays.generations frame in omega (arith, same);
   past = λ l target there is none. absurd cc;
 }
@@ -83,20 +82,17 @@ home-stays freed leaves made table key frame kept e stays =
       h = home-is leaves table key frame e
 
 -- where the leaves stay
-pub slot-stays : (freed : Option ℕ) (leaves made : List Leaf) (pieces later : List FramePiece) (k : WrittenKey) (table : ℕ) (key : List ℕ) → LeavesStay freed leaves made pieces later
+pub slot-stays : (freed : Option ℕ) (leaves made : List Leaf) (pieces later : List FramePiece) (k : WrittenKey) (table : ℕ) (key : List ℕ) → LeavesStay freed leaves made pieces later → freed ≢ Some k.frame
     → IsSlotOf leaves pieces k table key → IsSlotOf made later k table key
-slot-stays freed leaves made pieces later k table key stay s = record {
+slot-stays freed leaves made pieces later k table key stay stays s = record {
   home = home-stays freed leaves made table key k.frame stay.kept s.home stays;
   number = stay.tables table key k.frame s.home stays ∙ s.number;
-  slot = stay.slots table key k.frame key k.slot s.home s.slot;
-} where
-  -- no slot is in the frame that its leaf left
-  stays : freed ≢ Some k.frame
-  stays is = let clash : None ≡ Some k.slot = sym (ap (slot_of key) (stay.bare k.frame is)) ∙ s.slot in absurd cc
+  slot = stay.slots table key k.frame key k.slot s.home stays s.slot;
+}
 
-pub noted-stay : (freed : Option ℕ) (leaves made : List Leaf) (pieces later : List FramePiece) (writes : List Write) (keys : List WrittenKey) → LeavesStay freed leaves made pieces later
+pub noted-stay : (freed : Option ℕ) (leaves made : List Leaf) (pieces later : List FramePiece) (writes : List Write) (keys : List WrittenKey) → LeavesStay freed leaves made pieces later → StayWritten freed keys
     → AreNoted leaves pieces writes keys → AreNoted made later writes keys
-noted-stay freed leaves made pieces later writes keys stay n = record {
-  noted = λ w member. let k = n.noted w member in (k.0, k.1, slot-stays freed leaves made pieces later k.0 w.table w.key stay k.2);
-  wrote = λ k member. let w = n.wrote k member in (w.0, w.1, slot-stays freed leaves made pieces later k w.0.table w.0.key stay w.2);
+noted-stay freed leaves made pieces later writes keys stay written n = record {
+  noted = λ w member. let k = n.noted w member in (k.0, k.1, slot-stays freed leaves made pieces later k.0 w.table w.key stay (written k.0 k.1) k.2);
+  wrote = λ k member. let w = n.wrote k member in (w.0, w.1, slot-stays freed leaves made pieces later k w.0.table w.0.key stay (written k member) w.2);
 }

@@ -38,13 +38,14 @@ use Rattle.call_steps.specs.Leaves.{chain_in}
 use Rattle.call_steps.specs.Stages.{is_write, cursor_in}
 use Rattle.call_steps.specs.State.{State}
 use Rattle.engine_world.specs.Doings.{call_in, doing_at, doing_in, further_from, further_left}
+use Rattle.engine_world.specs.Evicting.{NoneWroteIn}
 use Rattle.engine_world.specs.GoingOut.{IsAside, frame_in_hand}
 use Rattle.engine_world.specs.Leaves.{AreNoted, EditedDownTo, IsSlotOf, durable_under, slots_in}
 use Rattle.engine_world.specs.Stages.{AreCommitted, Awaits, HasFound, IsLeafAt, DecidesStand, DoneStands, EndsOnlyDown, ForTransaction, HasLooked, IsEdited, IsLeafOf, IsOnLeaf, IsOrdered, IsPassed, IsPast, IsSought, MarksStand, NoneAmong, NoneStands, OrdersStand, ResolvesStand, Seeks, StageStands, StampsStand, UndoesStand, stamps_in, wanted_in, way_of}
 use Rattle.engine_world.specs.Stands.{SessionStands, writes_in}
 use Rattle.engine_world.specs.Walks.{leaves_on, passed, passed_with}
 use Rattle.engine_world.specs.Worlds.{Placed}
-use Rattle.engine_world.proofs.Beside.{Apart, Beside, IsAlike, LeavesKept, LeavesStay, MachineApart, OthersUpdates}
+use Rattle.engine_world.proofs.Beside.{Apart, Beside, IsAlike, LeavesKept, LeavesStay, MachineApart, OthersUpdates, StayWritten}
 use Rattle.engine_world.proofs.Homes.{IsTarget, target-from, target-is}
 use Rattle.engine_world.proofs.NotedSlots.{at-index, drawn-with, noted-stay, own-found, slot-chain, slot-durable, slot-stays, stay-same}
 use Rattle.engine_world.proofs.WalkKeys.{passed-kept, passed-with-kept}
@@ -57,6 +58,7 @@ record IsOther (freed : Option ℕ) (session : ℕ) (m next : Machine) (leaves m
   other : r ≢ session
   valid : Valid m
   noted : AreNoted leaves pieces (writes_in m r) b.written
+  written : StayWritten freed b.written
 
 freed-or : (freed : Option ℕ) (frame : ℕ) → (freed ≡ Some frame) ⊎ (freed ≢ Some frame)
 freed-or None frame = inr (λ is. absurd cc)
@@ -163,15 +165,15 @@ module _ (freed : Option ℕ) (session : ℕ) (m next : Machine) (leaves made : 
   line-held t there alive w member = o.machine.held r t w.table w.key o.other there alive (own-found w t.writes member)
 
   -- a chain in a slot that was noted has no more updates of its name than before
-  update-was : (t : Transaction) → transaction_of m r ≡ Some t → (k : WrittenKey) (w : Write) → Member w t.writes → IsSlotOf leaves pieces k w.table w.key
+  update-was : (t : Transaction) → transaction_of m r ≡ Some t → (k : WrittenKey) (w : Write) → Member k b.written → Member w t.writes → IsSlotOf leaves pieces k w.table w.key
       → (u : Update) → Member u (chain_in (slots_in later k.frame) k.slot) → u.version.window.name ≡ name_in m.run t → Member u (chain_in (slots_in pieces k.frame) k.slot)
-  update-was t there k w member s u now named = subst (λ l. Member u l) (sym (slot-chain w.key (slots_in pieces k.frame) k.slot s.slot))
+  update-was t there k w noted member s u now named = subst (λ l. Member u l) (sym (slot-chain w.key (slots_in pieces k.frame) k.slot s.slot))
       (o.updates r t o.other there (drawn-with m r t w o.valid there member) k.frame w.key u
-      (subst (λ l. Member u l) (slot-chain w.key (slots_in later k.frame) k.slot (o.stay.slots w.table w.key k.frame w.key k.slot s.home s.slot)) now) named)
+      (subst (λ l. Member u l) (slot-chain w.key (slots_in later k.frame) k.slot (o.stay.slots w.table w.key k.frame w.key k.slot s.home (o.written k noted) s.slot)) now) named)
 
   edited : (t : Transaction) → transaction_of m r ≡ Some t → (e : Edit) (left : ℕ) → IsEdited e m pieces t b left → IsEdited e next later t b left
   edited t there e left done = subst (λ run. EditedDownTo e (name_in run t) later b.written left) (sym o.machine.run)
-      (λ i k le at u now named. let w = (of-writes t there).wrote k (at-index b.written i k at) in done i k le at u (update-was t there k w.0 w.1 w.2 u now named) named)
+      (λ i k le at u now named. let noted = at-index b.written i k at in let w = (of-writes t there).wrote k noted in done i k le at u (update-was t there k w.0 noted w.1 w.2 u now named) named)
 
   ordered : (t : Transaction) → transaction_of m r ≡ Some t → (IsEnding t.phase → ⊥) → (stamps : CommitStamps) (left : ℕ)
       → IsOrdered stamps m pieces t b left → IsOrdered stamps next later t b left
@@ -184,7 +186,7 @@ module _ (freed : Option ℕ) (session : ℕ) (m next : Machine) (leaves made : 
   } where
     under : (k : WrittenKey) → Member k b.written → durable_under next later k ≡ durable_under m pieces k
     under k member = let w = (of-writes t there).wrote k member in
-        slot-durable next made later k w.0.table w.0.key (slot-stays freed leaves made pieces later k w.0.table w.0.key o.stay w.2)
+        slot-durable next made later k w.0.table w.0.key (slot-stays freed leaves made pieces later k w.0.table w.0.key o.stay (o.written k member) w.2)
         ∙ (ap newest_durable (line-held t there alive w.0 w.1) ∙ sym (slot-durable m leaves pieces k w.0.table w.0.key w.2))
 
   committed : (t : Transaction) (stamps : CommitStamps) → AreCommitted stamps m t → AreCommitted stamps next t
@@ -281,13 +283,13 @@ module _ (freed : Option ℕ) (session : ℕ) (m next : Machine) (leaves made : 
   stays (stage.Unpin cursor) aside x = (same ∙ x.0, x.1)
 
 pub others-aside : (freed : Option ℕ) (session : ℕ) (m next : Machine) (hub later : Hub) (pieces pieces' : List FramePiece) (r : ℕ) (b : State) → Apart freed session m next hub later pieces pieces' → r ≢ session → Valid m
-    → ((frame : ℕ) → freed ≡ Some frame → IsAside frame b) → SessionStands m hub pieces r b → SessionStands next later pieces' r b
+    → ((frame : ℕ) → freed ≡ Some frame → IsAside frame b × NoneWroteIn frame b) → SessionStands m hub pieces r b → SessionStands next later pieces' r b
 others-aside freed session m next hub later pieces pieces' r b v other valid aside st = record {
   phase = st.phase ∙ sym (ap (option_map (λ (t : Transaction). t.phase)) same-one);
   seated = record { opened = (let before = st.seated.opened in let more = v.seats in omega arith); phase = v.phases r other ∙ st.seated.phase };
   cursors = st.cursors ∙ sym (v.machine.cursors r other);
   noted = subst (λ (x : Option Transaction). AreNoted later.dir.leaves pieces' (of_some [] (λ (t : Transaction). t.writes) x) b.written) (sym same-one)
-      (noted-stay freed hub.dir.leaves later.dir.leaves pieces pieces' (writes_in m r) b.written v.leaves st.noted);
+      (noted-stay freed hub.dir.leaves later.dir.leaves pieces pieces' (writes_in m r) b.written v.leaves written st.noted);
   stage = stays freed session m next hub.dir.leaves later.dir.leaves pieces pieces' r b (record {
     machine = v.machine;
     stay = v.leaves;
@@ -295,8 +297,12 @@ others-aside freed session m next hub later pieces pieces' r b v other valid asi
     other = other;
     valid = valid;
     noted = st.noted;
-  }) b.stage aside st.stage;
+    written = written;
+  }) b.stage (λ frame is. (aside frame is).0) st.stage;
 } where
+  written : StayWritten freed b.written
+  written k member is = absurd ((aside k.frame is).1 k member refl)
+
   same-one : transaction_of next r ≡ transaction_of m r
   same-one = v.machine.others r other
 

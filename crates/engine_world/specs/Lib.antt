@@ -10,3 +10,4 @@ pub mod Whole
 pub mod Systems
 pub mod GivingWay
 pub mod GoingOut
+pub mod Evicting

@@ -1,11 +1,12 @@
 //! Laws of the start of an engine, of sessions that are opened, and of the events of the system. A law calls those of lower crates
 //! that its proof rests on.
 
+ghost use Rattle.engine_world.specs.Evicting.{LeavesAreEvicted, LeavesAreEvictedUnseen};
 ghost use Rattle.engine_world.specs.GivingWay.{LeavesGiveWay};
 ghost use Rattle.engine_world.specs.GoingOut.{LeavesGoOut, LeavesGoOutUnseen};
 ghost use Rattle.engine_world.specs.Systems.{CheckpointsGo, CreatesGo, DownsGo, EnginesStart, FramesGrow, LeavesCome, OpensGo, SetsGo};
 
-use kv_model::frames_are_alike;
+use kv_model::{evictions_stand, frames_are_alike};
 use tree_dir::leaves_give_way as directories_give_way;
 use update_chain::chains_go_on;
 
@@ -57,6 +58,22 @@ pub fn leaves_go_out()
 pub fn leaves_go_out_unseen()
     ensures { LeavesGoOutUnseen }
 {}
+
+/// A leaf is evicted while others are at work: it goes out of its frame, and its block has of each of its
+/// keys the newest version, where the older ones are out of reach. No call is at it, and no transaction
+/// that runs wrote in it: calls that have found it, and have not come to it yet, may be told so.
+pub fn leaves_are_evicted()
+    ensures { LeavesAreEvicted }
+{
+    evictions_stand();
+}
+
+/// Where no call has found it, nobody sees it.
+pub fn leaves_are_evicted_unseen()
+    ensures { LeavesAreEvictedUnseen }
+{
+    evictions_stand();
+}
 
 /// While nobody is at work, a leaf that is in a frame gives way to others, which are in none and whose
 /// blocks have each key's newest version: nobody sees it.

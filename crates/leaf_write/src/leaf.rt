@@ -14,13 +14,11 @@ ghost use Rattle.tree_write.specs.Steps.{key_at};
 ghost use Rattle.leaf_write.specs.Writes.{IsKnown, WritesLeaf};
 
 use block_mgr::Blocks;
-use device_layout::{Addr, Link};
 use disk_model::Disk;
-use failure::NoMemory;
 use inner_page::Entry;
 use item::Item;
 use reconcile::Image;
-use stamp::Name;
+use tree_write::{key_of, link_to};
 use wt_code::StoreError;
 
 // Writes the leaf of the image at a place of a part with this low key, and gives the entry that leads to
@@ -54,28 +52,5 @@ pub(crate) fn write_leaf<D: Disk>(
             key,
             link: link_to(addr, image.greatest, image.durable),
         }),
-    }
-}
-
-// What leads to the leaf at an address.
-fn link_to(addr: Addr, greatest: Name, durable: u64) -> Link
-    ensures link { result ≡ record { addr = addr; greatest = greatest; durable = durable } }
-    ensures fits { LinkFits result }
-{
-    Link {
-        addr,
-        greatest,
-        durable,
-    }
-}
-
-// The key of the entry of the image at a place of a part with this low key.
-fn key_of(low: &Item, place: usize, image: &Image) -> Result<Item, NoMemory>
-    ensures { IfOk result (λ k. k ≡ key_at low.now place image.now) }
-{
-    if place == 0 {
-        low.copy()
-    } else {
-        image.low.copy()
     }
 }

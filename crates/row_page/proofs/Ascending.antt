@@ -9,7 +9,7 @@ use Rattle.std.specs.declared.cmp.Ordering.TheVariants.{Less, Equal, Greater}
 use Rattle.std.proofs.lemmas.Cmp.{nat_list_cmp_total}
 use Rattle.std.proofs.lemmas.Map.Lookups.{exact_bytes}
 use Rattle.std.proofs.lemmas.Bool.{cases_Bool, both_ways}
-use Rattle.std.proofs.lemmas.List.{nil_from_length, length-drop}
+use Rattle.std.proofs.lemmas.List.{drop_all, nil_from_length, length-drop}
 use Rattle.std.proofs.lemmas.Option.{slice_get_within, get_or_from_slice_get}
 use Rattle.std.proofs.lemmas.Slice.Eq.{bytes_eq-Decides}
 use Rattle.row_page.specs.Rows.{Row, is_below, comes_after, Ascends}
@@ -151,6 +151,13 @@ below_at rows key k i ascend h below = let p = row_at_place rows i k h in below_
 
 pub not_below_at : (rows : List Row) (key k : List ℕ) (i : ℕ) → Ascends None rows → HasKeyAt rows k i → is_below k key ≡ false → AllByRecursion (λ (x : Row). is_below x.0 key ≡ false) (drop i rows)
 not_below_at rows key k i ascend h above = let p = row_at_place rows i k h in above_from None rows i h.0 key ascend p.0 p.1 (ap (λ (x : List ℕ). is_below x key) h.2 ∙ above)
+
+pub all_below : (rows : List Row) (key k : List ℕ) (i : ℕ) → Ascends None rows → HasKeyAt rows k i → i + 1 ≡ length rows → is_below k key ≡ true → FirstNotBelow rows key (length rows)
+all_below rows key k i ascend h last below = record {
+  within = omega arith;
+  below = subst (λ (n : ℕ). AllByRecursion (λ (x : Row). is_below x.0 key ≡ true) (take n rows)) last (below_at rows key k i ascend h below);
+  above = subst (λ (l : List Row). AllByRecursion (λ (x : Row). is_below x.0 key ≡ false) l) (sym (drop_all (length rows) rows (omega arith))) tt;
+}
 
 pub splits_at : (rows : List Row) (key k : List ℕ) (i : ℕ) → Ascends None rows → FirstNotBelow rows key i → HasKeyAt rows k i → (slice_cmp nat_cmp k key ≡ Equal → ⊥) → Splits rows key i
 splits_at rows key k i ascend first h other =

@@ -115,7 +115,8 @@ impl Leaf {
         key_from(&self.block, self.places[i] as usize)
     }
 
-    /// The place of the key, or that of the first row above it. `O(log rows)`.
+    /// The place of the key, or that of the first row above it. `O(log rows)`, and one comparison
+    /// where the key is above all of them.
     pub fn find(&self, key: &[u8]) -> Result<usize, usize>
         ensures { MatchResult result (HasKeyAt self.now key.now) (Splits self.now key.now) }
     {
@@ -129,12 +130,15 @@ impl Leaf {
         }
     }
 
-    // How many rows, from the first on, have keys below this one, by halving.
+    // How many rows, from the first on, have keys below this one: all, by the last one, or by halving.
     fn first_not_below(&self, key: &[u8]) -> usize
         ensures { FirstNotBelow self.now key.now result }
     {
         let mut low = 0;
         let mut high = self.places.len();
+        if self.ends_below(key) {
+            return high;
+        }
         while low < high {
             let middle = low + (high - low) / 2;
             if order(self.key(middle), key).is_lt() {
@@ -144,6 +148,17 @@ impl Leaf {
             }
         }
         low
+    }
+
+    // Whether there is a last row, and its key is below this one.
+    fn ends_below(&self, key: &[u8]) -> bool
+        ensures { IsTrue result → FirstNotBelow self.now key.now (length self.now) }
+    {
+        let len = self.places.len();
+        if len == 0 {
+            return false;
+        }
+        order(self.key(len - 1), key).is_lt()
     }
 }
 

@@ -25,6 +25,7 @@ use Rattle.row_page.specs.Rows.{Row}
 use Rattle.engine_world.specs.Stands.{Engine}
 use Rattle.engine_world.specs.Systems.{first_world}
 use Rattle.engine_world.specs.Worlds.{World}
+use Rattle.ckpt_step.specs.declared.lives.Lone.{Lone}
 use Rattle.ckpt_step.specs.Calm.{IsCalm, StartsCalm}
 use Rattle.ckpt_step.specs.Plain.{IsPlain}
 use Rattle.engine_store.specs.declared.store.Store.{Store}
@@ -47,7 +48,7 @@ calm_on w m shelf calm plain = record { plain = plain; doings = calm.doings; sys
 
 -- nothing is known of stamps
 pub at_any : {D : Type 0} (g : Ghosts D) (first : D) (stamped : Bool) (store : Store) (disk : D) (s : Script) → IsAt g first stamped store disk s → IsAt g first true store disk s
-at_any g first stamped store disk s at = record { held = at.held; device = at.device; calm = λ is. absurd (false≢true (sym is)) }
+at_any g first stamped store disk s at = record { held = at.held; device = at.device; calm = λ is. absurd (false≢true (sym is)); none = at.none }
 
 -- a line of `sys`, by whether it has a call that is not finished
 by_busy : (s : Script) (reply : Reply) (later : Script) (Goes : Type 0) → is_there (slice_index_or s.world.systems 0 None) ≡ true → reply ≡ Answered (Refused (Invalid InCall)) → later ≡ s → BySystem s reply later Goes
@@ -77,7 +78,8 @@ module _ {D : Type 0} (g : Ghosts D) (first : D) (s : Script) (store store' : St
       device = device_of g disk';
       made = x.now;
       behind = subst (λ (d : Device). IsLeft d (device_of g disk') s.world.machine x.next (answer_of result)) (sym at.device) x.behind;
-      takes = subst (λ (d : Device). CheckpointTakes d (device_of g disk') s.world.machine (answer_of result) x.next) (sym at.device) x.takes;
+      takes = subst (λ (l : List Lone). CheckpointTakes l s.device (device_of g disk') s.world.machine (answer_of result) x.next) at.none
+          (subst (λ (d : Device). CheckpointTakes store.ground.lives d (device_of g disk') s.world.machine (answer_of result) x.next) (sym at.device) x.takes);
       installs = x.installs;
       told = told;
       shelf = shelf;
@@ -85,7 +87,7 @@ module _ {D : Type 0} (g : Ghosts D) (first : D) (s : Script) (store store' : St
     }
 
     checkpoint_at : IsAt g first false store' disk' checkpoint_later
-    checkpoint_at = record { held = x.held; device = refl; calm = λ is. calm_on s.world x.next shelf calm x.plain }
+    checkpoint_at = record { held = x.held; device = refl; calm = λ is. calm_on s.world x.next shelf calm x.plain; none = x.none at.none }
 
   module _ (x : held.Shuts g first s.world s.first s.made store store' disk disk' result) where
     abbrev close_later : Script
@@ -97,13 +99,14 @@ module _ {D : Type 0} (g : Ghosts D) (first : D) (s : Script) (store store' : St
       device = device_of g disk';
       made = x.now;
       behind = subst (λ (d : Device). IsLeft d (device_of g disk') (rolled_back s.world.machine) x.next (answer_of result)) (sym at.device) x.behind;
-      takes = subst (λ (d : Device). CloseTakes d (device_of g disk') s.world (answer_of result) x.next) (sym at.device) x.takes;
+      takes = subst (λ (l : List Lone). CloseTakes l s.device (device_of g disk') s.world (answer_of result) x.next) at.none
+          (subst (λ (d : Device). CloseTakes store.ground.lives d (device_of g disk') s.world (answer_of result) x.next) (sym at.device) x.takes);
       installs = x.installs;
       leaves = refl;
     }
 
     close_at : IsAt g first false store' disk' close_later
-    close_at = record { held = x.held; device = refl; calm = λ is. calm_on s.world x.next s.world.shelf calm x.plain }
+    close_at = record { held = x.held; device = refl; calm = λ is. calm_on s.world x.next s.world.shelf calm x.plain; none = x.none at.none }
 
 module _ {D : Type 0} (g : Ghosts D) (first : D) (s : Script) (store : Store) (disk : D) (told : Told) where
   pub checkpoint_busy : IsAt g first false store disk s → is_there (slice_index_or s.world.systems 0 None) ≡ true → told.reply ≡ Answered (Refused (Invalid InCall)) → told.formats ≡ plain
@@ -200,6 +203,7 @@ module _ {D : Type 0} (g : Ghosts D) (first : D) (stamped : Bool) (s : Script) (
           held = subst (λ (w : World). IsHeld g first store' disk' w s.first s.made) same x.held;
           device = refl;
           calm = λ none. subst (λ (w : World). IsCalm w) same (law x.content x.shelf store'.engine x.plain);
+          none = x.none;
         };
         start = refl;
         kept_is = sym new;
@@ -216,7 +220,7 @@ module _ {D : Type 0} (g : Ghosts D) (first : D) (stamped : Bool) (s : Script) (
         why = subst (λ (d : Device). RefusesReopening d (device_of g disk') r) (sym at.device) x.why;
         leaves = refl;
       } in
-      record { later = later; stops = stops; at = record { held = x.held; device = refl; calm = λ is. absurd (false≢true (sym is)) }; start = refl }
+      record { later = later; stops = stops; at = record { held = x.held; device = refl; calm = λ is. absurd (false≢true (sym is)); none = x.none at.none }; start = refl }
 
 -- ---- the lines together
 
@@ -235,7 +239,7 @@ pub gives_none : {D : Type 0} (g : Ghosts D) (first : D) (stamped : Bool) (asked
 gives_none g first stamped asked s store disk kept (Ok told) r = record {
   later = r.later;
   replies = r.replies;
-  at = record { held = r.at.held; device = r.at.device; calm = λ none. r.at.calm (or_none stamped none) };
+  at = record { held = r.at.held; device = r.at.device; calm = λ none. r.at.calm (or_none stamped none); none = r.at.none };
   start = r.start;
   kept_is = r.kept_is;
 }

@@ -79,11 +79,12 @@ IsOfActor (OfAll asked) = ⊥
 
 -- ---- on a device
 
--- The store and its disk stand for s, in a run that began on the first disk. Until a commit has a stamp, none that is under way has one.
+-- The store and its disk stand for s, in a run that began on the first disk. Until a commit has a stamp, none that is under way has one. No leaf was written since the last checkpoint.
 pub record IsAt {D : Type 0} (g : Ghosts D) (first : D) (stamped : Bool) (store : Store) (disk : D) (s : Script) : Type 0 where
   pub held : IsHeld g first store disk s.world s.first s.made
   pub device : s.device ≡ device_of g disk
   pub calm : stamped ≡ false → IsCalm s.world
+  pub none : store.ground.lives ≡ []
 
 -- ---- of an actor, in a run that began on the first disk
 

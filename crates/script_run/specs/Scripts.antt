@@ -222,7 +222,7 @@ pub record Checkpoints (s : Script) (reply : Reply) (later : Script) : Type 0 wh
   pub device : Device
   pub made : List Installed
   pub behind : IsLeft s.device device s.world.machine next answer
-  pub takes : CheckpointTakes s.device device s.world.machine answer next
+  pub takes : CheckpointTakes [] s.device device s.world.machine answer next
   pub installs : Installs answer (checkpointed s.world.machine).completed device next s.made made
   pub told : reply ≡ Answered answer
   pub shelf : ℕ → List Row
@@ -234,7 +234,7 @@ pub record Closes (s : Script) (answer : Answer (List ℕ)) (later : Script) : T
   pub device : Device
   pub made : List Installed
   pub behind : IsLeft s.device device (rolled_back s.world.machine) next answer
-  pub takes : CloseTakes s.device device s.world answer next
+  pub takes : CloseTakes [] s.device device s.world answer next
   pub installs : Installs answer (checkpointed (rolled_back s.world.machine)).completed device next s.made made
   pub leaves : later ≡ on_device s next device made
 

@@ -68,7 +68,7 @@ pub fn run_script<D: Disk, S: Source, K: Sink>(
     out: &mut K,
 ) -> ScriptRun
     requires ready { IsReady store.old }
-    ensures run { IsTrue (D.honest disk.old) → (w : World) → IsHeld D.Disk disk.old store.old disk.old w w.machine.completed [] → IsCalm w → IsRunOver D.Disk S.Source K.Sink input.old input.new out.old out.new w disk.old disk.new store.new result }
+    ensures run { IsTrue (D.honest disk.old) → (w : World) → IsHeld D.Disk disk.old store.old disk.old w w.machine.completed [] → IsCalm w → store.old.ground.lives ≡ [] → IsRunOver D.Disk S.Source K.Sink input.old input.new out.old out.new w disk.old disk.new store.new result }
     ensures input { result.end ≡ InputFails → Rose (S.fault_count input.old) (S.fault_count input.new) }
     ensures output { result.end ≡ OutputFails → Rose (K.fault_count out.old) (K.fault_count out.new) }
     ensures fault { length store.old.engine.sessions ≡ 0 → MetFault result → Rose (D.faults disk.old) (D.faults disk.new) }

@@ -27,8 +27,9 @@ pub(crate) fn nowhere() -> Link
     }
 }
 
-// What leads to the page at an address.
-pub(crate) fn link_to(addr: Addr, greatest: Name, durable: u64) -> Link
+/// The link to the page at an address, with the greatest name and durable stamp of its versions.
+/// `O(1)`.
+pub fn link_to(addr: Addr, greatest: Name, durable: u64) -> Link
     ensures link { result ≡ record { addr = addr; greatest = greatest; durable = durable } }
     ensures fits { LinkFits result }
 {

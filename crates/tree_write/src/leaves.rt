@@ -66,8 +66,9 @@ pub(crate) fn write_leaves<D: Disk>(
     Ok(entries)
 }
 
-// The key of the entry of the image at a place of a part with this low key.
-fn key_of(low: &Item, place: usize, image: &Image) -> Result<Item, NoMemory>
+/// The key of the entry that leads to the image at a place of a part with this low key: the part's
+/// low key for the first image, and its own for each other one. `O(key)`.
+pub fn key_of(low: &Item, place: usize, image: &Image) -> Result<Item, NoMemory>
     ensures { IfOk result (λ k. k ≡ key_at low.now place image.now) }
 {
     if place == 0 {

@@ -21,5 +21,7 @@ mod levels;
 mod tree;
 
 pub use draft::TreeDraft;
+pub use entries::link_to;
 pub use keep::{keep_tree, may_keep};
+pub use leaves::key_of;
 pub use tree::write_tree;

@@ -1,5 +1,5 @@
 -- Calls with the device beside them, which they read alone.
-use Rattle.std.specs.Prelude.{◌≡◌, ◌⊎◌, ℕ, List, Some, None}
+use Rattle.std.specs.Prelude.{◌≡◌, ◌⊎◌, ℕ, List, [], Some, None}
 use Rattle.std.proofs.Common.{inl, inr, refl, sym, subst, ◌∙◌, arith}
 use Rattle.failure.specs.Counts.{Rose}
 use Rattle.failure.specs.declared.Fault.{Fault}
@@ -46,18 +46,18 @@ module _ (d d' : Device) (m : Machine) (up : m.fault ≡ None) (kept : KeptBy) (
   abbrev given : Around
   given = around_kept kept
 
-  wider_held : (session : ℕ) (request : Request) (answer : Answer (List ℕ)) (next : Machine) → IsHeldUp given m session request answer next → IsHeldUp (around d d') m session request answer next
+  wider_held : (session : ℕ) (request : Request) (answer : Answer (List ℕ)) (next : Machine) → IsHeldUp given m session request answer next → IsHeldUp (around [] d d') m session request answer next
   wider_held session request answer next (inl short) = inl short
   wider_held session request answer next (inr (e, decides, inl short)) = inr (e, decides, inl short)
   wider_held session request answer next (inr (e, decides, inr (r, may, told, rest))) = by_cause (caused r may) rest
     where
-      by_cause : IsCause (Rose d.faults d'.faults) m.fault r → (next ≡ after m e) ⊎ ((r ≡ DiskFault) × ((f : Fault) × (next ≡ after (after m e) (GoDown f)))) → IsHeldUp (around d d') m session request answer next
+      by_cause : IsCause (Rose d.faults d'.faults) m.fault r → (next ≡ after m e) ⊎ ((r ≡ DiskFault) × ((f : Fault) × (next ≡ after (after m e) (GoDown f)))) → IsHeldUp (around [] d d') m session request answer next
       by_cause (inl short) (inl same) = inr (e, decides, inl (subst (λ (x : Refusal). answer ≡ answers.Refused x) short told, same))
       by_cause (inl short) (inr (fault, (f, down))) = absurd (fault_not r short fault)
       by_cause (inr (inl (fault, rose))) rest = inr (e, decides, inr (r, (fault, rose), told, rest))
       by_cause (inr (inr (f, panic, down))) rest = let no : None ≡ Some f = sym up ∙ down in absurd (cc)
 
-  wider_up : (session : ℕ) (c : Call) (answer : Answer (List ℕ)) (next : Machine) → HeldUp given m session c answer next → HeldUp (around d d') m session c answer next
+  wider_up : (session : ℕ) (c : Call) (answer : Answer (List ℕ)) (next : Machine) → HeldUp given m session c answer next → HeldUp (around [] d d') m session c answer next
   wider_up session (GetKey name key) answer next held = wider_held session (FindKey name key) answer next held
   wider_up session (SeekKey cursor name key) answer next held = wider_held session (FindKey name key) answer next held
   wider_up session (NextRow cursor name way) answer next held = wider_held session (kv.FindRow name) answer next held
@@ -65,7 +65,7 @@ module _ (d d' : Device) (m : Machine) (up : m.fault ≡ None) (kept : KeptBy) (
   wider_up session (RemoveKey name key) answer next held = wider_held session (FindToWrite name key RemoveOf) answer next held
   wider_up session _ answer next held = absurd held
 
-  pub wider : (session : ℕ) (c : Call) (answer : Answer (List ℕ)) (next : Machine) → SessionAnswers given m session c answer next → SessionAnswers (around d d') m session c answer next
+  pub wider : (session : ℕ) (c : Call) (answer : Answer (List ℕ)) (next : Machine) → SessionAnswers given m session c answer next → SessionAnswers (around [] d d') m session c answer next
   wider session c answer next (inl decides) = inl decides
   wider session c answer next (inr held) = inr (wider_up session c answer next held)
 

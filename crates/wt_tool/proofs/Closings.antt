@@ -21,6 +21,7 @@ use Rattle.device_leaf.specs.Closings.{content_was}
 use Rattle.engine_world.specs.Systems.{checkpointed}
 use Rattle.engine_world.specs.Worlds.{World, Resting}
 use Rattle.engine.specs.Closes.{is_under_way, unfinished_in}
+use Rattle.ckpt_step.specs.declared.lives.Lone.{Lone}
 use Rattle.ckpt_step.specs.Takes.{IsOfCheckpoint}
 use Rattle.engine_store.specs.declared.store.Store.{Store}
 use Rattle.engine_store.specs.Answers.{CloseTakes, Installs, around_at}
@@ -28,7 +29,7 @@ use Rattle.engine_store.specs.Devices.{Device, Installed, IsLater, device_of}
 use Rattle.engine_store.specs.Held.{Shuts}
 use Rattle.wt_tool.specs.Led.{IsQuiet}
 use Rattle.wt_tool.specs.Parts.{IsLeft, NoDamage, silent_run}
-use Rattle.wt_tool.specs.Points.{Closes, DidClose, Point, around, point_of}
+use Rattle.wt_tool.specs.Points.{ClosesBeside, DidClose, Point, around, point_of}
 
 -- ---- the content of what a device has
 
@@ -66,17 +67,17 @@ decided_same : (w : World) → IsQuiet w → (number : ℕ) (storing : Storing) 
 decided_same w quiet number storing =
     ap (λ (b : Option Busy). of_some (of_some (closing w.machine (last_checkpoint number storing)) (λ busy. close_refused (Refusal_Busy busy)) b) (λ fault. close_refused (Panic fault)) w.machine.fault) (quiet_busy w quiet)
 
-module _ (d d' : Device) (w : World) (quiet : IsQuiet w) where
-  taken_same : (number : ℕ) (storing : Storing) → IsTaken (around_at w d d') (rolled_back w.machine) (close_decision w.machine (unfinished_in w) number) storing → IsTaken (around d d') (rolled_back w.machine) (close_decision w.machine nobody number) storing
+module _ (lives : List Lone) (d d' : Device) (w : World) (quiet : IsQuiet w) where
+  taken_same : (number : ℕ) (storing : Storing) → IsTaken (around_at lives w d d') (rolled_back w.machine) (close_decision w.machine (unfinished_in w) number) storing → IsTaken (around lives d d') (rolled_back w.machine) (close_decision w.machine nobody number) storing
   taken_same number storing (inl takes) = inl takes
   taken_same number storing (inr same) = inr (λ other. sym (decided_same w quiet number other) ∙ same other ∙ decided_same w quiet number storing)
 
-  answered : (answer : Answer (List ℕ)) (next : Machine) → SystemAnswers (around_at w d d') w.machine Close answer next → SystemAnswers (around d d') w.machine Close answer next
+  answered : (answer : Answer (List ℕ)) (next : Machine) → SystemAnswers (around_at lives w d d') w.machine Close answer next → SystemAnswers (around lives d d') w.machine Close answer next
   answered answer next (inl short) = inl (record { is = short.is; up = short.up; idle = sym (quiet_busy w quiet) ∙ short.idle; left = short.left })
   answered answer next (inr (number, storing, outcome, events, is_number, takes, decides, told, leaves)) =
       inr (number, storing, outcome, events, is_number, taken_same number storing takes, sym (decided_same w quiet number storing) ∙ decides, told, leaves)
 
-  pub close_answers : (answer : Answer (List ℕ)) (next : Machine) → CloseTakes d d' w answer next → SystemAnswers (around d d') w.machine Close answer next
+  pub close_answers : (answer : Answer (List ℕ)) (next : Machine) → CloseTakes lives d d' w answer next → SystemAnswers (around lives d d') w.machine Close answer next
   close_answers answer next (inl short) = answered answer next (inl short)
   close_answers answer next (inr is) = answered answer next is
 
@@ -90,16 +91,16 @@ module _ {D : Type 0} (g : Ghosts D) (start_disk : D) (first : Completed) (w : W
   To next = point_of g next after
 
   abbrev RunOf : Result (Unit {0}) Refusal → Machine → List Installed → Type 0
-  RunOf result next made = Closes From (silent_run result made (To next))
+  RunOf result next made = ClosesBeside s.ground.lives From (silent_run result made (To next))
 
-  did : (answer : Answer (List ℕ)) (next : Machine) → IsLater (device_of g before) (device_of g after) → CloseTakes (device_of g before) (device_of g after) w answer next → DidClose From answer (To next)
-  did answer next later takes = record { later = later; answers = close_answers (device_of g before) (device_of g after) w quiet answer next takes }
+  did : (answer : Answer (List ℕ)) (next : Machine) → IsLater (device_of g before) (device_of g after) → CloseTakes s.ground.lives (device_of g before) (device_of g after) w answer next → DidClose s.ground.lives From answer (To next)
+  did answer next later takes = record { later = later; answers = close_answers s.ground.lives (device_of g before) (device_of g after) w quiet answer next takes }
 
-  refused_run : (r : Refusal) (next : Machine) (made : List Installed) → DidClose From (Refused r) (To next) → Installs (Refused r) (checkpointed (rolled_back w.machine)).completed (device_of g after) next [] made → RunOf (Err r) next made
+  refused_run : (r : Refusal) (next : Machine) (made : List Installed) → DidClose s.ground.lives From (Refused r) (To next) → Installs (Refused r) (checkpointed (rolled_back w.machine)).completed (device_of g after) next [] made → RunOf (Err r) next made
   refused_run r next made closes (inl none) = subst (RunOf (Err r) next) (sym none) (inr (r, To next, closes, inl refl))
   refused_run r next made closes (inr (disk, down, one)) = subst (RunOf (Err r) next) (sym one) (inr (r, To next, closes, inr (disk, down, refl)))
 
-  pub closed_left : (result : Result (Unit {0}) Refusal) → Shuts g start_disk w first [] s s' before after result → IsLeft g start_disk first Closes From after result
+  pub closed_left : (result : Result (Unit {0}) Refusal) → Shuts g start_disk w first [] s s' before after result → IsLeft g start_disk first (ClosesBeside s.ground.lives) From after result
   closed_left (Ok done) x = record {
     made = x.now;
     next = x.next;

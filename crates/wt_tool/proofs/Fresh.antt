@@ -18,7 +18,7 @@ use Rattle.kv_model.specs.History.{Table, tables, named}
 use Rattle.kv_model.specs.Machine.{Machine, Transaction, Event, OpenSession, BeginAt, Nothing, begun}
 use Rattle.kv_model.specs.Reads.{Meets, IsEnding}
 use Rattle.kv_model.specs.Decisions as kv
-use Rattle.kv_model.specs.Decisions.{Outcome, FindKey, checked, decision, is_name, is_there}
+use Rattle.kv_model.specs.Decisions.{Outcome, checked, is_name, is_there}
 use Rattle.kv_model.specs.Calls.{Session, Begin, GetKey, Around, OpensSession, SessionAnswers}
 use Rattle.engine_store.specs.Devices.{Device, IsLater, KeepsCheckpoint}
 use Rattle.wt_tool.specs.Points.{Did, around}
@@ -126,13 +126,13 @@ module _ (c : Content) (d d' : Device) (later : IsLater d d') (keeps : KeepsChec
     Gets answer = Did (at d (begun_fresh c)) (Session 0) (GetKey name key) answer (at d' (begun_fresh c))
 
     pub gets : Gets (answer_in c name key)
-    gets = record { later = later; keeps = keeps; answers = answered c name key (around d d') }
+    gets = record { later = later; keeps = keeps; answers = answered c name key (around [] d d') }
 
     pub gets_short : Gets (Refused NoMemory)
     gets_short = record { later = later; keeps = keeps; answers = inr (inl (refl, refl)) }
 
     pub gets_fault : (t : Table) → Reaches c name key t → Rose d.faults d'.faults → Gets (Refused DiskFault)
-    gets_fault t reaches rose = record { later = later; keeps = keeps; answers = held_up c name key (around d d') t reaches (refl, rose) }
+    gets_fault t reaches rose = record { later = later; keeps = keeps; answers = held_up c name key (around [] d d') t reaches (refl, rose) }
 
     -- all that a get may answer
     pub gives : (answer : Answer (List ℕ)) → MayGive c name key d.faults d'.faults answer → Gets answer

@@ -1,7 +1,8 @@
 -- A command holds its store over its calls.
-use Rattle.std.specs.Prelude.{◌≡◌, ◌≤◌, ◌⊎◌, ℕ, List, [], length, Option, None, Ok, Err, slice_index_or}
+use Rattle.std.specs.Prelude.{◌≡◌, ◌≤◌, ◌⊎◌, ℕ, List, [], length, Option, None, Some, Ok, Err, slice_index_or}
 use Rattle.std.proofs.Common.{inl, inr, refl, sym, ap, subst, ◌∙◌, arith}
 use Rattle.limits.specs.declared.TheConstants.{SESSIONS_MAX}
+use Rattle.failure.specs.Counts.{Rose}
 use Rattle.disk_model.specs.Crash.{Looked}
 use Rattle.disk_model.specs.declared.disk.Disk.{Ghosts}
 use Rattle.item.specs.declared.Formats.{Formats}
@@ -24,7 +25,9 @@ use Rattle.ckpt_step.specs.Keeps.{IsOrdinary, KeptKeep, StepsKeep}
 use Rattle.engine_store.specs.declared.store.Store.{Store}
 use Rattle.engine_store.specs.Calls.{Called, Made, Opens}
 use Rattle.engine_store.specs.Devices.{device_of}
+use Rattle.engine_store.specs.Loads.{IsCause}
 use Rattle.wt_tool.specs.Led.{DoneBy, Holds, IsWord, OpenedBy}
+use Rattle.wt_tool.specs.Parts.{NoDamage}
 use Rattle.wt_tool.specs.Points.{Did, point_of}
 use Rattle.wt_tool.proofs.Beside.{keeps_same, looked_keeps, looked_later, same_device, wider}
 use Rattle.wt_tool.proofs.Called.{IsDone, create_done, word_done, word_unstamped}
@@ -74,12 +77,28 @@ module _ {D : Type 0} (g : Ghosts D) (start_disk : D) (first : Completed) (w : W
       answers = wider (device_of g before) (device_of g after) w.machine holds.up x.kept x.caused 0 c a x.later.machine answered.0;
     }
 
+    -- no damage keeps its leaf from it
+    kept_calm : (r : Refusal) → x.kept ≡ Some r → NoDamage r
+    kept_calm r is = by (x.caused r is)
+      where
+        by : IsCause (Rose (g.faults before) (g.faults after)) w.machine.fault r → NoDamage r
+        by (inl none) = subst NoDamage (sym none) tt
+        by (inr (inl (fault, rose))) = subst NoDamage (sym fault) tt
+        by (inr (inr (f, panic, down))) = subst NoDamage (sym panic) tt
+
+    is_done : IsDone a
+    is_done = word_done (around_kept x.kept) w.machine 0 c a x.later.machine kept_calm word answered.0
+
+    -- and none is told
+    pub call_calm : (r : Refusal) → a ≡ answers.Refused r → NoDamage r
+    call_calm r is = subst IsDone is is_done
+
     pub call_done : ((r : Refusal) → a ≡ answers.Refused r → ⊥) → DoneBy g start_disk first w s' before after (Session 0) c (Ok tt)
     call_done none = (
       x.later,
       call_holds,
       by_done (λ (y : Answer (List ℕ)). Did (point_of g w.machine before) (Session 0) c y (point_of g x.later.machine after)) a
-          (word_done (around_kept x.kept) w.machine 0 c a x.later.machine word answered.0) none call_did,
+          is_done none call_did,
     )
 
     pub call_refused : (r : Refusal) → a ≡ answers.Refused r → DoneBy g start_disk first w s' before after (Session 0) c (Err r)

@@ -24,9 +24,11 @@ use Rattle.engine_store.specs.declared.store.Store.{Store}
 use Rattle.engine_store.specs.Held.{IsHeld}
 use Rattle.engine_store.specs.Images.{EachReads}
 use Rattle.engine_store.specs.Opened.{IsOpened}
+use Rattle.engine_store.proofs.NoLives.{none_on}
 use Rattle.wt_tool.specs.Led.{Holds, LedBy}
+use Rattle.wt_tool.specs.Loads.{ClosesLoad}
 use Rattle.wt_tool.specs.Parts.{IsLeft, LeavesAt, silent_run}
-use Rattle.wt_tool.specs.Points.{Closes, Point, Ran, point_of}
+use Rattle.wt_tool.specs.Points.{Closes, ClosesBeside, Point, Ran, point_of}
 use Rattle.wt_tool.proofs.Closings.{start_opens, still_reads}
 use Rattle.wt_tool.proofs.Quiet.{first_quiet}
 
@@ -56,7 +58,7 @@ module _ {D : Type 0} (g : Ghosts D) (disk : D) (s : Store) (on : IsOpened (g.se
             old = on.old;
             on = on.on;
             follows = subst (λ (c : Content). Follows on.old s.engine.hub s.ground (first_world c on.shelf s.engine)) same on.follows;
-            none = on.none;
+            since = none_on (g.seen disk) s.engine.hub s.ground first_of on.none;
             opens = opens;
             one = ((start content).completed, inl refl, opens);
           };
@@ -94,12 +96,20 @@ untouched g content Run old result now each run = record {
 pub left_as : {D : Type 0} (g : Ghosts D) (start_disk : D) (done : Completed) (Run Other : Point → Ran → Type 0) (p : Point) (new : D) (result : Result (Unit {0}) Refusal) → ((ran : Ran) → Run p ran → Other p ran) → IsLeft g start_disk done Run p new result → IsLeft g start_disk done Other p new result
 left_as g start_disk done Run Other p new result more l = record { made = l.made; next = l.next; run = more _ l.run; opens = l.opens; ever = l.ever; stays = l.stays }
 
+-- a close where no leaf was written since the last checkpoint
+pub left_unwritten : {D : Type 0} (g : Ghosts D) (start_disk : D) (done : Completed) (lives : List Lone) (p : Point) (new : D) (result : Result (Unit {0}) Refusal) → lives ≡ [] → IsLeft g start_disk done (ClosesBeside lives) p new result → IsLeft g start_disk done Closes p new result
+left_unwritten g start_disk done lives p new result none l = left_as g start_disk done (ClosesBeside lives) Closes p new result (λ ran run. subst (λ (x : List Lone). ClosesBeside x p ran) none run) l
+
+-- one behind a load
+pub left_loaded : {D : Type 0} (g : Ghosts D) (start_disk : D) (done : Completed) (lives : List Lone) (p : Point) (new : D) (result : Result (Unit {0}) Refusal) → IsLeft g start_disk done (ClosesBeside lives) p new result → IsLeft g start_disk done ClosesLoad p new result
+left_loaded g start_disk done lives p new result l = left_as g start_disk done (ClosesBeside lives) ClosesLoad p new result (λ ran run. (lives, run)) l
+
 module _ {D : Type 0} (g : Ghosts D) (start_disk : D) (first : Completed) (Run : Point → Ran → Type 0) (w : World) (s : Store) (before mid : D) where
   -- a close behind calls
-  pub left_behind : (new : D) (result : Result (Unit {0}) Refusal) → LedBy g start_disk first w s before mid Run Closes (Ok tt)
-      → ((later : World) → Holds g start_disk first s mid later → IsLeft g start_disk first Closes (point_of g later.machine mid) new result) → IsLeft g start_disk first Run (point_of g w.machine before) new result
-  left_behind new result (later, holds, goes) closes = let l = closes later holds in record { made = l.made; next = l.next; run = goes _ l.run; opens = l.opens; ever = l.ever; stays = l.stays }
+  pub left_behind : (Shut : Point → Ran → Type 0) (new : D) (result : Result (Unit {0}) Refusal) → LedBy g start_disk first w s before mid Run Shut (Ok tt)
+      → ((later : World) → Holds g start_disk first s mid later → IsLeft g start_disk first Shut (point_of g later.machine mid) new result) → IsLeft g start_disk first Run (point_of g w.machine before) new result
+  left_behind Shut new result (later, holds, goes) closes = let l = closes later holds in record { made = l.made; next = l.next; run = goes _ l.run; opens = l.opens; ever = l.ever; stays = l.stays }
 
   -- a refusal before it
   pub left_refused : (Rest : Point → Ran → Type 0) (r : Refusal) → LedBy g start_disk first w s before mid Run Rest (Err r) → IsLeft g start_disk first Run (point_of g w.machine before) mid (Err r)
-  left_refused Rest r (later, holds, run) = record { made = []; next = later.machine; run = run; opens = holds.held.last; ever = holds.held.ever; stays = holds.held.stays }
+  left_refused Rest r (m, ended, run) = record { made = []; next = m; run = run; opens = ended.opens; ever = ended.ever; stays = ended.stays }

@@ -17,6 +17,7 @@ mod Listing
 mod Naming
 mod Pieces
 mod Putting
+mod Rooms
 mod Quiet
 mod Reaching
 mod ScriptRuns

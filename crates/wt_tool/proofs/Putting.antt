@@ -21,7 +21,7 @@ use Rattle.wt_tool.specs.Openings.{formats_at}
 use Rattle.wt_tool.specs.Writes.{PutsPairs, WritesPairs, the_put}
 use Rattle.wt_tool.specs.Led.{DoneBy, Holds, LedBy, PutsBegun}
 use Rattle.wt_tool.proofs.Beside.{short_put}
-use Rattle.wt_tool.proofs.Leading.{called_led, led_behind}
+use Rattle.wt_tool.proofs.Leading.{called_led, ended, led_behind}
 
 module _ {D : Type 0} (g : Ghosts D) (start_disk : D) (first : Completed) (name : List ℕ) (demand : Demand) (pair : List ℕ × List ℕ) (pairs : List (List ℕ × List ℕ)) (w : World) where
   -- of a pair, and once its transaction has begun
@@ -66,8 +66,8 @@ module _ {D : Type 0} (g : Ghosts D) (start_disk : D) (first : Completed) (name 
 
   pub begun_short : (s : Store) (disk : D) (r : Refusal) → r ≡ NoMemory → Holds g start_disk first s disk w → BegunLed w s disk disk (Err r)
   begun_short s disk r is holds = subst (λ (x : Refusal). BegunLed w s disk disk (Err x)) (sym is) (
-    w,
-    holds,
+    w.machine,
+    ended g start_disk first s disk w holds,
     inl (
       NoMemory,
       point_of g w.machine disk,

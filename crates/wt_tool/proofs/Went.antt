@@ -1,10 +1,10 @@
 -- What the calls of a command tell, whatever the disk.
-use Rattle.std.specs.Prelude.{◌≡◌, ◌≤◌, ◌⊎◌, ℕ, IsTrue, List, [], ◌∷◌, length, Option, Some, None, Result, Ok, Err, IfErr, slice_get}
-use Rattle.std.proofs.Common.{inl, inr, refl, sym, subst, ◌∙◌, arith}
+use Rattle.std.specs.Prelude.{◌≡◌, ◌≤◌, ◌⊎◌, ℕ, Bool, true, false, IsTrue, List, [], ◌∷◌, length, Option, Some, None, Result, Ok, Err, IfErr, slice_get}
+use Rattle.std.proofs.Common.{inl, inr, refl, sym, ap, subst, ◌∙◌, arith}
 use Rattle.failure.specs.Counts.{Rose}
-use Rattle.disk_model.specs.Crash.{Looked}
+use Rattle.disk_model.specs.Crash.{Looked, SameDisk}
 use Rattle.disk_model.specs.declared.disk.Disk.{Ghosts}
-use Rattle.disk_model.proofs.Crash.{looked_then}
+use Rattle.disk_model.proofs.Crash.{looked_same, looked_then, same_disk_then}
 use Rattle.limits.specs.declared.TheConstants.{SESSIONS_MAX}
 use Rattle.wt_code.specs.declared.answers.Answer.{Answer}
 use Rattle.wt_code.specs.declared.answers.Answer.TheVariants as answers
@@ -14,10 +14,11 @@ use Rattle.wt_code.specs.declared.refusals.Refusal.TheVariants.{Corrupt, DiskFau
 use Rattle.kv_model.specs.Machine.{of_some}
 use Rattle.call_steps.specs.State.{State}
 use Rattle.engine_world.specs.Stands.{Engine}
+use Rattle.ckpt_step.specs.declared.ground.Ground.{Ground}
 use Rattle.engine_store.specs.declared.store.Store.{Store}
-use Rattle.engine_store.specs.Calls.{AreToldSo, Basis, CallKeeps, MayAnswerSo, MayTell, TellsSo, basis_of}
-use Rattle.engine_store.specs.Opened.{IsOutset, SpoilsAreThere}
-use Rattle.wt_tool.specs.Led.{CallWent}
+use Rattle.engine_store.specs.Calls.{AreToldSo, Basis, CallKeeps, MayAnswerSo, MayTell, StaysTold, TellsSo, basis_of}
+use Rattle.engine_store.specs.Opened.{IsOutset, IsReady, SpoilsAreThere}
+use Rattle.wt_tool.specs.Led.{CallWent, LoadWent, OutWent}
 use Rattle.wt_tool.specs.Parts.{NoDamage, TellsSpoilt}
 
 -- ---- a call
@@ -28,7 +29,7 @@ looked_still g disk = record { same = refl; content = refl; images = λ c left. 
 module _ {D : Type 0} (g : Ghosts D) (s s' : Store) (before after : D) where
   -- what its refusal tells is one of these
   went_by : (result : Result (Unit {0}) Refusal) → CallKeeps g s s' before after → TellsSo g s s' before after (λ basis start. IfErr result (MayTell g basis start after)) → CallWent g s s' before after result
-  went_by result keeps tells = record { told = tells; ready = keeps.ready; looked = keeps.looked; home = keeps.home }
+  went_by result keeps tells = record { told = tells; ready = keeps.ready; looked = keeps.looked; home = keeps.home; lives = ap (λ (x : Ground). x.lives) keeps.ground }
 
   -- by its answer
   pub answered_went : (answer : Answer (List ℕ)) (result : Result (Unit {0}) Refusal) → CallKeeps g s s' before after → TellsSo g s s' before after (λ basis start. MayAnswerSo g basis start after answer)
@@ -41,7 +42,7 @@ module _ {D : Type 0} (g : Ghosts D) (s s' : Store) (before after : D) where
 
 -- memory was too short to begin
 pub short_went : {D : Type 0} (g : Ghosts D) (s : Store) (disk : D) → CallWent g s s disk disk (Err NoMemory)
-short_went g s disk = record { told = λ basis start le on told. (tt, told, on); ready = λ ready. ready; looked = looked_still g disk; home = refl }
+short_went g s disk = record { told = λ basis start le on told. (tt, told, on); ready = λ ready. ready; looked = looked_still g disk; home = refl; lives = refl }
 
 pub short_went_as : {D : Type 0} (g : Ghosts D) (s : Store) (disk : D) (r : Refusal) → r ≡ NoMemory → CallWent g s s disk disk (Err r)
 short_went_as g s disk r is = subst (λ (x : Refusal). CallWent g s s disk disk (Err x)) (sym is) (short_went g s disk)
@@ -70,6 +71,7 @@ went_then g s m n before mid after result a b = record {
   ready = λ ready. b.ready (a.ready ready);
   looked = looked_then g before mid after a.looked b.looked;
   home = b.home ∙ a.home;
+  lives = b.lives ∙ a.lives;
 }
 
 -- and then memory was too short to go on
@@ -103,3 +105,70 @@ module _ {D : Type 0} (g : Ghosts D) (s s' : Store) (before after : D) (none : l
 
   pub refused_fault : r ≡ DiskFault → Rose (g.faults before) (g.faults after)
   refused_fault is = subst (λ (x : Refusal). MayTell g None before after x) is (went.told None before (omega arith) tt (none_kept g None before before s.engine none)).0
+
+-- ---- of a disk that may be written
+
+pub same_honest : {D : Type 0} (g : Ghosts D) (old new : D) → SameDisk g old new → IsTrue (g.honest old) → IsTrue (g.honest new)
+same_honest g old new disk honest = subst IsTrue (sym disk.same) honest
+
+-- a call looks at it alone
+pub out_of : {D : Type 0} (g : Ghosts D) (s s' : Store) (before after : D) (result : Result (Unit {0}) Refusal) → CallWent g s s' before after result → OutWent g s s' before after result
+out_of g s s' before after result went = record {
+  told = λ start le told. let x = went.told None start le tt told in (x.0, x.1);
+  ready = went.ready;
+  disk = looked_same g before after went.looked went.home;
+}
+
+pub out_then : {D : Type 0} (g : Ghosts D) (s m n : Store) (before mid after : D) (result : Result (Unit {0}) Refusal) → OutWent g s m before mid (Ok tt) → OutWent g m n mid after result → OutWent g s n before after result
+out_then g s m n before mid after result a b = record {
+  told = λ start le told. let one = a.told start le told in b.told start (let low = a.disk.later in omega (arith, le, low)) one.1;
+  ready = λ ready. b.ready (a.ready ready);
+  disk = same_disk_then g before mid after a.disk b.disk;
+}
+
+-- nothing is done
+pub none_went : {D : Type 0} (g : Ghosts D) (s : Store) (disk : D) → CallWent g s s disk disk (Ok tt)
+none_went g s disk = record { told = λ basis start le on told. (tt, told, on); ready = λ ready. ready; looked = looked_still g disk; home = refl; lives = refl }
+
+-- rows went out of memory, or a call of the disk failed
+module _ {D : Type 0} (g : Ghosts D) (s s' : Store) (before after : D) (ready : IsReady s → IsReady s') (disk : SameDisk g before after) (told : StaysTold g s s' before after) where
+  pub room_went : OutWent g s s' before after (Ok tt)
+  room_went = record { told = λ start le kept. (tt, told start le kept); ready = ready; disk = disk }
+
+  pub room_failed : (r : Refusal) → r ≡ DiskFault → Rose (g.faults before) (g.faults after) → OutWent g s s' before after (Err r)
+  room_failed r is rose = record { told = λ start le kept. (subst (MayTell g None start after) (sym is) (omega (arith, le, rose)), told start le kept); ready = ready; disk = disk }
+
+-- ---- all of a load
+
+module _ {D : Type 0} (g : Ghosts D) (s s' : Store) (before after : D) (none : length s.engine.sessions ≡ 0) where
+  out_fault : (r : Refusal) → OutWent g s s' before after (Err r) → r ≡ DiskFault → Rose (g.faults before) (g.faults after)
+  out_fault r went is = subst (λ (x : Refusal). MayTell g None before after x) is (went.told before (omega arith) (none_kept g None before before s.engine none)).0
+
+  pub load_done : OutWent g s s' before after (Ok tt) → LoadWent g s s' before after (Ok tt)
+  load_done went = record { sound = λ outset there. tt; fault = tt; ready = went.ready; disk = went.disk }
+
+  pub load_short : OutWent g s s' before after (Ok tt) → LoadWent g s s' before after (Err NoMemory)
+  load_short went = record { sound = λ outset there. tt; fault = λ is. absurd (let bad : NoMemory ≡ DiskFault = is in cc (bad)); ready = went.ready; disk = went.disk }
+
+  pub load_call : (r : Refusal) → CallWent g s s' before after (Err r) → LoadWent g s s' before after (Err r)
+  load_call r went = record {
+    sound = λ outset there. refused_spoilt g s s' before after none r went outset there;
+    fault = refused_fault g s s' before after none r went;
+    ready = went.ready;
+    disk = looked_same g before after went.looked went.home;
+  }
+
+  -- of a new table no damage is told; r: what was refused, x: how it is told
+  pub load_told : (is_new : Bool) (r x : Refusal) → OutWent g s s' before after (Err r) → (is_new ≡ false → CallWent g s s' before after (Err r)) → (is_new ≡ true → NoDamage x) → (is_new ≡ false → x ≡ r) → (x ≡ DiskFault → r ≡ DiskFault) → LoadWent g s s' before after (Err x)
+  load_told true r x went looked new old fault = record {
+    sound = λ outset there. damage_none (IsTrue (g.honest before)) (g.seen before) x (new refl);
+    fault = λ is. out_fault r went (fault is);
+    ready = went.ready;
+    disk = went.disk;
+  }
+  load_told false r x went looked new old fault = subst (λ (y : Refusal). LoadWent g s s' before after (Err y)) (sym (old refl)) (load_call r (looked refl))
+
+-- a refusal that is no damage
+pub calm_of : (r : Refusal) → ((at want found : ℕ) → r ≡ Corrupt at want found → ⊥) → NoDamage r
+calm_of (Corrupt at want found) other = other at want found refl
+calm_of _ other = tt

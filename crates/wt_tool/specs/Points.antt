@@ -10,6 +10,7 @@ use Rattle.failure.specs.declared.Fault.{Fault}
 use Rattle.kv_model.specs.Machine.{Machine, Completed, CheckpointStart, CheckpointFinish}
 use Rattle.kv_model.specs.Closing.{after_all}
 use Rattle.kv_model.specs.Calls.{Actor, System, Call, Close as CloseCall, Around, Answers, OpensSession, rolled_back}
+use Rattle.ckpt_step.specs.declared.lives.Lone.{Lone}
 use Rattle.engine_store.specs.Devices.{Device, Installed, IsLater, KeepsCheckpoint, IsNumberOf, MayTakeAt, device_of}
 use Rattle.script_run.specs.declared.script.End.{End}
 use Rattle.script_run.specs.declared.script.End.TheVariants.{Through, Stopped}
@@ -51,14 +52,14 @@ tells r ran = record ran { refusals = r ∷ ran.refusals }
 
 -- ---- what lies outside
 
--- What a call of a command rests on, from one point to another: no other call is unfinished. A page is kept from it only by a fault of the disk.
-abbrev pub around : Device → Device → Around
-around old new = record {
+-- What a call of a command rests on, from one point to another: no other call is unfinished. A page is kept from it only by a fault of the disk. lives: the leaves that were written since the last checkpoint.
+abbrev pub around : List Lone → Device → Device → Around
+around lives old new = record {
   in_call = false;
   unfinished = record { eviction = None; calls = [] };
   IsNumber = IsNumberOf old.seen;
   uncaptured = 0;
-  MayTake = MayTakeAt old new;
+  MayTake = MayTakeAt lives old new;
   MayKeepOut = λ r. (r ≡ DiskFault) × Rose old.faults new.faults;
 }
 
@@ -68,12 +69,12 @@ around old new = record {
 pub record Did (p : Point) (actor : Actor) (call : Call) (answer : Answer (List ℕ)) (q : Point) : Type 0 where
   pub later : IsLater p.device q.device
   pub keeps : KeepsCheckpoint p.device q.device
-  pub answers : Answers (around p.device q.device) p.machine actor call answer q.machine
+  pub answers : Answers (around [] p.device q.device) p.machine actor call answer q.machine
 
--- the same of Close, which takes a checkpoint
-pub record DidClose (p : Point) (answer : Answer (List ℕ)) (q : Point) : Type 0 where
+-- the same of Close, which takes a checkpoint, beside the blocks of these leaves
+pub record DidClose (lives : List Lone) (p : Point) (answer : Answer (List ℕ)) (q : Point) : Type 0 where
   pub later : IsLater p.device q.device
-  pub answers : Answers (around p.device q.device) p.machine (System 0) CloseCall answer q.machine
+  pub answers : Answers (around lives p.device q.device) p.machine (System 0) CloseCall answer q.machine
 
 -- a call that is done, and what comes after it, or one that is refused and ends the run
 abbrev pub Calls : Actor → Call → (Point → Ran → Type 0) → Point → Ran → Type 0
@@ -94,9 +95,13 @@ closed m = (after_all (rolled_back m) (CheckpointStart ∷ CheckpointFinish ∷ 
 abbrev pub installed : Option Refusal → Point → Point → Installed
 installed refused p q = record { checkpoint = closed p.machine; refused = refused; at = q.device.moment }
 
--- Close, at the end of a run. A write or sync may fail at the gate of its checkpoint, which then is one that was being installed.
-abbrev pub Closes : Point → Ran → Type 0
-Closes p ran =
-    ((q : Point) × DidClose p Done q × (ran ≡ record (ends Through q) { made = installed None p q ∷ [] }))
-    ⊎ ((r : Refusal) × (q : Point) × DidClose p (Refused r) q
+-- Close, at the end of a run, where these leaves were written since the last checkpoint. A write or sync may fail at the gate of its checkpoint, which then is one that was being installed.
+abbrev pub ClosesBeside : List Lone → Point → Ran → Type 0
+ClosesBeside lives p ran =
+    ((q : Point) × DidClose lives p Done q × (ran ≡ record (ends Through q) { made = installed None p q ∷ [] }))
+    ⊎ ((r : Refusal) × (q : Point) × DidClose lives p (Refused r) q
     × ((ran ≡ stops r q) ⊎ ((r ≡ DiskFault) × ((f : Fault) × (q.machine.fault ≡ Some f)) × (ran ≡ record (stops r q) { made = installed (Some DiskFault) p q ∷ [] }))))
+
+-- where none was
+abbrev pub Closes : Point → Ran → Type 0
+Closes p ran = ClosesBeside [] p ran

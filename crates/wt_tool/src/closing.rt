@@ -4,7 +4,7 @@ ghost use Rattle.failure.specs.Counts.{Rose};
 ghost use Rattle.disk_model.specs.Crash.{SameDisk};
 ghost use Rattle.wt_tool.specs.Led.{Leading};
 ghost use Rattle.wt_tool.specs.Parts.{IsLeft, NoDamage};
-ghost use Rattle.wt_tool.specs.Points.{Closes, point_of};
+ghost use Rattle.wt_tool.specs.Points.{ClosesBeside, point_of};
 ghost use Rattle.engine_store.specs.Opened.{IsReady};
 
 use disk_model::Disk;
@@ -17,7 +17,7 @@ use wt_code::Refusal;
 // store goes back as a whole, with the process.
 pub(crate) fn close<D: Disk>(alloc: Global, disk: &mut D, store: Store) -> Result<(), Refusal>
     requires ready { IsReady store }
-    ensures run { Leading D.Disk store disk.old (λ start first w. IsLeft D.Disk start first Closes (point_of D.Disk w.machine disk.old) disk.new result) }
+    ensures run { Leading D.Disk store disk.old (λ start first w. IsLeft D.Disk start first (ClosesBeside store.ground.lives) (point_of D.Disk w.machine disk.old) disk.new result) }
     ensures sound { IfErr result NoDamage }
     ensures fault { IfErr result (λ r. r ≡ Refusal.DiskFault → Rose (D.faults disk.old) (D.faults disk.new)) }
     ensures disk { SameDisk D.Disk disk.old disk.new }

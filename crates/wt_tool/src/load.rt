@@ -1,5 +1,5 @@
 // `load`: a dump is read from the input, its table made, its rows put, and then a checkpoint taken.
-ghost use Rattle.std.specs.Prelude.{◌≡◌, ◌⊎◌, ◌<◌, ◌^◌, ◌∷◌, List, length, false, not, IfErr, IsTrue, OnOk};
+ghost use Rattle.std.specs.Prelude.{◌≡◌, ◌⊎◌, ◌<◌, ◌^◌, ◌∷◌, List, length, false, not, true, IfErr, IsTrue, OnOk};
 ghost use Rattle.std.specs.Option.{option_map};
 ghost use Rattle.failure.specs.Counts.{Rose};
 ghost use Rattle.disk_model.specs.Crash.{SameDisk};
@@ -8,11 +8,10 @@ ghost use Rattle.kv_model.specs.Decisions.{Demand};
 ghost use Rattle.engine_store.specs.Images.{EachReads};
 ghost use Rattle.dump_text.specs.Grammar.{Row};
 ghost use Rattle.engine_store.specs.Opened.{IsReady};
-ghost use Rattle.wt_tool.specs.Loads.{LoadsRows, LoadsText, PutsRows, loaded_name};
+ghost use Rattle.wt_tool.specs.Loads.{ClosesLoad, LoadsRows, LoadsText, PutsRow, PutsRows, loaded_name};
 ghost use Rattle.wt_tool.specs.Writes.{demand_of};
-ghost use Rattle.wt_tool.specs.Parts.{EndsLoad, IsOpenedOn, LeavesFrom, LoadEnds, LoadsFrom, TellsSpoilt, end_of, load_allowed};
-ghost use Rattle.wt_tool.specs.Led.{CallWent, Leading, LedBy};
-ghost use Rattle.wt_tool.specs.Points.{Closes};
+ghost use Rattle.wt_tool.specs.Parts.{EndsLoad, IsOpenedOn, LeavesFrom, LoadEnds, LoadsFrom, NoDamage, TellsSpoilt, end_of, load_allowed};
+ghost use Rattle.wt_tool.specs.Led.{CallWent, Leading, LedBy, LoadWent, OutWent, WentOut};
 ghost use Rattle.wt_tool.specs.Top.{Telling, errors_of};
 
 use crate::closing::close;
@@ -22,6 +21,7 @@ use crate::names::{after_scheme, item_of};
 use crate::sessions::{call, open};
 use crate::telling::tell;
 use crate::write::{commit, demand_for};
+use byte_order::order;
 use ckpt_step::plain_stays;
 use disk_model::Disk;
 use dump_text::{DumpRows, read_dump};
@@ -30,8 +30,23 @@ use item::{Formats, Item};
 use script_run::End;
 use std::alloc::Global;
 use wt_calls::SessionCall;
-use wt_code::Refusal;
+use wt_code::{Fault, Refusal};
 use wt_io::{Sink, Source};
+
+// After so many rows of a new table the leaves that have them go out of memory: some megabytes of them
+// are held at a time, and one that is put to again is read and written anew.
+const ROWS_BETWEEN: u32 = 2_000;
+
+// How the rows of a load come.
+#[derive(Drop)]
+struct Pace {
+    // How many came since rows last went out of memory.
+    since: u32,
+    // The key of the first of them.
+    first: Option<Item>,
+    // Whether each was above the first one.
+    ascends: bool,
+}
 
 pub(crate) fn load<D: Disk, S: Source, E: Sink>(
     alloc: Global,
@@ -168,25 +183,104 @@ fn put_all<D: Disk>(
 ) -> Result<(), Refusal>
     requires none { length store.old.engine.sessions ≡ 0 }
     requires ready { IsReady store.old }
-    ensures led { Leading D.Disk store.old disk.old (λ start first w. LedBy D.Disk start first w store.new disk.old disk.new (LoadsRows name.now formats (demand_of overwrite) rows.entry) Closes result) }
-    ensures went { CallWent D.Disk store.old store.new disk.old disk.new result }
+    ensures led { Leading D.Disk store.old disk.old (λ start first w. LedBy D.Disk start first w store.new disk.old disk.new (LoadsRows name.now formats (demand_of overwrite) rows.entry) ClosesLoad result) }
+    ensures went { LoadWent D.Disk store.old store.new disk.old disk.new result }
 {
     let mut rows = rows;
     match open_and_make::<D>(alloc, store, name, formats) {
         Ok(()) => {}
         Err(refusal) => return Err(refusal),
     }
+    let is_new = has_no_rows(store, name);
+    let mut pace = Pace {
+        since: 0,
+        first: None,
+        ascends: true,
+    };
     'rows: loop {
         match rows.next(alloc) {
-            Ok(Some((key, value))) => match put_row(
-                alloc, disk, store, overwrite, name, key, value,
-            ) {
-                Ok(()) => {}
-                Err(refusal) => return Err(refusal),
-            },
+            Ok(Some((key, value))) => {
+                let due = is_due(&mut pace, &key, is_new);
+                match put_next(alloc, disk, store, overwrite, name, key, value, due) {
+                    Ok(()) => {}
+                    Err(refusal) => return Err(told_as(refusal, is_new)),
+                }
+            }
             Ok(None) => return Ok(()),
             Err(_) => return Err(Refusal::NoMemory),
         }
+    }
+}
+
+// Whether the table of this name has no rows on the device: one leaf, whose link leads to none.
+fn has_no_rows(store: &Store, name: &[u8]) -> bool {
+    let Some(place) = store.engine.tables().find(name) else {
+        return false;
+    };
+    let Some(table) = store.engine.tables().table(place) else {
+        return false;
+    };
+    let mut leaves = store.engine.leaves().leaves_of(table.number);
+    match leaves.next_leaf() {
+        None => true,
+        Some(leaf) => leaf.entry.link.greatest.id == 0 && leaves.next_leaf().is_none(),
+    }
+}
+
+// Counts a row. Whether so many were put since rows last went out of memory, of a table that is new,
+// each above the first of them. Once one is not, no more go out: a leaf that is put to again and again
+// would be read and written as often.
+fn is_due(pace: &mut Pace, key: &Item, is_new: bool) -> bool
+    ensures { is_new ≡ false → result ≡ false }
+{
+    if !is_new || !pace.ascends {
+        return false;
+    }
+    let Some(first) = &pace.first else {
+        begin(pace, key);
+        return false;
+    };
+    if !is_above(key, first) {
+        pace.ascends = false;
+        return false;
+    }
+    if pace.since < ROWS_BETWEEN {
+        pace.since += 1;
+        return false;
+    }
+    begin(pace, key);
+    true
+}
+
+// The row of this key is the first that came since.
+fn begin(pace: &mut Pace, key: &Item) {
+    pace.since = 1;
+    pace.first = key.copy().ok();
+}
+
+fn is_above(key: &Item, other: &Item) -> bool {
+    order(key.as_bytes(), other.as_bytes()).is_gt()
+}
+
+// How it is told that a row was refused. A new table has no leaf to read but those that this load wrote:
+// where one of them is damaged, its write is what failed.
+fn told_as(refusal: Refusal, is_new: bool) -> Refusal
+    ensures new { is_new ≡ true → NoDamage result }
+    ensures old { is_new ≡ false → result ≡ refusal }
+    ensures calm { NoDamage refusal → result ≡ refusal }
+    ensures fault { result ≡ Refusal.DiskFault → refusal ≡ Refusal.DiskFault }
+{
+    match refusal {
+        Refusal::Corrupt { offset, .. } => {
+            if is_new {
+                Refusal::Panic {
+                    fault: Fault::Write(offset),
+                }
+            } else {
+                refusal
+            }
+        }
+        _ => refusal,
     }
 }
 
@@ -208,8 +302,8 @@ fn open_and_make<D: Disk>(
     }
 }
 
-// Puts one row, in a transaction.
-fn put_row<D: Disk>(
+// Puts the next row, and has rows go out of memory first, where that is due.
+fn put_next<D: Disk>(
     alloc: Global,
     disk: &mut D,
     store: &mut Store,
@@ -217,16 +311,81 @@ fn put_row<D: Disk>(
     name: &[u8],
     key: Item,
     value: Item,
+    due: bool,
 ) -> Result<(), Refusal>
     requires there { 0 < length store.old.engine.sessions }
     requires ready { IsReady store.old }
     ensures led { (rows : List Row) → Leading D.Disk store.old disk.old (λ start first w. LedBy D.Disk start first w store.new disk.old disk.new (PutsRows name.now (demand_of overwrite) ((key, value) ∷ rows)) (PutsRows name.now (demand_of overwrite) rows) result) }
-    ensures went { CallWent D.Disk store.old store.new disk.old disk.new result }
+    ensures calm { Leading D.Disk store.old disk.old (λ start first w. IfErr result NoDamage) }
+    ensures went { OutWent D.Disk store.old store.new disk.old disk.new result }
+    ensures looked { due ≡ false → CallWent D.Disk store.old store.new disk.old disk.new result }
     ensures there { length store.new.engine.sessions ≡ length store.old.engine.sessions }
 {
     let Ok(table) = item_of(alloc, name) else {
         return Err(Refusal::NoMemory);
     };
+    match make_room(alloc, disk, store, due) {
+        Ok(()) => put_row(alloc, disk, store, overwrite, table, key, value),
+        Err(refusal) => Err(refusal),
+    }
+}
+
+// Has the rows go out of memory that were put, where that is due. What is in the way of it stays, and the
+// next call tells of it, but a fault of the disk.
+fn make_room<D: Disk>(
+    alloc: Global,
+    disk: &mut D,
+    store: &mut Store,
+    due: bool,
+) -> Result<(), Refusal>
+    ensures out { Leading D.Disk store.old disk.old (λ start first w. WentOut D.Disk start first w store.new disk.old disk.new result) }
+    ensures went { OutWent D.Disk store.old store.new disk.old disk.new result }
+    ensures fault { IfErr result (λ r. r ≡ Refusal.DiskFault) }
+    ensures looked { due ≡ false → CallWent D.Disk store.old store.new disk.old disk.new result }
+    ensures there { length store.new.engine.sessions ≡ length store.old.engine.sessions }
+{
+    if !due {
+        return Ok(());
+    }
+    match store.write_out(alloc, disk) {
+        Ok(()) => Ok(()),
+        Err(refusal) => {
+            if is_disk_fault(refusal) {
+                Err(refusal)
+            } else {
+                Ok(())
+            }
+        }
+    }
+}
+
+fn is_disk_fault(refusal: Refusal) -> bool
+    ensures yes { IsTrue result → refusal ≡ Refusal.DiskFault }
+    ensures no { result ≡ false → refusal ≡ Refusal.DiskFault → ⊥ }
+{
+    match refusal {
+        Refusal::DiskFault => true,
+        _ => false,
+    }
+}
+
+// Puts one row, in a transaction.
+fn put_row<D: Disk>(
+    alloc: Global,
+    disk: &mut D,
+    store: &mut Store,
+    overwrite: bool,
+    table: Item,
+    key: Item,
+    value: Item,
+) -> Result<(), Refusal>
+    requires there { 0 < length store.old.engine.sessions }
+    requires ready { IsReady store.old }
+    ensures led { (rows : List Row) → Leading D.Disk store.old disk.old (λ start first w. LedBy D.Disk start first w store.new disk.old disk.new (PutsRow table (demand_of overwrite) (key, value) (PutsRows table (demand_of overwrite) rows)) (PutsRows table (demand_of overwrite) rows) result) }
+    ensures calm { Leading D.Disk store.old disk.old (λ start first w. IfErr result NoDamage) }
+    ensures went { CallWent D.Disk store.old store.new disk.old disk.new result }
+    ensures there { length store.new.engine.sessions ≡ length store.old.engine.sessions }
+{
     match call(alloc, disk, store, SessionCall::Begin(None)) {
         Ok(()) => {}
         Err(refusal) => return Err(refusal),

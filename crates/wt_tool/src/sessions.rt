@@ -1,11 +1,12 @@
 // The calls of a command's one session.
-ghost use Rattle.std.specs.Prelude.{◌≡◌, ◌<◌, length, OnOk};
+ghost use Rattle.std.specs.Prelude.{◌≡◌, ◌<◌, length, IfErr, OnOk};
 ghost use Rattle.kv_model.specs.Calls.{Session as BySession};
 ghost use Rattle.wt_calls.specs.Calls.{session_call_in};
 ghost use Rattle.engine_world.specs.Stands.{Stands};
 ghost use Rattle.engine_world.specs.Worlds.{World};
 ghost use Rattle.wt_tool.specs.Led.{DoneBy, IsWord, Leading, OpenedBy, CallWent};
 ghost use Rattle.wt_tool.specs.Openings.{formats_at};
+ghost use Rattle.wt_tool.specs.Parts.{NoDamage};
 ghost use Rattle.engine_store.specs.Opened.{IsReady};
 
 use crate::names::plain_formats;
@@ -44,6 +45,7 @@ pub(crate) fn call<D: Disk>(
     requires there { 0 < length store.old.engine.sessions }
     requires ready { IsReady store.old }
     ensures led { Leading D.Disk store.old disk.old (λ start first w. DoneBy D.Disk start first w store.new disk.old disk.new (BySession 0) (session_call_in call) result) }
+    ensures calm { Leading D.Disk store.old disk.old (λ start first w. IfErr result NoDamage) }
     ensures went { CallWent D.Disk store.old store.new disk.old disk.new result }
     ensures there { length store.new.engine.sessions ≡ length store.old.engine.sessions }
 {

@@ -10,7 +10,7 @@ ghost use Rattle.engine_store.specs.Opened.{IsReady};
 ghost use Rattle.wt_line.specs.Line.{pair_texts};
 ghost use Rattle.wt_tool.specs.Points.{Closes, WithSession};
 ghost use Rattle.wt_tool.specs.Writes.{RunsWrite, PutsPairs, demand_of, the_put};
-ghost use Rattle.wt_tool.specs.Parts.{IsOpenedOn, LeavesFrom, TellsSpoilt};
+ghost use Rattle.wt_tool.specs.Parts.{IsOpenedOn, LeavesFrom, NoDamage, TellsSpoilt};
 ghost use Rattle.wt_tool.specs.Led.{CallWent, DoneBy, IsWord, Leading, LedBy, PutsBegun};
 
 use crate::closing::close;
@@ -133,6 +133,7 @@ pub(crate) fn commit<D: Disk>(alloc: Global, disk: &mut D, store: &mut Store) ->
     requires there { 0 < length store.old.engine.sessions }
     requires ready { IsReady store.old }
     ensures led { Leading D.Disk store.old disk.old (λ start first w. DoneBy D.Disk start first w store.new disk.old disk.new (BySession 0) (Commit None None) result) }
+    ensures calm { Leading D.Disk store.old disk.old (λ start first w. IfErr result NoDamage) }
     ensures went { CallWent D.Disk store.old store.new disk.old disk.new result }
     ensures there { length store.new.engine.sessions ≡ length store.old.engine.sessions }
 {

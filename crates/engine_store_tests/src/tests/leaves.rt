@@ -36,7 +36,7 @@ fn device_of_leaves(rt: &impl Abort, alloc: Global) -> Vec<u8> {
 }
 
 // How many frames have a leaf.
-fn framed(bench: &Bench) -> usize {
+pub(super) fn framed(bench: &Bench) -> usize {
     let frames = u32::try_from(bench.store.engine.frames()).unwrap_or(0);
     let mut count = 0usize;
     for frame in 0..frames {

@@ -31,7 +31,7 @@ returns-in_default g c =
     let keeps = c.reply_of.ensures.keeps in
     record {
       replies = λ honest first stamped s later at same.
-          actor_told g.D.Disk first store store' disk disk' c.args.line laws stamped s told c.reply_of.new.formats now at
+          actor_told g.D.Disk first store store' disk disk' c.args.line laws stamped s told c.reply_of.new.formats now at keeps.ground
           (c.reply_of.ensures.replied honest first s (record { held = at.held; device = at.device }) (same ∙ sym c.as_mut_slice.ensures.value));
       told = c.reply_of.ensures.told;
       damage = tt;

@@ -1,5 +1,5 @@
 use Rattle.std.specs.Option.{option_map}
-use Rattle.std.proofs.Common.{◌≡◌, Some, None, Ok, Err, List, ℕ, Bor, subst, Option}
+use Rattle.std.proofs.Common.{◌≡◌, ◌∙◌, Some, None, Ok, Err, List, ℕ, Bor, subst, Option}
 use Rattle.device_leaf.proofs.Opens.{err_map}
 use Rattle.item.specs.declared.Formats.{Formats}
 use Rattle.wt_code.specs.declared.refusals.Refusal.TheVariants.{Invalid as Refusal_Invalid}
@@ -10,7 +10,7 @@ use Rattle.wt_tool.specs.Points.{Point, Ran, point_of, Closes}
 use Rattle.wt_tool.specs.Openings.{Configured}
 use Rattle.wt_tool.specs.Creates.{MakesTable, RunsCreate}
 use Rattle.wt_tool.proofs.Leading.{made_led}
-use Rattle.wt_tool.proofs.Leaving.{first_of, first_holds, left_as, left_behind, left_refused, untouched}
+use Rattle.wt_tool.proofs.Leaving.{first_of, first_holds, left_as, left_behind, left_refused, left_unwritten, untouched}
 use Rattle.wt_tool.proofs.Naming.{named_goes, named_none, configured_goes, configured_refused, unconfigured_no_fault, unconfigured_sound}
 use Rattle.wt_tool.proofs.Went.{damage_none, refused_fault, refused_spoilt}
 use Rattle.wt_tool.proofs.create.create.Goals as goal
@@ -57,9 +57,9 @@ returns-in-Ok-make-clause-run g c h content each =
     let Run : Point → Ran → Type 0 = MakesTable c.in-Some.name.now c.in-Ok.formats Closes in
     left_as D disk (start content).completed Run (RunsCreate (words c.args.config) c.args.uri.now) (point_of D (start content) disk) c.close.new.disk c.close.result
     (whole (words c.args.config) c.args.uri.now c.in-Some.name.now c.in-Ok.formats (subst (λ (l : List ℕ). name_in l ≡ Some c.in-Some.name.now) c.as_bytes.ensures.value c.in-Some.ensures.name) c.in-Ok.ensures.formats (point_of D (start content) disk))
-    (left_behind D disk (start content).completed Run w c.make.new.store disk disk c.close.new.disk c.close.result
+    (left_behind D disk (start content).completed Run w c.make.new.store disk disk Closes c.close.new.disk c.close.result
     (made_led D disk (start content).completed c.in-Some.name.now c.in-Ok.formats Closes w c.make.new.store disk disk (Ok tt) (c.in-Ok-make.ensures.led disk h disk (start content).completed w holds))
-    (λ v held. c.close.ensures.run h disk (start content).completed v held))
+    (λ v held. left_unwritten D disk (start content).completed c.make.new.store.ground.lives (point_of D v.machine disk) c.close.new.disk c.close.result ((c.in-Ok-make.ensures.went disk).lives ∙ on.none) (c.close.ensures.run h disk (start content).completed v held)))
 
 pub returns-in-Ok-make-clause-sound : goal.returns-in-Ok-make-clause-sound
 returns-in-Ok-make-clause-sound g c = err_map c.close.result c.close.ensures.sound (damage_none _ _)

@@ -1,17 +1,17 @@
 use Rattle.std.specs.Option.{option_map}
 use Rattle.std.proofs.Common.{Err, List, ℕ, Bool, Bor, Option, subst}
-use Rattle.disk_model.proofs.Crash.{looked_same, same_disk_then}
+use Rattle.disk_model.proofs.Crash.{same_disk_then}
 use Rattle.device_leaf.proofs.Opens.{err_map, rose_sooner}
 use Rattle.kv_model.specs.Content.{start}
 use Rattle.dump_text.specs.declared.whole.Dumped.{Dumped}
 use Rattle.dump_text.specs.Cuts.{lines_in}
 use Rattle.dump_text.specs.Texts.{IsDumped, IsRefused}
-use Rattle.wt_tool.specs.Points.{Closes, Point, Ran, point_of}
-use Rattle.wt_tool.specs.Loads.{LoadsRows, LoadsText}
+use Rattle.wt_tool.specs.Points.{Point, Ran, point_of}
+use Rattle.wt_tool.specs.Loads.{ClosesLoad, LoadsRows, LoadsText}
 use Rattle.wt_tool.specs.Writes.{demand_of}
-use Rattle.wt_tool.proofs.Leaving.{first_of, first_holds, left_as, left_behind, left_refused, untouched}
+use Rattle.wt_tool.proofs.Leaving.{first_of, first_holds, left_as, left_behind, left_loaded, left_refused, untouched}
 use Rattle.wt_tool.proofs.LoadEnds.{dumped_text, refused_calm, refused_sound, refused_text}
-use Rattle.wt_tool.proofs.Went.{damage_none, refused_fault, refused_spoilt, still_honest}
+use Rattle.wt_tool.proofs.Went.{damage_none, same_honest}
 use Rattle.wt_tool.proofs.load.load_text.Goals as goal
 
 abbrev Renamed : Option (Bor (List ℕ)) → Option (List ℕ)
@@ -45,17 +45,18 @@ returns-in-Ok-put_all-clause-run g c h content each =
     let Run : Point → Ran → Type 0 = Loads c.args.overwrite c.loaded_name-name.result.now c.in-Ok.dumped in
     left_as D disk (start content).completed Run (LoadsText c.args.overwrite (Renamed c.args.renamed) c.args.ended c.args.text.items) (point_of D (start content) disk) c.close.new.disk c.close.result
     (λ ran run. dumped_text c.args.overwrite (Renamed c.args.renamed) c.args.ended c.args.text.items c.in-Ok.dumped c.loaded_name-name.result.now (point_of D (start content) disk) ran c.in-Ok.ensures.ended (subst (λ (l : List ℕ). IsDumped (lines_in l) c.in-Ok.dumped) c.deref.ensures.value c.in-Ok.ensures.dump) c.loaded_name-name.ensures run)
-    (left_behind D disk (start content).completed Run w c.put_all.new.store disk c.put_all.new.disk c.close.new.disk c.close.result (c.in-Ok-put_all.ensures.led h disk (start content).completed w holds)
-    (λ v held. c.close.ensures.run (still_honest D disk c.put_all.new.disk c.in-Ok-put_all.ensures.went.looked h) disk (start content).completed v held))
+    (left_behind D disk (start content).completed Run w c.put_all.new.store disk c.put_all.new.disk ClosesLoad c.close.new.disk c.close.result (c.in-Ok-put_all.ensures.led h disk (start content).completed w holds)
+    (λ v held. left_loaded D disk (start content).completed c.put_all.new.store.ground.lives (point_of D v.machine c.put_all.new.disk) c.close.new.disk c.close.result
+    (c.close.ensures.run (same_honest D disk c.put_all.new.disk c.in-Ok-put_all.ensures.went.disk h) disk (start content).completed v held)))
 
 pub returns-in-Ok-put_all-clause-sound : goal.returns-in-Ok-put_all-clause-sound
 returns-in-Ok-put_all-clause-sound g c = err_map c.close.result c.close.ensures.sound (damage_none _ _)
 
 pub returns-in-Ok-put_all-clause-fault : goal.returns-in-Ok-put_all-clause-fault
-returns-in-Ok-put_all-clause-fault g c = err_map c.close.result c.close.ensures.fault (λ r why is. rose_sooner _ _ _ c.in-Ok-put_all.ensures.went.looked.count (why is))
+returns-in-Ok-put_all-clause-fault g c = err_map c.close.result c.close.ensures.fault (λ r why is. rose_sooner _ _ _ c.in-Ok-put_all.ensures.went.disk.later (why is))
 
 pub returns-in-Ok-put_all-clause-disk : goal.returns-in-Ok-put_all-clause-disk
-returns-in-Ok-put_all-clause-disk g c = same_disk_then g.D.Disk c.args.disk.now c.put_all.new.disk c.close.new.disk (looked_same g.D.Disk c.args.disk.now c.put_all.new.disk c.in-Ok-put_all.ensures.went.looked c.in-Ok-put_all.ensures.went.home) c.close.ensures.disk
+returns-in-Ok-put_all-clause-disk g c = same_disk_then g.D.Disk c.args.disk.now c.put_all.new.disk c.close.new.disk c.in-Ok-put_all.ensures.went.disk c.close.ensures.disk
 
 pub returns-in-Err-put_all-clause-run : goal.returns-in-Err-put_all-clause-run
 returns-in-Err-put_all-clause-run g c h content each =
@@ -68,13 +69,13 @@ returns-in-Err-put_all-clause-run g c h content each =
     let Run : Point → Ran → Type 0 = Loads c.args.overwrite c.loaded_name-name.result.now c.in-Ok.dumped in
     left_as D disk (start content).completed Run (LoadsText c.args.overwrite (Renamed c.args.renamed) c.args.ended c.args.text.items) (point_of D (start content) disk) c.put_all.new.disk (Err c.in-Err-put_all.refusal)
     (λ ran run. dumped_text c.args.overwrite (Renamed c.args.renamed) c.args.ended c.args.text.items c.in-Ok.dumped c.loaded_name-name.result.now (point_of D (start content) disk) ran c.in-Ok.ensures.ended (subst (λ (l : List ℕ). IsDumped (lines_in l) c.in-Ok.dumped) c.deref.ensures.value c.in-Ok.ensures.dump) c.loaded_name-name.ensures run)
-    (left_refused D disk (start content).completed Run w c.put_all.new.store disk c.put_all.new.disk Closes c.in-Err-put_all.refusal (c.in-Err-put_all.ensures.led h disk (start content).completed w holds))
+    (left_refused D disk (start content).completed Run w c.put_all.new.store disk c.put_all.new.disk ClosesLoad c.in-Err-put_all.refusal (c.in-Err-put_all.ensures.led h disk (start content).completed w holds))
 
 pub returns-in-Err-put_all-clause-sound : goal.returns-in-Err-put_all-clause-sound
-returns-in-Err-put_all-clause-sound g c = refused_spoilt g.D.Disk c.args.store c.put_all.new.store c.args.disk.now c.put_all.new.disk c.requires.none c.in-Err-put_all.refusal c.in-Err-put_all.ensures.went (λ h. (c.requires.on h).outset) (λ h. (c.requires.on h).spoils)
+returns-in-Err-put_all-clause-sound g c = c.in-Err-put_all.ensures.went.sound (λ h. (c.requires.on h).outset) (λ h. (c.requires.on h).spoils)
 
 pub returns-in-Err-put_all-clause-fault : goal.returns-in-Err-put_all-clause-fault
-returns-in-Err-put_all-clause-fault g c = refused_fault g.D.Disk c.args.store c.put_all.new.store c.args.disk.now c.put_all.new.disk c.requires.none c.in-Err-put_all.refusal c.in-Err-put_all.ensures.went
+returns-in-Err-put_all-clause-fault g c = c.in-Err-put_all.ensures.went.fault
 
 pub returns-in-Err-put_all-clause-disk : goal.returns-in-Err-put_all-clause-disk
-returns-in-Err-put_all-clause-disk g c = looked_same g.D.Disk c.args.disk.now c.put_all.new.disk c.in-Err-put_all.ensures.went.looked c.in-Err-put_all.ensures.went.home
+returns-in-Err-put_all-clause-disk g c = c.in-Err-put_all.ensures.went.disk

@@ -1,5 +1,5 @@
 use Rattle.std.specs.Option.{option_map}
-use Rattle.std.proofs.Common.{◌∙◌, ◌<◌, ◌^◌, length, List, ℕ, Bor, IsTrue, Option, sym, subst}
+use Rattle.std.proofs.Common.{◌<◌, ◌^◌, length, List, ℕ, Bor, IsTrue, Option, sym, subst}
 use Rattle.failure.specs.Counts.{Rose}
 use Rattle.wt_io.specs.Streams.{AtEnd, Gave}
 use Rattle.kv_model.specs.Content.{start}

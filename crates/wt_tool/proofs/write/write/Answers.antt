@@ -1,4 +1,4 @@
-use Rattle.std.proofs.Common.{◌≡◌, Some, None, Ok, Err, List, ℕ, Bool, subst}
+use Rattle.std.proofs.Common.{◌≡◌, ◌∙◌, Some, None, Ok, Err, List, ℕ, Bool, subst}
 use Rattle.disk_model.proofs.Crash.{looked_same, same_disk_then}
 use Rattle.device_leaf.proofs.Opens.{err_map, rose_sooner}
 use Rattle.wt_code.specs.declared.refusals.Refusal.TheVariants.{Invalid as Refusal_Invalid}
@@ -10,7 +10,7 @@ use Rattle.wt_tool.specs.Points.{Closes, Point, Ran, WithSession, point_of}
 use Rattle.wt_tool.specs.Writes.{PutsPairs, RunsWrite, WritesPairs, demand_of}
 use Rattle.wt_tool.proofs.Naming.{named_goes, named_none}
 use Rattle.wt_tool.proofs.Putting.{Words, writes_none, writes_some}
-use Rattle.wt_tool.proofs.Leaving.{first_of, first_holds, left_as, left_behind, left_refused, untouched}
+use Rattle.wt_tool.proofs.Leaving.{first_of, first_holds, left_as, left_behind, left_refused, left_unwritten, untouched}
 use Rattle.wt_tool.proofs.Went.{damage_none, refused_fault, refused_spoilt, still_honest}
 use Rattle.wt_tool.proofs.write.write.Goals as goal
 
@@ -44,8 +44,9 @@ returns-in-Ok-clause-run g c h content each =
     let holds = first_holds D disk c.args.store on content each reads c.plain_stays.ensures.starts (λ d left. g.met.D.Disk.only_now _ d left) in
     left_as D disk (start content).completed (Put c.args.overwrite c.args.pairs.now c.in-Some.name.now) (RunsWrite c.args.overwrite c.args.uri.now (pair_texts c.args.pairs.now)) (point_of D (start content) disk) c.close.new.disk c.close.result
     (λ ran run. named_goes c.args.uri.now (Written c.args.overwrite c.args.pairs.now) c.in-Some.name.now (subst (λ (l : List ℕ). name_in l ≡ Some c.in-Some.name.now) c.as_bytes.ensures.value c.in-Some.ensures.name) (point_of D (start content) disk) ran (writes_some c.in-Some.name.now (demand_of c.args.overwrite) c.args.pairs.now c.is_empty.result c.if-is_empty.false c.is_empty.ensures (point_of D (start content) disk) ran run))
-    (left_behind D disk (start content).completed (Put c.args.overwrite c.args.pairs.now c.in-Some.name.now) w c.put_all.new.store disk c.put_all.new.disk c.close.new.disk c.close.result (c.in-Ok.ensures.led h disk (start content).completed w holds)
-    (λ v held. c.close.ensures.run (still_honest D disk c.put_all.new.disk c.in-Ok.ensures.went.looked h) disk (start content).completed v held))
+    (left_behind D disk (start content).completed (Put c.args.overwrite c.args.pairs.now c.in-Some.name.now) w c.put_all.new.store disk c.put_all.new.disk Closes c.close.new.disk c.close.result (c.in-Ok.ensures.led h disk (start content).completed w holds)
+    (λ v held. left_unwritten D disk (start content).completed c.put_all.new.store.ground.lives (point_of D v.machine c.put_all.new.disk) c.close.new.disk c.close.result (c.in-Ok.ensures.went.lives ∙ on.none)
+    (c.close.ensures.run (still_honest D disk c.put_all.new.disk c.in-Ok.ensures.went.looked h) disk (start content).completed v held)))
 
 pub returns-in-Ok-clause-sound : goal.returns-in-Ok-clause-sound
 returns-in-Ok-clause-sound g c = err_map c.close.result c.close.ensures.sound (damage_none _ _)

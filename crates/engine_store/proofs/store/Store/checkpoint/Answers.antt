@@ -37,8 +37,8 @@ returns-in-Ok-clause-ready g c =
 pub returns-in-Err-clause-takes : goal.returns-in-Err-clause-takes
 returns-in-Err-clause-takes g c = λ h first_disk w first made held plain.
     checkpoints_by g.D.Disk first_disk c.args.disk.now c.checkpoint.new.disk (λ later d left. g.met.D.Disk.counts_now _ _ d later left) (λ d left. g.met.D.Disk.only_now _ d left) (g.met.D.Disk.reads_an_image c.args.disk.now h)
-    c.args.self.now (record c.args.self.now { engine = c.checkpoint.new.engine; ground = c.checkpoint.new.ground }) w first made held c.checkpoint.ensures.disk.later c.checkpoint.ensures.disk.room c.checkpoints_open.ensures c.downs_go.ensures plain (Err c.in-Err.refusal) c.in-Err.ensures.lives
-    (λ old on follows device. c.in-Err.ensures.takes h w held.stands held.idle old on follows device) c.in-Err.ensures.down
+    c.args.self.now (record c.args.self.now { engine = c.checkpoint.new.engine; ground = c.checkpoint.new.ground }) w first made held c.checkpoint.ensures.disk.later c.checkpoint.ensures.disk.room c.checkpoints_open.ensures c.downs_go.ensures plain (Err c.in-Err.refusal)
+    (λ old on follows device. c.in-Err.ensures.takes h w held.stands held.idle old on follows device) c.in-Err.ensures.down c.in-Err.ensures.lives
 
 pub returns-in-Err-clause-told : goal.returns-in-Err-clause-told
 returns-in-Err-clause-told g c = λ start le.

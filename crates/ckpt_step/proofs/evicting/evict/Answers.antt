@@ -1,0 +1,71 @@
+use Rattle.std.proofs.Common.{◌∙◌, List, ap, arith, inl, inr, length, refl, sym, subst}
+use Rattle.evict_step.specs.declared.cut.CutOut.{CutOut}
+use Rattle.evict_step.specs.Cuts.{AreCut, IsCutOut}
+use Rattle.reconcile.specs.declared.image.Image.{Image}
+use Rattle.ckpt_step.proofs.LedEnds.{down_led, stayed_led}
+use Rattle.ckpt_step.proofs.OutCuts.{is_none, not_none}
+use Rattle.ckpt_step.proofs.OutEnds.{refused_out, told_engine}
+use Rattle.ckpt_step.proofs.evicting.evict.Goals as goal
+
+pub returns-in-Some-clause-evicts : goal.returns-in-Some-clause-evicts
+returns-in-Some-clause-evicts g c h w stands idle old on follows device =
+    down_led g.D.Disk old w c.args.ground.now c.args.engine.now c.args.leaf c.args.disk.now (λ x is. g.met.D.Disk.only_now _ x is) on follows device c.in-Some.fault stands (sym c.in-Some.ensures)
+
+pub returns-in_default-cut_out-clause-evicts : goal.returns-in_default-cut_out-clause-evicts
+returns-in_default-cut_out-clause-evicts g c h w stands idle old on follows device =
+    inl (stayed_led g.D.Disk old w c.args.ground.now c.args.engine.now c.args.leaf c.args.disk.now (λ x is. g.met.D.Disk.only_now _ x is) on follows device, inr (inl refl))
+
+pub returns-in-Stays-clause-evicts : goal.returns-in-Stays-clause-evicts
+returns-in-Stays-clause-evicts g c h w stands idle old on follows device = (
+  stayed_led g.D.Disk old w c.args.ground.now c.args.engine.now c.args.leaf c.args.disk.now (λ x is. g.met.D.Disk.only_now _ x is) on follows device,
+  subst (λ (x : CutOut). IsCutOut c.args.engine.now c.args.leaf x) c.in-Stays.is c.in-Ok.ensures,
+)
+
+pub returns-in-Unresolved-clause-evicts : goal.returns-in-Unresolved-clause-evicts
+returns-in-Unresolved-clause-evicts g c h w stands idle old on follows device = (
+  stayed_led g.D.Disk old w c.args.ground.now c.args.engine.now c.args.leaf c.args.disk.now (λ x is. g.met.D.Disk.only_now _ x is) on follows device,
+  subst (λ (x : CutOut). IsCutOut c.args.engine.now c.args.leaf x) c.in-Unresolved.is c.in-Ok.ensures w stands,
+)
+
+pub returns-in-Moves-clause-evicts : goal.returns-in-Moves-clause-evicts
+returns-in-Moves-clause-evicts g c h w stands idle old on follows device = (
+  stayed_led g.D.Disk old w c.args.ground.now c.args.engine.now c.args.leaf c.args.disk.now (λ x is. g.met.D.Disk.only_now _ x is) on follows device,
+  subst (λ (x : CutOut). IsCutOut c.args.engine.now c.args.leaf x) c.in-Moves.is c.in-Ok.ensures,
+)
+
+pub returns-then-is_empty-clause-evicts : goal.returns-then-is_empty-clause-evicts
+returns-then-is_empty-clause-evicts g c h w stands idle old on follows device = (
+  stayed_led g.D.Disk old w c.args.ground.now c.args.engine.now c.args.leaf c.args.disk.now (λ x is. g.met.D.Disk.only_now _ x is) on follows device,
+  subst (λ (l : List Image). AreCut c.args.engine.now c.args.leaf l) (is_none c.in-Images.images.items c.in-Images.images.len (sym c.in-Images.images.ok.0) (sym c.is_empty.ensures ∙ c.if-is_empty.true))
+      (subst (λ (x : CutOut). IsCutOut c.args.engine.now c.args.leaf x) c.in-Images.is c.in-Ok.ensures),
+)
+
+pub returns-then-len-gt1-clause-evicts : goal.returns-then-len-gt1-clause-evicts
+returns-then-len-gt1-clause-evicts g c h w stands idle old on follows device = (
+  stayed_led g.D.Disk old w c.args.ground.now c.args.engine.now c.args.leaf c.args.disk.now (λ x is. g.met.D.Disk.only_now _ x is) on follows device,
+  record {
+    images = c.in-Images.images.items;
+    cut = subst (λ (x : CutOut). IsCutOut c.args.engine.now c.args.leaf x) c.in-Images.is c.in-Ok.ensures;
+    more = (let long = c.in-Images.images.ok.0 in let count = c.len.ensures in let more = c.if-len-gt1.true in omega (arith, long, count, more));
+  },
+)
+
+pub put_back-requires-clause-cut : goal.put_back-requires-clause-cut
+put_back-requires-clause-cut g c =
+    subst (λ (l : List Image). AreCut c.args.engine.now c.args.leaf l) (sym c.deref.ensures.value) (subst (λ (x : CutOut). IsCutOut c.args.engine.now c.args.leaf x) c.in-Images.is c.in-Ok.ensures)
+
+pub put_back-requires-clause-one : goal.put_back-requires-clause-one
+put_back-requires-clause-one g c =
+    let some = not_none c.in-Images.images.items c.in-Images.images.len (sym c.in-Images.images.ok.0) (sym c.is_empty.ensures ∙ c.if-is_empty.false) in
+    let few = c.if-len-gt1.false in
+    let count = c.len.ensures in
+    let long = c.in-Images.images.ok.0 in
+    ap (λ (l : List Image). length l) c.deref.ensures.value ∙ omega (arith, some, few, count, long)
+
+pub returns-clause-evicts : goal.returns-clause-evicts
+returns-clause-evicts g c h w stands idle old on follows device =
+    refused_out g.D.Disk old w c.args.ground.now c.put_back.new.ground c.args.engine.now c.tell.new.engine c.args.leaf c.args.disk.now c.put_back.new.disk c.in-Err.error c.put_back.new.engine c.tell.result
+    (c.in-Err.ensures.puts h w stands idle old on follows device) c.in-Err.ensures.fault c.tell.ensures.tells
+
+pub returns-clause-engine : goal.returns-clause-engine
+returns-clause-engine g c = told_engine c.args.engine.now c.put_back.new.engine c.tell.new.engine c.args.leaf c.in-Err.error c.tell.result c.in-Err.ensures.kept c.tell.ensures.tells

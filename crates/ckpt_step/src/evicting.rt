@@ -1,0 +1,166 @@
+// A leaf that is evicted to a block of its own while others are at work.
+ghost use Rattle.std.specs.Prelude.{◌≡◌, Option, Some, None, Err, length, IfErr, IfOk, OnErr, OnOk, IsTrue};
+ghost use Rattle.failure.specs.Counts.{Rose};
+ghost use Rattle.failure.specs.declared.Fault.{Fault as AFault};
+ghost use Rattle.wt_code.specs.StoreErrors.{IsOfDisk};
+ghost use Rattle.disk_model.specs.Crash.{SameDisk};
+ghost use Rattle.device_layout.specs.declared.link.Link.{Link as ALink};
+ghost use Rattle.stored.specs.Stored.{Stored};
+ghost use Rattle.engine_world.specs.Stands.{Stands};
+ghost use Rattle.engine_world.specs.Worlds.{World};
+ghost use Rattle.engine.specs.Evictions.{HasBeenEvicted};
+ghost use Rattle.evict_step.specs.Cuts.{AreCut};
+ghost use Rattle.ckpt_step.specs.EvictSteps.{IsLowOf, PutsBack};
+ghost use Rattle.ckpt_step.specs.Evicts.{EvictsEngine, Evicts};
+ghost use Rattle.ckpt_step.specs.Floors.{AreLivesOn, Follows};
+ghost use Rattle.ckpt_step.specs.Grounds.{StandsOn};
+ghost use Rattle.ckpt_step.specs.Takes.{IsOfCheckpoint};
+
+use crate::ground::Ground;
+use crate::leaves::{may_begin_behind, stand_from};
+use crate::moving_out::move_out;
+use crate::writing::is_within;
+use crate::writing_out::tell;
+use disk_model::Disk;
+use engine::{Local, Stays};
+use evict_step::{CutOut, cut_out};
+use failure::NoMemory;
+use item::Item;
+use leaf_write::write_leaves;
+use reconcile::Image;
+use std::alloc::Global;
+use wt_code::{Refusal, StoreError};
+
+/// How the eviction of a leaf went.
+#[derive(Clone, Copy, Debug, PartialEq, Eq)]
+pub enum Evicted {
+    /// It is in no frame, and is read from its new block when a call needs it.
+    Done,
+    /// It may not be evicted at this moment.
+    Stays(Stays),
+    /// It holds a version of the transaction of this id, which has not ended.
+    Unresolved(u64),
+    /// It holds an older version of a key that may still be wanted, and would have to move to the
+    /// history.
+    Moves,
+    /// It holds no key, so that there is no block to read it from.
+    Empty,
+    /// It holds more than one block has room for, and parts only while nobody is at work.
+    Grown,
+}
+
+/// Evicts a leaf to a block of its own, whoever is at work: the newest version of each of its keys is
+/// written as one block that the live tree alone has, and the leaf leaves its frame and leads to it. The
+/// next checkpoint keeps the block as it stands. Where the leaf was written since the last one before,
+/// its former block is free again.
+///
+/// But for `Done` it stays where it is, and nothing changed. Refused where the engine is down; `28 no
+/// space` where the device has no room for the block; `12 no memory` also where it has become shorter
+/// than its blocks. What was written is free again then, and nothing changed. A failed read leaves the
+/// engine up; a failed write takes it down, and the device has the last checkpoint still.
+///
+/// `O(n log n)` in the sessions and what their transactions wrote, and `O(rows + updates + bytes)` of
+/// the leaf, which is copied once into its image; one write, and one look-up each among the leaves and
+/// among those that were written since.
+pub fn evict<D: Disk>(
+    alloc: Global,
+    disk: &mut D,
+    ground: &mut Ground,
+    engine: &mut Local,
+    leaf: u64,
+) -> Result<Evicted, Refusal>
+    ensures evicts { IsTrue (D.honest disk.old) → (w : World) → Stands engine.old w → w.machine.checkpoint ≡ None → (old : Option Stored) → StandsOn (D.seen disk.old) (D.may_leave disk.old) engine.old.hub ground.old old
+        → Follows old engine.old.hub ground.old w → AreLivesOn (D.seen disk.old) engine.old.hub ground.old w → Evicts D.Disk old w ground.old ground.new engine.old engine.new leaf disk.old disk.new result }
+    ensures down { (fault : AFault) → engine.old.hub.fault ≡ Some fault → (result ≡ Err (Refusal.Panic fault)) × (engine.new ≡ engine.old) × (ground.new ≡ ground.old) × (disk.new ≡ disk.old) }
+    ensures refusals { IfErr result IsOfCheckpoint }
+    ensures fault { IfErr result (λ r. r ≡ Refusal.DiskFault → Rose (D.faults disk.old) (D.faults disk.new)) }
+    ensures number { ground.new.number ≡ ground.old.number }
+    ensures trees { ground.new.trees ≡ ground.old.trees }
+    ensures sessions { length engine.new.sessions ≡ length engine.old.sessions }
+    ensures hub { (engine.new.hub.tables ≡ engine.old.hub.tables) × (engine.new.hub.txns ≡ engine.old.hub.txns) }
+    ensures engine { EvictsEngine engine.old engine.new leaf result }
+    ensures disk { SameDisk D.Disk disk.old disk.new }
+{
+    if let Some(fault) = engine.fault() {
+        return Err(Refusal::Panic { fault });
+    }
+    let Ok(cut) = cut_out(alloc, engine, leaf) else {
+        return Err(Refusal::NoMemory);
+    };
+    let images = match cut {
+        CutOut::Stays(why) => return Ok(Evicted::Stays(why)),
+        CutOut::Unresolved(id) => return Ok(Evicted::Unresolved(id)),
+        CutOut::Moves => return Ok(Evicted::Moves),
+        CutOut::Images(images) => images,
+    };
+    if images.is_empty() {
+        return Ok(Evicted::Empty);
+    }
+    if images.len() > 1 {
+        return Ok(Evicted::Grown);
+    }
+    match put_back(alloc, disk, ground, engine, leaf, &images) {
+        Ok(()) => Ok(Evicted::Done),
+        Err(error) => Err(tell(engine, error)),
+    }
+}
+
+// Writes the only image of a leaf, and the leaf leaves its frame and leads to its block. After an error
+// what was written is given back, and nothing changed.
+fn put_back<D: Disk>(
+    alloc: Global,
+    disk: &mut D,
+    ground: &mut Ground,
+    engine: &mut Local,
+    leaf: u64,
+    images: &[Image],
+) -> Result<(), StoreError>
+    requires cut { AreCut engine.old leaf images.now }
+    requires one { length images.now ≡ 1 }
+    ensures puts { IsTrue (D.honest disk.old) → (w : World) → Stands engine.old w → w.machine.checkpoint ≡ None → (old : Option Stored) → StandsOn (D.seen disk.old) (D.may_leave disk.old) engine.old.hub ground.old old
+        → Follows old engine.old.hub ground.old w → AreLivesOn (D.seen disk.old) engine.old.hub ground.old w → PutsBack D.Disk old w ground.old ground.new engine.old engine.new leaf disk.old disk.new result }
+    ensures out { OnOk result ((link : ALink) × HasBeenEvicted engine.old engine.new leaf link) }
+    ensures kept { OnErr result (engine.new ≡ engine.old) }
+    ensures number { ground.new.number ≡ ground.old.number }
+    ensures trees { ground.new.trees ≡ ground.old.trees }
+    ensures sessions { length engine.new.sessions ≡ length engine.old.sessions }
+    ensures hub { (engine.new.hub.tables ≡ engine.old.hub.tables) × (engine.new.hub.txns ≡ engine.old.hub.txns) }
+    ensures fault { IfErr result (λ e. IsOfDisk e → Rose (D.faults disk.old) (D.faults disk.new)) }
+    ensures disk { SameDisk D.Disk disk.old disk.new }
+{
+    match is_within(disk, &ground.place.blocks) {
+        Ok(true) => {}
+        // A device that has become shorter than its blocks.
+        Ok(false) => return Err(StoreError::NoMemory),
+        Err(error) => return Err(error),
+    }
+    let Ok(low) = low_of(engine, leaf, images) else {
+        return Err(StoreError::NoMemory);
+    };
+    let blocks = &mut ground.place.blocks;
+    match write_leaves(alloc, disk, blocks, &low, images) {
+        Ok(entries) => {
+            let entry = &entries[0];
+            match move_out(ground, engine, leaf, entry.link) {
+                Ok(()) => Ok(()),
+                Err(_) => Err(StoreError::NoMemory),
+            }
+        }
+        Err(error) => Err(error),
+    }
+}
+
+// The low key of a leaf, from which its images stand. The error is want of memory.
+fn low_of(engine: &Local, leaf: u64, images: &[Image]) -> Result<Item, NoMemory>
+    ensures { IfOk result (λ low. IsLowOf engine.now leaf images.now low) }
+{
+    let Some(found) = engine.leaves().leaf(leaf) else {
+        return Err(NoMemory);
+    };
+    let low = found.entry.key.copy()?;
+    if may_begin_behind(&[], &low) && stand_from(images, &low) {
+        Ok(low)
+    } else {
+        Err(NoMemory)
+    }
+}

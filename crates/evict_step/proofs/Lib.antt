@@ -1,0 +1,3 @@
+pub mod HeldSeen
+pub mod HeldEnded
+pub mod Cutting

@@ -1,0 +1,71 @@
+//! What a leaf is cut into.
+
+ghost use Rattle.std.specs.Prelude.{◌≡◌, None, option_map, IfOk, IfSome};
+ghost use Rattle.leaf_capture.specs.Capture.{ChainsFit};
+ghost use Rattle.evict_step.specs.Cuts.{IsCutOf, IsCutOut, held_in};
+
+use crate::held::unresolved_in;
+use engine::{Local, Stays};
+use failure::NoMemory;
+use leaf_frame::LeafFrame;
+use reconcile::{Image, Live, keys_are_reconciled};
+use std::alloc::Global;
+use txn_table::ended_are_seen;
+
+/// What a leaf is cut into.
+#[derive(Drop)]
+pub enum CutOut {
+    /// It may not be evicted at this moment.
+    Stays(Stays),
+    /// It holds a version of the transaction of this id, which has not ended.
+    Unresolved(u64),
+    /// It holds an older version of a key that may still be wanted, and would have to move to the
+    /// history.
+    Moves,
+    /// The images of its rows, in the order of their keys; none where no key is held.
+    Images(Vec<Image>),
+}
+
+/// Cuts the leaf of this id into the images that are written where it is evicted: the newest version
+/// of each key, a removal too. Nothing is changed. The error is want of memory. `O(rows + updates +
+/// bytes)`, and `O(n log n)` in the sessions.
+pub fn cut_out(alloc: Global, engine: &Local, leaf: u64) -> Result<CutOut, NoMemory>
+    ensures { IfOk result (λ out. IsCutOut engine.now leaf out) }
+{
+    keys_are_reconciled();
+    if let Some(why) = engine.why_it_stays(leaf) {
+        return Ok(CutOut::Stays(why));
+    }
+    match frame_of(engine, leaf) {
+        None => Ok(CutOut::Stays(Stays::Away)),
+        Some(frame) => cut(alloc, engine, frame),
+    }
+}
+
+// The leaf of this id in its frame.
+fn frame_of(engine: &Local, leaf: u64) -> Option<&LeafFrame>
+    ensures is { option_map (λ l. l.now) result ≡ held_in engine.now leaf }
+    ensures fit { IfSome result (λ l. ChainsFit l.now.chains) }
+{
+    let framed = engine.leaves().frame(leaf)?;
+    engine.leaf_in(framed.frame)
+}
+
+// Cuts a leaf that is in a frame of this engine.
+fn cut(alloc: Global, engine: &Local, leaf: &LeafFrame) -> Result<CutOut, NoMemory>
+    requires fit { ChainsFit leaf.now.chains }
+    ensures { IfOk result (λ out. IsCutOf engine.now leaf.now out) }
+{
+    ended_are_seen();
+    let live = engine.checkpoint_snapshot(alloc)?;
+    if let Some(id) = unresolved_in(leaf, &live) {
+        return Ok(CutOut::Unresolved(id));
+    }
+    let horizon = engine.horizon();
+    let made = leaf.reconcile(alloc, Live::All, horizon.pin, horizon.floor)?;
+    if made.moved.as_slice().is_empty() {
+        Ok(CutOut::Images(made.images))
+    } else {
+        Ok(CutOut::Moves)
+    }
+}
