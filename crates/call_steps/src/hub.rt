@@ -119,8 +119,9 @@ fn leaf_for(dir: &Dir, call: KeyCall, state: &SessionState, table: u32) -> Optio
     }
 }
 
-// The leaf in which a row is sought first.
-fn leaf_of_row(dir: &Dir, table: u32, way: Way, start: Option<&[u8]>) -> Option<u64>
+/// The id of the leaf in which a row is sought first; none where there is no such table. `O(log n)` in the
+/// leaves.
+pub fn leaf_of_row(dir: &Dir, table: u32, way: Way, start: Option<&[u8]>) -> Option<u64>
     ensures { result ≡ option_map (λ l. l.id) (leaf_sought dir.now.leaves table (row_sought (way_in way) (option_map (λ k. k.now) start.entry))) }
 {
     match start {

@@ -17,7 +17,7 @@ use wt_calls::Way;
 
 /// What a search for a row finds.
 #[derive(Clone, Copy)]
-pub(crate) enum RowFound<'a> {
+pub enum RowFound<'a> {
     /// The key and the value.
     Row(&'a [u8], &'a [u8]),
     /// The transaction of this id has prepared an update of the nearest key.
@@ -39,7 +39,7 @@ pub(crate) enum Stepped {
 
 /// The nearest row on the way. `O(log n)` comparisons with n keys and rows for it and for each key
 /// that is passed.
-pub(crate) fn find_row<'a>(
+pub fn find_row<'a>(
     leaf: &'a LeafFrame,
     view: &View<'_>,
     way: Way,

@@ -17,7 +17,7 @@ use txn_table::Phase;
 use wt_code::{Answer, Invalid, Refusal};
 
 /// Why a call is refused in a phase, unless the transaction runs.
-pub(crate) fn unless_running(phase: Phase) -> Option<Invalid>
+pub fn unless_running(phase: Phase) -> Option<Invalid>
     ensures { result ≡ unless_running phase }
 {
     match phase {
@@ -254,7 +254,8 @@ fn unpin(cursors: &mut [Cursor], cursor: u32)
     }
 }
 
-fn place(cursors: &mut [Cursor], cursor: u32, position: Option<Position>)
+/// The cursor stands there, or nowhere.
+pub(crate) fn place(cursors: &mut [Cursor], cursor: u32, position: Option<Position>)
     ensures { cursors.new ≡ changed_at cursors.old cursor (placed position) }
 {
     let at = cursor as usize;

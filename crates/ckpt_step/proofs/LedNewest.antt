@@ -109,7 +109,7 @@ versions_same (u ∷ older) = ap (λ (vs : List (Version Change)). u.version ∷
 held_same : (f : Frame) (key : List ℕ) → held_of f key ≡ held_in (map update_in (chain_at key f.leaf.chains)) (shown_at key f.leaf.page)
 held_same f key = ap (λ (vs : List (Version Change)). vs ++ option_to_list (shown_at key f.leaf.page)) (versions_same (chain_at key f.leaf.chains))
 
-module _ (e : Engine) (w : World) (stands : Stands e w) (id : ℕ) (may : MayBeEvicted e id) (rows : List Row) (fit : AreFit rows) (is : IsEvictedTo w.machine e.hub.dir.leaves may.leaf may.frame rows) where
+module _ (e : Engine) (w : World) (stands : Stands e w) (id : ℕ) (may : MayBeEvicted e id) (rows : List Row) (fit : AreFit rows) (is : IsEvictedTo w.machine e.hub.dir.leaves may.leaf may.frame rows (λ key. [])) where
   abbrev leaves : List Leaf
   leaves = e.hub.dir.leaves
 
@@ -134,10 +134,10 @@ module _ (e : Engine) (w : World) (stands : Stands e w) (id : ℕ) (may : MayBeE
   lies r row = by (leaf_under may.leaf.table r.0 leaves) refl
     where
       by : (o : Option Leaf) → leaf_under may.leaf.table r.0 leaves ≡ o → leaf_under may.leaf.table r.0 leaves ≡ Some may.leaf
-      by None none = absurd (shown_there rows r row (is.bare r.0 (λ same. none_some (sym none ∙ same))))
+      by None none = absurd (shown_there rows r row (is.bare r.0 (λ same. none_some (sym none ∙ same))).0)
       by (Some x) some = elim (cases_eq x.id may.leaf.id) [
         | inl same ↦ some ∙ ap (λ (y : Leaf). Some y) (one_leaf e w x may.leaf stands (under-has e.hub.dir stands.dir may.leaf.table r.0 x some).there there same)
-        | inr differ ↦ absurd (shown_there rows r row (is.bare r.0 (λ same. differ (ap (λ (y : Leaf). y.id) (some_same (sym some ∙ same))))))
+        | inr differ ↦ absurd (shown_there rows r row (is.bare r.0 (λ same. differ (ap (λ (y : Leaf). y.id) (some_same (sym some ∙ same))))).0)
       ]
 
   pub evicted_rows : AreRowsIn w.machine leaves may.leaf rows

@@ -16,7 +16,7 @@ use Rattle.engine.specs.Evictions.{HasBeenEvicted, MayBeEvicted}
 use Rattle.engine_world.specs.Evicting.{IsEvictedTo, evicted, led_out, with_rows}
 use Rattle.engine_world.specs.GoingOut.{with_again}
 use Rattle.engine_world.specs.Stands.{Engine, Stands}
-use Rattle.engine_world.specs.Worlds.{World}
+use Rattle.engine_world.specs.Worlds.{World, without_records}
 use Rattle.evict_step.specs.Cuts.{AreCut}
 use Rattle.kv_model.specs.Holds.{Member}
 use Rattle.leaf_write.specs.Adds.{AreAdded}
@@ -95,20 +95,20 @@ more_led lives l link distinct new = record {
 
 -- a world in which calls may be told more is followed as well
 again_follows : (old : Option Stored) (hub : Hub) (g : Ground) (w : World) (e : Engine) (frame : ℕ) → Follows old hub g w → Follows old hub g (with_again e frame w)
-again_follows old hub g w e frame follows = record { respects = follows.respects; leaf = follows.leaf; since = follows.since }
+again_follows old hub g w e frame follows = record { respects = follows.respects; leaf = follows.leaf; since = follows.since; nothing = follows.nothing }
 
 -- ---- on a disk that was only looked at before
 
 module _ {D : Type 0} (g : Ghosts D) (before start : D) (looked : Looked g before start) (only : (c : List ℕ) → g.left_since before (g.moment before) c → g.may_leave before c) (old : Option Stored) (w : World) (stand : Ground) (e : Engine) (id : ℕ)
     (on : StandsOn (g.seen before) (g.may_leave before) e.hub stand old) (follows : Follows old e.hub stand w) (device : AreLivesOn (g.seen before) e.hub stand w)
-    (images : List Image) (cut : AreCut e id images) (one : length images ≡ 1) (low : List ℕ) (begins : IsLowOf e id images low) (stands : Stands e w) (idle : w.machine.checkpoint ≡ None) (after : D) (books : Books) where
+    (images : List Image) (cut : AreCut e id images []) (one : length images ≡ 1) (low : List ℕ) (begins : IsLowOf e id images low) (stands : Stands e w) (idle : w.machine.checkpoint ≡ None) (after : D) (books : Books) where
   abbrev pub own : LeavesOf images cut.rows
   own = leaves_of images cut.rows cut.are
 
   abbrev l : Leaf
   l = cut.may.leaf
 
-  is_evicted : IsEvictedTo w.machine e.hub.dir.leaves l cut.may.frame cut.rows
+  is_evicted : IsEvictedTo w.machine e.hub.dir.leaves l cut.may.frame cut.rows (λ key. [])
   is_evicted = cut.evicted w stands idle
 
   rows_in : AreRowsIn w.machine e.hub.dir.leaves l cut.rows
@@ -220,8 +220,8 @@ module _ {D : Type 0} (g : Ghosts D) (before start : D) (looked : Looked g befor
       hub_is : e'.hub ≡ record e.hub { dir = record e.hub.dir { leaves = changed l.id (led_out link) e.hub.dir.leaves } }
       hub_is = ap (λ (x : Engine). x.hub) out.is ∙ ap (λ (k : ℕ). let h : Hub = record e.hub { dir = record e.hub.dir { leaves = changed k (led_out link) e.hub.dir.leaves } } in h) (sym id_is)
 
-      rows_are : with_rows l.id cut.rows v ≡ with_rows id cut.rows v
-      rows_are = ap (λ (k : ℕ). with_rows k cut.rows v) id_is
+      rows_are : without_records l.id (with_rows l.id cut.rows v) ≡ without_records id (with_rows id cut.rows v)
+      rows_are = ap (λ (k : ℕ). without_records k (with_rows k cut.rows v)) id_is
 
       pub moved_out_led : LeftFrame g old w stand g' e e' id before after
       unfolding out
@@ -233,9 +233,9 @@ module _ {D : Type 0} (g : Ghosts D) (before start : D) (looked : Looked g befor
         stands = gone.stands cut.may w cut.rows stands is_evicted;
         on = subst (λ (hub : Hub). StandsOn (g.seen after) (g.may_leave after) hub g' old) (sym hub_is)
             (stands_led (g.seen start) (g.seen after) (g.may_leave start) (g.may_leave after) e w v stand g' old l link cut.rows next stands start_on follows_then start_device led image new books added wrote.may wrote.keeps within held lives_are let_go alike);
-        follows = subst (λ (x : World). Follows old e'.hub g' x) rows_are (subst (λ (hub : Hub). Follows old hub g' (with_rows l.id cut.rows v)) (sym hub_is)
+        follows = subst (λ (x : World). Follows old e'.hub g' x) rows_are (subst (λ (hub : Hub). Follows old hub g' (without_records l.id (with_rows l.id cut.rows v))) (sym hub_is)
             (follows_ground (g.seen start) (g.seen after) (g.may_leave start) (g.may_leave after) e w v stand g' old l link cut.rows next stands start_on follows_then start_device led image new books added wrote.may wrote.keeps within held lives_are let_go alike));
-        since = subst (λ (x : World). AreLivesOn (g.seen after) e'.hub g' x) rows_are (subst (λ (hub : Hub). AreLivesOn (g.seen after) hub g' (with_rows l.id cut.rows v)) (sym hub_is)
+        since = subst (λ (x : World). AreLivesOn (g.seen after) e'.hub g' x) rows_are (subst (λ (hub : Hub). AreLivesOn (g.seen after) hub g' (without_records l.id (with_rows l.id cut.rows v))) (sym hub_is)
             (device_ground (g.seen start) (g.seen after) (g.may_leave start) (g.may_leave after) e w v stand g' old l link cut.rows next stands start_on follows_then start_device led image new books added wrote.may wrote.keeps within held lives_are let_go alike));
         live = live_ground (g.seen start) (g.seen after) (g.may_leave start) (g.may_leave after) e w v stand g' old l link cut.rows next stands start_on follows_then start_device led image new books added wrote.may wrote.keeps within held lives_are let_go alike;
         freed = freed_ground (g.seen start) (g.seen after) (g.may_leave start) (g.may_leave after) e w v stand g' old l link cut.rows next stands start_on follows_then start_device led image new books added wrote.may wrote.keeps within held lives_are let_go alike;

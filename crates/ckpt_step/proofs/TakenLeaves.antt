@@ -30,7 +30,7 @@ use Rattle.tree_write.specs.Writes.{KeepSame}
 use Rattle.engine_world.specs.Stands.{Engine, Stands}
 use Rattle.engine_world.specs.Worlds.{World}
 use Rattle.ckpt_step.specs.Drafting.{AreCutOf, AreEntriesFrom, IsLeafDrafted}
-use Rattle.ckpt_step.specs.Floors.{AreNewestIn, IsLeafBefore}
+use Rattle.ckpt_step.specs.Floors.{AreNewestIn, IsLeafBefore, KeepsNothing}
 use Rattle.ckpt_step.specs.Parts.{IsPart, part_of}
 use Rattle.ckpt_step.specs.Rooms.{Written}
 use Rattle.ckpt_step.specs.Steps.{IsKept, IsLoaded}
@@ -80,22 +80,22 @@ module _ (law : CapturesAreNewest) (e : Engine) (w : World) (s : Sight) (stands 
   leaves = e.hub.dir.leaves
 
   -- the rows of its part are the newest
-  pub kept_newest : (rows : List Row) → IsKept e had floor l → IsLeafBefore w.machine w.shelf floor leaves had table l rows → AreNewestIn w.machine leaves table l rows
-  kept_newest rows (inl unloaded) before = elim (stands.leaves l there) [
+  pub kept_newest : KeepsNothing w → (rows : List Row) → IsKept e had floor l → IsLeafBefore w.machine w.shelf floor leaves had table l rows → AreNewestIn w.machine leaves table l rows
+  kept_newest nothing rows (inl unloaded) before = elim (stands.leaves l there) [
     | inl frame ↦ absurd (none_some (sym (unloaded w stands there) ∙ frame.laid.placed))
     | inr device ↦ λ key under.
-        let stand : StandsFor w.machine table key [] (shown_at key (w.shelf l.id)) [] = subst (λ (n : ℕ). StandsFor w.machine n key [] (shown_at key (w.shelf l.id)) []) own (device.keys key (subst (λ (n : ℕ). leaf_under n key leaves ≡ Some l) (sym own) under)) in
+        let stand : StandsFor w.machine table key [] (shown_at key (w.shelf l.id)) [] = subst (λ (n : ℕ). StandsFor w.machine n key [] (shown_at key (w.shelf l.id)) []) own (subst (λ (records : List (Version Change)). StandsFor w.machine l.table key [] (shown_at key (w.shelf l.id)) records) (nothing l.id key) (device.keys key (subst (λ (n : ℕ). leaf_under n key leaves ≡ Some l) (sym own) under))) in
         shelf_newest law w.machine s table key (shown_at key (w.shelf l.id)) stands.valid none sees stand ∙ ap (λ (m : List Row). shown_at key m) (sym (before.same (inl device.none)))
   ]
-  kept_newest rows (inr clean) before =
+  kept_newest nothing rows (inr clean) before =
       let stand = stands_in e w table l clean.held stands there own clean.loaded in
       clean_newest law w.machine s table leaves l clean.held clean.greatest floor rows stands.valid none sees stand.keys clean.loaded.chains_fit clean.loaded.rows_fit clean.none_above clean.under (before.before clean.part clean.there clean.below)
 
-  pub kept_drafted : (seen : List ℕ) (images : List (List Row)) → IsKept e had floor l → HasImages seen leaves table had w floor l images → IsLeafDrafted seen leaves had w table had l images
-  kept_drafted seen images kept has = record {
+  pub kept_drafted : KeepsNothing w → (seen : List ℕ) (images : List (List Row)) → IsKept e had floor l → HasImages seen leaves table had w floor l images → IsLeafDrafted seen leaves had w table had l images
+  kept_drafted nothing seen images kept has = record {
     is = has.is;
     many = sym (links_long (part_of had l)) ∙ kept_long seen (part_of had l) images has.on;
-    newest = kept_newest (join images) kept has.before;
+    newest = kept_newest nothing (join images) kept has.before;
     shelved = has.before.same;
     same = same_self seen (links_in (part_of had l)) images;
   }

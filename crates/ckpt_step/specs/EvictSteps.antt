@@ -15,7 +15,7 @@ use Rattle.tree_write.specs.Drafts.{AreFrom}
 use Rattle.engine_world.specs.Evicting.{IsEvictedTo, with_rows}
 use Rattle.engine_world.specs.GoingOut.{with_again}
 use Rattle.engine_world.specs.Stands.{Engine, Stands}
-use Rattle.engine_world.specs.Worlds.{World}
+use Rattle.engine_world.specs.Worlds.{World, without_records}
 use Rattle.engine.specs.Evictions.{HasBeenEvicted, MayBeEvicted}
 use Rattle.ckpt_step.specs.declared.ground.Ground.{Ground}
 use Rattle.ckpt_step.specs.CutOuts.{IsSameBut, LetGo, NotPut}
@@ -36,7 +36,7 @@ pub record IsLowOf (e : Engine) (id : ℕ) (images : List Image) (low : List ℕ
 
 -- in the world in which its block has the rows by which it may, the calls that had found it may be told so, and nobody else sees it
 abbrev pub StandsEvicted : Engine → Engine → ℕ → Type 0
-StandsEvicted e e' id = (may : MayBeEvicted e id) (w : World) (rows : List Row) → Stands e w → IsEvictedTo w.machine e.hub.dir.leaves may.leaf may.frame rows → Stands e' (with_rows id rows (with_again e may.framed.frame w))
+StandsEvicted e e' id = (may : MayBeEvicted e id) (w : World) (rows : List Row) → Stands e w → IsEvictedTo w.machine e.hub.dir.leaves may.leaf may.frame rows (λ key. []) → Stands e' (without_records id (with_rows id rows (with_again e may.framed.frame w)))
 
 module _ (e e' : Engine) (g g' : Ground) (id : ℕ) (link : Link) where
   -- where its former block stands, if it was written since

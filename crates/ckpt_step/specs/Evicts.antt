@@ -6,8 +6,8 @@ use Rattle.disk_model.specs.Crash.{LeavesOnly}
 use Rattle.disk_model.specs.declared.disk.Disk.{Ghosts}
 use Rattle.wt_code.specs.declared.refusals.Refusal.{Refusal}
 use Rattle.reconcile.specs.declared.image.Image.{Image}
+use Rattle.reconcile.specs.declared.image.Moved.{Moved}
 use Rattle.row_page.specs.Rows.{Row}
-use Rattle.leaf_frame.specs.Leaf.{HeldLeaf}
 use Rattle.snapshot.specs.Matters.{IsUnended}
 use Rattle.stored.specs.Stored.{Stored}
 use Rattle.checkpoint_core.specs.Finishes.{IsOld}
@@ -15,9 +15,9 @@ use Rattle.engine_world.specs.Evicting.{led_out, with_rows}
 use Rattle.engine_world.specs.GoingOut.{with_again}
 use Rattle.engine_world.specs.Stands.{Engine, Stands}
 use Rattle.engine_world.specs.Systems.{with_fault}
-use Rattle.engine_world.specs.Worlds.{World}
+use Rattle.engine_world.specs.Worlds.{World, without_records}
 use Rattle.engine.specs.Evictions.{HasBeenEvicted, KeepsLeaf}
-use Rattle.evict_step.specs.Cuts.{AreCut, HoldsOlder, held_in}
+use Rattle.evict_step.specs.Cuts.{AreCut}
 use Rattle.ckpt_step.specs.declared.evicting.Evicted.{Evicted}
 use Rattle.ckpt_step.specs.declared.evicting.Evicted.TheVariants.{Done, Stays, Unresolved, Moves, Empty, Grown}
 use Rattle.ckpt_step.specs.declared.ground.Ground.{Ground}
@@ -29,14 +29,17 @@ use Rattle.ckpt_step.specs.WritesOut.{NotWritten, RefusesOut}
 
 -- ---- a leaf that stays
 
--- an older version of a key of it is within reach
-abbrev pub HoldsOlderIn : Engine → ℕ → Type 0
-HoldsOlderIn e id = (held : HeldLeaf) × (held_in e id ≡ Some held) × HoldsOlder e held
+-- where it may be evicted, versions of its keys would move to the history
+pub record HasMoving (e : Engine) (id : ℕ) : Type 0 where
+  pub images : List Image
+  pub moved : List Moved
+  pub cut : AreCut e id images moved
+  pub some : 1 ≤ length moved
 
 -- it is cut into more than one image
 pub record IsGrown (e : Engine) (id : ℕ) : Type 0 where
   pub images : List Image
-  pub cut : AreCut e id images
+  pub cut : AreCut e id images []
   pub more : 2 ≤ length images
 
 -- ---- the engine then, whatever the disk
@@ -55,10 +58,10 @@ module _ {D : Type 0} (g : Ghosts D) (old : Option Stored) (w : World) (stand st
     pub rows : List Row
     pub out : HasBeenEvicted e e' id link
     pub left : LeavesOnly g before after (IsOld (g.may_leave before) old)
-    pub stands : Stands e' (with_rows id rows (with_again e out.may.framed.frame w))
+    pub stands : Stands e' (without_records id (with_rows id rows (with_again e out.may.framed.frame w)))
     pub on : StandsOn (g.seen after) (g.may_leave after) e'.hub stand' old
-    pub follows : Follows old e'.hub stand' (with_rows id rows (with_again e out.may.framed.frame w))
-    pub since : AreLivesOn (g.seen after) e'.hub stand' (with_rows id rows (with_again e out.may.framed.frame w))
+    pub follows : Follows old e'.hub stand' (without_records id (with_rows id rows (with_again e out.may.framed.frame w)))
+    pub since : AreLivesOn (g.seen after) e'.hub stand' (without_records id (with_rows id rows (with_again e out.may.framed.frame w)))
     pub live : is_live stand'.lives (led_out link out.may.leaf) ≡ true
     pub freed : is_live stand.lives out.may.leaf ≡ true → has_at stand'.lives out.may.leaf.entry.link.addr.offset ≡ false
     pub forgets : known_in stand'.parts id ≡ None
@@ -67,7 +70,7 @@ module _ {D : Type 0} (g : Ghosts D) (old : Option Stored) (w : World) (stand st
   Evicts (Ok Done) = LeftFrame
   Evicts (Ok (Stays why)) = NotWritten g old w stand stand' e e' id before after × KeepsLeaf e id why
   Evicts (Ok (Unresolved by)) = NotWritten g old w stand stand' e e' id before after × IsUnended w.machine by
-  Evicts (Ok Moves) = NotWritten g old w stand stand' e e' id before after × HoldsOlderIn e id
-  Evicts (Ok Empty) = NotWritten g old w stand stand' e e' id before after × AreCut e id []
+  Evicts (Ok Moves) = NotWritten g old w stand stand' e e' id before after × HasMoving e id
+  Evicts (Ok Empty) = NotWritten g old w stand stand' e e' id before after × AreCut e id [] []
   Evicts (Ok Grown) = NotWritten g old w stand stand' e e' id before after × IsGrown e id
   Evicts (Err r) = RefusesOut g old w stand stand' e e' id before after r

@@ -1,5 +1,5 @@
 // A leaf that is evicted to a block of its own while others are at work.
-ghost use Rattle.std.specs.Prelude.{◌≡◌, Option, Some, None, Err, length, IfErr, IfOk, OnErr, OnOk, IsTrue};
+ghost use Rattle.std.specs.Prelude.{◌≡◌, [], Option, Some, None, Err, length, IfErr, IfOk, OnErr, OnOk, IsTrue};
 ghost use Rattle.failure.specs.Counts.{Rose};
 ghost use Rattle.failure.specs.declared.Fault.{Fault as AFault};
 ghost use Rattle.wt_code.specs.StoreErrors.{IsOfDisk};
@@ -87,19 +87,21 @@ pub fn evict<D: Disk>(
     let Ok(cut) = cut_out(alloc, engine, leaf) else {
         return Err(Refusal::NoMemory);
     };
-    let images = match cut {
+    let made = match cut {
         CutOut::Stays(why) => return Ok(Evicted::Stays(why)),
         CutOut::Unresolved(id) => return Ok(Evicted::Unresolved(id)),
-        CutOut::Moves => return Ok(Evicted::Moves),
-        CutOut::Images(images) => images,
+        CutOut::Images(made) => made,
     };
-    if images.is_empty() {
+    if !made.moved.is_empty() {
+        return Ok(Evicted::Moves);
+    }
+    if made.images.is_empty() {
         return Ok(Evicted::Empty);
     }
-    if images.len() > 1 {
+    if made.images.len() > 1 {
         return Ok(Evicted::Grown);
     }
-    match put_back(alloc, disk, ground, engine, leaf, &images) {
+    match put_back(alloc, disk, ground, engine, leaf, &made.images) {
         Ok(()) => Ok(Evicted::Done),
         Err(error) => Err(tell(engine, error)),
     }
@@ -115,7 +117,7 @@ fn put_back<D: Disk>(
     leaf: u64,
     images: &[Image],
 ) -> Result<(), StoreError>
-    requires cut { AreCut engine.old leaf images.now }
+    requires cut { AreCut engine.old leaf images.now [] }
     requires one { length images.now ≡ 1 }
     ensures puts { IsTrue (D.honest disk.old) → (w : World) → Stands engine.old w → w.machine.checkpoint ≡ None → (old : Option Stored) → StandsOn (D.seen disk.old) (D.may_leave disk.old) engine.old.hub ground.old old
         → Follows old engine.old.hub ground.old w → AreLivesOn (D.seen disk.old) engine.old.hub ground.old w → PutsBack D.Disk old w ground.old ground.new engine.old engine.new leaf disk.old disk.new result }

@@ -53,7 +53,7 @@ counted-there e old count session same is below = subst (λ (n : ℕ). session <
 
 -- ---- at work and under way
 
-doing-works : (leaves : List Leaf) (session : ℕ) (a : State) → is_under_way (doing_in leaves session a) ≡ is_at_work a.stage
+pub doing-works : (leaves : List Leaf) (session : ℕ) (a : State) → is_under_way (doing_in leaves session a) ≡ is_at_work a.stage
 doing-works leaves session a = by-stage a.stage where
   stamps : (p : Phase) (given : CommitStamps) (left : ℕ) → is_under_way (stamping p given left a) ≡ true
   stamps phase.Idle given left = refl
@@ -94,11 +94,11 @@ doing-works leaves session a = by-stage a.stage where
   by-stage stage.Done = refl
   by-stage (stage.Unpin cursor) = refl
 
-at-rest : (g : Stage) → is_at_work g ≡ false → g ≡ stage.Rest
+pub at-rest : (g : Stage) → is_at_work g ≡ false → g ≡ stage.Rest
 at-rest stage.Rest isnt = refl
 at-rest _ isnt = absurd (cc)
 
-rest-is : (d : Doing) → is_under_way d ≡ false → d ≡ Resting
+pub rest-is : (d : Doing) → is_under_way d ≡ false → d ≡ Resting
 rest-is Resting isnt = refl
 rest-is (Asked call left) isnt = absurd (cc)
 rest-is (Placed call table left) isnt = absurd (cc)

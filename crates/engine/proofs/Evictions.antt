@@ -6,6 +6,8 @@ use Rattle.std.specs.Option.{is_some}
 use Rattle.std.proofs.lemmas.Bool.{cases_Bool}
 use Rattle.std.proofs.lemmas.List.{length-set}
 use Rattle.std.proofs.lemmas.Option.{same_Some}
+use Rattle.item.specs.declared.Change.{Change}
+use Rattle.stamp.specs.declared.Version.{Version}
 use Rattle.device_layout.specs.declared.link.Link.{Link}
 use Rattle.kv_model.specs.Droppable.{pin}
 use Rattle.kv_model.specs.History.{Table}
@@ -28,7 +30,7 @@ use Rattle.engine_world.specs.Evicting.{IsEvictedTo, LeavesAreEvicted, evicted, 
 use Rattle.engine_world.specs.GoingOut.{with_again}
 use Rattle.engine_world.specs.Leaves.{LeavesOwned, emptied, frame_in, generation_at}
 use Rattle.engine_world.specs.Stands.{Engine, Stands}
-use Rattle.engine_world.specs.Worlds.{World}
+use Rattle.engine_world.specs.Worlds.{World, with_records}
 use Rattle.engine_world.proofs.LeavesChanged.{changed-twice, contains-source}
 use Rattle.engine.specs.declared.evicting.Stays.{Stays}
 use Rattle.engine.specs.declared.evicting.Stays.TheVariants.{Away, Call, Pinned, Written, LastGeneration}
@@ -147,10 +149,11 @@ evicted-sound e id link frame sound = record {
 }
 
 -- who has found it may be told so, and nobody else sees it
-pub evicted-stands : LeavesAreEvicted → (e : Engine) (id : ℕ) (link : Link) (may : MayBeEvicted e id) → IsDirectory (evicted e id link may.framed.frame).hub.dir → (w : World) (rows : List Row) → Stands e w → IsEvictedTo w.machine e.hub.dir.leaves may.leaf may.frame rows
-    → Stands (evicted e id link may.framed.frame) (with_rows id rows (with_again e may.framed.frame w))
-evicted-stands law e id link may is w rows st to = subst (λ (n : ℕ). Stands (evicted e n link may.framed.frame) (with_rows n rows (with_again e may.framed.frame w))) id-is
-    (law e w may.leaf may.framed may.frame link rows st (named-there id e.hub.dir.leaves may.leaf may.there) may.placed may.filled (λ session a there. (may.may.aside session a there, may.may.unwritten session a there)) may.may.next
+pub evicted-stands : LeavesAreEvicted → (e : Engine) (id : ℕ) (link : Link) (may : MayBeEvicted e id) → IsDirectory (evicted e id link may.framed.frame).hub.dir
+    → (w : World) (rows : List Row) (moved : List ℕ → List (Version Change)) → Stands e w → IsEvictedTo w.machine e.hub.dir.leaves may.leaf may.frame rows moved
+    → Stands (evicted e id link may.framed.frame) (with_records id moved (with_rows id rows (with_again e may.framed.frame w)))
+evicted-stands law e id link may is w rows moved st to = subst (λ (n : ℕ). Stands (evicted e n link may.framed.frame) (with_records n moved (with_rows n rows (with_again e may.framed.frame w)))) id-is
+    (law e w may.leaf may.framed may.frame link rows moved st (named-there id e.hub.dir.leaves may.leaf may.there) may.placed may.filled (λ session a there. (may.may.aside session a there, may.may.unwritten session a there)) may.may.next
     (subst (λ (n : ℕ). IsDirectory (evicted e n link may.framed.frame).hub.dir) (sym id-is) is) to) where
       id-is : may.leaf.id ≡ id
       id-is = named-is id e.hub.dir.leaves may.leaf may.there

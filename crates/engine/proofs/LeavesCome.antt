@@ -19,8 +19,9 @@ use Rattle.call_turns.specs.Turns.{FramesKeep, turns}
 use Rattle.call_turns.proofs.Walks.{named-is}
 use Rattle.engine_world.specs.Leaves.{LeavesOwned, generation_at}
 use Rattle.engine_world.specs.Stands.{Engine, Stands}
-use Rattle.engine_world.specs.Systems.{FramesGrow, LeavesCome}
-use Rattle.engine_world.specs.Worlds.{World}
+use Rattle.engine_world.specs.Coming.{ComesFrom, LeavesCome}
+use Rattle.engine_world.specs.Systems.{FramesGrow}
+use Rattle.engine_world.specs.Worlds.{World, without_records}
 use Rattle.engine.specs.Frames.{IsBare, IsFilled, framed_at, piece_of, put_at}
 use Rattle.engine.specs.Sound.{IsSound}
 use Rattle.engine.specs.Waits.{is_away, turns_in, waits_at, waits_in}
@@ -67,27 +68,24 @@ pub filled-is : (e : Engine) (l : Leaf) (id frame : ℕ) (leaf : HeldLeaf) (dir 
     → filled e l id frame leaf ≡ record e { hub = record e.hub { dir = dir }; pieces = pieces; states = states }
 filled-is e l id frame leaf dir pieces states d p s = λ i. record e { hub = record e.hub { dir = sym d i }; pieces = sym p i; states = sym s i }
 
-module _ (e : Engine) (l : Leaf) (id frame : ℕ) (leaf : HeldLeaf) (named : leaf_named id e.hub.dir.leaves ≡ Some l) (none : l.frame ≡ None) (bare : IsBare e.pieces frame) (no_chains : leaf.chains ≡ []) (sound : IsSound e) where
+module _ (e : Engine) (l : Leaf) (id frame : ℕ) (leaf : HeldLeaf) (named : leaf_named id e.hub.dir.leaves ≡ Some l) (none : l.frame ≡ None) (bare : IsBare e.pieces frame) (fit : ChainsFit leaf.chains) (sound : IsSound e) where
   id-is : l.id ≡ id
   id-is = named-is id e.hub.dir.leaves l named
 
   -- nobody sees it
-  pub fill-stands : FramesGrow → LeavesCome → IsDirectory (framed_at e.hub.dir id frame (generation_at e.pieces frame)) → (w : World) → Stands e w → leaf.page ≡ w.shelf id → Stands (filled e l id frame leaf) w
-  fill-stands grow come is w st page = subst (λ (h : HeldLeaf). Stands (filled e l id frame h) w) (λ i. record { page = sym page i; chains = sym no_chains i })
-      (subst (λ (n : ℕ). Stands (filled e l n frame (record { page = w.shelf n; chains = [] })) w) id-is
-      (subst (λ (ps : List FramePiece). Stands (record (filled e l l.id frame on_device) { pieces = ps }) w) (room.put_piece (piece_of (generation_at e.pieces frame) l.table l.id on_device))
-      (subst (λ (ws : List ℕ). Stands (record (filled e l l.id frame on_device) { pieces = slice_set room.pieces frame (piece_of (generation_at e.pieces frame) l.table l.id on_device); states = ws }) w) (room.put_word (word_filled (generation_at e.pieces frame)))
-      (subst (λ g. Stands (comes-at g) w) room.aged
-      (come (record e { pieces = room.pieces; states = room.states }) w l frame (room.stands w st) (named-there id e.hub.dir.leaves l named) none room.bare room.piece room.word
-      (subst (λ g. IsDirectory (framed_at e.hub.dir l.id frame g)) (sym room.aged) (subst (λ (n : ℕ). IsDirectory (framed_at e.hub.dir n frame (generation_at e.pieces frame))) (sym id-is) is))))))) where
+  pub fill-stands : FramesGrow → LeavesCome → IsDirectory (framed_at e.hub.dir id frame (generation_at e.pieces frame)) → (w : World) → Stands e w → ComesFrom leaf (w.shelf id) (w.records id) → Stands (filled e l id frame leaf) (without_records id w)
+  fill-stands grow come is w st from = subst (λ (n : ℕ). Stands (filled e l n frame leaf) (without_records n w)) id-is
+      (subst (λ (ps : List FramePiece). Stands (record (filled e l l.id frame leaf) { pieces = ps }) (without_records l.id w)) (room.put_piece (piece_of (generation_at e.pieces frame) l.table l.id leaf))
+      (subst (λ (ws : List ℕ). Stands (record (filled e l l.id frame leaf) { pieces = slice_set room.pieces frame (piece_of (generation_at e.pieces frame) l.table l.id leaf); states = ws }) (without_records l.id w)) (room.put_word (word_filled (generation_at e.pieces frame)))
+      (subst (λ g. Stands (comes-at g) (without_records l.id w)) room.aged
+      (come (record e { pieces = room.pieces; states = room.states }) w l frame leaf (room.stands w st) (named-there id e.hub.dir.leaves l named) none room.bare room.piece room.word
+      (subst (λ (n : ℕ). ComesFrom leaf (w.shelf n) (w.records n)) (sym id-is) from)
+      (subst (λ g. IsDirectory (framed_at e.hub.dir l.id frame g)) (sym room.aged) (subst (λ (n : ℕ). IsDirectory (framed_at e.hub.dir n frame (generation_at e.pieces frame))) (sym id-is) is)))))) where
         room : HasRoom e frame
         room = has-room e frame sound.states grow bare
 
-        on_device : HeldLeaf
-        on_device = record { page = w.shelf l.id; chains = [] }
-
         comes-at : ℕ → Engine
-        comes-at g = record e { hub = record e.hub { dir = framed_at e.hub.dir l.id frame g }; pieces = slice_set room.pieces frame (piece_of g l.table l.id on_device); states = slice_set room.states frame (word_filled g) }
+        comes-at g = record e { hub = record e.hub { dir = framed_at e.hub.dir l.id frame g }; pieces = slice_set room.pieces frame (piece_of g l.table l.id leaf); states = slice_set room.states frame (word_filled g) }
 
   pub fill-sound : IsSound (filled e l id frame leaf)
   fill-sound = record {
@@ -101,7 +99,7 @@ module _ (e : Engine) (l : Leaf) (id frame : ℕ) (leaf : HeldLeaf) (named : lea
     owned = framed-owned e.hub.tables.tables e.hub.dir.leaves id (Some (record { frame = frame; generation = generation_at e.pieces frame })) sound.owned;
     stamps = sound.stamps;
     sizes = record {
-      leaves = put-fits e.pieces frame (piece_of (generation_at e.pieces frame) l.table id leaf) sound.sizes.leaves (filled-fits (generation_at e.pieces frame) l.table id leaf (subst ChainsFit (sym no_chains) (λ key. tt)));
+      leaves = put-fits e.pieces frame (piece_of (generation_at e.pieces frame) l.table id leaf) sound.sizes.leaves (filled-fits (generation_at e.pieces frame) l.table id leaf fit);
       sessions = sound.sizes.sessions;
       names = sound.sizes.names;
     };

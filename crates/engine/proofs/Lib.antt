@@ -11,6 +11,7 @@ pub mod FirstLeaf
 pub mod Numbers
 pub mod Systems
 pub mod SystemEvents
+pub mod BareLeaves
 pub mod Beginning
 pub mod Checkpoints
 pub mod Closes
@@ -32,3 +33,13 @@ pub mod Directories
 pub mod Owning
 pub mod SystemTold
 pub mod ToldSo
+pub mod FoundLeaves
+pub mod ReadStarts
+pub mod KeyReads
+pub mod RowReads
+pub mod Batches
+pub mod CopyingRows
+pub mod CursorsKept
+pub mod TableNames
+pub mod ReadingRows
+pub mod OneRow

@@ -73,7 +73,7 @@ module _ (e : Engine) (session : ℕ) (a b : State) (hazards : List ℕ) (at : s
     sizes = session-sizes e session a b hazards at fits sound.sizes;
   }
 
-  session-keeps : (IsSound e → AreSeated e.hub (slice_set e.sessions session b)) → (IsSound e → AllRun (slice_set e.sessions session b)) → (CallFitsIn (id_of e.hub.txns session) a → CallFitsIn (id_of e.hub.txns session) b) → IsOwnFrom a.answer b.answer
+  pub session-keeps : (IsSound e → AreSeated e.hub (slice_set e.sessions session b)) → (IsSound e → AllRun (slice_set e.sessions session b)) → (CallFitsIn (id_of e.hub.txns session) a → CallFitsIn (id_of e.hub.txns session) b) → IsOwnFrom a.answer b.answer
       → Keeps e (with_session (record e { hazards = hazards }) session b)
   session-keeps seats runs fits own = record {
     systems = refl;

@@ -150,7 +150,7 @@ written-there e w session (suc n) a st at some = by-key (slice_get a.written n) 
 
   of-key : (k : WrittenKey) → Member k a.written → k.frame < length e.pieces
   of-key k in-written = let wrote = (st.sessions session a at).noted.wrote k in-written in
-      let home = home-at w.machine w.shelf e.hub.dir e.pieces e.states wrote.0.table wrote.0.key k.frame st.dir st.leaves wrote.2.home in
+      let home = home-at w.machine w.shelf w.records e.hub.dir e.pieces e.states wrote.0.table wrote.0.key k.frame st.dir st.leaves wrote.2.home in
       piece-there e.pieces k.frame home.stands.laid.frame (ap (frame_in e.pieces) (sym home.at) ∙ home.stands.laid.there)
 
   by-key : (o : Option WrittenKey) → slice_get a.written n ≡ o → of_some 0 (λ (k : WrittenKey). k.frame) o < length e.pieces
@@ -171,7 +171,7 @@ has-frame e w session frame a st at on = by-stage a.stage refl on (st.sessions s
   ready place there is busy = record { there = subst (λ f. f < length e.pieces) (let x : place ≡ frame = cc in x) there; busy = busy }
 
   leaf-there : (target : Target) → IsLeafOf e.hub.dir.leaves target → target.frame < length e.pieces
-  leaf-there target of = let t = target-is of.0 target of.2 in let laid = (in-its-frame w.machine w.shelf e.hub.dir.leaves e.pieces e.states of.0 t.framed t.placed (st.leaves of.0 of.1)).laid in
+  leaf-there target of = let t = target-is of.0 target of.2 in let laid = (in-its-frame w.machine w.shelf w.records e.hub.dir.leaves e.pieces e.states of.0 t.framed t.placed (st.leaves of.0 of.1)).laid in
       piece-there e.pieces target.frame laid.frame (ap (frame_in e.pieces) (sym (target-frame e.pieces e.states of.0 target laid of.2)) ∙ laid.there)
 
   by-stage : (s : Stage) → a.stage ≡ s → next_at s a ≡ next.Frame frame → StageStands a.stage w.machine e.hub.dir.leaves e.pieces session a → HasFrame e session frame

@@ -43,6 +43,7 @@ asked-stands e w systems st = record {
   begun = st.begun;
   owned = st.owned;
   leaves = st.leaves;
+  unused = st.unused;
   frames = st.frames;
   count = st.count;
   doings = st.doings;

@@ -14,3 +14,6 @@ pub mod Frames
 pub mod Evictions
 pub mod Directories
 pub mod Told
+pub mod Reads
+pub mod RowReads
+pub mod Batches

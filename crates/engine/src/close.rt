@@ -83,8 +83,8 @@ impl Parts {
     }
 }
 
-// The session has a call that is not finished.
-fn is_at_work(state: &SessionState) -> bool
+/// The session has a call that is not finished.
+pub(crate) fn is_at_work(state: &SessionState) -> bool
     ensures { result ≡ is_at_work state.now.stage }
 {
     !matches!(state.stage(), Stage::Rest)

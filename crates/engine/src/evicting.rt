@@ -2,6 +2,8 @@
 // leaf that leaves its frame once its block is written anew.
 
 ghost use Rattle.std.specs.Prelude.{◌≡◌, ◌≢◌, ◌<◌, ◌+◌, ◌^◌, ℕ, List, None, Some, false, length, slice_get, IfOk, IfSome, IsTrue, OnErr};
+ghost use Rattle.item.specs.declared.Change.{Change as AChange};
+ghost use Rattle.stamp.specs.declared.Version.{Version as AVersion};
 ghost use Rattle.kv_model.specs.Droppable.{pin};
 ghost use Rattle.kv_model.specs.Holds.{Member};
 ghost use Rattle.row_page.specs.Rows.{Row as ARow};
@@ -11,7 +13,7 @@ ghost use Rattle.engine_world.specs.Evicting.{IsEvictedTo, with_rows};
 ghost use Rattle.engine_world.specs.GoingOut.{frame_in_hand, with_again};
 ghost use Rattle.engine_world.specs.Leaves.{frame_in};
 ghost use Rattle.engine_world.specs.Stands.{Stands};
-ghost use Rattle.engine_world.specs.Worlds.{World};
+ghost use Rattle.engine_world.specs.Worlds.{World, with_records};
 ghost use Rattle.engine.specs.Evictions.{AllAside, HasBeenEvicted, HasWrittenIn, IsCalledIn, KeepsFrame, KeepsLeaf, MayBeEmptied, MayBeEvicted, NoneWrote, horizon_of};
 ghost use Rattle.engine.specs.Frames.{IsUnpinned};
 ghost use Rattle.engine.specs.Sound.{IsSound};
@@ -75,16 +77,16 @@ impl Local {
 
     /// The leaf of this id leaves its frame, where it may (`why_it_stays`), and leads to this block,
     /// from which it is read again when a call needs it. Nobody sees it where the block has the newest
-    /// version of each of its keys, and what is older is out of reach; but a call that has found it, and
-    /// has not come to it yet, may be told so, and finds its key again. `Ok(false)` where it may not;
-    /// then, and without memory, nothing is changed. `O(n)` in the sessions and in what their
-    /// transactions wrote.
+    /// version of each of its keys, and the history those older ones that are in reach; but a call that
+    /// has found it, and has not come to it yet, may be told so, and finds its key again. `Ok(false)`
+    /// where it may not; then, and without memory, nothing is changed. `O(n)` in the sessions and in
+    /// what their transactions wrote.
     pub fn evict(&mut self, leaf: u64, link: Link) -> Result<bool, NoMemory>
         ensures out { IfOk result (λ out. IsTrue out → HasBeenEvicted self.old self.new leaf link) }
         ensures not { IfOk result (λ out. out ≡ false → (MayBeEvicted self.old leaf → ⊥) × (self.new ≡ self.old)) }
         ensures kept { OnErr result (self.new ≡ self.old) }
-        ensures stands { IfOk result (λ out. IsTrue out → (may : MayBeEvicted self.old leaf) (w : World) (rows : List ARow) → Stands self.old w → IsEvictedTo w.machine self.old.hub.dir.leaves may.leaf may.frame rows
-            → Stands self.new (with_rows leaf rows (with_again self.old may.framed.frame w))) }
+        ensures stands { IfOk result (λ out. IsTrue out → (may : MayBeEvicted self.old leaf) (w : World) (rows : List ARow) (moved : List ℕ → List (AVersion AChange)) → Stands self.old w → IsEvictedTo w.machine self.old.hub.dir.leaves may.leaf may.frame rows moved
+            → Stands self.new (with_records leaf moved (with_rows leaf rows (with_again self.old may.framed.frame w)))) }
         ensures own { KeepOwn self.old self.new }
     {
         self.parts.evict(leaf, link)
@@ -110,8 +112,8 @@ impl Parts {
         ensures out { IfOk result (λ out. IsTrue out → HasBeenEvicted self.old self.new leaf link) }
         ensures not { IfOk result (λ out. out ≡ false → (MayBeEvicted self.old leaf → ⊥) × (self.new ≡ self.old)) }
         ensures kept { OnErr result (self.new ≡ self.old) }
-        ensures stands { IfOk result (λ out. IsTrue out → (may : MayBeEvicted self.old leaf) (w : World) (rows : List ARow) → Stands self.old w → IsEvictedTo w.machine self.old.hub.dir.leaves may.leaf may.frame rows
-            → Stands self.new (with_rows leaf rows (with_again self.old may.framed.frame w))) }
+        ensures stands { IfOk result (λ out. IsTrue out → (may : MayBeEvicted self.old leaf) (w : World) (rows : List ARow) (moved : List ℕ → List (AVersion AChange)) → Stands self.old w → IsEvictedTo w.machine self.old.hub.dir.leaves may.leaf may.frame rows moved
+            → Stands self.new (with_records leaf moved (with_rows leaf rows (with_again self.old may.framed.frame w)))) }
         ensures own { KeepOwn self.old self.new }
         ensures sound { IsSound self.new }
     {

@@ -2,9 +2,11 @@
 // which do nothing.
 
 ghost use Rattle.std.specs.Prelude.{◌≡◌, ◌<◌, ◌+◌, ◌^◌, [], false, length, option_map, vec_capacity, vec_len, IfOk, IfSome, IsTrue, OnErr, OnOk};
+ghost use Rattle.leaf_capture.specs.Capture.{ChainsFit};
+ghost use Rattle.engine_world.specs.Coming.{ComesFrom};
 ghost use Rattle.engine_world.specs.Leaves.{frame_in, generation_at};
 ghost use Rattle.engine_world.specs.Stands.{Stands};
-ghost use Rattle.engine_world.specs.Worlds.{World};
+ghost use Rattle.engine_world.specs.Worlds.{World, without_records};
 ghost use Rattle.engine.specs.Frames.{IsBare, IsFilled, piece_of, put_at};
 ghost use Rattle.engine.specs.Sound.{IsSound};
 ghost use Rattle.engine.specs.Waits.{IsAway};
@@ -23,12 +25,13 @@ const FRAMES_MAX: usize = u32::MAX as usize;
 const GENERATIONS: u64 = 1 << 62;
 
 impl Parts {
-    /// The leaf of this id comes into a frame that has none, with the rows of its block.
+    /// The leaf of this id comes into a frame that has none, with the rows of its block, and with what
+    /// the history keeps of it.
     pub(crate) fn fill(&mut self, leaf: u64, page: LeafFrame) -> Result<(), NoMemory>
         requires away { IsAway self.old.hub.dir.leaves leaf }
-        requires bare { page.chains ≡ [] }
+        requires fit { ChainsFit page.chains }
         requires sound { IsSound self.old }
-        ensures stands { (w : World) → Stands self.old w → page.page ≡ w.shelf leaf → OnOk result (Stands self.new w) }
+        ensures stands { (w : World) → Stands self.old w → ComesFrom page (w.shelf leaf) (w.records leaf) → OnOk result (Stands self.new (without_records leaf w)) }
         ensures filled { OnOk result (IsFilled self.old self.new leaf page) }
         ensures run { self.new.hub.txns.run ≡ self.old.hub.txns.run }
         ensures fault { self.new.hub.fault ≡ self.old.hub.fault }

@@ -15,6 +15,7 @@
 //! go and a close rest on, and leaves to them what a device keeps.
 #![tactic(auto)]
 
+mod batch;
 mod called;
 mod checkpoint;
 mod close;
@@ -22,19 +23,24 @@ mod evicting;
 mod frames;
 mod giving;
 mod going_out;
+mod got;
 mod leaves;
 mod lent;
 mod local;
 mod opening;
 mod parts;
+mod reads;
+mod row_reads;
 mod runs;
 mod step;
 mod system;
 mod waiting;
 
+pub use batch::{LentRow, RowBatch};
 pub use called::Called;
 pub use checkpoint::EngineMarks;
 pub use evicting::{Horizon, Stays};
+pub use got::Got;
 pub use local::Local;
 pub use runs::run_steps;
 pub use step::{Actor, Step};

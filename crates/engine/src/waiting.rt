@@ -1,11 +1,13 @@
 // Calls that wait for a leaf that is in no frame. Whoever has the device reads the leaf and hands it
 // in, or keeps the call out, and the call is resumed.
 
-ghost use Rattle.std.specs.Prelude.{◌≡◌, ◌≢◌, ◌<◌, ℕ, [], None, Some, length, OnErr, OnOk};
+ghost use Rattle.std.specs.Prelude.{◌≡◌, ◌≢◌, ◌<◌, ℕ, None, Some, length, OnErr, OnOk};
 ghost use Rattle.kv_model.specs.Calls.{Call};
+ghost use Rattle.leaf_capture.specs.Capture.{ChainsFit};
+ghost use Rattle.engine_world.specs.Coming.{ComesFrom};
 ghost use Rattle.engine_world.specs.Stands.{Stands};
 ghost use Rattle.engine_world.specs.Steps.{MayKeepOut};
-ghost use Rattle.engine_world.specs.Worlds.{World};
+ghost use Rattle.engine_world.specs.Worlds.{World, without_records};
 ghost use Rattle.engine.specs.Directories.{HubGoesOn};
 ghost use Rattle.engine.specs.Frames.{IsFilled};
 ghost use Rattle.engine.specs.Told.{EndsFrom, KeepOwn, KeepsOut, answer_in};
@@ -29,13 +31,14 @@ impl Local {
         self.parts.waits(session)
     }
 
-    /// A leaf that is in no frame comes into one, with the rows of its block. Nobody sees it where
-    /// they are what a world has on its shelf. Each call that waited for it is ready to go on.
-    /// Without memory nothing changes. `O(1)`.
+    /// A leaf that is in no frame comes into one, with the rows of its block, and with what the
+    /// history keeps of it below them. Nobody sees it where that is what a world has of the leaf; the
+    /// history keeps nothing of it any more. Each call that waited for it is ready to go on. Without
+    /// memory nothing changes. `O(1)`.
     pub fn fill(&mut self, leaf: u64, page: LeafFrame) -> Result<(), NoMemory>
         requires away { IsAway self.old.hub.dir.leaves leaf }
-        requires bare { page.chains ≡ [] }
-        ensures stands { (w : World) → Stands self.old w → page.page ≡ w.shelf leaf → OnOk result (Stands self.new w) }
+        requires fit { ChainsFit page.chains }
+        ensures stands { (w : World) → Stands self.old w → ComesFrom page (w.shelf leaf) (w.records leaf) → OnOk result (Stands self.new (without_records leaf w)) }
         ensures filled { OnOk result (IsFilled self.old self.new leaf page) }
         ensures sessions { self.new.sessions ≡ self.old.sessions }
         ensures kept { OnErr result (self.new ≡ self.old) }

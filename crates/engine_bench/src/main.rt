@@ -2,13 +2,14 @@
 //! own, and then makes as many rounds of one kind as its words say (`sorted 1000 500`); without words
 //! a few of each. Kinds are `sorted`, `random` and `again`, a transaction with one put, of the next
 //! key in order, of a key at random, and of one that is there; `empty`, a transaction without a put;
-//! `get` and `next`, a read in a transaction that goes on; and `key`, the making of a key without a
-//! call, which is the program's own work in each round. Puts and gets lend their bytes. What a call
-//! costs is the difference of two runs.
+//! `get` and `next`, a read in a transaction that goes on, and `into` and `row`, the same into a buffer
+//! that is used again; `rows`, a read of the next hundred rows into one batch; and `key`, the making of
+//! a key without a call, which is the program's own work in each round. Puts and gets lend their bytes.
+//! What a call costs is the difference of two runs.
 #![tactic(auto)]
 
 use catalog::Catalog;
-use engine::{Called, Local};
+use engine::{Called, Got, Local, RowBatch};
 use failure::NoMemory;
 use item::{Format, Formats, Item};
 use std::alloc::{AllocError, Global};
@@ -27,6 +28,9 @@ enum Kind {
     Empty,
     Get,
     Next,
+    Into,
+    Row,
+    Rows,
     Key,
 }
 
@@ -36,6 +40,14 @@ struct Work {
     kind: Kind,
     rows: u32,
     rounds: u32,
+}
+
+// The number of the table, and what is read into, again and again.
+#[derive(Drop)]
+struct Buffers {
+    table: u32,
+    value: Vec<u8>,
+    rows: RowBatch,
 }
 
 const TABLE: &[u8] = b"rows";
@@ -139,6 +151,47 @@ fn next(alloc: Global, engine: &mut Local) -> Result<Answer<Item>, NoMemory> {
     Ok(ask(alloc, engine, call))
 }
 
+// Whether a value stands in the buffer.
+fn get_into(engine: &Local, number: u64, buffers: &mut Buffers) -> bool {
+    if engine.sessions() == 0 {
+        return false;
+    }
+    let key = key_of(number);
+    let got = engine.get_into(0, buffers.table, key.as_slice(), &mut buffers.value);
+    matches!(got, Got::Found)
+}
+
+// Whether there are further rows; at the end one call, by which the cursor begins anew.
+fn next_rows(
+    alloc: Global,
+    engine: &mut Local,
+    most: usize,
+    buffers: &mut Buffers,
+) -> Result<bool, NoMemory> {
+    if engine.sessions() == 0 {
+        return Ok(false);
+    }
+    let table = buffers.table;
+    let _told = engine.next_rows(alloc, 0, 0, table, Way::Up, most, &mut buffers.rows);
+    if buffers.rows.len() > 0 {
+        return Ok(true);
+    }
+    let _end = next(alloc, engine)?;
+    Ok(false)
+}
+
+fn next_into(alloc: Global, engine: &mut Local, buffers: &mut Buffers) -> Result<bool, NoMemory> {
+    if engine.sessions() == 0 {
+        return Ok(false);
+    }
+    let table = buffers.table;
+    if let Ok(true) = engine.next_into(alloc, 0, 0, table, Way::Up, &mut buffers.rows) {
+        return Ok(true);
+    }
+    let _end = next(alloc, engine)?;
+    Ok(false)
+}
+
 fn is_refused(answer: &Answer<Item>) -> bool {
     matches!(answer, Answer::Refused(_))
 }
@@ -197,6 +250,7 @@ fn round(
     work: Work,
     n: u32,
     seed: &mut u64,
+    buffers: &mut Buffers,
 ) -> Result<bool, NoMemory> {
     let rows = (work.rows as u64).max(1);
     match work.kind {
@@ -206,18 +260,29 @@ fn round(
         Kind::Empty => Ok(empty_alone(alloc, engine)),
         Kind::Get => Ok(!is_refused(&get(alloc, engine, draw(seed) % rows))),
         Kind::Next => Ok(!is_refused(&next(alloc, engine)?)),
+        Kind::Into => Ok(get_into(engine, draw(seed) % rows, buffers)),
+        Kind::Row => next_into(alloc, engine, buffers),
+        Kind::Rows => next_rows(alloc, engine, 100, buffers),
         Kind::Key => Ok(key_of(n as u64) != [0u8; 16]),
     }
 }
 
 // All rounds, reads in a transaction; how many are answered.
 fn rounds(alloc: Global, engine: &mut Local, work: Work, seed: &mut u64) -> Result<u32, NoMemory> {
-    if matches!(work.kind, Kind::Get | Kind::Next) {
+    if matches!(
+        work.kind,
+        Kind::Get | Kind::Next | Kind::Into | Kind::Row | Kind::Rows
+    ) {
         let _begun = begin(alloc, engine);
     }
+    let mut buffers = Buffers {
+        table: engine.table_number(TABLE).unwrap_or(0),
+        value: Vec::new(alloc),
+        rows: RowBatch::new(alloc),
+    };
     let mut answered = 0u32;
     for n in 0..work.rounds {
-        if round(alloc, engine, work, n, seed)? {
+        if round(alloc, engine, work, n, seed, &mut buffers)? {
             answered = answered.wrapping_add(1);
         }
     }
@@ -241,6 +306,9 @@ fn kind_of(word: &str) -> Kind {
         "empty" => Kind::Empty,
         "get" => Kind::Get,
         "next" => Kind::Next,
+        "into" => Kind::Into,
+        "row" => Kind::Row,
+        "rows" => Kind::Rows,
         "key" => Kind::Key,
         _ => Kind::Sorted,
     }
@@ -278,7 +346,9 @@ fn main(rt: HostRuntime) -> anyhow::Result<()> {
             println!(rt; "{answered} of {} answered", work.rounds)?;
         }
         None => {
-            for word in ["sorted", "random", "again", "empty", "get", "next", "key"] {
+            for word in [
+                "sorted", "random", "again", "empty", "get", "next", "into", "row", "rows", "key",
+            ] {
                 tell(&rt, word, 1000, 500)?;
             }
         }

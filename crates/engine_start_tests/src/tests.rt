@@ -147,6 +147,7 @@ fn begins(alloc: Global, engine: &mut Local) -> bool {
 
 // What a get answers that waits for the leaf of this block, once the leaf has come; none where it
 // does not wait for that.
+#[tactic(auto, using(crate::proofs::Bases::bare_fits))]
 fn get(
     alloc: Global,
     engine: &mut Local,

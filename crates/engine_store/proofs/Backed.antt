@@ -1,5 +1,5 @@
 -- What holds between two calls goes on over a call of an actor, by which the disk is at most looked at.
-use Rattle.std.proofs.Common.{◌≡◌, ◌∙◌, ◌≤◌, ℕ, List, [], ◌∷◌, length, Option, refl, sym, subst, inl, inr, arith}
+use Rattle.std.proofs.Common.{◌≡◌, ◌∙◌, ◌≤◌, ℕ, List, [], ◌∷◌, length, Option, refl, ap, sym, subst, inl, inr, arith}
 use Rattle.disk_model.specs.Crash.{Each, Looked}
 use Rattle.disk_model.specs.Disk.{NoMore}
 use Rattle.disk_model.specs.declared.disk.Disk.{Ghosts}
@@ -10,13 +10,14 @@ use Rattle.kv_model.specs.Machine.{Completed}
 use Rattle.stored.specs.Stored.{Stored}
 use Rattle.checkpoint_core.specs.Stands.{HasStill}
 use Rattle.device_leaf.specs.Closings.{content_was}
+use Rattle.row_page.specs.Rows.{Row}
 use Rattle.tree_dir.specs.Leaves.{IsDirectory}
 use Rattle.call_steps.specs.declared.hub.Hub.{Hub}
 use Rattle.engine_world.specs.Stands.{Stands}
-use Rattle.engine_world.specs.Worlds.{World}
+use Rattle.engine_world.specs.Worlds.{Records, World}
 use Rattle.engine.specs.Directories.{HubGoesOn}
 use Rattle.ckpt_step.specs.declared.ground.Ground.{Ground}
-use Rattle.ckpt_step.specs.Floors.{AreLivesOn, Follows, GoesOn}
+use Rattle.ckpt_step.specs.Floors.{AreLivesOn, Follows, GoesOn, laid_of}
 use Rattle.ckpt_step.specs.Grounds.{StandsOn}
 use Rattle.ckpt_step.proofs.Floors.{goes_same}
 use Rattle.ckpt_step.proofs.Staying.{grounds_stay, no_fewer}
@@ -63,15 +64,15 @@ module _ {D : Type 0} (g : Ghosts D) (s s' : Store) (before after : D) (looked :
     follows : Follows old s'.engine.hub s'.ground v
     since : AreLivesOn (g.seen after) s'.engine.hub s'.ground v
 
-  moved : (old : Option Stored) (w v : World) → IsDirectory s.engine.hub.dir → IsDirectory s'.engine.hub.dir → AreTables s'.engine.hub.tables → GoesOn w.machine v.machine → v.shelf ≡ w.shelf → StandsOn (g.seen before) (g.may_leave before) s.engine.hub s.ground old → Follows old s.engine.hub s.ground w → AreLivesOn (g.seen before) s.engine.hub s.ground w → Moved old v
-  moved old w v was now are on shelf stands follows device =
+  moved : (old : Option Stored) (w v : World) → IsDirectory s.engine.hub.dir → IsDirectory s'.engine.hub.dir → AreTables s'.engine.hub.tables → GoesOn w.machine v.machine → laid_of v ≡ laid_of w → StandsOn (g.seen before) (g.may_leave before) s.engine.hub s.ground old → Follows old s.engine.hub s.ground w → AreLivesOn (g.seen before) s.engine.hub s.ground w → Moved old v
+  moved old w v was now are on laid stands follows device =
       let stay = grounds_stay (g.seen before) (g.may_leave before) s.engine.hub s'.engine.hub s.ground old goes was now are stands in
       record {
         on = subst (λ (x : Ground). StandsOn (g.seen after) (g.may_leave after) s'.engine.hub x old) (sym ground)
             (stands_looked (g.seen before) (g.seen after) (g.may_leave before) (g.may_leave after) s'.engine.hub s.ground old looked.content looked.images stay.0);
-        follows = subst (λ (x : Ground). Follows old s'.engine.hub x v) (sym ground) (stay.1 w v on shelf follows);
+        follows = subst (λ (x : Ground). Follows old s'.engine.hub x v) (sym ground) (stay.1 w v on laid follows);
         since = subst (λ (x : Ground). AreLivesOn (g.seen after) s'.engine.hub x v) (sym ground)
-            (subst (λ (l : List ℕ). AreLivesOn l s'.engine.hub s.ground v) (sym looked.content) (stay.2 w v shelf device));
+            (subst (λ (l : List ℕ). AreLivesOn l s'.engine.hub s.ground v) (sym looked.content) (stay.2 w v (ap (λ (l : (ℕ → List Row) × Records). l.0) laid) device));
       }
 
   pub backed_goes : (w : World) → IsDirectory s.engine.hub.dir → IsDirectory s'.engine.hub.dir → AreTables s'.engine.hub.tables → IsBacked g s before w → IsBacked g s' after w
@@ -88,7 +89,7 @@ module _ {D : Type 0} (g : Ghosts D) (s s' : Store) (before after : D) (looked :
     idle = on.keeps.checkpoint ∙ held.idle;
     on = λ up.
         let x = held.on (sym on.keeps.fault ∙ up) in
-        let m = moved x.old w later held.stands.dir stands.dir stands.catalog on.machine on.shelf x.on x.follows x.since in
+        let m = moved x.old w later held.stands.dir stands.dir stands.catalog on.machine on.laid x.on x.follows x.since in
         record {
           old = x.old;
           on = m.on;
@@ -121,4 +122,4 @@ pub backed_held : {D : Type 0} (g : Ghosts D) (start disk : D) (s : Store) (w : 
 backed_held g start disk s w first made held up = let x = held.on (sym held.stands.fault ∙ up) in (x.old, x.on, x.follows, x.since)
 
 pub reached_first : {D : Type 0} (g : Ghosts D) (s : Store) (disk : D) (w : World) → Stands s.engine w → IsBacked g s disk w → IsReached g s disk w w
-reached_first g s disk w stands backed = record { backed = backed; stands = stands; fault = refl; shelf = refl }
+reached_first g s disk w stands backed = record { backed = backed; stands = stands; fault = refl; laid = refl }

@@ -1,7 +1,6 @@
--- What steps and calls keep of a world: its last checkpoint, that none runs, its fault, what is before a floor, and the shelf.
+-- What steps and calls keep of a world: its last checkpoint, that none runs, its fault, what is before a floor, and what lies on the shelf and in the history.
 use Rattle.std.proofs.Common.{◌≡◌, ◌∙◌, ℕ, zero, suc, List, [], ◌∷◌, Option, Some, None, get_or, set, refl, ap, sym, subst}
 use Rattle.std.specs.Prelude.{slice_index_or}
-use Rattle.row_page.specs.Rows.{Row}
 use Rattle.wt_code.specs.declared.answers.Answer.{Answer}
 use Rattle.wt_code.specs.declared.answers.Answer.TheVariants as answers
 use Rattle.wt_code.specs.declared.refusals.Refusal.{Refusal}
@@ -18,7 +17,7 @@ use Rattle.engine.specs.declared.step.Step.{Step}
 use Rattle.engine.specs.declared.step.Step.TheVariants.{Start, Go}
 use Rattle.engine.specs.Runs.{AsksIn, MakesIn, MayStep}
 use Rattle.engine.specs.Whole.{CallsIn, CallsKept, KeptBy, MakesAt, MayAnswer, MayCallKept, with_session_more}
-use Rattle.ckpt_step.specs.Floors.{GoesOn}
+use Rattle.ckpt_step.specs.Floors.{GoesOn, laid_of}
 use Rattle.ckpt_step.specs.Keeps.{AreOrdinary, IsOrdinary, IsOrdinaryCall, IsOrdinaryDoing, IsOrdinaryStep, Keeps}
 use Rattle.ckpt_step.proofs.Floors.{goes_after, goes_on, goes_same}
 use Rattle.ckpt_step.proofs.Ordinary.{kept_keep, steps_keep}
@@ -29,7 +28,7 @@ use Rattle.engine_store.proofs.MildWorlds.{mild_any, mild_call, mild_step, mild_
 pub record Goes (w next : World) : Type 0 where
   pub keeps : Keeps w next
   pub machine : GoesOn w.machine next.machine
-  pub shelf : next.shelf ≡ w.shelf
+  pub laid : laid_of next ≡ laid_of w
 
 abbrev going : Kept ⊥
 going = record { To = GoesOn; same = goes_same; on = goes_on; by = λ m event quiet. goes_after m event (ordinary_event event quiet) }
@@ -43,56 +42,53 @@ goes_then a b c one two = record {
     ordinary = two.keeps.ordinary;
   };
   machine = goes_on a.machine b.machine c.machine one.machine two.machine;
-  shelf = two.shelf ∙ one.shelf;
+  laid = two.laid ∙ one.laid;
 }
 
--- ---- the shelf
+-- ---- the shelf and the history
 
-abbrev shelf_of : World → ℕ → List Row
-shelf_of w = w.shelf
+laid_begins : (doing : Doing) (w : World) (session : ℕ) (made : Call) (told : Reply) (next : World) → BeginsIn doing w session made told next → laid_of next ≡ laid_of w
+laid_begins Resting w session made told next (left, started, is) = ap laid_of is
+laid_begins (Asked other left) w session made told next (refuses, is) = ap laid_of is
+laid_begins (Placed other table left) w session made told next (refuses, is) = ap laid_of is
+laid_begins (Decided other event left) w session made told next (refuses, is) = ap laid_of is
+laid_begins (Ending other left) w session made told next (refuses, is) = ap laid_of is
 
-shelf_begins : (doing : Doing) (w : World) (session : ℕ) (made : Call) (told : Reply) (next : World) → BeginsIn doing w session made told next → next.shelf ≡ w.shelf
-shelf_begins Resting w session made told next (left, started, is) = ap shelf_of is
-shelf_begins (Asked other left) w session made told next (refuses, is) = ap shelf_of is
-shelf_begins (Placed other table left) w session made told next (refuses, is) = ap shelf_of is
-shelf_begins (Decided other event left) w session made told next (refuses, is) = ap shelf_of is
-shelf_begins (Ending other left) w session made told next (refuses, is) = ap shelf_of is
+laid_asks : (o : Option Call) (w : World) (number : ℕ) (made : Call) (told : Reply) (next : World) → AsksIn o w number made told next → laid_of next ≡ laid_of w
+laid_asks None w number made told next (started, is) = ap laid_of is
+laid_asks (Some other) w number made told next (refuses, is) = ap laid_of is
 
-shelf_asks : (o : Option Call) (w : World) (number : ℕ) (made : Call) (told : Reply) (next : World) → AsksIn o w number made told next → next.shelf ≡ w.shelf
-shelf_asks None w number made told next (started, is) = ap shelf_of is
-shelf_asks (Some other) w number made told next (refuses, is) = ap shelf_of is
+laid_makes : (o : Option Call) (w : World) (number : ℕ) (told : Reply) (next : World) → MakesIn o w number told next → laid_of next ≡ laid_of w
+laid_makes None w number told next (refuses, is) = ap laid_of is
+laid_makes (Some made) w number told next (answer, m, answered, tells, is) = ap laid_of is
 
-shelf_makes : (o : Option Call) (w : World) (number : ℕ) (told : Reply) (next : World) → MakesIn o w number told next → next.shelf ≡ w.shelf
-shelf_makes None w number told next (refuses, is) = ap shelf_of is
-shelf_makes (Some made) w number told next (answer, m, answered, tells, is) = ap shelf_of is
+pub laid_step : (w next : World) (step : Step) (told : Reply) → MayStep w step told next → laid_of next ≡ laid_of w
+laid_step w next (Start (call.Session session made)) told may = laid_begins (doing_of w session) w session (session_call_in made) told next may
+laid_step w next (Start (call.System number made)) told may = laid_asks (slice_index_or w.systems number None) w number (system_call_in made) told next may
+laid_step w next (Go (by.Session session)) told may = ap laid_of may.leaves
+laid_step w next (Go (by.System number)) told may = laid_makes (slice_index_or w.systems number None) w number told next may
 
-pub shelf_step : (w next : World) (step : Step) (told : Reply) → MayStep w step told next → next.shelf ≡ w.shelf
-shelf_step w next (Start (call.Session session made)) told may = shelf_begins (doing_of w session) w session (session_call_in made) told next may
-shelf_step w next (Start (call.System number made)) told may = shelf_asks (slice_index_or w.systems number None) w number (system_call_in made) told next may
-shelf_step w next (Go (by.Session session)) told may = ap shelf_of may.leaves
-shelf_step w next (Go (by.System number)) told may = shelf_makes (slice_index_or w.systems number None) w number told next may
+laid_calls : (doing : Doing) (w : World) (session : ℕ) (made : Call) (answer : Answer (List ℕ)) (next : World) → CallsIn doing w session made answer next → laid_of next ≡ laid_of w
+laid_calls Resting w session made answer next (answered, is) = ap laid_of is
+laid_calls (Asked other left) w session made answer next (refuses, is) = ap laid_of is
+laid_calls (Placed other table left) w session made answer next (refuses, is) = ap laid_of is
+laid_calls (Decided other event left) w session made answer next (refuses, is) = ap laid_of is
+laid_calls (Ending other left) w session made answer next (refuses, is) = ap laid_of is
 
-shelf_calls : (doing : Doing) (w : World) (session : ℕ) (made : Call) (answer : Answer (List ℕ)) (next : World) → CallsIn doing w session made answer next → next.shelf ≡ w.shelf
-shelf_calls Resting w session made answer next (answered, is) = ap shelf_of is
-shelf_calls (Asked other left) w session made answer next (refuses, is) = ap shelf_of is
-shelf_calls (Placed other table left) w session made answer next (refuses, is) = ap shelf_of is
-shelf_calls (Decided other event left) w session made answer next (refuses, is) = ap shelf_of is
-shelf_calls (Ending other left) w session made answer next (refuses, is) = ap shelf_of is
+pub laid_kept : (kept : KeptBy) (doing : Doing) (w : World) (session : ℕ) (made : Call) (answer : Answer (List ℕ)) (next : World) → CallsKept kept doing w session made answer next → laid_of next ≡ laid_of w
+laid_kept kept Resting w session made answer next (answered, fault, is) = ap laid_of is
+laid_kept kept (Asked other left) w session made answer next (refuses, is) = ap laid_of is
+laid_kept kept (Placed other table left) w session made answer next (refuses, is) = ap laid_of is
+laid_kept kept (Decided other event left) w session made answer next (refuses, is) = ap laid_of is
+laid_kept kept (Ending other left) w session made answer next (refuses, is) = ap laid_of is
 
-pub shelf_kept : (kept : KeptBy) (doing : Doing) (w : World) (session : ℕ) (made : Call) (answer : Answer (List ℕ)) (next : World) → CallsKept kept doing w session made answer next → next.shelf ≡ w.shelf
-shelf_kept kept Resting w session made answer next (answered, fault, is) = ap shelf_of is
-shelf_kept kept (Asked other left) w session made answer next (refuses, is) = ap shelf_of is
-shelf_kept kept (Placed other table left) w session made answer next (refuses, is) = ap shelf_of is
-shelf_kept kept (Decided other event left) w session made answer next (refuses, is) = ap shelf_of is
-shelf_kept kept (Ending other left) w session made answer next (refuses, is) = ap shelf_of is
+laid_made : (o : Option Call) (w : World) (made : Call) (answer : Answer (List ℕ)) (next : World) → MakesAt o w made answer next → laid_of next ≡ laid_of w
+laid_made None w made answer next (answered, is) = ap laid_of is
+laid_made (Some other) w made answer next (refuses, is) = ap laid_of is
 
-shelf_made : (o : Option Call) (w : World) (made : Call) (answer : Answer (List ℕ)) (next : World) → MakesAt o w made answer next → next.shelf ≡ w.shelf
-shelf_made None w made answer next (answered, is) = ap shelf_of is
-shelf_made (Some other) w made answer next (refuses, is) = ap shelf_of is
-
-shelf_answer : (w next : World) (made : AnyCall) (answer : Answer (List ℕ)) → MayAnswer w made answer next → next.shelf ≡ w.shelf
-shelf_answer w next (call.Session session made) answer may = shelf_calls (doing_of w session) w session (session_call_in made) answer next may
-shelf_answer w next (call.System number made) answer may = shelf_made (slice_index_or w.systems number None) w (system_call_in made) answer next may
+laid_answer : (w next : World) (made : AnyCall) (answer : Answer (List ℕ)) → MayAnswer w made answer next → laid_of next ≡ laid_of w
+laid_answer w next (call.Session session made) answer may = laid_calls (doing_of w session) w session (session_call_in made) answer next may
+laid_answer w next (call.System number made) answer may = laid_made (slice_index_or w.systems number None) w (system_call_in made) answer next may
 
 -- ---- steps and calls
 
@@ -100,25 +96,25 @@ pub goes_step : (w next : World) (step : Step) (told : Reply) → AreOrdinary w 
 goes_step w next step told are there may = record {
   keeps = steps_keep.0 w next step told are there may;
   machine = (steps ⊥ going w next step told (mild_world w are) (mild_step step there) may).to;
-  shelf = shelf_step w next step told may;
+  laid = laid_step w next step told may;
 }
 
 pub goes_answer : (w next : World) (made : AnyCall) (answer : Answer (List ℕ)) → AreOrdinary w → IsOrdinaryCall made → MayAnswer w made answer next → Goes w next
 goes_answer w next made answer are there may = record {
   keeps = steps_keep.1 w next made answer are there may;
   machine = (answers_so ⊥ going w next made answer (mild_world w are) (mild_any made there) may).to;
-  shelf = shelf_answer w next made answer may;
+  laid = laid_answer w next made answer may;
 }
 
 pub goes_kept : (kept : KeptBy) (w next : World) (session : ℕ) (made : Call) (answer : Answer (List ℕ)) → AreOrdinary w → IsOrdinary made → MayCallKept kept w session made answer next → Goes w next
 goes_kept kept w next session made answer are there may = record {
   keeps = kept_keep kept w next session made answer are there may;
   machine = (kept_so ⊥ going kept w next session made answer (mild_world w are) (mild_call made there) may).to;
-  shelf = shelf_kept kept (doing_of w session) w session made answer next may;
+  laid = laid_kept kept (doing_of w session) w session made answer next may;
 }
 
 pub goes_more : (w : World) → AreOrdinary w → Goes w (with_session_more w)
-goes_more w are = record { keeps = steps_keep.2 w are; machine = (opens_more ⊥ going w (mild_world w are)).to; shelf = refl }
+goes_more w are = record { keeps = steps_keep.2 w are; machine = (opens_more ⊥ going w (mild_world w are)).to; laid = refl }
 
 -- ---- a call whose leaf is kept from it
 
@@ -157,5 +153,5 @@ goes_out w next session r are may =
         });
       };
       machine = subst (λ (x : Machine). GoesOn w.machine x) (sym m) (goes_same w.machine);
-      shelf = ap shelf_of may.leaves;
+      laid = ap laid_of may.leaves;
     }

@@ -11,6 +11,7 @@ pub mod AllOut
 pub mod SpoiltLeaves
 pub mod Bases
 pub mod LoadedPages
+pub mod Bare
 pub mod MarkedIds
 pub mod PlacedTrees
 pub mod Over

@@ -16,13 +16,14 @@ use Rattle.engine.specs.Directories.{HubGoesOn}
 use Rattle.engine.specs.Waits.{WaitsAs}
 use Rattle.engine.specs.Whole.{Ends, IsUnderWay}
 use Rattle.engine.proofs.Directories.{goes-then}
+use Rattle.ckpt_step.specs.Floors.{laid_of}
 use Rattle.engine_store.specs.declared.store.Store.{Store}
 use Rattle.engine_store.specs.Calls.{AreToldSo, Basis, IsBasis}
 use Rattle.engine_store.specs.Fetches.{CalledSo, CallsBy, CauseSince, IsBacked, IsReached, StepsBy}
 use Rattle.engine_store.proofs.Backed.{backed_goes}
 use Rattle.engine_store.proofs.Bases.{basis_on}
 use Rattle.engine_store.proofs.Fetching.{rose_later}
-use Rattle.engine_store.proofs.StepsGoing.{IsMiddle, shelf_in, steps_go, steps_stand}
+use Rattle.engine_store.proofs.StepsGoing.{IsMiddle, laid_in, steps_go, steps_stand}
 use Rattle.engine_store.proofs.UnderWay.{calls_since, calls_stand}
 
 -- first, s, made: the disk, the store and how far the call had come; disk, s', now: as they are
@@ -73,8 +74,8 @@ module _ {D : Type 0} (g : Ghosts D) (first disk disk' : D) (s s' s'' : Store) (
   here honest = gone.looked.same ∙ honest
 
   -- the store is backed as it is now
-  reach : (w x : World) → s.engine.hub.fault ≡ w.machine.fault → IsBacked g s' disk w → Stands s'.engine x → x.shelf ≡ w.shelf → IsReached g s' disk w x
-  reach w x fault backed stands shelf = record { backed = backed; stands = stands; fault = sym stands.fault ∙ (gone.fault ∙ fault); shelf = shelf }
+  reach : (w x : World) → s.engine.hub.fault ≡ w.machine.fault → IsBacked g s' disk w → Stands s'.engine x → laid_of x ≡ laid_of w → IsReached g s' disk w x
+  reach w x fault backed stands laid = record { backed = backed; stands = stands; fault = sym stands.fault ∙ (gone.fault ∙ fault); laid = laid }
 
   backed_then : (w x v : World) → IsBacked g s' disk w → Stands s'.engine x → Stands s''.engine v → IsBacked g s'' disk' w
   backed_then w x v backed stands after = backed_goes g s' s'' disk disk' one.looked one.goes one.ground w stands.dir after.dir after.catalog backed
@@ -83,7 +84,7 @@ module _ {D : Type 0} (g : Ghosts D) (first disk disk' : D) (s s' s'' : Store) (
   calls_then honest w asked there fault backed by =
       let x = gone.calls honest w asked there fault backed by in
       let at = x.0 in
-      let reached = reach w at.0 fault x.1 at.2 (ap (λ (v : World). v.shelf) at.1.moved_to) in
+      let reached = reach w at.0 fault x.1 at.2 (ap laid_of at.1.moved_to) in
       let next = one.calls (here honest) w at.0 asked there reached at.1 in
       let stood = calls_stand g disk disk' now s''.engine w session asked next in
       (calls_since g first disk disk' now s''.engine w session asked gone.looked.count next, backed_then w at.0 stood.0 x.1 at.2 stood.1)
@@ -97,7 +98,7 @@ module _ {D : Type 0} (g : Ghosts D) (first disk disk' : D) (s s' s'' : Store) (
   steps_then honest w fault backed by =
       let x = gone.steps honest w fault backed by in
       let at = x.0 in
-      let reached = reach w at.1 fault x.1 at.3 (shelf_in (CauseSince g first disk w) session at.0 w at.1 at.2) in
+      let reached = reach w at.1 fault x.1 at.3 (laid_in (CauseSince g first disk w) session at.0 w at.1 at.2) in
       let next = one.steps (here honest) w at.1 reached in
       let steps = steps_go g first disk disk' now s''.engine w at.1 next.0 session at.0 gone.looked.count (later_cause w) at.2 next.1 next.2 in
       let stood = steps_stand g first disk' now s''.engine w session steps in

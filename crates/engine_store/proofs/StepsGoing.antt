@@ -15,9 +15,10 @@ use Rattle.engine.specs.declared.step.Step.TheVariants.{Go}
 use Rattle.engine.specs.Runs.{StepsMore, StepsOut}
 use Rattle.engine.specs.Whole.{Ends}
 use Rattle.ckpt_step.specs.Keeps.{AreOrdinary}
+use Rattle.ckpt_step.specs.Floors.{laid_of}
 use Rattle.engine_store.specs.Calls.{EndsIn, GoesOrKept}
 use Rattle.engine_store.specs.Fetches.{CauseSince, ComesOrNot, GoesIn, StepsBy}
-use Rattle.engine_store.proofs.Going.{Goes, goes_out, goes_step, goes_then, shelf_step}
+use Rattle.engine_store.proofs.Going.{Goes, goes_out, goes_step, goes_then, laid_step}
 use Rattle.engine_store.proofs.UnderWay.{cause_since}
 
 -- what was done where a leaf came in, or was kept out
@@ -57,19 +58,19 @@ module _ (Caused : Refusal → Type 0) (session : ℕ) where
   middle_in now middle (inl same) = (zero, same)
   middle_in now middle (inr kept) = (suc zero, (middle, inr kept, refl))
 
-  -- ---- the shelf
+  -- ---- the shelf and the history
 
-  shelf_one : (w next : World) → GoesOrKept Caused w session next → next.shelf ≡ w.shelf
-  shelf_one w next (inl goes) = shelf_step w next (Go (by.Session session)) reply.More goes
-  shelf_one w next (inr (r, cause, out)) = ap (λ (x : World). x.shelf) out.leaves
+  laid_one : (w next : World) → GoesOrKept Caused w session next → laid_of next ≡ laid_of w
+  laid_one w next (inl goes) = laid_step w next (Go (by.Session session)) reply.More goes
+  laid_one w next (inr (r, cause, out)) = ap laid_of out.leaves
 
-  pub shelf_in : (n : ℕ) (w last : World) → GoesIn Caused n w session last → last.shelf ≡ w.shelf
-  shelf_in zero w last is = ap (λ (x : World). x.shelf) is
-  shelf_in (suc n) w last (next, one, rest) = shelf_in n next last rest ∙ shelf_one w next one
+  pub laid_in : (n : ℕ) (w last : World) → GoesIn Caused n w session last → laid_of last ≡ laid_of w
+  laid_in zero w last is = ap laid_of is
+  laid_in (suc n) w last (next, one, rest) = laid_in n next last rest ∙ laid_one w next one
 
-  shelf_ends : (n : ℕ) (w last : World) (answer : Answer (List ℕ)) → EndsIn Caused n w session answer last → last.shelf ≡ w.shelf
-  shelf_ends zero w last answer is = shelf_step w last (Go (by.Session session)) (reply.Answer answer) is
-  shelf_ends (suc n) w last answer (next, one, rest) = shelf_ends n next last answer rest ∙ shelf_one w next one
+  laid_ends : (n : ℕ) (w last : World) (answer : Answer (List ℕ)) → EndsIn Caused n w session answer last → laid_of last ≡ laid_of w
+  laid_ends zero w last answer is = laid_step w last (Go (by.Session session)) (reply.Answer answer) is
+  laid_ends (suc n) w last answer (next, one, rest) = laid_ends n next last answer rest ∙ laid_one w next one
 
   -- ---- what they keep
 
@@ -86,9 +87,9 @@ module _ (Caused : Refusal → Type 0) (session : ℕ) where
 -- ---- what comes of an engine
 
 module _ {D : Type 0} (g : Ghosts D) where
-  pub steps_stand : (first last : D) (called : Called) (e : Engine) (w : World) (session : ℕ) → StepsBy g first last called e w session → (v : World) × Stands e v × (v.shelf ≡ w.shelf)
-  steps_stand first last (called.Ended answer) e w session (n, v, ends, stands) = (v, stands, shelf_ends (CauseSince g first last w) session n w v answer ends)
-  steps_stand first last (called.Waits leaf) e w session (n, v, goes, stands) = (v, stands, shelf_in (CauseSince g first last w) session n w v goes)
+  pub steps_stand : (first last : D) (called : Called) (e : Engine) (w : World) (session : ℕ) → StepsBy g first last called e w session → (v : World) × Stands e v × (laid_of v ≡ laid_of w)
+  steps_stand first last (called.Ended answer) e w session (n, v, ends, stands) = (v, stands, laid_ends (CauseSince g first last w) session n w v answer ends)
+  steps_stand first last (called.Waits leaf) e w session (n, v, goes, stands) = (v, stands, laid_in (CauseSince g first last w) session n w v goes)
 
   -- the steps of a call that was finished, or goes on
   pub steps_by : (disk : D) (called : Called) (e : Engine) (w : World) (session : ℕ) → Ends called e w session → StepsBy g disk disk called e w session

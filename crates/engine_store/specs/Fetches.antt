@@ -15,13 +15,13 @@ use Rattle.engine.specs.declared.step.Step.{Step}
 use Rattle.engine.specs.declared.step.Step.TheVariants.{Go}
 use Rattle.engine.specs.Waits.{turns_in}
 use Rattle.engine.specs.Whole.{IsUnderWay, KeptBy, MayCallKept}
-use Rattle.ckpt_step.specs.Floors.{AreLivesOn, Follows}
+use Rattle.ckpt_step.specs.Floors.{AreLivesOn, Follows, laid_of}
 use Rattle.ckpt_step.specs.Grounds.{StandsOn}
 use Rattle.engine_store.specs.declared.store.Store.{Store}
 use Rattle.engine_store.specs.Calls.{Basis, EndsIn, GoesOrKept, MayAnswerSo}
 use Rattle.engine_store.specs.Loads.{IsCause, IsCaused}
 
--- While the engine is up, the ground is that of the disk's checkpoint, and follows this world: its shelf has the leaves that are in no frame. Those that were written since are on the disk.
+-- While the engine is up, the ground is that of the disk's checkpoint, and follows this world: its shelf has the leaves that are in no frame, and the history nothing of them. Those that were written since are on the disk.
 abbrev pub IsBacked : {D : Type 0} → Ghosts D → Store → D → World → Type 0
 IsBacked g s disk w = s.engine.hub.fault ≡ None → (old : Option Stored) × StandsOn (g.seen disk) (g.may_leave disk) s.engine.hub s.ground old × Follows old s.engine.hub s.ground w × AreLivesOn (g.seen disk) s.engine.hub s.ground w
 
@@ -30,7 +30,7 @@ pub record IsReached {D : Type 0} (g : Ghosts D) (s : Store) (disk : D) (w now :
   pub backed : IsBacked g s disk w
   pub stands : Stands s.engine now
   pub fault : now.machine.fault ≡ w.machine.fault
-  pub shelf : now.shelf ≡ w.shelf
+  pub laid : laid_of now ≡ laid_of w
 
 -- a leaf comes in, or is kept from the session's call
 abbrev pub ComesOrNot : (Caused : Refusal → Type 0) → Engine → World → ℕ → Result (Unit {0}) Refusal → Type 0

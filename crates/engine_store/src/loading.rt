@@ -6,6 +6,7 @@ ghost use Rattle.engine_world.specs.Stands.{Stands};
 ghost use Rattle.engine_world.specs.Worlds.{World};
 ghost use Rattle.engine.specs.Directories.{HubGoesOn};
 ghost use Rattle.engine.specs.Waits.{IsAway, turns_in, waits_in};
+ghost use Rattle.ckpt_step.specs.Floors.{KeepsNothing};
 ghost use Rattle.engine_store.specs.Loads.{IsReadAs, LacksLeaf, RefusesLeaf, ShelfIsOn};
 ghost use Rattle.failure.specs.Counts.{Rose};
 ghost use Rattle.row_page.specs.Rows.{Row};
@@ -43,7 +44,7 @@ pub(crate) fn bring<D: Disk>(
     leaf: u64,
 ) -> Result<(), Refusal>
     requires away { IsAway engine.old.hub.dir.leaves leaf }
-    ensures stands { IsTrue (D.honest disk.old) → (w : World) → Stands engine.old w → ShelfIsOn (D.seen disk.old) engine.old.hub.dir w.shelf leaf → OnOk result (Stands engine.new w) }
+    ensures stands { IsTrue (D.honest disk.old) → (w : World) → Stands engine.old w → KeepsNothing w → ShelfIsOn (D.seen disk.old) engine.old.hub.dir w.shelf leaf → OnOk result (Stands engine.new w) }
     ensures goes { OnOk result (HubGoesOn engine.old.hub engine.new.hub) }
     ensures ready { (session : ℕ) → waits_in engine.old session ≡ Some leaf → OnOk result (waits_in engine.new session ≡ None) }
     ensures turns { (session : ℕ) → OnOk result (turns_in engine.new session ≡ turns_in engine.old session) }

@@ -9,6 +9,8 @@ use Rattle.stored.specs.TableTree.{Entry}
 use Rattle.tree_dir.specs.declared.leaf.Leaf.{Leaf}
 use Rattle.tree_dir.specs.Leaves.{Directory, HasTable, leaves_with, no_leaves}
 use Rattle.tree_dir.proofs.Members.{split}
+use Rattle.leaf_capture.specs.Capture.{ChainsFit}
+use Rattle.leaf_frame.specs.Leaf.{HeldLeaf}
 use Rattle.engine_world.specs.Leaves.{LeavesOwned}
 
 pub none_owned : (known : List Table) → LeavesOwned known no_leaves.leaves
@@ -16,6 +18,10 @@ none_owned known l there = absurd (omega (arith, there.1))
 
 pub unset_fit : StampsFit 0 0
 unset_fit = inl refl
+
+-- a leaf without updates
+pub bare_fits : (leaf : HeldLeaf) → leaf.chains ≡ [] → ChainsFit leaf.chains
+bare_fits leaf bare = subst ChainsFit (sym bare) (λ key. tt)
 
 -- the leaves of the only table of a directory
 with-of : (table : ℕ) (ids : List ℕ) (entries : List Entry) (l : Leaf) → Contains (leaves_with table ids entries) l → l.table ≡ table

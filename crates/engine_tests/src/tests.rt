@@ -1,5 +1,5 @@
-// What a close and a checkpoint in one go do to an engine with two transactions under way; and calls
-// whose items are lent, of which some wait for a leaf that is in no frame.
+// What a close and a checkpoint in one go do to an engine with two transactions under way; calls whose
+// items are lent, of which some wait for a leaf that is in no frame; and reads into the caller's buffers.
 ghost use Rattle.std.specs.Prelude.{◌≡◌, [], IfOk};
 ghost use Rattle.std.specs.List.{Contains};
 ghost use Rattle.leaf_rows.specs.Rows.{AreFit};
@@ -7,7 +7,7 @@ ghost use Rattle.tree_dir.specs.declared.leaf.Leaf.{Leaf as ALeaf};
 
 use catalog::Catalog;
 use device_layout::{Addr, Link};
-use engine::{Called, EngineMarks, Local};
+use engine::{Called, EngineMarks, Got, Local, RowBatch};
 use failure::{Fault, NoMemory};
 use inner_page::Entry;
 use item::{Format, Formats, Item};
@@ -18,8 +18,8 @@ use stamp::Name;
 use std::alloc::Global;
 use std::process::Abort;
 use tree_dir::Dir;
-use wt_calls::{Demand, SessionCall, SystemCall};
-use wt_code::{Answer, Busy, Refusal};
+use wt_calls::{Demand, SessionCall, SystemCall, Way};
+use wt_code::{Answer, Busy, Invalid, Refusal};
 
 const BYTES: Formats = Formats {
     key: Format::U,
@@ -192,6 +192,7 @@ fn kept_from(alloc: Global, engine: &mut Local) -> Option<Answer<Item>> {
 }
 
 // The same, where the leaf comes into a frame.
+#[tactic(auto, using(crate::proofs::Bases::bare_fits))]
 fn filled(
     alloc: Global,
     engine: &mut Local,
@@ -304,11 +305,95 @@ fn reads_filled(alloc: Global, rt: &impl Abort, away: &mut Local) -> Result<(), 
     Ok(())
 }
 
+// What session 0 reads of a key of the table `t`, into the buffer.
+fn read_into(engine: &Local, key: &[u8], value: &mut Vec<u8>) -> Option<Got> {
+    let table = engine.table_number(b"t")?;
+    if engine.sessions() == 0 {
+        return None;
+    }
+    Some(engine.get_into(0, table, key, value))
+}
+
+#[test]
+fn a_value_is_read_into_a_buffer_that_is_used_again(rt: HostRuntime) -> Result<(), NoMemory> {
+    let alloc = rt.alloc();
+    let mut engine = engine(alloc)?;
+    assert!(rt; ask(alloc, &mut engine, 0, SessionCall::Begin(None)) == Some(Answer::Done));
+    assert!(rt; keeps_lent(alloc, &mut engine, b"k", b"longer")?);
+    assert!(rt; keeps_lent(alloc, &mut engine, b"l", b"2")?);
+    let mut value = Vec::new(alloc);
+    assert!(rt; read_into(&engine, b"k", &mut value) == Some(Got::Found));
+    assert!(rt; read_into(&engine, b"l", &mut value) == Some(Got::Found));
+    assert!(rt; value.as_slice() == b"2".as_slice());
+    let absent = Some(Got::Refused(Refusal::NotFound));
+    assert!(rt; read_into(&engine, b"m", &mut value) == absent);
+    Ok(())
+}
+
+// The keys and values of a batch, one behind the other.
+fn text_of(alloc: Global, rows: &RowBatch) -> Result<Vec<u8>, NoMemory> {
+    let mut text = Vec::new(alloc);
+    for at in 0..rows.len() {
+        if let Some(row) = rows.row(at) {
+            text.extend_from_slice(row.key)?;
+            text.extend_from_slice(row.value)?;
+        }
+    }
+    Ok(text)
+}
+
+// How session 0 reads on in the table `t`, by its first cursor.
+fn read_on(
+    alloc: Global,
+    engine: &mut Local,
+    way: Way,
+    most: usize,
+    rows: &mut RowBatch,
+) -> Option<Result<(), Refusal>> {
+    let table = engine.table_number(b"t")?;
+    if engine.sessions() == 0 {
+        return None;
+    }
+    Some(engine.next_rows(alloc, 0, 0, table, way, most, rows))
+}
+
+#[test]
+fn a_cursor_reads_on_from_the_last_row_of_a_batch(rt: HostRuntime) -> Result<(), NoMemory> {
+    let alloc = rt.alloc();
+    let mut engine = engine(alloc)?;
+    let mut rows = RowBatch::new(alloc);
+    let idle = Some(Err(Refusal::Invalid(Invalid::NoTxn)));
+    assert!(rt; read_on(alloc, &mut engine, Way::Up, 9, &mut rows) == idle);
+    assert!(rt; ask(alloc, &mut engine, 0, SessionCall::Begin(None)) == Some(Answer::Done));
+    for key in [b"a", b"b", b"c", b"d"] {
+        assert!(rt; keeps_lent(alloc, &mut engine, key.as_slice(), b"-")?);
+    }
+    for (way, most, read) in [
+        (Way::Up, 2, b"a-b-".as_slice()),
+        (Way::Up, 1, b"c-".as_slice()),
+        (Way::Up, 9, b"d-".as_slice()),
+        (Way::Up, 9, b"".as_slice()),
+        (Way::Down, 2, b"c-b-".as_slice()),
+        (Way::Up, 0, b"".as_slice()),
+        (Way::Down, 9, b"a-".as_slice()),
+    ] {
+        let told = read_on(alloc, &mut engine, way, most, &mut rows);
+        assert!(rt; told == Some(Ok(())));
+        assert!(rt; text_of(alloc, &rows)?.as_slice() == read);
+    }
+    Ok(())
+}
+
 #[test]
 fn a_lent_get_waits_for_its_leaf(rt: HostRuntime) -> Result<(), NoMemory> {
     let alloc = rt.alloc();
     let mut away = on_device(alloc)?;
     assert!(rt; ask(alloc, &mut away, 0, SessionCall::Begin(None)) == Some(Answer::Done));
+    let mut value = Vec::new(alloc);
+    assert!(rt; read_into(&away, b"k", &mut value) == Some(Got::Away));
+    let mut rows = RowBatch::new(alloc);
+    assert!(rt; read_on(alloc, &mut away, Way::Up, 9, &mut rows) == Some(Ok(())));
+    assert!(rt; rows.len() == 0);
     let kept = Some(Answer::Refused(Refusal::DiskFault));
     assert!(rt; kept_from(alloc, &mut away) == kept);
     reads_filled(alloc, &rt, &mut away)

@@ -1,5 +1,5 @@
 -- An engine whose sessions all rest: nobody has a transaction, so the newest version of a key stands for it alone.
-use Rattle.std.proofs.Common.{◌≡◌, ◌≤◌, ℕ, refl, ap, sym, ◌∙◌, true, List, [], ◌∷◌, get_or, inl, inr, subst, arith}
+use Rattle.std.proofs.Common.{◌≡◌, ◌≤◌, ℕ, refl, ap, sym, ◌∙◌, true, List, [], ◌∷◌, ◌++◌, get_or, inl, inr, subst, arith}
 use Rattle.std.specs.Prelude.{Option, Some, None, IfSome, option_map}
 use Rattle.std.specs.Option.{option_to_list}
 use Rattle.std.proofs.lemmas.Option.{same_Some, slice_get-get_or}
@@ -80,6 +80,11 @@ covers-here m v none free durable = parts-cover m v (record {
 one-descends : (o : Option (Version Change)) → Descends Older (option_to_list o)
 one-descends None = tt
 one-descends (Some v) = (λ y none. absurd none, tt)
+
+-- a row descends where the history keeps nothing below it
+pub row-alone : (row : Option (Version Change)) (kept : List (Version Change)) → kept ≡ [] → Descends Older (option_to_list row ++ kept)
+row-alone None kept none = subst (Descends Older) (sym none) tt
+row-alone (Some v) kept none = subst (λ (l : List (Version Change)). Descends Older (v ∷ l)) (sym none) (λ y there. absurd there, tt)
 
 newest-stored : (m : Machine) (l : List (Version Change)) → Nobody m → m.checkpoint ≡ None → Descends Older l → IfSome (head_of l) (λ v. v.window.durable ≤ m.oldest) → Stores Older (covers m) l (InFrame [] (head_of l)) (Held [])
 newest-stored m [] none free down durable = record {

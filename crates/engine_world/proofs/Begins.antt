@@ -100,7 +100,7 @@ module _ (law : ChainsGoOn) (e : Engine) (w : World) (session : ℕ) (a : State)
   accepted : transaction_of w.machine session ≡ None → decision w.machine session (BeginCall read) ≡ (Done, BeginAt session (stamp_of read)) → Goes e w session (begins e.hub session a read)
   accepted none decided = seat-leads e w session a (at_stage stage.Rest (record a { phase = phase.Running })) (begun e.hub.txns session (stamp_of read)) (new_seat e.hub.txns (stamp_of read)) (BeginAt session (stamp_of read)) (reply.Answer answers.Done) st at
       may refl (begun-seat e.hub.txns session (stamp_of read)) ((calls-stand e.hub.txns w.machine st.valid st.txns).begins session (stamp_of read) may) refl
-      (leaves-go-on law w.machine (BeginAt session (stamp_of read)) w.shelf e.hub.dir.leaves e.pieces e.states st.valid may (λ table key. tt) st.leaves)
+      (leaves-go-on law w.machine (BeginAt session (stamp_of read)) w.shelf w.records e.hub.dir.leaves e.pieces e.states st.valid may (λ table key. tt) st.leaves)
       (goes-from (w.again session) e.hub.dir.leaves session a (stage.Begin read) w.machine (record { told = reply.Answer answers.Done; machine = after w.machine (BeginAt session (stamp_of read)); doing = Resting }) is
       (inr (subst (λ (d : Outcome × Event). JudgedBy d w.machine (record { told = reply.Answer answers.Done; machine = after w.machine (BeginAt session (stamp_of read)); doing = Resting })) (sym decided) (answers.Done, refl, refl))))
       (begun-stands none) where

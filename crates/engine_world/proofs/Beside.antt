@@ -117,10 +117,17 @@ pub record LeavesStay (freed : Option ℕ) (leaves made : List Leaf) (pieces lat
 abbrev pub StayWritten : Option ℕ → List WrittenKey → Type 0
 StayWritten freed keys = (k : WrittenKey) → Member k keys → freed ≢ Some k.frame
 
+-- so were those of a key's frame, where its leaf has not left it
+abbrev pub OthersAtHome : Option ℕ → Machine → ℕ → List Leaf → List FramePiece → List FramePiece → Type 0
+OthersAtHome freed m session leaves pieces later =
+    (r : ℕ) (t : Transaction) → r ≢ session → transaction_of m r ≡ Some t → 0 < t.id
+    → (table : ℕ) (key : List ℕ) (frame : ℕ) → frame_of leaves table key ≡ Some frame → freed ≢ Some frame
+    → (u : Update) → Member u (chain_at key (slots_in later frame)) → u.version.window.name ≡ name_of m t → Member u (chain_at key (slots_in pieces frame))
+
 -- what is left to each session but this one, also while sessions are opened, stamps are raised and tables are made
 pub record Apart (freed : Option ℕ) (session : ℕ) (m next : Machine) (hub later : Hub) (pieces pieces' : List FramePiece) : Type 0 where
   pub machine : MachineApart session m next
   pub leaves : LeavesStay freed hub.dir.leaves later.dir.leaves pieces pieces'
   pub seats : length hub.txns.sessions ≤ length later.txns.sessions
   pub phases : (r : ℕ) → r ≢ session → phase_of later.txns r ≡ phase_of hub.txns r
-  pub updates : OthersUpdates m session pieces pieces'
+  pub updates : OthersAtHome freed m session hub.dir.leaves pieces pieces'

@@ -11,7 +11,7 @@ use Rattle.txn_table.proofs.Standing.{calls-stand}
 use Rattle.update_chain.specs.EventLaws.{ChainsGoOn}
 use Rattle.engine_world.specs.Systems.{CheckpointsGo, checkpointed}
 use Rattle.engine_world.proofs.Beside.{Apart, MachineApart}
-use Rattle.engine_world.proofs.Events.{updates-same}
+use Rattle.engine_world.proofs.Events.{at-home, updates-same}
 use Rattle.engine_world.proofs.HubMoves.{leaves-go-on}
 use Rattle.engine_world.proofs.Others.{others-stay}
 use Rattle.engine_world.proofs.SystemEvents.{leaves-same, past-all}
@@ -39,8 +39,9 @@ checkpoints-go chains e w st free none = record {
   dir = st.dir;
   begun = st.begun;
   owned = st.owned;
-  leaves = leaves-go-on chains begun CheckpointFinish w.shelf e.hub.dir.leaves e.pieces e.states valid tt (λ table key. tt)
-      (leaves-go-on chains w.machine CheckpointStart w.shelf e.hub.dir.leaves e.pieces e.states st.valid may (λ table key. tt) st.leaves);
+  leaves = leaves-go-on chains begun CheckpointFinish w.shelf w.records e.hub.dir.leaves e.pieces e.states valid tt (λ table key. tt)
+      (leaves-go-on chains w.machine CheckpointStart w.shelf w.records e.hub.dir.leaves e.pieces e.states st.valid may (λ table key. tt) st.leaves);
+  unused = st.unused;
   frames = st.frames;
   count = st.count;
   doings = st.doings;
@@ -67,5 +68,5 @@ checkpoints-go chains e w st free none = record {
     leaves = leaves-same e.hub.dir.leaves e.pieces;
     seats = omega arith;
     phases = λ r other. refl;
-    updates = updates-same w.machine (length e.sessions) e.pieces;
+    updates = at-home None w.machine (length e.sessions) e.hub.dir.leaves e.pieces e.pieces (updates-same w.machine (length e.sessions) e.pieces);
   }

@@ -1,5 +1,5 @@
 -- A table is made, with one leaf, which is empty, in a frame that had none.
-use Rattle.std.proofs.Common.{◌≡◌, ◌≢◌, ◌<◌, ℕ, true, false, refl, ap, sym, ◌∙◌, List, [], ◌∷◌, ◌++◌, length, inl, inr, subst, arith, reverse}
+use Rattle.std.proofs.Common.{◌≡◌, ◌≢◌, ◌<◌, ◌≤◌, ℕ, true, false, refl, ap, sym, ◌∙◌, List, [], ◌∷◌, ◌++◌, length, inl, inr, subst, arith, reverse}
 use Rattle.std.specs.Prelude.{◌==◌, Option, Some, None, option_and_then, slice_get, slice_set}
 use Rattle.std.specs.List.{Contains}
 use Rattle.std.proofs.lemmas.Bool.{both_ways, cases_Bool, cases_eq, eqb-true}
@@ -32,7 +32,7 @@ use Rattle.engine_world.specs.Stands.{Engine, Stands}
 use Rattle.engine_world.specs.Systems.{CreatesGo, HasFirstLeaf, first_piece, with_table}
 use Rattle.engine_world.specs.Worlds.{World}
 use Rattle.engine_world.proofs.Appended.{append-finds, append-keeps, append-last}
-use Rattle.engine_world.proofs.Beside.{Apart, LeavesKept, LeavesStay, OthersUpdates}
+use Rattle.engine_world.proofs.Beside.{Apart, LeavesKept, LeavesStay, OthersAtHome}
 use Rattle.engine_world.proofs.FrameWords.{filled-stand, frame-here, generations-kept}
 use Rattle.engine_world.proofs.Homes.{LeavesStand, home-at}
 use Rattle.engine_world.proofs.HubMoves.{leaves-go-on}
@@ -122,7 +122,7 @@ module _ (chains : ChainsGoOn) (e : Engine) (w : World) (known : Known) (dir : D
   kept : LeavesKept None e.hub.dir.leaves dir.leaves
   kept = come-kept e.hub.dir dir.leaves (new_leaf t.number id frame (generation_at e.pieces frame)) c.stands.dir come
 
-  new-stands : LeafInFrame next w.shelf dir.leaves pieces states (new_leaf t.number id frame (generation_at e.pieces frame))
+  new-stands : LeafInFrame next w.shelf w.records dir.leaves pieces states (new_leaf t.number id frame (generation_at e.pieces frame))
   new-stands = record {
     laid = record {
       framed = record { frame = frame; generation = generation_at e.pieces frame };
@@ -139,20 +139,22 @@ module _ (chains : ChainsGoOn) (e : Engine) (w : World) (known : Known) (dir : D
         (absent-stands w.machine t.number key c.stands.valid (number-absent w.machine t c.may.0));
     bare = λ key outside. absurd (outside (under-come e.hub.dir dir.leaves (new_leaf t.number id frame (generation_at e.pieces frame)) c.stands.dir come refl key));
     lies = λ some. absurd (omega (arith, some));
+    none = c.stands.unused id c.leaf.added.fresh.ascend.0;
   }
 
-  old-stands : (l : Leaf) → Contains e.hub.dir.leaves l → LeafStands next w.shelf dir.leaves pieces states l
-  old-stands l there = by (leaves-go-on chains w.machine (CreateTable t) w.shelf e.hub.dir.leaves e.pieces e.states c.stands.valid c.may (λ table key. tt) c.stands.leaves l there) where
+  old-stands : (l : Leaf) → Contains e.hub.dir.leaves l → LeafStands next w.shelf w.records dir.leaves pieces states l
+  old-stands l there = by (leaves-go-on chains w.machine (CreateTable t) w.shelf w.records e.hub.dir.leaves e.pieces e.states c.stands.valid c.may (λ table key. tt) c.stands.leaves l there) where
     same : (key : List ℕ) → leaf_under l.table key dir.leaves ≡ leaf_under l.table key e.hub.dir.leaves
     same key = under-same e.hub.dir dir.leaves (new_leaf t.number id frame (generation_at e.pieces frame)) c.stands.dir come l.table key (come.apart l there)
 
-    apart : (old : LeafInFrame next w.shelf e.hub.dir.leaves e.pieces e.states l) → old.laid.framed.frame ≢ frame
+    apart : (old : LeafInFrame next w.shelf w.records e.hub.dir.leaves e.pieces e.states l) → old.laid.framed.frame ≢ frame
     apart old = not-empty e.pieces frame old.laid.framed.frame old.laid.frame c.empty old.laid.there
 
-    by : LeafStands next w.shelf e.hub.dir.leaves e.pieces e.states l → LeafStands next w.shelf dir.leaves pieces states l
+    by : LeafStands next w.shelf w.records e.hub.dir.leaves e.pieces e.states l → LeafStands next w.shelf w.records dir.leaves pieces states l
     by (inr old) = inr (record {
       none = old.none;
       keys = λ key under. old.keys key (sym (same key) ∙ under);
+      ordered = λ key under. old.ordered key (sym (same key) ∙ under);
       bare = λ key outside. old.bare key (λ under. outside (same key ∙ under));
     })
     by (inl old) = inl (record {
@@ -170,12 +172,13 @@ module _ (chains : ChainsGoOn) (e : Engine) (w : World) (known : Known) (dir : D
       keys = λ key under. old.keys key (sym (same key) ∙ under);
       bare = λ key outside. old.bare key (λ under. outside (same key ∙ under));
       lies = old.lies;
+      none = old.none;
     })
 
-  each-stands : LeavesStand next w.shelf dir.leaves pieces states
+  each-stands : LeavesStand next w.shelf w.records dir.leaves pieces states
   each-stands l there = elim (come-cases e.hub.dir dir.leaves (new_leaf t.number id frame (generation_at e.pieces frame)) c.stands.dir come l there) [
     | inl old ↦ old-stands l old
-    | inr same ↦ subst (LeafStands next w.shelf dir.leaves pieces states) same (inl new-stands)
+    | inr same ↦ subst (LeafStands next w.shelf w.records dir.leaves pieces states) same (inl new-stands)
   ]
 
   all-begun : TablesBegun known.tables dir.leaves
@@ -193,7 +196,7 @@ module _ (chains : ChainsGoOn) (e : Engine) (w : World) (known : Known) (dir : D
 
   -- a frame that has a leaf is as it was
   home-apart : (table : ℕ) (key : List ℕ) (f : ℕ) → frame_of e.hub.dir.leaves table key ≡ Some f → f ≢ frame
-  home-apart table key f home = let h = home-at w.machine w.shelf e.hub.dir e.pieces e.states table key f c.stands.dir c.stands.leaves home in
+  home-apart table key f home = let h = home-at w.machine w.shelf w.records e.hub.dir e.pieces e.states table key f c.stands.dir c.stands.leaves home in
       not-empty e.pieces frame f h.stands.laid.frame c.empty (ap (frame_in e.pieces) (sym h.at) ∙ h.stands.laid.there)
 
   leaves-stay : LeavesStay None e.hub.dir.leaves dir.leaves e.pieces pieces
@@ -205,11 +208,9 @@ module _ (chains : ChainsGoOn) (e : Engine) (w : World) (known : Known) (dir : D
     past = λ l target there is none. absurd cc;
   }
 
-  updates-stay : OthersUpdates w.machine (length e.sessions) e.pieces pieces
-  updates-stay r x other there drawn at key u member named = elim (cases_eq at frame) [
-    | inl same ↦ absurd (subst (λ f. Member u (chain_at key (chains_in f))) (ap (frame_in pieces) same ∙ new-frame) member)
-    | inr elsewhere ↦ subst (λ f. Member u (chain_at key (chains_in f))) (old-frame e.pieces frame at (first_piece (generation_at e.pieces frame) t id) elsewhere) member
-  ]
+  updates-stay : OthersAtHome None w.machine (length e.sessions) e.hub.dir.leaves e.pieces pieces
+  updates-stay r x other there drawn table key at home stays u member named =
+      subst (λ f. Member u (chain_at key (chains_in f))) (old-frame e.pieces frame at (first_piece (generation_at e.pieces frame) t id) (home-apart table key at home)) member
 
   made-beside : Apart None (length e.sessions) w.machine next e.hub (record e.hub { tables = known; dir = dir }) e.pieces pieces
   made-beside = record {
@@ -219,6 +220,10 @@ module _ (chains : ChainsGoOn) (e : Engine) (w : World) (known : Known) (dir : D
     phases = λ r other. refl;
     updates = updates-stay;
   }
+
+  -- ids go on from those that were given
+  never : (other : ℕ) → dir.next ≤ other → e.hub.dir.next ≤ other
+  never other past = let given = c.leaf.added.fresh.ascend in let same = ap (λ (d : Directory). d.next) c.leaf.placed in omega (arith, given.0, given.1, same, past)
 
   made-stands : AreTables known → Stands (with_table e known dir t id frame) (record w { machine = next })
   made-stands are = record {
@@ -232,6 +237,7 @@ module _ (chains : ChainsGoOn) (e : Engine) (w : World) (known : Known) (dir : D
     begun = all-begun;
     owned = all-owned;
     leaves = each-stands;
+    unused = λ other past key. c.stands.unused other (never other past) key;
     frames = filled-stand e.pieces e.states frame (first_piece (generation_at e.pieces frame) t id) c.piece c.word refl c.stands.frames;
     count = c.stands.count;
     doings = c.stands.doings;

@@ -121,8 +121,8 @@ pieces_edited e name pieces keys left p = slice_set pieces (frame_at keys left) 
 -- the machine stays
 pub edit-leaf : (e : Engine) (w : World) (session : ℕ) (a : State) (t : Transaction) (edit : Edit) (left : ℕ) (p : FramePiece) → Stands e w → slice_get e.sessions session ≡ Some a → transaction_of w.machine session ≡ Some t → IsLeft left a
     → Edits edit w.machine t → IsEdited edit w.machine e.pieces t a left → slice_get e.pieces (frame_at a.written left) ≡ Some p
-    → LeafEdited edit w.machine t w.shelf e.hub.dir e.pieces (pieces_edited edit (name_of w.machine t) e.pieces a.written left p) e.states a.written (leaf_start a.written (frame_at a.written left) left)
-edit-leaf e w session a t edit left p st at there some edits old piece = leaf-edited edit w.machine t w.shelf e.hub.dir e.pieces e.states a.written left p (record {
+    → LeafEdited edit w.machine t w.shelf w.records e.hub.dir e.pieces (pieces_edited edit (name_of w.machine t) e.pieces a.written left p) e.states a.written (leaf_start a.written (frame_at a.written left) left)
+edit-leaf e w session a t edit left p st at there some edits old piece = leaf-edited edit w.machine t w.shelf w.records e.hub.dir e.pieces e.states a.written left p (record {
   edits = edits;
   dir = st.dir;
   leaves = st.leaves;
@@ -133,7 +133,7 @@ edit-leaf e w session a t edit left p st at there some edits old piece = leaf-ed
 }) piece
 
 pub edit-moves : (e : Engine) (w : World) (session : ℕ) (a : State) (t : Transaction) (edit : Edit) (later : List FramePiece) (keys : List WrittenKey) (left : ℕ) → Stands e w → transaction_of w.machine session ≡ Some t
-    → LeafEdited edit w.machine t w.shelf e.hub.dir e.pieces later e.states keys left → SessionInPlace w.machine e.hub later session a → Moves e w session e.hub later a w.machine
+    → LeafEdited edit w.machine t w.shelf w.records e.hub.dir e.pieces later e.states keys left → SessionInPlace w.machine e.hub later session a → Moves e w session e.hub later a w.machine
 edit-moves e w session a t edit later keys left st there l mine = record {
   valid = st.valid;
   beside = record {

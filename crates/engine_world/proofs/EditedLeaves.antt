@@ -26,6 +26,7 @@ use Rattle.call_steps.specs.Leaves.{edited, chain_in, leaf_changed}
 use Rattle.call_steps.specs.Written.{frame_at, slot_at, leaf_start}
 use Rattle.row_page.specs.Rows.{Row}
 use Rattle.engine_world.specs.Leaves.{AllHave, LeafInFrame, IsSlotOf, AreNoted, EditedDownTo, frame_in, slots_in}
+use Rattle.engine_world.specs.Worlds.{Records}
 use Rattle.engine_world.proofs.Beside.{SlotsStay, BringsOnly}
 use Rattle.engine_world.proofs.Homes.{IsAt, LeavesStand, LiesIn, home-at, one-leaf}
 use Rattle.engine_world.proofs.OnePiece.{slots_of, table_of, frame-there, slots-set, slots-other, slots-stay, brings-only, leaves-on}
@@ -180,18 +181,18 @@ module _ (e : Edit) (m : Machine) (t : Transaction) (edits : Edits e m t) (table
 -- ---- the frames
 
 -- the frames before, with a transaction whose noted keys are done down to so many
-pub record OnLeaf (e : Edit) (m : Machine) (t : Transaction) (shelf : ℕ → List Row) (d : Directory) (pieces : List FramePiece) (states : List ℕ) (keys : List WrittenKey) (left : ℕ) : Type 0 where
+pub record OnLeaf (e : Edit) (m : Machine) (t : Transaction) (shelf : ℕ → List Row) (records : Records) (d : Directory) (pieces : List FramePiece) (states : List ℕ) (keys : List WrittenKey) (left : ℕ) : Type 0 where
   pub edits : Edits e m t
   pub dir : IsDirectory d
-  pub leaves : LeavesStand m shelf d.leaves pieces states
+  pub leaves : LeavesStand m shelf records d.leaves pieces states
   pub noted : AreNoted d.leaves pieces t.writes keys
   pub some : 1 ≤ left
   pub within : left ≤ length keys
   pub old : EditedDownTo e (name_of m t) pieces keys left
 
 -- and after the edit of one leaf
-pub record LeafEdited (e : Edit) (m : Machine) (t : Transaction) (shelf : ℕ → List Row) (d : Directory) (pieces later : List FramePiece) (states : List ℕ) (keys : List WrittenKey) (left : ℕ) : Type 0 where
-  pub leaves : LeavesStand m shelf d.leaves later states
+pub record LeafEdited (e : Edit) (m : Machine) (t : Transaction) (shelf : ℕ → List Row) (records : Records) (d : Directory) (pieces later : List FramePiece) (states : List ℕ) (keys : List WrittenKey) (left : ℕ) : Type 0 where
+  pub leaves : LeavesStand m shelf records d.leaves later states
   pub slots : SlotsStay pieces later
   pub brings : BringsOnly (name_of m t) pieces later
   pub done : EditedDownTo e (name_of m t) later keys left
@@ -207,30 +208,30 @@ table-edited change p = by p.frame where
   by (Some f) = refl
 
 -- the frame of a leaf that stands
-pub leaf-framed : (m : Machine) (shelf : ℕ → List Row) (leaves : List Leaf) (pieces : List FramePiece) (states : List ℕ) (l : Leaf) (frame : ℕ) → (x : LeafInFrame m shelf leaves pieces states l) → x.laid.framed.frame ≡ frame → frame_in pieces frame ≡ Some x.laid.frame
-leaf-framed m shelf leaves pieces states l frame x at = ap (frame_in pieces) (sym at) ∙ x.laid.there
+pub leaf-framed : (m : Machine) (shelf : ℕ → List Row) (records : Records) (leaves : List Leaf) (pieces : List FramePiece) (states : List ℕ) (l : Leaf) (frame : ℕ) → (x : LeafInFrame m shelf records leaves pieces states l) → x.laid.framed.frame ≡ frame → frame_in pieces frame ≡ Some x.laid.frame
+leaf-framed m shelf records leaves pieces states l frame x at = ap (frame_in pieces) (sym at) ∙ x.laid.there
 
 -- a slot that was noted in the frame of a leaf is of a key that lies in it
-pub lies-in : (m : Machine) (shelf : ℕ → List Row) (d : Directory) (pieces : List FramePiece) (states : List ℕ) (l : Leaf) (frame : ℕ) (k : WrittenKey) (table : ℕ) (key : List ℕ) → IsDirectory d → LeavesStand m shelf d.leaves pieces states → Contains d.leaves l
-    → (x : LeafInFrame m shelf d.leaves pieces states l) → x.laid.framed.frame ≡ frame → k.frame ≡ frame → IsSlotOf d.leaves pieces k table key → (table ≡ l.table) × (leaf_under l.table key d.leaves ≡ Some l)
-lies-in m shelf d pieces states l frame k table key is stand there x at same s = (
+pub lies-in : (m : Machine) (shelf : ℕ → List Row) (records : Records) (d : Directory) (pieces : List FramePiece) (states : List ℕ) (l : Leaf) (frame : ℕ) (k : WrittenKey) (table : ℕ) (key : List ℕ) → IsDirectory d → LeavesStand m shelf records d.leaves pieces states → Contains d.leaves l
+    → (x : LeafInFrame m shelf records d.leaves pieces states l) → x.laid.framed.frame ≡ frame → k.frame ≡ frame → IsSlotOf d.leaves pieces k table key → (table ≡ l.table) × (leaf_under l.table key d.leaves ≡ Some l)
+lies-in m shelf records d pieces states l frame k table key is stand there x at same s = (
   sym h.table_is ∙ ap (λ (n : Leaf). n.table) one,
   subst (λ (n : Leaf). leaf_under n.table key d.leaves ≡ Some n) one h.under,
 ) where
-  h : IsAt m shelf d pieces states table key k.frame
-  h = home-at m shelf d pieces states table key k.frame is stand s.home
+  h : IsAt m shelf records d pieces states table key k.frame
+  h = home-at m shelf records d pieces states table key k.frame is stand s.home
 
   one : h.leaf ≡ l
   one = one-leaf d pieces states h.leaf l is h.there there h.stands.laid x.laid (h.at ∙ (same ∙ sym at))
 
-pub leaf-edited : (e : Edit) (m : Machine) (t : Transaction) (shelf : ℕ → List Row) (d : Directory) (pieces : List FramePiece) (states : List ℕ) (keys : List WrittenKey) (left : ℕ) (p : FramePiece)
-    → OnLeaf e m t shelf d pieces states keys left → slice_get pieces (frame_at keys left) ≡ Some p
-    → LeafEdited e m t shelf d pieces (slice_set pieces (frame_at keys left) (piece_edited e (name_of m t) keys left p)) states keys (leaf_start keys (frame_at keys left) left)
-leaf-edited e m t shelf d pieces states keys zero p o at = absurd (let some = o.some in omega arith)
-leaf-edited e m t shelf d pieces states keys (suc n) p o at = record {
-  leaves = leaves-on pieces frame p p' at refl m m shelf states d home.leaf (with_chains new home.stands.laid.frame) o.dir o.leaves home.there home.stands.laid home.at
+pub leaf-edited : (e : Edit) (m : Machine) (t : Transaction) (shelf : ℕ → List Row) (records : Records) (d : Directory) (pieces : List FramePiece) (states : List ℕ) (keys : List WrittenKey) (left : ℕ) (p : FramePiece)
+    → OnLeaf e m t shelf records d pieces states keys left → slice_get pieces (frame_at keys left) ≡ Some p
+    → LeafEdited e m t shelf records d pieces (slice_set pieces (frame_at keys left) (piece_edited e (name_of m t) keys left p)) states keys (leaf_start keys (frame_at keys left) left)
+leaf-edited e m t shelf records d pieces states keys zero p o at = absurd (let some = o.some in omega arith)
+leaf-edited e m t shelf records d pieces states keys (suc n) p o at = record {
+  leaves = leaves-on pieces frame p p' at refl m m shelf records states d home.leaf (with_chains new home.stands.laid.frame) o.dir o.leaves home.there home.stands.laid home.at
       (record { is = whole; table = home.stands.laid.table; id = home.stands.laid.id; keys = final.stands; bare = λ key outside. (final.bare key outside, (home.stands.bare key outside).1); lies = home.stands.lies })
-      (λ l there other key chain row under k. k);
+      (λ l there other key chain row kept under k. k);
   slots = slots-stay pieces frame p p' at refl (table-edited change p) (λ key i there. ap (slot_of key) now ∙ (final.places key ∙ (ap (slot_of key) was ∙ there)));
   brings = brings-only pieces frame p p' at (name_of m t) (λ key u member other. subst (λ l. Member u (chain_at key l)) was (final.brings key u (subst (λ l. Member u (chain_at key l)) now member) other));
   done = λ i k low there. elim (cases_eq k.frame frame) [
@@ -256,11 +257,11 @@ leaf-edited e m t shelf d pieces states keys (suc n) p o at = record {
   noted : (w : Write) × Member w t.writes × IsSlotOf d.leaves pieces last.0 w.table w.key
   noted = o.noted.wrote last.0 (got-member keys n last.0 last.1)
 
-  home : IsAt m shelf d pieces states noted.0.table noted.0.key (frame_at keys (suc n))
-  home = home-at m shelf d pieces states noted.0.table noted.0.key (frame_at keys (suc n)) o.dir o.leaves (noted.2.home ∙ ap Some here)
+  home : IsAt m shelf records d pieces states noted.0.table noted.0.key (frame_at keys (suc n))
+  home = home-at m shelf records d pieces states noted.0.table noted.0.key (frame_at keys (suc n)) o.dir o.leaves (noted.2.home ∙ ap Some here)
 
   there : frame_in pieces (frame_at keys (suc n)) ≡ Some home.stands.laid.frame
-  there = leaf-framed m shelf d.leaves pieces states home.leaf (frame_at keys (suc n)) home.stands home.at
+  there = leaf-framed m shelf records d.leaves pieces states home.leaf (frame_at keys (suc n)) home.stands home.at
 
   framed : p.frame ≡ Some home.stands.laid.frame
   framed = sym (frame-there pieces (frame_at keys (suc n)) p at) ∙ there
@@ -285,7 +286,7 @@ leaf-edited e m t shelf d pieces states keys (suc n) p o at = record {
 
   written : (k : WrittenKey) → Member k keys → k.frame ≡ frame_at keys (suc n) → IsWritten t home.leaf.table (LiesIn d.leaves home.leaf) home.stands.laid.frame.leaf.chains k
   written k member same = let w = o.noted.wrote k member in
-      let lies = lies-in m shelf d pieces states home.leaf (frame_at keys (suc n)) k w.0.table w.0.key o.dir o.leaves home.there home.stands home.at same w.2 in record {
+      let lies = lies-in m shelf records d pieces states home.leaf (frame_at keys (suc n)) k w.0.table w.0.key o.dir o.leaves home.there home.stands home.at same w.2 in record {
         write = w.0;
         there = w.1;
         number = lies.0;

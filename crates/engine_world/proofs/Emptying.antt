@@ -1,10 +1,13 @@
--- A leaf goes out of its frame, in which nobody wrote that runs, while no session is at it: the rows of its block stand for its keys.
-use Rattle.std.proofs.Common.{◌≡◌, ◌≢◌, ◌<◌, ◌≤◌, ◌+◌, ◌*◌, ◌^◌, ℕ, refl, ap, sym, ◌∙◌, Bool, true, false, List, [], length, map, inl, inr, subst, arith}
-use Rattle.std.specs.Prelude.{Option, Some, None, ◌==◌, ◌||◌, option_and_then, slice_get, slice_set}
+-- A leaf goes out of its frame, in which nobody wrote that runs, while no session is at it: the rows of its block stand for its keys, with what the history keeps of it.
+use Rattle.std.proofs.Common.{◌≡◌, ◌≢◌, ◌<◌, ◌≤◌, ◌+◌, ◌*◌, ◌^◌, ℕ, refl, ap, sym, ◌∙◌, Bool, true, false, List, [], ◌++◌, length, map, inl, inr, subst, arith}
+use Rattle.std.specs.Prelude.{Option, Some, None, ◌==◌, ◌||◌, slice_get, slice_set}
 use Rattle.std.specs.List.{Contains}
+use Rattle.std.specs.Option.{option_to_list}
 use Rattle.std.proofs.lemmas.Bool.{cases_eq, eq-eqb, ne_eqb, or_left, or_right}
 use Rattle.std.proofs.lemmas.Option.{same_Some}
+use Rattle.kv_model.specs.Holds.{Descends}
 use Rattle.kv_model.specs.Machine.{of_some}
+use Rattle.kv_model.specs.Ordered.{Older}
 use Rattle.row_page.specs.Rows.{Row}
 use Rattle.leaf_chains.specs.Slots.{chain_at}
 use Rattle.rows_shown.specs.Shows.{shown_at}
@@ -21,15 +24,14 @@ use Rattle.call_steps.specs.Tables.{empty, target_in}
 use Rattle.update_chain.specs.EventLaws.{StandsFor}
 use Rattle.engine_world.specs.Evicting.{NoneWroteIn}
 use Rattle.engine_world.specs.GoingOut.{IsAside, IsClearOf, frame_found, frame_in_hand, frame_named, has_found, with_again}
-use Rattle.engine_world.specs.Leaves.{IsLaid, LeafInFrame, LeafStands, emptied, frame_in, generation_at, slots_in}
+use Rattle.engine_world.specs.Leaves.{IsLaid, LeafInFrame, LeafStands, emptied, frame_in, generation_at}
 use Rattle.engine_world.specs.Stages.{IsNoticed, IsPast}
 use Rattle.engine_world.specs.Stands.{Engine, Stands}
-use Rattle.engine_world.specs.Worlds.{World}
+use Rattle.engine_world.specs.Worlds.{Records, World}
 use Rattle.engine_world.proofs.FrameWords.{emptied-older, emptied-stand, generation-beside, generation-here, laid-piece}
 use Rattle.engine_world.proofs.Homes.{LeavesStand, in-its-frame, one-leaf, same-id}
 use Rattle.engine_world.proofs.InPlace.{generation-there}
 use Rattle.engine_world.proofs.LeavesChanged.{IsMild, changed-is, changed-stands, contains-source, moved, moved-it, moved-mild, moved-not, stands-beside, stays-in, under-from, under-to}
-use Rattle.engine_world.proofs.OnePiece.{frame-set}
 
 -- ---- the leaf in its frame
 
@@ -38,10 +40,11 @@ pub record IsFrameOf (w : World) (leaves : List Leaf) (l : Leaf) (f : Frame) : T
   pub keys : (key : List ℕ) → leaf_under l.table key leaves ≡ Some l → StandsFor w.machine l.table key (chain_at key f.leaf.chains) (shown_at key f.leaf.page) []
   pub bare : (key : List ℕ) → leaf_under l.table key leaves ≢ Some l → shown_at key f.leaf.page ≡ None
   pub lies : 1 ≤ length f.leaf.page → f.leaf.page ≡ w.shelf l.id
+  pub none : (key : List ℕ) → w.records l.id key ≡ []
 
 module _ (e : Engine) (w : World) (l : Leaf) (framed : Framed) (st : Stands e w) (there : Contains e.hub.dir.leaves l) (placed : l.frame ≡ Some framed) where
-  abbrev pub mine : LeafInFrame w.machine w.shelf e.hub.dir.leaves e.pieces e.states l
-  mine = in-its-frame w.machine w.shelf e.hub.dir.leaves e.pieces e.states l framed placed (st.leaves l there)
+  abbrev pub mine : LeafInFrame w.machine w.shelf w.records e.hub.dir.leaves e.pieces e.states l
+  mine = in-its-frame w.machine w.shelf w.records e.hub.dir.leaves e.pieces e.states l framed placed (st.leaves l there)
 
   pub mine-at : mine.laid.framed ≡ framed
   mine-at = same_Some mine.laid.framed framed (sym mine.laid.placed ∙ placed)
@@ -54,6 +57,7 @@ module _ (e : Engine) (w : World) (l : Leaf) (framed : Framed) (st : Stands e w)
     keys = mine.keys;
     bare = λ key outside. (mine.bare key outside).1;
     lies = mine.lies;
+    none = mine.none;
   })
 
 -- ---- it goes out
@@ -62,8 +66,8 @@ module _ (e : Engine) (w : World) (l : Leaf) (framed : Framed) (st : Stands e w)
 abbrev is_in : ℕ → Option Framed → Bool
 is_in frame o = of_some false (λ (f : Framed). f.frame == frame) o
 
--- change: what becomes of the leaf; shelf: the rows of blocks, of which those of the others are as they were
-pub record IsEmptied (e : Engine) (w : World) (l : Leaf) (framed : Framed) (f : Frame) (change : Leaf → Leaf) (shelf : ℕ → List Row) : Type 0 where
+-- change: what becomes of the leaf; shelf and records: the rows of blocks and what the history keeps, of which those of the others are as they were
+pub record IsEmptied (e : Engine) (w : World) (l : Leaf) (framed : Framed) (f : Frame) (change : Leaf → Leaf) (shelf : ℕ → List Row) (records : Records) : Type 0 where
   pub stands : Stands e w
   pub there : Contains e.hub.dir.leaves l
   pub placed : l.frame ≡ Some framed
@@ -71,8 +75,11 @@ pub record IsEmptied (e : Engine) (w : World) (l : Leaf) (framed : Framed) (f : 
   pub mild : IsMild change
   pub out : (change l).frame ≡ None
   pub others : (id : ℕ) → id ≢ l.id → w.shelf id ≡ shelf id
-  pub keys : (key : List ℕ) → leaf_under l.table key e.hub.dir.leaves ≡ Some l → StandsFor w.machine l.table key [] (shown_at key (shelf l.id)) []
-  pub bare : (key : List ℕ) → leaf_under l.table key e.hub.dir.leaves ≢ Some l → shown_at key (shelf l.id) ≡ None
+  pub kept : (id : ℕ) → id ≢ l.id → (key : List ℕ) → w.records id key ≡ records id key
+  pub unused : (id : ℕ) → e.hub.dir.next ≤ id → (key : List ℕ) → records id key ≡ []
+  pub keys : (key : List ℕ) → leaf_under l.table key e.hub.dir.leaves ≡ Some l → StandsFor w.machine l.table key [] (shown_at key (shelf l.id)) (records l.id key)
+  pub ordered : (key : List ℕ) → leaf_under l.table key e.hub.dir.leaves ≡ Some l → Descends Older (option_to_list (shown_at key (shelf l.id)) ++ records l.id key)
+  pub bare : (key : List ℕ) → leaf_under l.table key e.hub.dir.leaves ≢ Some l → (shown_at key (shelf l.id) ≡ None) × (records l.id key ≡ [])
   pub aside : (session : ℕ) (a : State) → slice_get e.sessions session ≡ Some a → IsAside framed.frame a × NoneWroteIn framed.frame a
   pub last : generation_at e.pieces framed.frame + 1 < 2 ^ 62
   pub dir : IsDirectory (record e.hub.dir { leaves = changed l.id change e.hub.dir.leaves })
@@ -81,7 +88,7 @@ pub record IsEmptied (e : Engine) (w : World) (l : Leaf) (framed : Framed) (f : 
 abbrev pub with_emptied : Engine → List Leaf → ℕ → Engine
 with_emptied e leaves frame = record e { hub = record e.hub { dir = record e.hub.dir { leaves = leaves } }; pieces = slice_set e.pieces frame (emptied e.pieces frame); states = slice_set e.states frame (empty (generation_at e.pieces frame + 1)) }
 
-module _ (e : Engine) (w : World) (l : Leaf) (framed : Framed) (f : Frame) (change : Leaf → Leaf) (shelf : ℕ → List Row) (c : IsEmptied e w l framed f change shelf) where
+module _ (e : Engine) (w : World) (l : Leaf) (framed : Framed) (f : Frame) (change : Leaf → Leaf) (shelf : ℕ → List Row) (records : Records) (c : IsEmptied e w l framed f change shelf records) where
   abbrev leaves : List Leaf
   leaves = e.hub.dir.leaves
 
@@ -132,7 +139,7 @@ module _ (e : Engine) (w : World) (l : Leaf) (framed : Framed) (f : Frame) (chan
   -- ---- the leaves stand
 
   abbrev StandNow : Leaf → Type 0
-  StandNow x = LeafStands w.machine shelf made pieces states x
+  StandNow x = LeafStands w.machine shelf records made pieces states x
 
   under-now : (key : List ℕ) → leaf_under (to l).table key made ≡ Some (to l) → leaf_under l.table key leaves ≡ Some l
   under-now key under = under-from e.hub.dir c.stands.dir to mild l.table key l c.there (ap (λ n. leaf_under n key made) (sym (mild.table l)) ∙ under)
@@ -140,22 +147,20 @@ module _ (e : Engine) (w : World) (l : Leaf) (framed : Framed) (f : Frame) (chan
   under-then : (key : List ℕ) → leaf_under l.table key leaves ≡ Some l → leaf_under (to l).table key made ≡ Some (to l)
   under-then key under = ap (λ n. leaf_under n key made) (mild.table l) ∙ under-to e.hub.dir c.stands.dir to mild l.table key l under
 
-  shelf-is : shelf l.id ≡ shelf (to l).id
-  shelf-is = ap shelf (sym (mild.id l))
-
   it-stands : StandNow (to l)
   it-stands = inr (record {
     none = ap (λ (x : Leaf). x.frame) (moved-it l.id from change l refl is-there) ∙ c.out;
-    keys = λ key under. subst (λ (rows : List Row). StandsFor w.machine (to l).table key [] (shown_at key rows) []) shelf-is
-        (subst (λ n. StandsFor w.machine n key [] (shown_at key (shelf l.id)) []) (sym (mild.table l)) (c.keys key (under-now key under)));
-    bare = λ key outside. subst (λ (rows : List Row). shown_at key rows ≡ None) shelf-is (c.bare key (λ under. outside (under-then key under)));
+    keys = λ key under. subst (λ (id : ℕ). StandsFor w.machine (to l).table key [] (shown_at key (shelf id)) (records id key)) (sym (mild.id l))
+        (subst (λ n. StandsFor w.machine n key [] (shown_at key (shelf l.id)) (records l.id key)) (sym (mild.table l)) (c.keys key (under-now key under)));
+    ordered = λ key under. subst (λ (id : ℕ). Descends Older (option_to_list (shown_at key (shelf id)) ++ records id key)) (sym (mild.id l)) (c.ordered key (under-now key under));
+    bare = λ key outside. subst (λ (id : ℕ). (shown_at key (shelf id) ≡ None) × (records id key ≡ [])) (sym (mild.id l)) (c.bare key (λ under. outside (under-then key under)));
   })
 
   other-stands : (x : Leaf) → Contains leaves x → x.id ≢ l.id → StandNow (to x)
   other-stands x there other = subst StandNow (sym (moved-not l.id from change x other))
-      (stands-beside w.machine w.shelf shelf e.hub.dir to e.pieces e.states framed.frame left word x c.stands.dir mild there (moved-not l.id from change x other) (c.others x.id other) (frames-apart x there other) (c.stands.leaves x there))
+      (stands-beside w.machine w.shelf shelf w.records records e.hub.dir to e.pieces e.states framed.frame left word x c.stands.dir mild there (moved-not l.id from change x other) (c.others x.id other) (c.kept x.id other) (frames-apart x there other) (c.stands.leaves x there))
 
-  each-stands : LeavesStand w.machine shelf made pieces states
+  each-stands : LeavesStand w.machine shelf records made pieces states
   each-stands y there = let s = contains-source to leaves y there in subst StandNow s.2 (elim (cases_eq s.0.id l.id) [
     | inl same ↦ subst (λ (x : Leaf). StandNow (to x)) (sym (same-leaf s.0 s.1 same)) it-stands
     | inr other ↦ other-stands s.0 s.1 other
@@ -167,12 +172,6 @@ module _ (e : Engine) (w : World) (l : Leaf) (framed : Framed) (f : Frame) (chan
   elsewhere-stays : (x : Leaf) (g : Framed) → x.frame ≡ Some g → Some framed.frame ≢ Some g.frame → (to x).frame ≡ Some g
   elsewhere-stays x g placed other = stays-in l.id from change x (ap from placed ∙ ne_eqb g.frame framed.frame (λ same. other (ap (λ n. Some n) (sym same)))) ∙ placed
 
-  gone-slots : slots_in pieces framed.frame ≡ []
-  gone-slots = by (slice_get e.pieces framed.frame) refl where
-    by : (o : Option FramePiece) → slice_get e.pieces framed.frame ≡ o → slots_in pieces framed.frame ≡ []
-    by None none = let clash : None ≡ Some f = sym (ap (option_and_then (λ (p : FramePiece). p.frame)) none) ∙ c.filled in absurd cc
-    by (Some p) at = ap (λ (o : Option Frame). of_some [] (λ (x : Frame). x.leaf.chains) o) (frame-set e.pieces framed.frame p left at)
-
   -- ---- the generation
 
   next-generation : generation_at pieces framed.frame ≡ generation_at e.pieces framed.frame + 1
@@ -182,7 +181,7 @@ module _ (e : Engine) (w : World) (l : Leaf) (framed : Framed) (f : Frame) (chan
   past-now x target there is same =
       let frame = same_Some framed.frame target.frame same in
       let now : generation_at pieces target.frame ≡ generation_at e.pieces target.frame + 1 = subst (λ n. generation_at pieces n ≡ generation_at e.pieces n + 1) frame next-generation in
-      let word = generation-there w.machine w.shelf leaves e.pieces e.states c.stands.leaves target (x, there, is) in
+      let word = generation-there w.machine w.shelf w.records leaves e.pieces e.states c.stands.leaves target (x, there, is) in
       omega (arith, now, word)
 
   -- who has found the leaf may be told so
@@ -201,24 +200,24 @@ module _ (e : Engine) (w : World) (l : Leaf) (framed : Framed) (f : Frame) (chan
     by (stage.Validate call target) is knows = found target (ap frame_found is) knows
     by g is knows = tt
 
-  goes-stands : Stands (with_emptied e made framed.frame) (record (with_again e framed.frame w) { shelf = shelf })
-  goes-stands = changed-stands e w (with_again e framed.frame w).again shelf (Some framed.frame) to framed.frame left word (record {
+  goes-stands : Stands (with_emptied e made framed.frame) (record (with_again e framed.frame w) { shelf = shelf; records = records })
+  goes-stands = changed-stands e w (with_again e framed.frame w).again shelf records (Some framed.frame) to framed.frame left word (record {
     stands = c.stands;
     mild = mild;
     frames = elsewhere-stays;
     homes = λ table key other home stays same. stays (ap (λ n. Some n) (sym same));
-    none = gone-slots;
     aside = λ session a at other is. subst (λ n. IsAside n a × NoneWroteIn n a) (same_Some framed.frame other is) (c.aside session a at);
     dir = subst (λ (ls : List Leaf). IsDirectory (record e.hub.dir { leaves = ls })) (sym made-is) c.dir;
     leaves = each-stands;
+    unused = c.unused;
     words = emptied-stand e.pieces e.states l laid framed.frame laid-at c.last c.stands.frames;
     older = emptied-older e.pieces e.states l laid framed.frame laid-at;
     past = past-now;
     noticed = λ session a at. noticed-now session a at a.stage refl (c.stands.noticed session a at);
   })
 
-  pub emptied-stands : Stands (with_emptied e (changed l.id change e.hub.dir.leaves) framed.frame) (record (with_again e framed.frame w) { shelf = shelf })
-  emptied-stands = subst (λ (ls : List Leaf). Stands (with_emptied e ls framed.frame) (record (with_again e framed.frame w) { shelf = shelf })) made-is goes-stands
+  pub emptied-stands : Stands (with_emptied e (changed l.id change e.hub.dir.leaves) framed.frame) (record (with_again e framed.frame w) { shelf = shelf; records = records })
+  emptied-stands = subst (λ (ls : List Leaf). Stands (with_emptied e ls framed.frame) (record (with_again e framed.frame w) { shelf = shelf; records = records })) made-is goes-stands
 
 -- ---- no call has found it
 

@@ -32,6 +32,7 @@ use Rattle.row_page.specs.Rows.{Row}
 use Rattle.engine_world.specs.Leaves.{LeafStands}
 use Rattle.engine_world.specs.Stands.{Engine}
 use Rattle.engine_world.specs.Systems.{EnginesStart, IsFirstOf, LeafStarts}
+use Rattle.engine_world.proofs.AtRest.{row-alone}
 
 -- ---- a key whose versions are in its chain and its row
 
@@ -69,17 +70,19 @@ key-starts alike c table key chain row regular first = subst (λ l. KeyStands (s
     (alike (start c) table key (line (base c) table key) first.above None row [] (λ v there passes s t at. absurd (no-seat s t at))
     (sym first.all ∙ sym (append-nil (line (base c) table key))) (in-chain c table key regular))
 
-leaf-starts : FramesAlike → (c : Content) (shelf : ℕ → List Row) (leaves : List Leaf) (pieces : List FramePiece) (states : List ℕ) (l : Leaf) → IsRegular c → LeafStarts c shelf leaves pieces states l → LeafStands (start c) shelf leaves pieces states l
+leaf-starts : FramesAlike → (c : Content) (shelf : ℕ → List Row) (leaves : List Leaf) (pieces : List FramePiece) (states : List ℕ) (l : Leaf) → IsRegular c → LeafStarts c shelf leaves pieces states l → LeafStands (start c) shelf (λ id key. []) leaves pieces states l
 leaf-starts alike c shelf leaves pieces states l regular (inl leaf) = inl (record {
   laid = leaf.laid;
   keys = λ key under. key-starts alike c l.table key (chain_at key leaf.laid.frame.leaf.chains) (shown_at key leaf.laid.frame.leaf.page) regular (leaf.keys key under);
   bare = leaf.bare;
   lies = leaf.lies;
+  none = λ key. refl;
 })
 leaf-starts alike c shelf leaves pieces states l regular (inr leaf) = inr (record {
   none = leaf.none;
   keys = λ key under. key-starts alike c l.table key [] (shown_at key (shelf l.id)) regular (leaf.keys key under);
-  bare = leaf.bare;
+  ordered = λ key under. row-alone (shown_at key (shelf l.id)) [] refl;
+  bare = λ key outside. (leaf.bare key outside, refl);
 })
 
 -- ---- nobody is at work
@@ -103,6 +106,7 @@ engines-start alike c shelf e regular b = record {
   begun = b.begun;
   owned = b.owned;
   leaves = λ l there. leaf-starts alike c shelf e.hub.dir.leaves e.pieces e.states l regular (b.leaves l there);
+  unused = λ id past key. refl;
   frames = b.frames;
   count = ap length b.sessions;
   doings = sym (ap length b.sessions);

@@ -17,9 +17,10 @@ use Rattle.kv_model.proofs.Committing.{lines-apart}
 use Rattle.kv_model.proofs.Finishing.{member-append, named-so}
 use Rattle.kv_model.proofs.Onward.{Grew, history-grew, run-after, session-stays}
 use Rattle.kv_model.proofs.RowRanges.{value-goes-on}
+use Rattle.tree_dir.specs.declared.leaf.Leaf.{Leaf}
 use Rattle.call_steps.specs.declared.frame.FramePiece.{FramePiece}
 use Rattle.call_steps.specs.declared.hub.Hub.{Hub}
-use Rattle.engine_world.proofs.Beside.{Beside, MachineApart, MachineBeside, IsEventOf, SlotsStay, OthersUpdates}
+use Rattle.engine_world.proofs.Beside.{Beside, MachineApart, MachineBeside, IsEventOf, SlotsStay, OthersAtHome, OthersUpdates}
 
 -- ---- all but the history and the transactions
 
@@ -217,6 +218,9 @@ slots-same pieces = record { generations = λ frame. refl; tables = λ frame. re
 
 pub updates-same : (m : Machine) (session : ℕ) (pieces : List FramePiece) → OthersUpdates m session pieces pieces
 updates-same m session pieces r t other there drawn frame key u member named = member
+
+pub at-home : (freed : Option ℕ) (m : Machine) (session : ℕ) (leaves : List Leaf) (pieces later : List FramePiece) → OthersUpdates m session pieces later → OthersAtHome freed m session leaves pieces later
+at-home freed m session leaves pieces later updates r t other there drawn table key frame home stays u member named = updates r t other there drawn frame key u member named
 
 -- the frames and the hub stay
 pub all-same : (session : ℕ) (m next : Machine) (hub : Hub) (pieces : List FramePiece) → MachineBeside session m next → Beside session m next hub hub pieces pieces

@@ -129,7 +129,7 @@ module _ (law : ChainsGoOn) (e : Engine) (w : World) (session : ℕ) (a : State)
       → decision w.machine session (request_in call a) ≡ (Done, DrawId session) → Goes e w session (with_txns e.hub (drawn e.hub.txns session) (reply.More, on_leaf s.leaf))
   drawing t s there running none decided = seat-leads e w session a (on_leaf s.leaf) (drawn e.hub.txns session) (drawn_seat e.hub.txns session) (DrawId session) reply.More st at
       may refl (drawn-seat e.hub.txns session) ((calls-stand e.hub.txns w.machine st.valid st.txns).draws session may) refl
-      (leaves-go-on law w.machine (DrawId session) w.shelf e.hub.dir.leaves e.pieces e.states st.valid may (λ table key. tt) st.leaves)
+      (leaves-go-on law w.machine (DrawId session) w.shelf w.records e.hub.dir.leaves e.pieces e.states st.valid may (λ table key. tt) st.leaves)
       (found-goes (DrawId session) s refl decided) (drawn-stands t s there running) where
         may : Allowed w.machine (DrawId session)
         may = (t, there, (running, none))

@@ -32,7 +32,7 @@ use Rattle.call_steps.specs.declared.frame.FramePiece.{FramePiece}
 use Rattle.call_steps.specs.declared.written.WrittenKey.{WrittenKey}
 use Rattle.call_steps.specs.Leaves.{chain_in}
 use Rattle.call_steps.specs.State.{State}
-use Rattle.engine_world.specs.Worlds.{World}
+use Rattle.engine_world.specs.Worlds.{Records, World}
 use Rattle.engine_world.specs.Leaves.{AreNoted, IsLaid, IsSlotOf, LeafInFrame, LeafOnDevice, LeafStands, AllHave, EditedDownTo, frame_in, frame_of, slots_in}
 use Rattle.engine_world.specs.Stands.{Engine, Stands}
 use Rattle.engine_world.proofs.Homes.{LeavesStand, frame-of-leaf}
@@ -157,15 +157,16 @@ abbrev pub row_at : List FramePiece → ℕ → List ℕ → Option (Version Cha
 row_at pieces place key = shown_at key (of_some [] (λ (f : Frame). f.leaf.page) (frame_in pieces place))
 
 -- what a leaf holds, key by key, with the frames as they are
-pub leaf-with : (m next : Machine) (shelf : ℕ → List Row) (leaves : List Leaf) (pieces : List FramePiece) (states : List ℕ) (l : Leaf) → (x : LeafInFrame m shelf leaves pieces states l)
+pub leaf-with : (m next : Machine) (shelf : ℕ → List Row) (records : Records) (leaves : List Leaf) (pieces : List FramePiece) (states : List ℕ) (l : Leaf) → (x : LeafInFrame m shelf records leaves pieces states l)
     → ((key : List ℕ) → leaf_under l.table key leaves ≡ Some l → StandsFor m l.table key (chain_at key (slots_in pieces x.laid.framed.frame)) (row_at pieces x.laid.framed.frame key) []
     → StandsFor next l.table key (chain_at key (slots_in pieces x.laid.framed.frame)) (row_at pieces x.laid.framed.frame key) [])
-    → LeafInFrame next shelf leaves pieces states l
-leaf-with m next shelf leaves pieces states l x on = record {
+    → LeafInFrame next shelf records leaves pieces states l
+leaf-with m next shelf records leaves pieces states l x on = record {
   laid = x.laid;
   keys = λ key under. subst (Holds next key) x.laid.there (on key under (subst (Holds m key) (sym x.laid.there) (x.keys key under)));
   bare = x.bare;
   lies = x.lies;
+  none = x.none;
 } where
   Holds : Machine → List ℕ → Option Frame → Type 0
   Holds m key o = StandsFor m l.table key (chain_at key (of_some [] (λ (f : Frame). f.leaf.chains) o)) (shown_at key (of_some [] (λ (f : Frame). f.leaf.page) o)) []
@@ -185,27 +186,28 @@ pub leaves-own : ChainsGoOn → (e : Engine) (w : World) (s : ℕ) (a : State) (
     → ((table : ℕ) (key : List ℕ) → DidNotWrite w.machine s table key → LeavesAlone w.machine table key event)
     → ((place table : ℕ) (key : List ℕ) (o : Write) → own_write x table key ≡ Some o → SlotIs e.pieces a.written place key → StandsFor w.machine table key (chain_at key (slots_in e.pieces place)) (row_at e.pieces place key) []
     → StandsFor (after w.machine event) table key (chain_at key (slots_in e.pieces place)) (row_at e.pieces place key) [])
-    → LeavesStand (after w.machine event) w.shelf e.hub.dir.leaves e.pieces e.states
+    → LeavesStand (after w.machine event) w.shelf w.records e.hub.dir.leaves e.pieces e.states
 leaves-own chains-go-on e w s a x event st at there may alone on l here = by (st.leaves l here) where
   noted : AreNoted e.hub.dir.leaves e.pieces x.writes a.written
   noted = subst (λ o. AreNoted e.hub.dir.leaves e.pieces (of_some [] (λ (z : Transaction). z.writes) o) a.written) there (st.sessions s a at).noted
 
-  in-frame : LeafInFrame w.machine w.shelf e.hub.dir.leaves e.pieces e.states l → LeafInFrame (after w.machine event) w.shelf e.hub.dir.leaves e.pieces e.states l
-  in-frame leaf = leaf-with w.machine (after w.machine event) w.shelf e.hub.dir.leaves e.pieces e.states l leaf (λ key under k. elim (own-cases (own_write x l.table key)) [
+  in-frame : LeafInFrame w.machine w.shelf w.records e.hub.dir.leaves e.pieces e.states l → LeafInFrame (after w.machine event) w.shelf w.records e.hub.dir.leaves e.pieces e.states l
+  in-frame leaf = leaf-with w.machine (after w.machine event) w.shelf w.records e.hub.dir.leaves e.pieces e.states l leaf (λ key under k. elim (own-cases (own_write x l.table key)) [
     | inl none ↦ chains-go-on w.machine event l.table key (chain_at key (slots_in e.pieces leaf.laid.framed.frame)) (row_at e.pieces leaf.laid.framed.frame key) [] st.valid may (alone l.table key (did-not w.machine s x l.table key there none)) k
     | inr own ↦ on leaf.laid.framed.frame l.table key own.0 own.1 (own-slot e.hub.dir.leaves e.pieces e.states x a.written l key own.0 noted leaf.laid under own.1) k
   ])
 
-  on-device : LeafOnDevice w.machine w.shelf e.hub.dir.leaves l → LeafOnDevice (after w.machine event) w.shelf e.hub.dir.leaves l
+  on-device : LeafOnDevice w.machine w.shelf w.records e.hub.dir.leaves l → LeafOnDevice (after w.machine event) w.shelf w.records e.hub.dir.leaves l
   on-device leaf = record {
     none = leaf.none;
     keys = λ key under. elim (own-cases (own_write x l.table key)) [
-      | inl none ↦ chains-go-on w.machine event l.table key [] (shown_at key (w.shelf l.id)) [] st.valid may (alone l.table key (did-not w.machine s x l.table key there none)) (leaf.keys key under)
+      | inl none ↦ chains-go-on w.machine event l.table key [] (shown_at key (w.shelf l.id)) (w.records l.id key) st.valid may (alone l.table key (did-not w.machine s x l.table key there none)) (leaf.keys key under)
       | inr own ↦ absurd (own-framed e.hub.dir.leaves e.pieces x a.written l key own.0 noted leaf.none under own.1)
     ];
+    ordered = leaf.ordered;
     bare = leaf.bare;
   }
 
-  by : LeafStands w.machine w.shelf e.hub.dir.leaves e.pieces e.states l → LeafStands (after w.machine event) w.shelf e.hub.dir.leaves e.pieces e.states l
+  by : LeafStands w.machine w.shelf w.records e.hub.dir.leaves e.pieces e.states l → LeafStands (after w.machine event) w.shelf w.records e.hub.dir.leaves e.pieces e.states l
   by (inl leaf) = inl (in-frame leaf)
   by (inr leaf) = inr (on-device leaf)

@@ -1,6 +1,8 @@
 -- A leaf goes out of its frame, as it was read.
 use Rattle.std.proofs.Common.{◌≡◌, ℕ, refl, ap, sym, ◌∙◌, List, [], subst}
 use Rattle.std.specs.Prelude.{Option, Some, None, slice_get}
+use Rattle.item.specs.declared.Change.{Change}
+use Rattle.stamp.specs.declared.Version.{Version}
 use Rattle.kv_model.specs.Machine.{of_some}
 use Rattle.row_page.specs.Rows.{Row}
 use Rattle.leaf_chains.specs.declared.slot.KeyChain.{KeyChain}
@@ -15,6 +17,7 @@ use Rattle.engine_world.specs.GoingOut.{LeavesGoOut, LeavesGoOutUnseen, gone_out
 use Rattle.engine_world.specs.Leaves.{slots_in}
 use Rattle.engine_world.specs.Stands.{Engine, Stands}
 use Rattle.engine_world.specs.Worlds.{World}
+use Rattle.engine_world.proofs.AtRest.{row-alone}
 use Rattle.engine_world.proofs.Emptying.{IsFrameOf, clear-aside, emptied-stands, frame-of, untold}
 use Rattle.engine_world.proofs.LeavesChanged.{frame-mild}
 use Rattle.engine_world.proofs.Moves.{again-as}
@@ -26,7 +29,7 @@ none-wrote e w frame st none session a at k member same =
     let clash : None ≡ Some k.slot = sym (ap (slot_of wrote.0.key) (ap (slots_in e.pieces) same ∙ none)) ∙ wrote.2.slot in absurd cc
 
 pub leaves-go-out : LeavesGoOut
-leaves-go-out e w l framed f st there placed filled chains rows aside last is = emptied-stands e w l framed f (in_frame None) w.shelf (record {
+leaves-go-out e w l framed f st there placed filled chains rows aside last is = emptied-stands e w l framed f (in_frame None) w.shelf w.records (record {
   stands = st;
   there = there;
   placed = placed;
@@ -34,9 +37,13 @@ leaves-go-out e w l framed f st there placed filled chains rows aside last is = 
   mild = frame-mild None;
   out = refl;
   others = λ id other. refl;
-  keys = λ key under. subst (λ (xs : List Row). StandsFor w.machine l.table key [] (shown_at key xs) []) page-is
-      (subst (λ (slots : List KeyChain). StandsFor w.machine l.table key (chain_at key slots) (shown_at key f.leaf.page) []) chains (mine.keys key under));
-  bare = λ key outside. subst (λ (xs : List Row). shown_at key xs ≡ None) page-is (mine.bare key outside);
+  kept = λ id other key. refl;
+  unused = st.unused;
+  keys = λ key under. subst (λ (vs : List (Version Change)). StandsFor w.machine l.table key [] (shown_at key (w.shelf l.id)) vs) (sym (mine.none key))
+      (subst (λ (xs : List Row). StandsFor w.machine l.table key [] (shown_at key xs) []) page-is
+      (subst (λ (slots : List KeyChain). StandsFor w.machine l.table key (chain_at key slots) (shown_at key f.leaf.page) []) chains (mine.keys key under)));
+  ordered = λ key under. row-alone (shown_at key (w.shelf l.id)) (w.records l.id key) (mine.none key);
+  bare = λ key outside. (subst (λ (xs : List Row). shown_at key xs ≡ None) page-is (mine.bare key outside), mine.none key);
   aside = λ session a at. (aside session a at, none-wrote e w framed.frame st slots-are session a at);
   last = last;
   dir = is;

@@ -11,7 +11,7 @@ use Rattle.engine_world.specs.Leaves.{LeafStands, frame_in, generation_at, word_
 use Rattle.engine_world.specs.Stands.{Engine, Stands}
 use Rattle.engine_world.specs.Systems.{FramesGrow, with_frame}
 use Rattle.engine_world.specs.Worlds.{World}
-use Rattle.engine_world.proofs.Beside.{Apart, LeavesStay, OthersUpdates}
+use Rattle.engine_world.proofs.Beside.{Apart, LeavesStay, OthersAtHome}
 use Rattle.engine_world.proofs.Moves.{frames-stay, noticed-stays}
 use Rattle.engine_world.proofs.NotedSlots.{kept-same}
 use Rattle.engine_world.proofs.Others.{others-stay}
@@ -45,7 +45,7 @@ module _ (e : Engine) (w : World) (st : Stands e w) where
   abbrev states : List ℕ
   states = e.states ++ 0 ∷ []
 
-  by : (l : Leaf) → LeafStands w.machine w.shelf e.hub.dir.leaves e.pieces e.states l → LeafStands w.machine w.shelf e.hub.dir.leaves pieces states l
+  by : (l : Leaf) → LeafStands w.machine w.shelf w.records e.hub.dir.leaves e.pieces e.states l → LeafStands w.machine w.shelf w.records e.hub.dir.leaves pieces states l
   by l (inl x) = inl (record {
     laid = record {
       framed = x.laid.framed;
@@ -61,6 +61,7 @@ module _ (e : Engine) (w : World) (st : Stands e w) where
     keys = x.keys;
     bare = x.bare;
     lies = x.lies;
+    none = x.none;
   })
   by l (inr x) = inr x
 
@@ -73,8 +74,8 @@ module _ (e : Engine) (w : World) (st : Stands e w) where
     past = λ l target there is none. absurd cc;
   }
 
-  updates-stay : OthersUpdates w.machine (length e.sessions) e.pieces pieces
-  updates-stay r x other there drawn at key u member named = subst (λ (o : Option Frame). Member u (chain_at key (of_some [] (λ (x : Frame). x.leaf.chains) o))) (frame-same e.pieces at) member
+  updates-stay : OthersAtHome None w.machine (length e.sessions) e.hub.dir.leaves e.pieces pieces
+  updates-stay r x other there drawn table key at home stays u member named = subst (λ (o : Option Frame). Member u (chain_at key (of_some [] (λ (x : Frame). x.leaf.chains) o))) (frame-same e.pieces at) member
 
   apart : Apart None (length e.sessions) w.machine w.machine e.hub e.hub e.pieces pieces
   apart = record {
@@ -97,6 +98,7 @@ module _ (e : Engine) (w : World) (st : Stands e w) where
     begun = st.begun;
     owned = st.owned;
     leaves = λ l there. by l (st.leaves l there);
+    unused = st.unused;
     frames = λ f. let as_it_was = frames-stay e.pieces pieces e.states (generation-same e.pieces) st.frames f in
         record { below = as_it_was.below; word = subst (λ n. 4 * generation_at pieces f ≤ n + 2) (sym (word-same e.states f)) as_it_was.word };
     count = st.count;

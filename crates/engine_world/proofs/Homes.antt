@@ -16,15 +16,16 @@ use Rattle.call_steps.specs.declared.stage.Target.{Target}
 use Rattle.call_steps.specs.Tables.{filled, target_in}
 use Rattle.row_page.specs.Rows.{Row}
 use Rattle.engine_world.specs.Leaves.{IsLaid, LeafInFrame, LeafStands, frame_in, frame_of}
+use Rattle.engine_world.specs.Worlds.{Records}
 
 -- each leaf stands
-abbrev pub LeavesStand : Machine → (ℕ → List Row) → List Leaf → List FramePiece → List ℕ → Type 0
-LeavesStand m shelf leaves pieces states = (l : Leaf) → Contains leaves l → LeafStands m shelf leaves pieces states l
+abbrev pub LeavesStand : Machine → (ℕ → List Row) → Records → List Leaf → List FramePiece → List ℕ → Type 0
+LeavesStand m shelf records leaves pieces states = (l : Leaf) → Contains leaves l → LeafStands m shelf records leaves pieces states l
 
 -- one that has a frame stands in it
-pub in-its-frame : (m : Machine) (shelf : ℕ → List Row) (leaves : List Leaf) (pieces : List FramePiece) (states : List ℕ) (l : Leaf) (f : Framed) → l.frame ≡ Some f → LeafStands m shelf leaves pieces states l → LeafInFrame m shelf leaves pieces states l
-in-its-frame m shelf leaves pieces states l f placed (inl framed) = framed
-in-its-frame m shelf leaves pieces states l f placed (inr x) = let clash : None ≡ Some f = sym x.none ∙ placed in absurd cc
+pub in-its-frame : (m : Machine) (shelf : ℕ → List Row) (records : Records) (leaves : List Leaf) (pieces : List FramePiece) (states : List ℕ) (l : Leaf) (f : Framed) → l.frame ≡ Some f → LeafStands m shelf records leaves pieces states l → LeafInFrame m shelf records leaves pieces states l
+in-its-frame m shelf records leaves pieces states l f placed (inl framed) = framed
+in-its-frame m shelf records leaves pieces states l f placed (inr x) = let clash : None ≡ Some f = sym x.none ∙ placed in absurd cc
 
 -- the key lies in the leaf
 abbrev pub LiesIn : List Leaf → Leaf → List ℕ → Type 0
@@ -81,17 +82,17 @@ lies-or-not d l key is there = by (leaf_under l.table key d.leaves) refl where
 -- ---- the leaf of a slot
 
 -- the leaf under a key, where it is
-pub record IsAt (m : Machine) (shelf : ℕ → List Row) (d : Directory) (pieces : List FramePiece) (states : List ℕ) (table : ℕ) (key : List ℕ) (frame : ℕ) : Type 0 where
+pub record IsAt (m : Machine) (shelf : ℕ → List Row) (records : Records) (d : Directory) (pieces : List FramePiece) (states : List ℕ) (table : ℕ) (key : List ℕ) (frame : ℕ) : Type 0 where
   pub leaf : Leaf
   pub there : Contains d.leaves leaf
   pub table_is : leaf.table ≡ table
   pub under : leaf_under leaf.table key d.leaves ≡ Some leaf
-  pub stands : LeafInFrame m shelf d.leaves pieces states leaf
+  pub stands : LeafInFrame m shelf records d.leaves pieces states leaf
   pub at : stands.laid.framed.frame ≡ frame
 
-pub home-at : (m : Machine) (shelf : ℕ → List Row) (d : Directory) (pieces : List FramePiece) (states : List ℕ) (table : ℕ) (key : List ℕ) (frame : ℕ) → IsDirectory d → LeavesStand m shelf d.leaves pieces states → frame_of d.leaves table key ≡ Some frame
-    → IsAt m shelf d pieces states table key frame
-home-at m shelf d pieces states table key frame is stand e = record {
+pub home-at : (m : Machine) (shelf : ℕ → List Row) (records : Records) (d : Directory) (pieces : List FramePiece) (states : List ℕ) (table : ℕ) (key : List ℕ) (frame : ℕ) → IsDirectory d → LeavesStand m shelf records d.leaves pieces states → frame_of d.leaves table key ≡ Some frame
+    → IsAt m shelf records d pieces states table key frame
+home-at m shelf records d pieces states table key frame is stand e = record {
   leaf = h.leaf;
   there = has.there;
   table_is = has.table;
@@ -105,8 +106,8 @@ home-at m shelf d pieces states table key frame is stand e = record {
   has : HasKey d table key h.leaf
   has = under-has d is table key h.leaf h.under
 
-  stands : LeafInFrame m shelf d.leaves pieces states h.leaf
-  stands = in-its-frame m shelf d.leaves pieces states h.leaf h.framed h.placed (stand h.leaf has.there)
+  stands : LeafInFrame m shelf records d.leaves pieces states h.leaf
+  stands = in-its-frame m shelf records d.leaves pieces states h.leaf h.framed h.placed (stand h.leaf has.there)
 
 -- and the frame of a key of a leaf that stands
 pub frame-of-leaf : (leaves : List Leaf) (pieces : List FramePiece) (states : List ℕ) (l : Leaf) (key : List ℕ) → (x : IsLaid pieces states l) → leaf_under l.table key leaves ≡ Some l → frame_of leaves l.table key ≡ Some x.framed.frame

@@ -32,7 +32,7 @@ use Rattle.call_steps.specs.declared.stage.Stage.{Stage}
 use Rattle.call_steps.specs.declared.stage.Stage.TheVariants as stage
 use Rattle.call_steps.specs.HubEvents.{Made, beside}
 use Rattle.call_steps.specs.State.{State, at_stage, refuses}
-use Rattle.engine_world.specs.Worlds.{World, Doing, Resting}
+use Rattle.engine_world.specs.Worlds.{Records, World, Doing, Resting}
 use Rattle.engine_world.specs.Steps.{GoesOn, JudgedBy, SettledBy, Made as Left}
 use Rattle.engine_world.specs.Doings.{doing_at, doing_in}
 use Rattle.engine_world.specs.Laws.{Leads, with_session, with_hub}
@@ -140,19 +140,21 @@ refused-goes e w session a g r st at is ends goes = alone-leads e w session a (a
 
 -- ---- leaves
 
-pub leaves-go-on : ChainsGoOn → (m : Machine) (event : Event) (shelf : ℕ → List Row) (leaves : List Leaf) (pieces : List FramePiece) (states : List ℕ) → Valid m → Allowed m event → ((table : ℕ) (key : List ℕ) → LeavesAlone m table key event)
-    → LeavesStand m shelf leaves pieces states → LeavesStand (after m event) shelf leaves pieces states
-leaves-go-on law m event shelf leaves pieces states v may alone stand l there = by (stand l there) where
-  by : LeafStands m shelf leaves pieces states l → LeafStands (after m event) shelf leaves pieces states l
+pub leaves-go-on : ChainsGoOn → (m : Machine) (event : Event) (shelf : ℕ → List Row) (records : Records) (leaves : List Leaf) (pieces : List FramePiece) (states : List ℕ) → Valid m → Allowed m event → ((table : ℕ) (key : List ℕ) → LeavesAlone m table key event)
+    → LeavesStand m shelf records leaves pieces states → LeavesStand (after m event) shelf records leaves pieces states
+leaves-go-on law m event shelf records leaves pieces states v may alone stand l there = by (stand l there) where
+  by : LeafStands m shelf records leaves pieces states l → LeafStands (after m event) shelf records leaves pieces states l
   by (inl x) = inl (record {
     laid = x.laid;
     keys = λ key home. law m event l.table key (chain_at key x.laid.frame.leaf.chains) (shown_at key x.laid.frame.leaf.page) [] v may (alone l.table key) (x.keys key home);
     bare = x.bare;
     lies = x.lies;
+    none = x.none;
   })
   by (inr x) = inr (record {
     none = x.none;
-    keys = λ key home. law m event l.table key [] (shown_at key (shelf l.id)) [] v may (alone l.table key) (x.keys key home);
+    keys = λ key home. law m event l.table key [] (shown_at key (shelf l.id)) (records l.id key) v may (alone l.table key) (x.keys key home);
+    ordered = x.ordered;
     bare = x.bare;
   })
 
@@ -199,7 +201,7 @@ seat-beside session m next hub now u pieces machine s = record {
 -- it changes one seat, and the leaves stand
 pub seat-leads : (e : Engine) (w : World) (session : ℕ) (old a : State) (now : Table) (u : SessionData) (event : Event) (told : Reply) → Stands e w → slice_get e.sessions session ≡ Some old
     → Allowed w.machine event → IsEventOf session event → SetsSeat e.hub.txns now session u → TableStands now (after w.machine event) → tables (after w.machine event).history ≡ tables w.machine.history
-    → LeavesStand (after w.machine event) w.shelf e.hub.dir.leaves e.pieces e.states
+    → LeavesStand (after w.machine event) w.shelf w.records e.hub.dir.leaves e.pieces e.states
     → GoesOn (w.again session) (doing_in e.hub.dir.leaves session old) w.machine session (record { told = told; machine = after w.machine event; doing = doing_in e.hub.dir.leaves session a })
     → SessionInPlace (after w.machine event) (record e.hub { txns = now }) e.pieces session a
     → Goes e w session (told, (record e.hub { txns = now }, a))

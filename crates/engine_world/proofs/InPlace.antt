@@ -21,6 +21,7 @@ use Rattle.call_steps.proofs.StateWords.{filled-is}
 use Rattle.engine_world.specs.Leaves.{AreNoted, LeafInFrame, generation_at}
 use Rattle.engine_world.specs.Stages.{HasFound, IsLeafOf, IsNoticed, IsPast, Seeks, StageStands}
 use Rattle.engine_world.specs.Stands.{SessionStands, position_in, writes_in}
+use Rattle.engine_world.specs.Worlds.{Records}
 use Rattle.engine_world.proofs.Homes.{IsTarget, LeavesStand, in-its-frame, target-is}
 
 -- where a call has found its leaf it is there
@@ -57,10 +58,10 @@ session-stands m hub pieces session a x = record {
 
 -- ---- the frame is not past it
 
-module _ (m : Machine) (shelf : ℕ → List Row) (leaves : List Leaf) (pieces : List FramePiece) (states : List ℕ) (stand : LeavesStand m shelf leaves pieces states) where
+module _ (m : Machine) (shelf : ℕ → List Row) (records : Records) (leaves : List Leaf) (pieces : List FramePiece) (states : List ℕ) (stand : LeavesStand m shelf records leaves pieces states) where
   -- the leaf of a target in its frame
-  pub leaf-laid : (l : Leaf) (target : Target) → Contains leaves l → (t : IsTarget l target) → LeafInFrame m shelf leaves pieces states l
-  leaf-laid l target there t = in-its-frame m shelf leaves pieces states l t.framed t.placed (stand l there)
+  pub leaf-laid : (l : Leaf) (target : Target) → Contains leaves l → (t : IsTarget l target) → LeafInFrame m shelf records leaves pieces states l
+  leaf-laid l target there t = in-its-frame m shelf records leaves pieces states l t.framed t.placed (stand l there)
 
   -- its generation, and the word that was found
   pub generation-there : (target : Target) → (x : IsLeafOf leaves target) → target.word ≡ 4 * generation_at pieces target.frame + 1

@@ -1,13 +1,16 @@
 -- Leaves that are changed one by one, and keep what they are found by, while one frame comes to have another leaf, or none.
-use Rattle.std.proofs.Common.{◌≡◌, ◌≢◌, ◌≤◌, ℕ, suc, refl, ap, sym, ◌∙◌, Bool, true, false, List, [], ◌∷◌, length, map, inl, inr, subst, arith}
+use Rattle.std.proofs.Common.{◌≡◌, ◌≢◌, ◌≤◌, ℕ, suc, refl, ap, sym, ◌∙◌, Bool, true, false, List, [], ◌∷◌, ◌++◌, length, map, inl, inr, subst, arith}
 use Rattle.std.specs.Prelude.{Option, Some, None, not, ◌==◌, ◌&&◌, if◌then◌else◌, option_and_then, option_map, slice_get, slice_set}
 use Rattle.std.specs.List.{Contains}
-use Rattle.std.specs.Option.{option_or}
+use Rattle.std.specs.Option.{option_or, option_to_list}
 use Rattle.std.proofs.lemmas.Bool.{cases_Bool, cases_eq, eq-eqb, ne_eqb}
 use Rattle.std.proofs.lemmas.List.{get_or-map, get_or-set_other, length-map}
 use Rattle.std.proofs.lemmas.Option.{same_Some}
-use Rattle.kv_model.specs.Holds.{Member}
+use Rattle.item.specs.declared.Change.{Change}
+use Rattle.stamp.specs.declared.Version.{Version}
+use Rattle.kv_model.specs.Holds.{Descends, Member}
 use Rattle.kv_model.specs.Machine.{Machine, of_some}
+use Rattle.kv_model.specs.Ordered.{Older}
 use Rattle.kv_model.specs.Rows.{Way, Up, Down}
 use Rattle.leaf_chains.specs.Slots.{chain_at, slot_of}
 use Rattle.row_page.specs.Rows.{Row, is_below}
@@ -30,8 +33,8 @@ use Rattle.engine_world.specs.Leaves.{FramesStand, IsLaid, LeafStands, frame_in,
 use Rattle.engine_world.specs.Stages.{IsNoticed, IsPast}
 use Rattle.engine_world.specs.Stands.{Engine, Stands}
 use Rattle.engine_world.specs.Walks.{all_ahead, all_behind, in_table, leaves_on}
-use Rattle.engine_world.specs.Worlds.{World}
-use Rattle.engine_world.proofs.Beside.{Apart, LeavesKept, LeavesStay, OthersUpdates}
+use Rattle.engine_world.specs.Worlds.{Records, World}
+use Rattle.engine_world.proofs.Beside.{Apart, LeavesKept, LeavesStay, OthersAtHome}
 use Rattle.engine_world.proofs.FrameWords.{generation-beside}
 use Rattle.engine_world.proofs.Homes.{LeavesStand, same-id}
 use Rattle.engine_world.proofs.Moves.{get-set-other}
@@ -187,17 +190,17 @@ module _ (d : Directory) (is : IsDirectory d) (f : Leaf → Leaf) (mild : IsMild
 pub frame-beside : (pieces : List FramePiece) (frame : ℕ) (p : FramePiece) (other : ℕ) → other ≢ frame → frame_in (slice_set pieces frame p) other ≡ frame_in pieces other
 frame-beside pieces frame p other elsewhere = ap (λ o. option_and_then (λ (q : FramePiece). q.frame) o) (get-set-other pieces frame other p elsewhere)
 
--- a leaf that does not change, and is in another frame or in none, stands as before, where its block has the rows that it had
-pub stands-beside : (m : Machine) (shelf shelf' : ℕ → List Row) (d : Directory) (f : Leaf → Leaf) (pieces : List FramePiece) (states : List ℕ) (frame : ℕ) (p : FramePiece) (word : ℕ) (x : Leaf) → IsDirectory d → IsMild f → Contains d.leaves x → f x ≡ x → shelf x.id ≡ shelf' x.id
-    → ((laid : IsLaid pieces states x) → laid.framed.frame ≢ frame) → LeafStands m shelf d.leaves pieces states x → LeafStands m shelf' (map f d.leaves) (slice_set pieces frame p) (slice_set states frame word) x
-stands-beside m shelf shelf' d f pieces states frame p word x is mild there same rows elsewhere stands = by stands where
+-- a leaf that does not change, and is in another frame or in none, stands as before, where its block has the rows that it had, and the history what it kept
+pub stands-beside : (m : Machine) (shelf shelf' : ℕ → List Row) (records records' : Records) (d : Directory) (f : Leaf → Leaf) (pieces : List FramePiece) (states : List ℕ) (frame : ℕ) (p : FramePiece) (word : ℕ) (x : Leaf) → IsDirectory d → IsMild f → Contains d.leaves x → f x ≡ x → shelf x.id ≡ shelf' x.id → ((key : List ℕ) → records x.id key ≡ records' x.id key)
+    → ((laid : IsLaid pieces states x) → laid.framed.frame ≢ frame) → LeafStands m shelf records d.leaves pieces states x → LeafStands m shelf' records' (map f d.leaves) (slice_set pieces frame p) (slice_set states frame word) x
+stands-beside m shelf shelf' records records' d f pieces states frame p word x is mild there same rows kept elsewhere stands = by stands where
   under-now : (key : List ℕ) → leaf_under x.table key (map f d.leaves) ≡ Some x → leaf_under x.table key d.leaves ≡ Some x
   under-now key e = under-from d is f mild x.table key x there (e ∙ ap (λ (y : Leaf). Some y) (sym same))
 
   under-then : (key : List ℕ) → leaf_under x.table key d.leaves ≡ Some x → leaf_under x.table key (map f d.leaves) ≡ Some x
   under-then key e = under-to d is f mild x.table key x e ∙ ap (λ (y : Leaf). Some y) same
 
-  by : LeafStands m shelf d.leaves pieces states x → LeafStands m shelf' (map f d.leaves) (slice_set pieces frame p) (slice_set states frame word) x
+  by : LeafStands m shelf records d.leaves pieces states x → LeafStands m shelf' records' (map f d.leaves) (slice_set pieces frame p) (slice_set states frame word) x
   by (inl old) = let apart = elsewhere old.laid in inl (record {
     laid = record {
       framed = old.laid.framed;
@@ -213,26 +216,30 @@ stands-beside m shelf shelf' d f pieces states frame p word x is mild there same
     keys = λ key under. old.keys key (under-now key under);
     bare = λ key outside. old.bare key (λ under. outside (under-then key under));
     lies = λ some. old.lies some ∙ rows;
+    none = λ key. sym (kept key) ∙ old.none key;
   })
   by (inr old) = inr (record {
     none = old.none;
-    keys = λ key under. subst (λ (xs : List Row). StandsFor m x.table key [] (shown_at key xs) []) rows (old.keys key (under-now key under));
-    bare = λ key outside. subst (λ (xs : List Row). shown_at key xs ≡ None) rows (old.bare key (λ under. outside (under-then key under)));
+    keys = λ key under. subst (λ (vs : List (Version Change)). StandsFor m x.table key [] (shown_at key (shelf' x.id)) vs) (kept key)
+        (subst (λ (xs : List Row). StandsFor m x.table key [] (shown_at key xs) (records x.id key)) rows (old.keys key (under-now key under)));
+    ordered = λ key under. subst (λ (vs : List (Version Change)). Descends Older (option_to_list (shown_at key (shelf' x.id)) ++ vs)) (kept key)
+        (subst (λ (xs : List Row). Descends Older (option_to_list (shown_at key xs) ++ records x.id key)) rows (old.ordered key (under-now key under)));
+    bare = λ key outside. let was = old.bare key (λ under. outside (under-then key under)) in (subst (λ (xs : List Row). shown_at key xs ≡ None) rows was.0, sym (kept key) ∙ was.1);
   })
 
 -- ---- nobody sees it, but who has found a leaf that goes out
 
--- The leaves change mildly, the rows of blocks too, and a frame in which nobody wrote comes to have this piece, which has no chains. freed: the frame that its leaf left.
-pub record IsChange (e : Engine) (w : World) (again : ℕ → Bool) (shelf : ℕ → List Row) (freed : Option ℕ) (f : Leaf → Leaf) (frame : ℕ) (p : FramePiece) (word : ℕ) : Type 0 where
+-- The leaves change mildly, the rows of blocks and what the history keeps too, and a frame that has no leaf, or that its leaf leaves, comes to have this piece. freed: the frame that its leaf left.
+pub record IsChange (e : Engine) (w : World) (again : ℕ → Bool) (shelf : ℕ → List Row) (records : Records) (freed : Option ℕ) (f : Leaf → Leaf) (frame : ℕ) (p : FramePiece) (word : ℕ) : Type 0 where
   pub stands : Stands e w
   pub mild : IsMild f
   -- the others stay in their frames
   pub frames : (x : Leaf) (g : Framed) → x.frame ≡ Some g → freed ≢ Some g.frame → (f x).frame ≡ Some g
   pub homes : (table : ℕ) (key : List ℕ) (other : ℕ) → frame_of e.hub.dir.leaves table key ≡ Some other → freed ≢ Some other → other ≢ frame
-  pub none : slots_in (slice_set e.pieces frame p) frame ≡ []
   pub aside : (session : ℕ) (a : State) → slice_get e.sessions session ≡ Some a → (other : ℕ) → freed ≡ Some other → IsAside other a × NoneWroteIn other a
   pub dir : IsDirectory (record e.hub.dir { leaves = map f e.hub.dir.leaves })
-  pub leaves : LeavesStand w.machine shelf (map f e.hub.dir.leaves) (slice_set e.pieces frame p) (slice_set e.states frame word)
+  pub leaves : LeavesStand w.machine shelf records (map f e.hub.dir.leaves) (slice_set e.pieces frame p) (slice_set e.states frame word)
+  pub unused : (id : ℕ) → e.hub.dir.next ≤ id → (key : List ℕ) → records id key ≡ []
   pub words : FramesStand (slice_set e.pieces frame p) (slice_set e.states frame word)
   pub older : (other : ℕ) → generation_at e.pieces other ≤ generation_at (slice_set e.pieces frame p) other
   pub past : (l : Leaf) (target : Target) → Contains e.hub.dir.leaves l → target_in l ≡ Some target → freed ≡ Some target.frame → IsPast (slice_set e.pieces frame p) target
@@ -241,7 +248,7 @@ pub record IsChange (e : Engine) (w : World) (again : ℕ → Bool) (shelf : ℕ
 abbrev pub changed_by : Engine → (Leaf → Leaf) → ℕ → FramePiece → ℕ → Engine
 changed_by e f frame p word = record e { hub = record e.hub { dir = record e.hub.dir { leaves = map f e.hub.dir.leaves } }; pieces = slice_set e.pieces frame p; states = slice_set e.states frame word }
 
-module _ (e : Engine) (w : World) (again : ℕ → Bool) (shelf : ℕ → List Row) (freed : Option ℕ) (f : Leaf → Leaf) (frame : ℕ) (p : FramePiece) (word : ℕ) (c : IsChange e w again shelf freed f frame p word) where
+module _ (e : Engine) (w : World) (again : ℕ → Bool) (shelf : ℕ → List Row) (records : Records) (freed : Option ℕ) (f : Leaf → Leaf) (frame : ℕ) (p : FramePiece) (word : ℕ) (c : IsChange e w again shelf records freed f frame p word) where
   abbrev leaves : List Leaf
   leaves = e.hub.dir.leaves
 
@@ -273,11 +280,9 @@ module _ (e : Engine) (w : World) (again : ℕ → Bool) (shelf : ℕ → List R
     past = c.past;
   }
 
-  updates-stay : OthersUpdates w.machine (length e.sessions) e.pieces pieces
-  updates-stay r x other there drawn at key u member named = elim (cases_eq at frame) [
-    | inl same ↦ absurd (subst (λ slots. Member u (chain_at key slots)) (ap (slots_in pieces) same ∙ c.none) member)
-    | inr elsewhere ↦ subst (λ (o : Option Frame). Member u (chain_at key (of_some [] (λ (x : Frame). x.leaf.chains) o))) (frame-beside e.pieces frame p at elsewhere) member
-  ]
+  updates-stay : OthersAtHome freed w.machine (length e.sessions) e.hub.dir.leaves e.pieces pieces
+  updates-stay r x other there drawn table key at home stays u member named =
+      subst (λ (o : Option Frame). Member u (chain_at key (of_some [] (λ (x : Frame). x.leaf.chains) o))) (frame-beside e.pieces frame p at (c.homes table key at home stays)) member
 
   apart : Apart freed (length e.sessions) w.machine w.machine e.hub (record e.hub { dir = now }) e.pieces pieces
   apart = record {
@@ -288,7 +293,7 @@ module _ (e : Engine) (w : World) (again : ℕ → Bool) (shelf : ℕ → List R
     updates = updates-stay;
   }
 
-  pub changed-stands : Stands (changed_by e f frame p word) (record w { again = again; shelf = shelf })
+  pub changed-stands : Stands (changed_by e f frame p word) (record w { again = again; shelf = shelf; records = records })
   changed-stands = record {
     valid = c.stands.valid;
     fault = c.stands.fault;
@@ -300,6 +305,7 @@ module _ (e : Engine) (w : World) (again : ℕ → Bool) (shelf : ℕ → List R
     begun = λ place t at. let x = c.stands.begun place t at in (f x.0, contains-map f leaves x.0 x.1, c.mild.table x.0 ∙ x.2);
     owned = λ y there. let s = contains-source f leaves y there in let o = c.stands.owned s.0 s.1 in (o.0, o.1, o.2, ap (λ (x : Leaf). x.table) (sym s.2) ∙ (c.mild.table s.0 ∙ o.3));
     leaves = c.leaves;
+    unused = c.unused;
     frames = c.words;
     count = c.stands.count;
     doings = c.stands.doings;

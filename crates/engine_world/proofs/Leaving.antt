@@ -95,8 +95,8 @@ at-once law e w session a t outcome answer st at v up empty tells settles = lead
       stamps = refl;
       txns = (calls-stand e.hub.txns middle valid (left-lags e w session a t st at v)).ends session may;
       made = ap (λ (m : Machine). tables m.history) v.leaves;
-      leaves = leaves-go-on law middle (EndTransaction session) w.shelf e.hub.dir.leaves e.pieces e.states valid may (λ table key. did-not middle session (in_phase Leaving t) table key now.there (ap (find (writes_at table key)) empty))
-          (leaves-go-on law w.machine (StartLeaving session) w.shelf e.hub.dir.leaves e.pieces e.states st.valid tt (λ table key. tt) st.leaves);
+      leaves = leaves-go-on law middle (EndTransaction session) w.shelf w.records e.hub.dir.leaves e.pieces e.states valid may (λ table key. did-not middle session (in_phase Leaving t) table key now.there (ap (find (writes_at table key)) empty))
+          (leaves-go-on law w.machine (StartLeaving session) w.shelf w.records e.hub.dir.leaves e.pieces e.states st.valid tt (λ table key. tt) st.leaves);
       mine = finished-stands next (record e.hub { txns = ended e.hub.txns session }) e.pieces session a answer (without-gone middle session (in_phase Leaving t) valid now.there)
           (cursors-count w.machine e.hub e.pieces session a t st.valid v.there (st.sessions session a at))
           (seat-idle w.machine e.hub e.pieces session a (st.sessions session a at)).0 (seat-idle w.machine e.hub e.pieces session a (st.sessions session a at)).1;
@@ -136,7 +136,7 @@ with-undos law e w session n a t outcome answer st at v some tells settles = lea
       stamps = refl;
       txns = left-lags e w session a t st at v;
       made = ap (λ (m : Machine). tables m.history) v.leaves;
-      leaves = leaves-go-on law w.machine (StartLeaving session) w.shelf e.hub.dir.leaves e.pieces e.states st.valid tt (λ table key. tt) st.leaves;
+      leaves = leaves-go-on law w.machine (StartLeaving session) w.shelf w.records e.hub.dir.leaves e.pieces e.states st.valid tt (λ table key. tt) st.leaves;
       mine = phased-stands w.machine next e.hub e.hub.txns e.pieces session a (leaves answer a) t Leaving mine v.there now (record { opened = mine.seated.opened; phase = mine.seated.phase ∙ v.known }) refl refl refl
           (subst (λ k. StageInPlace (undoes k) next e.hub.dir.leaves e.pieces session (leaves answer a)) (sym some) (
             ((omega arith), (omega (arith, some))),

@@ -202,8 +202,8 @@ module _ (e : Engine) (w : World) (session frame : ℕ) (a : State) (p : FramePi
     seeks : Seeks w.machine e.hub.dir.leaves session call target a
     seeks = subst (λ g. StageStands g w.machine e.hub.dir.leaves e.pieces session a) is (st.sessions session a at).stage
 
-    stands : LeafInFrame w.machine w.shelf e.hub.dir.leaves e.pieces e.states seeks.0.1.0
-    stands = let is = target-is seeks.0.1.0 target seeks.0.1.2 in in-its-frame w.machine w.shelf e.hub.dir.leaves e.pieces e.states seeks.0.1.0 is.framed is.placed (st.leaves seeks.0.1.0 seeks.0.1.1)
+    stands : LeafInFrame w.machine w.shelf w.records e.hub.dir.leaves e.pieces e.states seeks.0.1.0
+    stands = let is = target-is seeks.0.1.0 target seeks.0.1.2 in in-its-frame w.machine w.shelf w.records e.hub.dir.leaves e.pieces e.states seeks.0.1.0 is.framed is.placed (st.leaves seeks.0.1.0 seeks.0.1.1)
 
     number : seeks.0.1.0.table ≡ target.table
     number = ap (λ (x : Target). x.table) (target-is seeks.0.1.0 target seeks.0.1.2).is

@@ -150,11 +150,11 @@ prev-ordered law e w session a p stamps left t o alive now = subst (λ f. Ordere
       wrote = noted.wrote last.0 last.1
 
       -- the leaf in the frame
-      home : IsAt w.machine w.shelf e.hub.dir e.pieces e.states wrote.0.table wrote.0.key (frame_at a.written left)
-      home = home-at w.machine w.shelf e.hub.dir e.pieces e.states wrote.0.table wrote.0.key (frame_at a.written left) o.st.dir o.st.leaves (wrote.2.home ∙ ap Some last.2)
+      home : IsAt w.machine w.shelf w.records e.hub.dir e.pieces e.states wrote.0.table wrote.0.key (frame_at a.written left)
+      home = home-at w.machine w.shelf w.records e.hub.dir e.pieces e.states wrote.0.table wrote.0.key (frame_at a.written left) o.st.dir o.st.leaves (wrote.2.home ∙ ap Some last.2)
 
       there : frame_in e.pieces (frame_at a.written left) ≡ Some home.stands.laid.frame
-      there = leaf-framed w.machine w.shelf e.hub.dir.leaves e.pieces e.states home.leaf (frame_at a.written left) home.stands home.at
+      there = leaf-framed w.machine w.shelf w.records e.hub.dir.leaves e.pieces e.states home.leaf (frame_at a.written left) home.stands home.at
 
       framed : p.frame ≡ Some home.stands.laid.frame
       framed = sym (frame-there e.pieces (frame_at a.written left) p o.piece) ∙ there
@@ -165,7 +165,7 @@ prev-ordered law e w session a p stamps left t o alive now = subst (λ f. Ordere
       under : (k : WrittenKey) → Member k a.written → k.frame ≡ frame_at a.written left → UnderIs w.machine e.pieces t home.stands.laid.frame.leaf k
       under k member same = let x = noted.wrote k member in
           let slot : slot_of x.0.key home.stands.laid.frame.leaf.chains ≡ Some k.slot = ap (slot_of x.0.key) (sym (ap (slots_in e.pieces) same ∙ in-leaf)) ∙ x.2.slot in
-          let lies = lies-in w.machine w.shelf e.hub.dir e.pieces e.states home.leaf (frame_at a.written left) k x.0.table x.0.key o.st.dir o.st.leaves home.there home.stands home.at same x.2 in record {
+          let lies = lies-in w.machine w.shelf w.records e.hub.dir e.pieces e.states home.leaf (frame_at a.written left) k x.0.table x.0.key o.st.dir o.st.leaves home.there home.stands home.at same x.2 in record {
             write = x.0;
             there = x.1;
             below = below-slot x.0.key home.stands.laid.frame.leaf.page home.stands.laid.frame.leaf.chains k.slot slot

@@ -74,7 +74,7 @@ marked law e w session frame a a' p p' view stamp left st at same here piece see
         later : List FramePiece
         later = pieces_edited (edit.Mark stamp) (name_of w.machine now.1.0) e.pieces a.written left p
 
-        l : LeafEdited (edit.Mark stamp) w.machine now.1.0 w.shelf e.hub.dir e.pieces (pieces_edited (edit.Mark stamp) (name_of w.machine now.1.0) e.pieces a.written left p) e.states a.written (leaf_start a.written (frame_at a.written left) left)
+        l : LeafEdited (edit.Mark stamp) w.machine now.1.0 w.shelf w.records e.hub.dir e.pieces (pieces_edited (edit.Mark stamp) (name_of w.machine now.1.0) e.pieces a.written left p) e.states a.written (leaf_start a.written (frame_at a.written left) left)
         l = edit-leaf e w session a now.1.0 (edit.Mark stamp) left p st at now.1.1 now.0 (marks-edit law w.machine session now.1.0 stamp st.valid now.1.1 now.1.2.0) now.1.2.1 (subst (λ f. slice_get e.pieces f ≡ Some p) (sym frames) piece)
 
 pub marks-go : MarksLaw → MarksGo

@@ -53,7 +53,7 @@ pub record MovesOn (e : Engine) (w : World) (session : ℕ) (hub : Hub) (pieces 
   pub stamps : hub.stamps ≡ e.hub.stamps
   pub txns : TableStands hub.txns next
   pub made : tables next.history ≡ tables w.machine.history
-  pub leaves : LeavesStand next w.shelf e.hub.dir.leaves pieces e.states
+  pub leaves : LeavesStand next w.shelf w.records e.hub.dir.leaves pieces e.states
   pub mine : SessionStands next hub pieces session a
   pub noticed : IsNoticed a.stage pieces (w.again session)
 
@@ -65,7 +65,7 @@ pub record Moves (e : Engine) (w : World) (session : ℕ) (hub : Hub) (pieces : 
   pub stamps : hub.stamps ≡ e.hub.stamps
   pub txns : TableStands hub.txns next
   pub made : tables next.history ≡ tables w.machine.history
-  pub leaves : LeavesStand next w.shelf e.hub.dir.leaves pieces e.states
+  pub leaves : LeavesStand next w.shelf w.records e.hub.dir.leaves pieces e.states
   pub mine : SessionInPlace next hub pieces session a
 
 pub moves-on : (e : Engine) (w : World) (session : ℕ) (hub : Hub) (pieces : List FramePiece) (a : State) (next : Machine) → Moves e w session hub pieces a next → MovesOn e w session hub pieces a next
@@ -78,7 +78,7 @@ moves-on e w session hub pieces a next v = record {
   made = v.made;
   leaves = v.leaves;
   mine = session-stands next hub pieces session a v.mine;
-  noticed = noticed-in-place next w.shelf e.hub.dir.leaves pieces e.states v.leaves a.stage session a (w.again session)
+  noticed = noticed-in-place next w.shelf w.records e.hub.dir.leaves pieces e.states v.leaves a.stage session a (w.again session)
       (subst (λ (d : Directory). StageInPlace a.stage next d.leaves pieces session a) v.beside.dir v.mine.stage);
 }
 
@@ -108,6 +108,7 @@ again-as e w again st over = record {
   begun = st.begun;
   owned = st.owned;
   leaves = st.leaves;
+  unused = st.unused;
   frames = st.frames;
   count = st.count;
   doings = st.doings;
@@ -136,7 +137,8 @@ goes-on e w session old a hub pieces hazards next st at v = record {
   dir = subst IsDirectory (sym v.beside.dir) st.dir;
   begun = subst (λ (d : Directory). TablesBegun hub.tables.tables d.leaves) (sym v.beside.dir) (subst (λ (k : Known). TablesBegun k.tables e.hub.dir.leaves) (sym v.beside.tables) st.begun);
   owned = subst (λ (d : Directory). LeavesOwned hub.tables.tables d.leaves) (sym v.beside.dir) (subst (λ (k : Known). LeavesOwned k.tables e.hub.dir.leaves) (sym v.beside.tables) st.owned);
-  leaves = subst (λ (d : Directory). LeavesStand next w.shelf d.leaves pieces e.states) (sym v.beside.dir) v.leaves;
+  leaves = subst (λ (d : Directory). LeavesStand next w.shelf w.records d.leaves pieces e.states) (sym v.beside.dir) v.leaves;
+  unused = λ id past key. st.unused id (subst (λ (d : Directory). d.next ≤ id) v.beside.dir past) key;
   frames = frames-stay e.pieces pieces e.states v.beside.slots.generations st.frames;
   count = length-set e.sessions session a ∙ (st.count ∙ sym v.beside.machine.count);
   doings = length-set w.sessions session (doing_in e.hub.dir.leaves session a) ∙ (st.doings ∙ sym (length-set e.sessions session a));

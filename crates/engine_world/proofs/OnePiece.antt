@@ -25,6 +25,7 @@ use Rattle.call_steps.specs.declared.frame.FramePiece.{FramePiece}
 use Rattle.call_steps.specs.declared.written.WrittenKey.{WrittenKey}
 use Rattle.row_page.specs.Rows.{Row}
 use Rattle.engine_world.specs.Leaves.{IsLaid, LeafInFrame, LeafStands, IsSlotOf, frame_in, generation_at, slots_in, table_at}
+use Rattle.engine_world.specs.Worlds.{Records}
 use Rattle.engine_world.proofs.Beside.{SlotsStay, BringsOnly, OthersUpdates}
 use Rattle.engine_world.proofs.Homes.{LeavesStand, one-leaf}
 use Rattle.engine_world.proofs.Moves.{get-set-same, get-set-other}
@@ -122,9 +123,9 @@ module _ (pieces : List FramePiece) (frame : ℕ) (p p' : FramePiece) (at : slic
   abbrev laid-other : (states : List ℕ) (l : Leaf) → (x : IsLaid pieces states l) → x.framed.frame ≢ frame → IsLaid (slice_set pieces frame p') states l
   laid-other states l x other = record { framed = x.framed; placed = x.placed; frame = x.frame; there = frame-other x.framed.frame other ∙ x.there; table = x.table; id = x.id; generation = generation-other x.framed.frame other ∙ x.generation; below = x.below; word = x.word }
 
-  here-stands : p'.generation ≡ p.generation → (next : Machine) (shelf : ℕ → List Row) (states : List ℕ) (leaves : List Leaf) (home : Leaf) (f' : Frame) → (x : IsLaid pieces states home) → x.framed.frame ≡ frame → IsNow next shelf leaves home p' f'
-      → LeafInFrame next shelf leaves (slice_set pieces frame p') states home
-  here-stands aged next shelf states leaves home f' x same now = record {
+  here-stands : p'.generation ≡ p.generation → (next : Machine) (shelf : ℕ → List Row) (records : Records) (states : List ℕ) (leaves : List Leaf) (home : Leaf) (f' : Frame) → (x : IsLaid pieces states home) → x.framed.frame ≡ frame → ((key : List ℕ) → records home.id key ≡ []) → IsNow next shelf leaves home p' f'
+      → LeafInFrame next shelf records leaves (slice_set pieces frame p') states home
+  here-stands aged next shelf records states leaves home f' x same none now = record {
     laid = record {
       framed = x.framed;
       placed = x.placed;
@@ -139,34 +140,40 @@ module _ (pieces : List FramePiece) (frame : ℕ) (p p' : FramePiece) (at : slic
     keys = now.keys;
     bare = now.bare;
     lies = now.lies;
+    none = none;
   }
 
   -- the leaf in the piece stands, and so do the others
-  pub leaves-on : p'.generation ≡ p.generation → (m next : Machine) (shelf : ℕ → List Row) (states : List ℕ) (d : Directory) (home : Leaf) (f' : Frame) → IsDirectory d → LeavesStand m shelf d.leaves pieces states → Contains d.leaves home → (x : IsLaid pieces states home) → x.framed.frame ≡ frame
+  pub leaves-on : p'.generation ≡ p.generation → (m next : Machine) (shelf : ℕ → List Row) (records : Records) (states : List ℕ) (d : Directory) (home : Leaf) (f' : Frame) → IsDirectory d → LeavesStand m shelf records d.leaves pieces states → Contains d.leaves home → (x : IsLaid pieces states home) → x.framed.frame ≡ frame
       → IsNow next shelf d.leaves home p' f'
-      → ((l : Leaf) → Contains d.leaves l → l ≢ home → (key : List ℕ) (chain : List Update) (row : Option (Version Change)) → leaf_under l.table key d.leaves ≡ Some l → StandsFor m l.table key chain row [] → StandsFor next l.table key chain row [])
-      → LeavesStand next shelf d.leaves (slice_set pieces frame p') states
-  leaves-on aged m next shelf states d home f' is stand home_there x same now elsewhere l there = by (stand l there) where
-    framed : (old : LeafInFrame m shelf d.leaves pieces states l) → LeafInFrame next shelf d.leaves (slice_set pieces frame p') states l
+      → ((l : Leaf) → Contains d.leaves l → l ≢ home → (key : List ℕ) (chain : List Update) (row : Option (Version Change)) (kept : List (Version Change)) → leaf_under l.table key d.leaves ≡ Some l → StandsFor m l.table key chain row kept → StandsFor next l.table key chain row kept)
+      → LeavesStand next shelf records d.leaves (slice_set pieces frame p') states
+  leaves-on aged m next shelf records states d home f' is stand home_there x same now elsewhere l there = by (stand l there) where
+    framed : (old : LeafInFrame m shelf records d.leaves pieces states l) → LeafInFrame next shelf records d.leaves (slice_set pieces frame p') states l
     framed old = elim (cases_eq old.laid.framed.frame frame) [
-      | inl here ↦ subst (λ (n : Leaf). LeafInFrame next shelf d.leaves (slice_set pieces frame p') states n)
-          (one-leaf d pieces states home l is home_there there x old.laid (same ∙ sym here)) (here-stands aged next shelf states d.leaves home f' x same now)
+      | inl here ↦ subst (λ (n : Leaf). LeafInFrame next shelf records d.leaves (slice_set pieces frame p') states n)
+          (its-leaf old here) (here-stands aged next shelf records states d.leaves home f' x same (λ key. ap (λ (n : Leaf). records n.id key) (its-leaf old here) ∙ old.none key) now)
       | inr other ↦ record {
         laid = laid-other states l old.laid other;
-        keys = λ key under. elsewhere l there (λ one. other (moved old one)) key (chain_at key old.laid.frame.leaf.chains) (shown_at key old.laid.frame.leaf.page) under (old.keys key under);
+        keys = λ key under. elsewhere l there (λ one. other (moved old one)) key (chain_at key old.laid.frame.leaf.chains) (shown_at key old.laid.frame.leaf.page) [] under (old.keys key under);
         bare = old.bare;
         lies = old.lies;
+        none = old.none;
       }
     ] where
+      its-leaf : (old : LeafInFrame m shelf records d.leaves pieces states l) → old.laid.framed.frame ≡ frame → home ≡ l
+      its-leaf old here = one-leaf d pieces states home l is home_there there x old.laid (same ∙ sym here)
+
       -- one leaf is in one frame
-      moved : (old : LeafInFrame m shelf d.leaves pieces states l) → l ≡ home → old.laid.framed.frame ≡ frame
+      moved : (old : LeafInFrame m shelf records d.leaves pieces states l) → l ≡ home → old.laid.framed.frame ≡ frame
       moved old one = ap (λ (f : Framed). f.frame) (same_Some old.laid.framed x.framed (sym old.laid.placed ∙ (ap (λ (n : Leaf). n.frame) one ∙ x.placed))) ∙ same
 
-    by : LeafStands m shelf d.leaves pieces states l → LeafStands next shelf d.leaves (slice_set pieces frame p') states l
+    by : LeafStands m shelf records d.leaves pieces states l → LeafStands next shelf records d.leaves (slice_set pieces frame p') states l
     by (inl old) = inl (framed old)
     by (inr old) = inr (record {
       none = old.none;
-      keys = λ key under. elsewhere l there (λ one. let clash : None ≡ Some x.framed = sym old.none ∙ (ap (λ (n : Leaf). n.frame) one ∙ x.placed) in absurd cc) key [] (shown_at key (shelf l.id)) under (old.keys key under);
+      keys = λ key under. elsewhere l there (λ one. let clash : None ≡ Some x.framed = sym old.none ∙ (ap (λ (n : Leaf). n.frame) one ∙ x.placed) in absurd cc) key [] (shown_at key (shelf l.id)) (records l.id key) under (old.keys key under);
+      ordered = old.ordered;
       bare = old.bare;
     })
 

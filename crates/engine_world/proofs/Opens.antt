@@ -18,7 +18,7 @@ use Rattle.engine_world.specs.Systems.{OpensGo, with_opened}
 use Rattle.engine_world.specs.Worlds.{Resting, World, doing_of}
 use Rattle.engine_world.proofs.Appended.{append-default, append-finds, append-other}
 use Rattle.engine_world.proofs.Beside.{Apart, MachineApart}
-use Rattle.engine_world.proofs.Events.{updates-same}
+use Rattle.engine_world.proofs.Events.{at-home, updates-same}
 use Rattle.engine_world.proofs.HubMoves.{leaves-go-on}
 use Rattle.engine_world.proofs.Others.{others-stay}
 use Rattle.engine_world.proofs.OwnStates.{none-ends}
@@ -48,7 +48,7 @@ opened-beside e w st = record {
   leaves = leaves-same e.hub.dir.leaves e.pieces;
   seats = (let long = length-append e.hub.txns.sessions (opened_seat e.hub.txns.run ∷ []) in omega arith);
   phases = λ r other. ap (λ (x : SessionData). x.phase) (append-default e.hub.txns.sessions (opened_seat e.hub.txns.run) r);
-  updates = updates-same w.machine (length e.sessions) e.pieces;
+  updates = at-home None w.machine (length e.sessions) e.hub.dir.leaves e.pieces e.pieces (updates-same w.machine (length e.sessions) e.pieces);
 }
 
 -- ---- the session that was opened
@@ -90,7 +90,8 @@ opens-go chains e w st = record {
   dir = st.dir;
   begun = st.begun;
   owned = st.owned;
-  leaves = leaves-go-on chains w.machine OpenSession w.shelf e.hub.dir.leaves e.pieces e.states st.valid tt (λ table key. tt) st.leaves;
+  leaves = leaves-go-on chains w.machine OpenSession w.shelf w.records e.hub.dir.leaves e.pieces e.states st.valid tt (λ table key. tt) st.leaves;
+  unused = st.unused;
   frames = st.frames;
   count = (let here = length-append e.sessions (opened ∷ []) in let there = length-append w.machine.sessions (None ∷ []) in let same = st.count in omega arith);
   doings = (let here = length-append w.sessions (Resting ∷ []) in let there = length-append e.sessions (opened ∷ []) in let same = st.doings in omega arith);

@@ -45,7 +45,8 @@ use Rattle.engine_world.specs.Stages.{AreCommitted, Awaits, HasFound, IsLeafAt, 
 use Rattle.engine_world.specs.Stands.{SessionStands, writes_in}
 use Rattle.engine_world.specs.Walks.{leaves_on, passed, passed_with}
 use Rattle.engine_world.specs.Worlds.{Placed}
-use Rattle.engine_world.proofs.Beside.{Apart, Beside, IsAlike, LeavesKept, LeavesStay, MachineApart, OthersUpdates, StayWritten}
+use Rattle.engine_world.proofs.Beside.{Apart, Beside, IsAlike, LeavesKept, LeavesStay, MachineApart, OthersAtHome, StayWritten}
+use Rattle.engine_world.proofs.Events.{at-home}
 use Rattle.engine_world.proofs.Homes.{IsTarget, target-from, target-is}
 use Rattle.engine_world.proofs.NotedSlots.{at-index, drawn-with, noted-stay, own-found, slot-chain, slot-durable, slot-stays, stay-same}
 use Rattle.engine_world.proofs.WalkKeys.{passed-kept, passed-with-kept}
@@ -54,7 +55,7 @@ use Rattle.engine_world.proofs.WalkKeys.{passed-kept, passed-with-kept}
 record IsOther (freed : Option ℕ) (session : ℕ) (m next : Machine) (leaves made : List Leaf) (pieces later : List FramePiece) (r : ℕ) (b : State) : Type 0 where
   machine : MachineApart session m next
   stay : LeavesStay freed leaves made pieces later
-  updates : OthersUpdates m session pieces later
+  updates : OthersAtHome freed m session leaves pieces later
   other : r ≢ session
   valid : Valid m
   noted : AreNoted leaves pieces (writes_in m r) b.written
@@ -168,7 +169,7 @@ module _ (freed : Option ℕ) (session : ℕ) (m next : Machine) (leaves made : 
   update-was : (t : Transaction) → transaction_of m r ≡ Some t → (k : WrittenKey) (w : Write) → Member k b.written → Member w t.writes → IsSlotOf leaves pieces k w.table w.key
       → (u : Update) → Member u (chain_in (slots_in later k.frame) k.slot) → u.version.window.name ≡ name_in m.run t → Member u (chain_in (slots_in pieces k.frame) k.slot)
   update-was t there k w noted member s u now named = subst (λ l. Member u l) (sym (slot-chain w.key (slots_in pieces k.frame) k.slot s.slot))
-      (o.updates r t o.other there (drawn-with m r t w o.valid there member) k.frame w.key u
+      (o.updates r t o.other there (drawn-with m r t w o.valid there member) w.table w.key k.frame s.home (o.written k noted) u
       (subst (λ l. Member u l) (slot-chain w.key (slots_in later k.frame) k.slot (o.stay.slots w.table w.key k.frame w.key k.slot s.home (o.written k noted) s.slot)) now) named)
 
   edited : (t : Transaction) → transaction_of m r ≡ Some t → (e : Edit) (left : ℕ) → IsEdited e m pieces t b left → IsEdited e next later t b left
@@ -318,7 +319,7 @@ beside-apart session m next hub later pieces pieces' v = record {
   leaves = subst (λ (d : Directory). LeavesStay None hub.dir.leaves d.leaves pieces pieces') (sym v.dir) (stay-same hub.dir.leaves pieces pieces' v.slots);
   seats = (let same = v.seats in omega arith);
   phases = v.phases;
-  updates = v.updates;
+  updates = at-home None m session hub.dir.leaves pieces pieces' v.updates;
 }
 
 pub others-go-on : (session : ℕ) (m next : Machine) (hub later : Hub) (pieces pieces' : List FramePiece) (r : ℕ) (b : State) → Beside session m next hub later pieces pieces' → r ≢ session → Valid m

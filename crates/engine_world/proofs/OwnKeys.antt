@@ -35,7 +35,7 @@ own-front e w s a x change place table key o there alive done own slot k =
 
 -- a prepare, after the marks
 pub prepared-leaves : ChainsGoOn → PreparesStand → (e : Engine) (w : World) (s stamp : ℕ) (a : State) (x : Transaction) → Stands e w → slice_get e.sessions s ≡ Some a → transaction_of w.machine s ≡ Some x → x.phase ≡ Running
-    → Allowed w.machine (PrepareAt s stamp) → IsEdited (edit.Mark stamp) w.machine e.pieces x a 0 → LeavesStand (after w.machine (PrepareAt s stamp)) w.shelf e.hub.dir.leaves e.pieces e.states
+    → Allowed w.machine (PrepareAt s stamp) → IsEdited (edit.Mark stamp) w.machine e.pieces x a 0 → LeavesStand (after w.machine (PrepareAt s stamp)) w.shelf w.records e.hub.dir.leaves e.pieces e.states
 prepared-leaves chains-go-on prepares-stand e w s stamp a x st at there running may marked =
     leaves-own chains-go-on e w s a x (PrepareAt s stamp) st at there may (λ number key none. none) (λ place table key o own slot k.
     let f = own-front e w s a x (edit.Mark stamp) place table key o there (living x Running running (λ z. z)) marked own slot k in
@@ -44,7 +44,7 @@ prepared-leaves chains-go-on prepares-stand e w s stamp a x st at there running 
 
 -- a commit of a transaction that runs, after the stamps
 pub committed-leaves : ChainsGoOn → CommitsStand → (e : Engine) (w : World) (s stamp : ℕ) (a : State) (x : Transaction) → Stands e w → slice_get e.sessions s ≡ Some a → transaction_of w.machine s ≡ Some x → x.phase ≡ Running
-    → Allowed w.machine (CommitAt s stamp stamp) → IsEdited (edit.Stamp stamp stamp) w.machine e.pieces x a 0 → LeavesStand (after w.machine (CommitAt s stamp stamp)) w.shelf e.hub.dir.leaves e.pieces e.states
+    → Allowed w.machine (CommitAt s stamp stamp) → IsEdited (edit.Stamp stamp stamp) w.machine e.pieces x a 0 → LeavesStand (after w.machine (CommitAt s stamp stamp)) w.shelf w.records e.hub.dir.leaves e.pieces e.states
 committed-leaves chains-go-on commits-stand e w s stamp a x st at there running may stamped =
     leaves-own chains-go-on e w s a x (CommitAt s stamp stamp) st at there may (λ number key none. none) (λ place table key o own slot k.
     let f = own-front e w s a x (edit.Stamp stamp stamp) place table key o there (living x Running running (λ z. z)) stamped own slot k in
@@ -56,7 +56,7 @@ committed-leaves chains-go-on commits-stand e w s stamp a x st at there running 
 
 -- the commit of a prepared transaction, before the stamps
 pub resolved-leaves : ChainsGoOn → ResolvesStand → (e : Engine) (w : World) (s stamp commit durable : ℕ) (a : State) (x : Transaction) → Stands e w → slice_get e.sessions s ≡ Some a → transaction_of w.machine s ≡ Some x
-    → x.phase ≡ Prepared stamp → Allowed w.machine (CommitAt s commit durable) → LeavesStand (after w.machine (CommitAt s commit durable)) w.shelf e.hub.dir.leaves e.pieces e.states
+    → x.phase ≡ Prepared stamp → Allowed w.machine (CommitAt s commit durable) → LeavesStand (after w.machine (CommitAt s commit durable)) w.shelf w.records e.hub.dir.leaves e.pieces e.states
 resolved-leaves chains-go-on resolves-stand e w s stamp commit durable a x st at there is may =
     leaves-own chains-go-on e w s a x (CommitAt s commit durable) st at there may (λ number key none. none) (λ place table key o own slot k.
     resolves-stand w.machine s stamp commit durable x table key (chain_at key (slots_in e.pieces place)) (row_at e.pieces place key) [] st.valid may (there, ap is_own own) is k)
@@ -89,7 +89,7 @@ done-left Resolving m pieces x a place key (inr stamped) slot =
 
 -- the end of a transaction
 pub ended-leaves : ChainsGoOn → EndsStand → (e : Engine) (w : World) (s : ℕ) (a : State) (x : Transaction) → Stands e w → slice_get e.sessions s ≡ Some a → transaction_of w.machine s ≡ Some x
-    → Allowed w.machine (EndTransaction s) → DoneStands x.phase w.machine e.pieces x a → LeavesStand (after w.machine (EndTransaction s)) w.shelf e.hub.dir.leaves e.pieces e.states
+    → Allowed w.machine (EndTransaction s) → DoneStands x.phase w.machine e.pieces x a → LeavesStand (after w.machine (EndTransaction s)) w.shelf w.records e.hub.dir.leaves e.pieces e.states
 ended-leaves chains-go-on ends-stand e w s a x st at there may done =
     leaves-own chains-go-on e w s a x (EndTransaction s) st at there may (λ number key none. none) (λ place table key o own slot k.
     ends-stand w.machine s x table key (chain_at key (slots_in e.pieces place)) (row_at e.pieces place key) [] st.valid may there (done-left x.phase w.machine e.pieces x a place key done slot) k)

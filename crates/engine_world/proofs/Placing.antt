@@ -69,7 +69,7 @@ place-leads chains e w session old a hazards told cursor position st there has p
       stamps = refl;
       txns = (calls-stand e.hub.txns m st.valid st.txns).others event tt has;
       made = refl;
-      leaves = leaves-go-on chains m event w.shelf e.hub.dir.leaves e.pieces e.states st.valid has (λ table key. tt) st.leaves;
+      leaves = leaves-go-on chains m event w.shelf w.records e.hub.dir.leaves e.pieces e.states st.valid has (λ table key. tt) st.leaves;
       mine = record {
         phase = ap phase_in p.phase ∙ mine.phase;
         seated = record { opened = mine.seated.opened; phase = mine.seated.phase ∙ ap known_phase (sym p.phase) };

@@ -61,7 +61,7 @@ undo-goes law e w session stamp a t st at there is in_p settles =
     seat-leads e w session a b now (seat_in e.hub.txns session phase.Resolving) (StartLeaving session) reply.More st at tt refl sets
     ((calls-stand e.hub.txns w.machine st.valid st.txns).undoes session stamp (mine.seated.phase ∙ ap known_phase in_p))
     (ap (λ (m : Machine). tables m.history) after_is ∙ tables-appended t.writes (Undo (name_of w.machine t)) w.machine.history refl)
-    (leaves-go-on law w.machine (StartLeaving session) w.shelf e.hub.dir.leaves e.pieces e.states st.valid tt (λ table key. tt) st.leaves)
+    (leaves-go-on law w.machine (StartLeaving session) w.shelf w.records e.hub.dir.leaves e.pieces e.states st.valid tt (λ table key. tt) st.leaves)
     (settles (record { told = reply.More; machine = next; doing = doing_in e.hub.dir.leaves session b }) (
       answers.Done,
       refl,

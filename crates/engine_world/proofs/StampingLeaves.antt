@@ -104,7 +104,7 @@ run-stamped law e w session a p view stamps left t o in-phase running now = lead
       later : List FramePiece
       later = pieces_edited (stamps_in ModelRunning stamps) (name_of w.machine t) e.pieces a.written left p
 
-      l : LeafEdited (stamps_in ModelRunning stamps) w.machine t w.shelf e.hub.dir e.pieces (pieces_edited (stamps_in ModelRunning stamps) (name_of w.machine t) e.pieces a.written left p) e.states a.written (leaf_start a.written (frame_at a.written left) left)
+      l : LeafEdited (stamps_in ModelRunning stamps) w.machine t w.shelf w.records e.hub.dir e.pieces (pieces_edited (stamps_in ModelRunning stamps) (name_of w.machine t) e.pieces a.written left p) e.states a.written (leaf_start a.written (frame_at a.written left) left)
       l = edit-leaf e w session a t (stamps_in ModelRunning stamps) left p o.st o.at o.there o.some (stamps-edit law w.machine session t (stamp_of stamps.commit) (stamp_of stamps.commit) o.st.valid o.there running) now.1 o.piece
 
 resolve-stamped : StampsLaw → (e : Engine) (w : World) (session : ℕ) (a : State) (p : FramePiece) (view : View) (stamps : CommitStamps) (left : ℕ) (t : Transaction) → StampsAt e w session a p view stamps left t → a.phase ≡ phase.Resolving
@@ -127,7 +127,7 @@ resolve-stamped law e w session a p view stamps left t o in-phase resolving now 
       later : List FramePiece
       later = pieces_edited (stamps_in ModelResolving stamps) (name_of w.machine t) e.pieces a.written left p
 
-      l : LeafEdited (stamps_in ModelResolving stamps) w.machine t w.shelf e.hub.dir e.pieces (pieces_edited (stamps_in ModelResolving stamps) (name_of w.machine t) e.pieces a.written left p) e.states a.written (leaf_start a.written (frame_at a.written left) left)
+      l : LeafEdited (stamps_in ModelResolving stamps) w.machine t w.shelf w.records e.hub.dir e.pieces (pieces_edited (stamps_in ModelResolving stamps) (name_of w.machine t) e.pieces a.written left p) e.states a.written (leaf_start a.written (frame_at a.written left) left)
       l = edit-leaf e w session a t (stamps_in ModelResolving stamps) left p o.st o.at o.there o.some
           (resolved-edit law w.machine session t (stamp_of stamps.commit) (or_stamp (stamp_of stamps.durable) (stamp_of stamps.commit)) o.st.valid o.there resolving now.0) now.1 o.piece
 

@@ -127,7 +127,7 @@ module _ (e : Engine) (w : World) (session : ℕ) (a : State) (st : Stands e w) 
     noticed r b there was = elim (cases_eq r session) [
       | inl same ↦ let is : new ≡ b = same_Some new b (sym (get-set-same e.sessions session a new at) ∙ (ap (slice_get (slice_set e.sessions session new)) (sym same) ∙ there)) in
           subst (λ (x : State). IsNoticed x.stage e.pieces (unset session w.again r)) is
-          (noticed-in-place w.machine w.shelf e.hub.dir.leaves e.pieces e.states st.leaves new.stage session new (unset session w.again r) stands.stage)
+          (noticed-in-place w.machine w.shelf w.records e.hub.dir.leaves e.pieces e.states st.leaves new.stage session new (unset session w.again r) stands.stage)
       | inr other ↦ subst (λ x. IsNoticed b.stage e.pieces (if x then false else w.again r)) (sym (ne_eqb r session other)) was
     ]
 

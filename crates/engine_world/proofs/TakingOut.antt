@@ -139,7 +139,7 @@ over-undone law e w session a p left t o over undone done = leads e w session a 
       later : List FramePiece
       later = pieces_edited edit.Undo (name_of w.machine t) e.pieces a.written left p
 
-      l : LeafEdited edit.Undo w.machine t w.shelf e.hub.dir e.pieces (pieces_edited edit.Undo (name_of w.machine t) e.pieces a.written left p) e.states a.written (leaf_start a.written (frame_at a.written left) left)
+      l : LeafEdited edit.Undo w.machine t w.shelf w.records e.hub.dir e.pieces (pieces_edited edit.Undo (name_of w.machine t) e.pieces a.written left p) e.states a.written (leaf_start a.written (frame_at a.written left) left)
       l = edit-leaf e w session a t edit.Undo left p o.st o.at o.there o.some (undos-edit law w.machine session t o.st.valid o.there (λ x member. is-undone t.phase w.machine t x refl undone member)) done o.piece
 
 -- ---- the first undo of one that is not
@@ -206,7 +206,7 @@ record Leaves (e : Engine) (w : World) (session : ℕ) (t : Transaction) : Type 
   pub valid : Valid (gone w.machine session t)
   pub beside : MachineBeside session w.machine (gone w.machine session t)
   pub txns : TableStands e.hub.txns (gone w.machine session t)
-  pub leaves : LeavesStand (gone w.machine session t) w.shelf e.hub.dir.leaves e.pieces e.states
+  pub leaves : LeavesStand (gone w.machine session t) w.shelf w.records e.hub.dir.leaves e.pieces e.states
 
 leaves-early : ChainsGoOn → (e : Engine) (w : World) (session : ℕ) (t : Transaction) → Stands e w → transaction_of w.machine session ≡ Some t → IsEarly t.phase → phase_of e.hub.txns session ≡ phase.Running → Leaves e w session t
 leaves-early chains-go-on e w session t st there early knows = record {
@@ -214,7 +214,7 @@ leaves-early chains-go-on e w session t st there early knows = record {
   valid = subst Valid is (valid-after w.machine (StartLeaving session) st.valid tt);
   beside = subst (MachineBeside session w.machine) is (event-beside session w.machine (StartLeaving session) st.valid tt refl);
   txns = subst (TableStands e.hub.txns) is ((calls-stand e.hub.txns w.machine st.valid st.txns).lags session (inl knows));
-  leaves = subst (λ (z : Machine). LeavesStand z w.shelf e.hub.dir.leaves e.pieces e.states) is (leaves-go-on chains-go-on w.machine (StartLeaving session) w.shelf e.hub.dir.leaves e.pieces e.states st.valid tt (λ table key. tt) st.leaves);
+  leaves = subst (λ (z : Machine). LeavesStand z w.shelf w.records e.hub.dir.leaves e.pieces e.states) is (leaves-go-on chains-go-on w.machine (StartLeaving session) w.shelf w.records e.hub.dir.leaves e.pieces e.states st.valid tt (λ table key. tt) st.leaves);
 } where
   is : after w.machine (StartLeaving session) ≡ gone w.machine session t
   is = gone-is w.machine session t there early
@@ -274,8 +274,8 @@ first-undone law chains-go-on e w session a p left t o early knows all doing = l
       none : EditedDownTo edit.Undo (name_of w.machine t) e.pieces a.written left
       none i k low at = let inside = slice_get_within a.written i k at in absurd (omega (arith, low, inside, all))
 
-      l : LeafEdited edit.Undo (gone w.machine session t) (in_phase ModelLeaving t) w.shelf e.hub.dir e.pieces (pieces_edited edit.Undo (name_of w.machine t) e.pieces a.written left p) e.states a.written (leaf_start a.written (frame_at a.written left) left)
-      l = leaf-edited edit.Undo (gone w.machine session t) (in_phase ModelLeaving t) w.shelf e.hub.dir e.pieces e.states a.written left p (record {
+      l : LeafEdited edit.Undo (gone w.machine session t) (in_phase ModelLeaving t) w.shelf w.records e.hub.dir e.pieces (pieces_edited edit.Undo (name_of w.machine t) e.pieces a.written left p) e.states a.written (leaf_start a.written (frame_at a.written left) left)
+      l = leaf-edited edit.Undo (gone w.machine session t) (in_phase ModelLeaving t) w.shelf w.records e.hub.dir e.pieces e.states a.written left p (record {
         edits = undos-edit law (gone w.machine session t) session (in_phase ModelLeaving t) v.valid v.there (λ x member. inl refl);
         dir = o.st.dir;
         leaves = v.leaves;

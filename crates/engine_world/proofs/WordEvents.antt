@@ -54,8 +54,8 @@ word-there e w target st leaf = ap (word_at e.states) (sym (target-frame e.piece
   is : IsTarget leaf.0 target
   is = target-is leaf.0 target leaf.2
 
-  stands : LeafInFrame w.machine w.shelf e.hub.dir.leaves e.pieces e.states leaf.0
-  stands = in-its-frame w.machine w.shelf e.hub.dir.leaves e.pieces e.states leaf.0 is.framed is.placed (st.leaves leaf.0 leaf.1)
+  stands : LeafInFrame w.machine w.shelf w.records e.hub.dir.leaves e.pieces e.states leaf.0
+  stands = in-its-frame w.machine w.shelf w.records e.hub.dir.leaves e.pieces e.states leaf.0 is.framed is.placed (st.leaves leaf.0 leaf.1)
 
 module _ (e : Engine) (w : World) (session : ℕ) (call : KeyCall) (target : Target) (a : State) (st : Stands e w) (there : slice_get e.sessions session ≡ Some (at_stage (stage.Validate call target) a)) where
   abbrev old : State

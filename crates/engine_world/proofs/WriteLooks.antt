@@ -166,7 +166,7 @@ module _ (e : Engine) (w : World) (session frame : ℕ) (a : State) (p p' : Fram
         stamps = refl;
         txns = (calls-stand e.hub.txns w.machine st.valid st.txns).others event tt may;
         made = refl;
-        leaves = leaves-go-on chains-go w.machine event w.shelf e.hub.dir.leaves e.pieces e.states st.valid may (λ table key. tt) st.leaves;
+        leaves = leaves-go-on chains-go w.machine event w.shelf w.records e.hub.dir.leaves e.pieces e.states st.valid may (λ table key. tt) st.leaves;
         mine = subst (SessionInPlace next e.hub e.pieces session) (sym c.now) mine;
       })) where
         event : Event
@@ -263,7 +263,7 @@ module _ (e : Engine) (w : World) (session frame : ℕ) (a : State) (p p' : Fram
       stamps = refl;
       txns = (calls-stand e.hub.txns w.machine st.valid st.txns).others event tt may;
       made = refl;
-      leaves = leaves-on e.pieces frame p p' there aged w.machine next w.shelf e.states e.hub.dir l.home (with_leaf x.leaf_after l.was) st.dir st.leaves l.home_there l.laid l.laid_at (record {
+      leaves = leaves-on e.pieces frame p p' there aged w.machine next w.shelf w.records e.states e.hub.dir l.home (with_leaf x.leaf_after l.was) st.dir st.leaves l.home_there l.laid l.laid_at (record {
         is = ap (λ (q : FramePiece). q.frame) is;
         table = l.table;
         id = l.id;
@@ -319,8 +319,8 @@ module _ (e : Engine) (w : World) (session frame : ℕ) (a : State) (p p' : Fram
         ap (λ (h : HeldLeaf). shown_at key h.page) whole ∙ old.1,
       )
 
-      elsewhere : (n : Leaf) → Contains e.hub.dir.leaves n → n ≢ l.home → (key : List ℕ) (chain : List Update) (row : Option (Version Change)) → LiesIn e.hub.dir.leaves n key → StandsFor w.machine n.table key chain row [] → StandsFor next n.table key chain row []
-      elsewhere n there_n other key chain row inside stands = chains-go w.machine event n.table key chain row [] st.valid may
+      elsewhere : (n : Leaf) → Contains e.hub.dir.leaves n → n ≢ l.home → (key : List ℕ) (chain : List Update) (row : Option (Version Change)) (kept : List (Version Change)) → LiesIn e.hub.dir.leaves n key → StandsFor w.machine n.table key chain row kept → StandsFor next n.table key chain row kept
+      elsewhere n there_n other key chain row kept inside stands = chains-go w.machine event n.table key chain row kept st.valid may
           (λ same_table same_key. other (same_Some n l.home (sym inside ∙ (ap (λ t. leaf_under t key e.hub.dir.leaves) (sym same_table ∙ sym l.number)
           ∙ (ap (λ k. leaf_under l.home.table k e.hub.dir.leaves) (sym same_key) ∙ lies))))) stands
 

@@ -1,10 +1,12 @@
 -- The leaves of an engine, and what stands in the slots that a transaction wrote.
-use Rattle.std.specs.Prelude.{◌≡◌, ◌≢◌, ◌⊎◌, ◌<◌, ◌≤◌, ◌+◌, ◌*◌, ◌^◌, ℕ, List, [], length, Option, Some, None, option_and_then, option_map, slice_get, slice_index_or}
+use Rattle.std.specs.Prelude.{◌≡◌, ◌≢◌, ◌⊎◌, ◌<◌, ◌≤◌, ◌+◌, ◌*◌, ◌^◌, ℕ, List, [], ◌++◌, length, Option, Some, None, option_and_then, option_map, slice_get, slice_index_or}
 use Rattle.std.specs.List.{Contains}
+use Rattle.std.specs.Option.{option_to_list}
 use Rattle.stamp.specs.declared.Name.{Name}
 use Rattle.kv_model.specs.History.{Table, Write, line}
-use Rattle.kv_model.specs.Holds.{Member}
+use Rattle.kv_model.specs.Holds.{Descends, Member}
 use Rattle.kv_model.specs.Machine.{Machine, of_some}
+use Rattle.kv_model.specs.Ordered.{Older}
 use Rattle.kv_model.specs.Refusals.{newest_durable}
 use Rattle.row_page.specs.Rows.{Row}
 use Rattle.rows_shown.specs.Shows.{shown_at}
@@ -22,6 +24,7 @@ use Rattle.call_steps.specs.declared.frame.FramePiece.{FramePiece}
 use Rattle.call_steps.specs.declared.written.WrittenKey.{WrittenKey}
 use Rattle.call_steps.specs.Leaves.{chain_in}
 use Rattle.call_steps.specs.Tables.{filled}
+use Rattle.engine_world.specs.Worlds.{Records}
 
 abbrev pub frame_in : List FramePiece → ℕ → Option Frame
 frame_in pieces frame = option_and_then (λ (p : FramePiece). p.frame) (slice_get pieces frame)
@@ -68,21 +71,25 @@ pub record IsLaid (pieces : List FramePiece) (states : List ℕ) (l : Leaf) : Ty
   pub word : word_at states framed.frame ≡ filled framed.generation
 
 -- the leaf is in a frame: its chains and rows stand for the keys that lie in it, and it has none of others
-pub record LeafInFrame (m : Machine) (shelf : ℕ → List Row) (leaves : List Leaf) (pieces : List FramePiece) (states : List ℕ) (l : Leaf) : Type 0 where
+pub record LeafInFrame (m : Machine) (shelf : ℕ → List Row) (records : Records) (leaves : List Leaf) (pieces : List FramePiece) (states : List ℕ) (l : Leaf) : Type 0 where
   pub laid : IsLaid pieces states l
   pub keys : (key : List ℕ) → leaf_under l.table key leaves ≡ Some l → StandsFor m l.table key (chain_at key laid.frame.leaf.chains) (shown_at key laid.frame.leaf.page) []
   pub bare : (key : List ℕ) → leaf_under l.table key leaves ≢ Some l → (chain_at key laid.frame.leaf.chains ≡ []) × (shown_at key laid.frame.leaf.page ≡ None)
   -- a page with rows is that of the leaf's block
   pub lies : 1 ≤ length laid.frame.leaf.page → laid.frame.leaf.page ≡ shelf l.id
+  -- the history keeps nothing of it
+  pub none : (key : List ℕ) → records l.id key ≡ []
 
--- it is in none: so do the rows of its block
-pub record LeafOnDevice (m : Machine) (shelf : ℕ → List Row) (leaves : List Leaf) (l : Leaf) : Type 0 where
+-- it is in none: so do the rows of its block, with what the history keeps of it
+pub record LeafOnDevice (m : Machine) (shelf : ℕ → List Row) (records : Records) (leaves : List Leaf) (l : Leaf) : Type 0 where
   pub none : l.frame ≡ None
-  pub keys : (key : List ℕ) → leaf_under l.table key leaves ≡ Some l → StandsFor m l.table key [] (shown_at key (shelf l.id)) []
-  pub bare : (key : List ℕ) → leaf_under l.table key leaves ≢ Some l → shown_at key (shelf l.id) ≡ None
+  pub keys : (key : List ℕ) → leaf_under l.table key leaves ≡ Some l → StandsFor m l.table key [] (shown_at key (shelf l.id)) (records l.id key)
+  -- each of them older than the row and those before it
+  pub ordered : (key : List ℕ) → leaf_under l.table key leaves ≡ Some l → Descends Older (option_to_list (shown_at key (shelf l.id)) ++ records l.id key)
+  pub bare : (key : List ℕ) → leaf_under l.table key leaves ≢ Some l → (shown_at key (shelf l.id) ≡ None) × (records l.id key ≡ [])
 
-abbrev pub LeafStands : Machine → (ℕ → List Row) → List Leaf → List FramePiece → List ℕ → Leaf → Type 0
-LeafStands m shelf leaves pieces states l = LeafInFrame m shelf leaves pieces states l ⊎ LeafOnDevice m shelf leaves l
+abbrev pub LeafStands : Machine → (ℕ → List Row) → Records → List Leaf → List FramePiece → List ℕ → Leaf → Type 0
+LeafStands m shelf records leaves pieces states l = LeafInFrame m shelf records leaves pieces states l ⊎ LeafOnDevice m shelf records leaves l
 
 -- each table has a leaf
 abbrev pub TablesBegun : List Table → List Leaf → Type 0

@@ -8,6 +8,8 @@ pub mod Stands
 pub mod Laws
 pub mod Whole
 pub mod Systems
+pub mod Coming
 pub mod GivingWay
 pub mod GoingOut
 pub mod Evicting
+pub mod Parting

@@ -1,5 +1,5 @@
 -- When an engine's data stands for a machine with the calls that are under way.
-use Rattle.std.specs.Prelude.{◌≡◌, ℕ, List, [], length, map, reverse, Option, Some, option_map, slice_get}
+use Rattle.std.specs.Prelude.{◌≡◌, ◌≤◌, ℕ, List, [], length, map, reverse, Option, Some, option_map, slice_get}
 use Rattle.kv_model.specs.History.{Write, tables}
 use Rattle.kv_model.specs.Machine.{Machine, Position as ModelPosition, of_some, transaction_of, cursors_of}
 use Rattle.kv_model.specs.Valid.{Valid}
@@ -58,7 +58,9 @@ pub record Stands (e : Engine) (w : World) : Type 0 where
   pub dir : IsDirectory e.hub.dir
   pub begun : TablesBegun e.hub.tables.tables e.hub.dir.leaves
   pub owned : LeavesOwned e.hub.tables.tables e.hub.dir.leaves
-  pub leaves : (l : Leaf) → Contains e.hub.dir.leaves l → LeafStands w.machine w.shelf e.hub.dir.leaves e.pieces e.states l
+  pub leaves : (l : Leaf) → Contains e.hub.dir.leaves l → LeafStands w.machine w.shelf w.records e.hub.dir.leaves e.pieces e.states l
+  -- and nothing of a leaf that was never made
+  pub unused : (id : ℕ) → e.hub.dir.next ≤ id → (key : List ℕ) → w.records id key ≡ []
   pub frames : FramesStand e.pieces e.states
   pub count : length e.sessions ≡ length w.machine.sessions
   pub doings : length w.sessions ≡ length e.sessions

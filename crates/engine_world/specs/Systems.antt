@@ -79,20 +79,6 @@ with_frame e = record e { pieces = e.pieces ++ record { generation = 0; frame = 
 abbrev pub FramesGrow : Type 0
 FramesGrow = (e : Engine) (w : World) → Stands e w → Stands (with_frame e) w
 
--- a leaf comes into a frame that had none, with the rows of its block
-abbrev pub with_leaf : Engine → Leaf → ℕ → List Row → Engine
-with_leaf e l frame rows =
-    record e {
-      hub = record e.hub { dir = record e.hub.dir { leaves = changed l.id (in_frame (Some (record { frame = frame; generation = generation_at e.pieces frame }))) e.hub.dir.leaves } };
-      pieces = slice_set e.pieces frame (record { generation = generation_at e.pieces frame; frame = Some (record { table = l.table; id = l.id; leaf = record { page = rows; chains = [] } }) });
-      states = slice_set e.states frame (filled (generation_at e.pieces frame));
-    }
-
--- nobody sees it
-abbrev pub LeavesCome : Type 0
-LeavesCome = (e : Engine) (w : World) (l : Leaf) (frame : ℕ) → Stands e w → Contains e.hub.dir.leaves l → l.frame ≡ None → frame_in e.pieces frame ≡ None → frame < length e.pieces → frame < length e.states
-    → IsDirectory (with_leaf e l frame (w.shelf l.id)).hub.dir → Stands (with_leaf e l frame (w.shelf l.id)) w
-
 -- a checkpoint starts and finishes, with nobody between
 abbrev pub checkpointed : Machine → Machine
 checkpointed m = after (after m CheckpointStart) CheckpointFinish
@@ -150,7 +136,7 @@ pub record Begins (c : Content) (shelf : ℕ → List Row) (e : Engine) : Type 0
 
 -- the machine that an opening makes, with nobody at work
 abbrev pub first_world : Content → (ℕ → List Row) → Engine → World
-first_world c shelf e = record { machine = start c; sessions = []; systems = map (λ x. None) e.systems; shelf = shelf; again = λ session. false }
+first_world c shelf e = record { machine = start c; sessions = []; systems = map (λ x. None) e.systems; shelf = shelf; records = λ id key. []; again = λ session. false }
 
 abbrev pub EnginesStart : Type 0
 EnginesStart = (c : Content) (shelf : ℕ → List Row) (e : Engine) → IsRegular c → Begins c shelf e → Stands e (first_world c shelf e)

@@ -22,7 +22,7 @@ pub use hub::{
 pub use system::{
     checkpoints_go, creates_go, downs_go, engines_start, frames_grow, leaves_are_evicted,
     leaves_are_evicted_unseen, leaves_come, leaves_give_way, leaves_go_out, leaves_go_out_unseen,
-    opens_go, sets_go,
+    leaves_part, opens_go, sets_go,
 };
 pub use whole::{kept_out_reaches, steps_reach};
 pub use words::{clears_go, loads_go, publishes_go, resets_go, starts_go, unpins_go};

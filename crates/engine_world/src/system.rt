@@ -1,10 +1,12 @@
 //! Laws of the start of an engine, of sessions that are opened, and of the events of the system. A law calls those of lower crates
 //! that its proof rests on.
 
+ghost use Rattle.engine_world.specs.Coming.{LeavesCome};
 ghost use Rattle.engine_world.specs.Evicting.{LeavesAreEvicted, LeavesAreEvictedUnseen};
 ghost use Rattle.engine_world.specs.GivingWay.{LeavesGiveWay};
+ghost use Rattle.engine_world.specs.Parting.{LeavesPart};
 ghost use Rattle.engine_world.specs.GoingOut.{LeavesGoOut, LeavesGoOutUnseen};
-ghost use Rattle.engine_world.specs.Systems.{CheckpointsGo, CreatesGo, DownsGo, EnginesStart, FramesGrow, LeavesCome, OpensGo, SetsGo};
+ghost use Rattle.engine_world.specs.Systems.{CheckpointsGo, CreatesGo, DownsGo, EnginesStart, FramesGrow, OpensGo, SetsGo};
 
 use kv_model::{evictions_stand, frames_are_alike};
 use tree_dir::leaves_give_way as directories_give_way;
@@ -43,7 +45,8 @@ pub fn frames_grow()
     ensures { FramesGrow }
 {}
 
-/// A leaf that is in no frame comes into one, with the rows of its block: nobody sees it.
+/// A leaf that is in no frame comes into one, with the rows of its block and what the history keeps of
+/// it: nobody sees it.
 pub fn leaves_come()
     ensures { LeavesCome }
 {}
@@ -59,9 +62,9 @@ pub fn leaves_go_out_unseen()
     ensures { LeavesGoOutUnseen }
 {}
 
-/// A leaf is evicted while others are at work: it goes out of its frame, and its block has of each of its
-/// keys the newest version, where the older ones are out of reach. No call is at it, and no transaction
-/// that runs wrote in it: calls that have found it, and have not come to it yet, may be told so.
+/// A leaf is evicted while others are at work: it goes out of its frame, its block has of each of its keys
+/// the newest version, and the history those of the older ones that are in reach. No call is at it, and no
+/// transaction that runs wrote in it: calls that have found it, and have not come to it yet, may be told so.
 pub fn leaves_are_evicted()
     ensures { LeavesAreEvicted }
 {
@@ -81,6 +84,17 @@ pub fn leaves_give_way()
     ensures { LeavesGiveWay }
 {
     directories_give_way();
+}
+
+/// A leaf in a frame gives way, while others are at work, to others, which are in none: their blocks have
+/// of each of its keys the newest version, and the history those of the older ones that are in reach. No
+/// call is at the leaf, or on its way to it, or goes over its table leaf by leaf, and no transaction that
+/// runs wrote in it: nobody sees it.
+pub fn leaves_part()
+    ensures { LeavesPart }
+{
+    directories_give_way();
+    evictions_stand();
 }
 
 /// A checkpoint starts and finishes, with nobody between. None runs, and no prepared transaction is being resolved.

@@ -1,5 +1,5 @@
 -- What a leaf is cut into lets it be evicted.
-use Rattle.std.proofs.Common.{◌≡◌, ◌≢◌, ◌<◌, ℕ, refl, ap, sym, ◌∙◌, List, [], ◌∷◌, ◌++◌, length, inl, inr, subst}
+use Rattle.std.proofs.Common.{◌≡◌, ◌≢◌, ◌<◌, ℕ, ap, sym, ◌∙◌, List, [], ◌++◌, inl, inr, subst}
 use Rattle.std.specs.Prelude.{Option, Some, None, Result, Ok, Err, IfOk, find, nat_le, option_and_then, option_map}
 use Rattle.std.specs.Option.{option_to_list}
 use Rattle.std.proofs.lemmas.Bool.{and_parts, both_ways, cases_Bool, leb-true}
@@ -8,11 +8,10 @@ use Rattle.item.specs.declared.Change.{Change}
 use Rattle.stamp.specs.declared.Name.{Name}
 use Rattle.stamp.specs.declared.Version.{Version}
 use Rattle.kv_model.specs.Captures.{ReconciledLists}
-use Rattle.kv_model.specs.Holds.{Member}
+use Rattle.kv_model.specs.Holds.{Descends, Member}
 use Rattle.kv_model.specs.Ordered.{Older}
 use Rattle.kv_model.proofs.Finishing.{line-committed}
 use Rattle.rows_shown.specs.Shows.{shown_at}
-use Rattle.rows_shown.proofs.Keyed.{key_self}
 use Rattle.snapshot.specs.Matters.{AreUnended, IsLive, IsUnended}
 use Rattle.snapshot.specs.Past.{is_below}
 use Rattle.snapshot.specs.Sight.{Sight, is_listed, is_seen}
@@ -37,14 +36,14 @@ use Rattle.engine_world.specs.Stands.{Engine, Stands}
 use Rattle.engine_world.specs.Worlds.{World}
 use Rattle.engine_world.proofs.Emptying.{mine, mine-at}
 use Rattle.engine_world.proofs.Homes.{lies-or-not}
-use Rattle.engine.specs.declared.evicting.Horizon.{Horizon}
-use Rattle.engine.specs.Evictions.{MayBeEvicted, horizon_of}
+use Rattle.engine.specs.Evictions.{MayBeEvicted}
 use Rattle.engine.proofs.Evictions.{may-at}
 use Rattle.engine.proofs.LeavesCome.{named-there}
 use Rattle.evict_step.specs.declared.cut.CutOut.{CutOut}
-use Rattle.evict_step.specs.declared.cut.CutOut.TheVariants.{Stays, Unresolved, Moves, Images}
-use Rattle.evict_step.specs.Cuts.{HoldsOlder, HoldsUnseen, IsCutFrom, IsCutOf, IsCutOut, held_in}
+use Rattle.evict_step.specs.declared.cut.CutOut.TheVariants.{Stays, Unresolved, Images}
+use Rattle.evict_step.specs.Cuts.{HoldsUnseen, IsCutFrom, IsCutOf, IsCutOut, held_in}
 use Rattle.evict_step.proofs.HeldEnded.{held-cases, held-ended, held-ordered}
+use Rattle.evict_step.proofs.MovesInOrder.{newest-descends}
 
 -- ---- the leaf in its frame
 
@@ -60,7 +59,7 @@ module _ (e : Engine) (id : ℕ) (may : MayBeEvicted e id) (w : World) (st : Sta
   abbrev f : Frame
   f = may.frame
 
-  abbrev in_frame : LeafInFrame w.machine w.shelf e.hub.dir.leaves e.pieces e.states l
+  abbrev in_frame : LeafInFrame w.machine w.shelf w.records e.hub.dir.leaves e.pieces e.states l
   in_frame = mine e w l may.framed st (named-there id e.hub.dir.leaves l may.there) may.placed
 
   is : in_frame.laid.frame ≡ f
@@ -74,19 +73,26 @@ module _ (e : Engine) (id : ℕ) (may : MayBeEvicted e id) (w : World) (st : Sta
   none-held key outside = subst (λ (x : Frame). held_at key x.leaf.page x.leaf.chains ≡ []) is (let bare = in_frame.bare key outside in
       ap (λ (c : List Update). versions c ++ option_to_list (shown_at key in_frame.laid.frame.leaf.page)) bare.0 ∙ ap (λ (o : Option (Version Change)). [] ++ option_to_list o) bare.1)
 
-  pub cut-evicts : KeysAreReconciled → (images : List Image) → (c : IsCutFrom e f.leaf images) → w.machine.checkpoint ≡ None → IsEvictedTo w.machine e.hub.dir.leaves l f c.rows
-  cut-evicts law images c none = record {
+  pub cut-evicts : KeysAreReconciled → (images : List Image) (moved : List Moved) → (c : IsCutFrom e f.leaf images moved) → w.machine.checkpoint ≡ None → IsEvictedTo w.machine e.hub.dir.leaves l f c.rows (λ key. versions_in key moved)
+  cut-evicts law images moved c none = record {
     past = is_past c.pin c.floor;
     covers = λ key under v there is. let p = and_parts (nat_le v.window.durable c.pin) (is_below v.window.name c.floor) is in
         (c.past w st none l.table key).cover v there (leb-true v.window.durable c.pin p.0) p.1;
     ended = λ key under v there each. held-ended w.machine l.table key (chain_at key f.leaf.chains) (shown_at key f.leaf.page) st.valid (keys-stand key under) v there
         (λ live. both_ways (is_seen c.sight v.window.name) ((c.living w st).unseen v.window.name live) (c.seen key v there));
-    made = λ key under. subst (λ (o : Option (Version Change)). ReconciledLists Older (is_live All) (is_past c.pin c.floor) (held_at key f.leaf.page f.leaf.chains) o []) (sym (c.reconciled.shows key))
-        (subst (λ (moved : List (Version Change)). ReconciledLists Older (is_live All) (is_past c.pin c.floor) (held_at key f.leaf.page f.leaf.chains) (find (is_live All) (held_at key f.leaf.page f.leaf.chains)) moved) (c.stay key)
-        (law (is_live All) (is_past c.pin c.floor) (held_at key f.leaf.page f.leaf.chains)
-        (held-ordered w.machine l.table key (chain_at key f.leaf.chains) (shown_at key f.leaf.page) st.valid (keys-stand key under))));
-    bare = λ key outside. c.reconciled.shows key ∙ ap (find (is_live All)) (none-held key outside);
-  }
+    made = λ key under. subst (λ (o : Option (Version Change)). ReconciledLists Older (is_live All) (is_past c.pin c.floor) (held_at key f.leaf.page f.leaf.chains) o (versions_in key moved)) (sym (c.reconciled.shows key))
+        (subst (λ (vs : List (Version Change)). ReconciledLists Older (is_live All) (is_past c.pin c.floor) (held_at key f.leaf.page f.leaf.chains) (find (is_live All) (held_at key f.leaf.page f.leaf.chains)) vs) (sym (c.moves key))
+        (law (is_live All) (is_past c.pin c.floor) (held_at key f.leaf.page f.leaf.chains) (held-newest-first key under)));
+    ordered = λ key under. subst (λ (o : Option (Version Change)). Descends Older (option_to_list o ++ versions_in key moved)) (sym (c.reconciled.shows key))
+        (subst (λ (vs : List (Version Change)). Descends Older (option_to_list (find (is_live All) (held_at key f.leaf.page f.leaf.chains)) ++ vs)) (sym (c.moves key))
+        (newest-descends (is_past c.pin c.floor) (held_at key f.leaf.page f.leaf.chains) (held-newest-first key under)));
+    bare = λ key outside. (
+      c.reconciled.shows key ∙ ap (find (is_live All)) (none-held key outside),
+      c.moves key ∙ ap (moved_of (is_live All) (is_past c.pin c.floor)) (none-held key outside),
+    );
+  } where
+    held-newest-first : (key : List ℕ) → leaf_under l.table key e.hub.dir.leaves ≡ Some l → Descends Older (held_at key f.leaf.page f.leaf.chains)
+    held-newest-first key under = held-ordered w.machine l.table key (chain_at key f.leaf.chains) (shown_at key f.leaf.page) st.valid (keys-stand key under)
 
   -- a version that is not seen is of a transaction that has not ended
   pub unseen-unended : (s : Sight) → EndedIsSeen w.machine s → AreUnended w.machine s.list → (by : ℕ) → HoldsUnseen s f.leaf by → IsUnended w.machine by
@@ -104,39 +110,23 @@ module _ (e : Engine) (id : ℕ) (may : MayBeEvicted e id) (w : World) (st : Sta
     id-is : (live : IsLive w.machine h.version.window.name) → live.transaction.id ≡ by
     id-is live = sym (ap (λ (n : Name). n.id) live.name) ∙ h.is
 
--- ---- versions that move
-
--- of a version that moves its key has one
-pub moved-of-key : (m : Moved) (moved : List Moved) → versions_in m.key (m ∷ moved) ≢ []
-moved-of-key m moved none = let here = key_self m.key in let clash = rw here at none in absurd (cc)
-
-pub none-move : (key : List ℕ) (moved : List Moved) → length moved ≡ 0 → versions_in key moved ≡ []
-none-move key [] none = refl
-none-move key (m ∷ moved) none = absurd (cc)
-
-pub holds-older : (e : Engine) (held : HeldLeaf) (moved : List Moved) (h : Horizon) → h ≡ horizon_of e → ((key : List ℕ) → versions_in key moved ≡ moved_of (is_live All) (is_past h.pin h.floor) (held_at key held.page held.chains)) → (length moved ≡ 0 → ⊥) → HoldsOlder e held
-holds-older e held [] h same moves some = absurd (some refl)
-holds-older e held (m ∷ moved) h same moves some = record {
-  key = m.key;
-  moves = subst (λ (x : Horizon). moved_of (is_live All) (is_past x.pin x.floor) (held_at m.key held.page held.chains) ≢ []) same (λ none. moved-of-key m moved (moves m.key ∙ none));
-}
-
 -- ---- what is told
 
 cut-out : KeysAreReconciled → (e : Engine) (id : ℕ) (may : MayBeEvicted e id) (held : HeldLeaf) → held_in e id ≡ Some held → (out : CutOut) → IsCutOf e held out → IsCutOut e id out
 cut-out law e id may held there (Stays why) of = absurd of
 cut-out law e id may held there (Unresolved by) of = λ w st. let is = of.2 w st in
     unseen-unended e id may w st of.0 is.0 is.1 by (subst (λ (x : HeldLeaf). HoldsUnseen of.0 x by) (same_Some held may.frame.leaf (sym there ∙ held-may e id may)) of.1)
-cut-out law e id may held there Moves of = (held, there, of)
-cut-out law e id may held there (Images images) of = record {
+cut-out law e id may held there (Images made) of = record {
   may = may;
   rows = cut.rows;
   are = cut.are;
   fit = cut.reconciled.fit;
-  evicted = λ w st none. cut-evicts e id may w st law images.items cut none;
+  in_order = cut.in_order;
+  moved_fit = cut.moved_fit;
+  evicted = λ w st none. cut-evicts e id may w st law made.images.items made.moved.items cut none;
 } where
-  cut : IsCutFrom e may.frame.leaf images.items
-  cut = subst (λ (x : HeldLeaf). IsCutFrom e x images.items) (same_Some held may.frame.leaf (sym there ∙ held-may e id may)) of
+  cut : IsCutFrom e may.frame.leaf made.images.items made.moved.items
+  cut = subst (λ (x : HeldLeaf). IsCutFrom e x made.images.items made.moved.items) (same_Some held may.frame.leaf (sym there ∙ held-may e id may)) of
 
 pub cuts-out : {E : Type 0} → KeysAreReconciled → (e : Engine) (id : ℕ) (may : MayBeEvicted e id) (held : HeldLeaf) → held_in e id ≡ Some held → (told : Result CutOut E) → IfOk told (λ out. IsCutOf e held out) → IfOk told (λ out. IsCutOut e id out)
 cuts-out law e id may held there (Ok out) of = cut-out law e id may held there out of

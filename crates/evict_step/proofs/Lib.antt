@@ -1,3 +1,6 @@
 pub mod HeldSeen
 pub mod HeldEnded
+pub mod MovesInOrder
 pub mod Cutting
+pub mod BroughtBack
+pub mod MovedFit

@@ -1,5 +1,5 @@
 -- What a leaf is cut into, by which it may be evicted.
-use Rattle.std.specs.Prelude.{◌≡◌, ◌≢◌, ℕ, true, false, List, [], Option, Some, None, option_and_then, option_map}
+use Rattle.std.specs.Prelude.{◌≡◌, ℕ, true, false, List, Option, None, option_and_then, option_map}
 use Rattle.item.specs.declared.Change.{Change}
 use Rattle.stamp.specs.declared.Name.{Name}
 use Rattle.stamp.specs.declared.Version.{Version}
@@ -11,9 +11,11 @@ use Rattle.snapshot.specs.Past.{IsPast}
 use Rattle.snapshot.specs.Sight.{Sight, is_seen}
 use Rattle.txn_table.specs.Checkpoints.{EndedIsSeen}
 use Rattle.reconcile.specs.declared.image.Image.{Image}
+use Rattle.reconcile.specs.declared.image.Moved.{Moved}
 use Rattle.reconcile.specs.declared.live.Live.TheVariants.{All}
 use Rattle.reconcile.specs.Held.{IsReconciled, held_at, is_live, is_past, moved_of}
 use Rattle.reconcile.specs.Images.{AreImages}
+use Rattle.reconcile.specs.Moving.{InKeyOrder, versions_in}
 use Rattle.leaf_frame.specs.Leaf.{HeldLeaf}
 use Rattle.tree_dir.specs.declared.leaf.Framed.{Framed}
 use Rattle.call_steps.specs.declared.frame.Frame.{Frame}
@@ -21,9 +23,10 @@ use Rattle.engine_world.specs.Evicting.{IsEvictedTo}
 use Rattle.engine_world.specs.Leaves.{frame_in}
 use Rattle.engine_world.specs.Stands.{Engine, Stands}
 use Rattle.engine_world.specs.Worlds.{World}
-use Rattle.engine.specs.Evictions.{KeepsLeaf, MayBeEvicted, framed_in, horizon_of}
+use Rattle.engine.specs.Evictions.{KeepsLeaf, MayBeEvicted, framed_in}
+use Rattle.evict_step.specs.Backs.{AllFit}
 use Rattle.evict_step.specs.declared.cut.CutOut.{CutOut}
-use Rattle.evict_step.specs.declared.cut.CutOut.TheVariants.{Stays, Unresolved, Moves, Images}
+use Rattle.evict_step.specs.declared.cut.CutOut.TheVariants.{Stays, Unresolved, Images}
 
 -- what the leaf of this id holds in its frame
 abbrev pub held_in : Engine → ℕ → Option HeldLeaf
@@ -31,13 +34,16 @@ held_in e id = option_and_then (λ (framed : Framed). option_map (λ (f : Frame)
 
 -- ---- what is told
 
--- The images have rows by which the leaf may be evicted, in every world for which the engine stands and in which no checkpoint runs.
-pub record AreCut (e : Engine) (id : ℕ) (images : List Image) : Type 0 where
+-- The images have rows, and the history what moves, by which the leaf may be evicted, in every world for which the engine stands and in which no checkpoint runs.
+pub record AreCut (e : Engine) (id : ℕ) (images : List Image) (moved : List Moved) : Type 0 where
   pub may : MayBeEvicted e id
   pub rows : List Row
   pub are : AreImages images rows
   pub fit : AreFit rows
-  pub evicted : (w : World) → Stands e w → w.machine.checkpoint ≡ None → IsEvictedTo w.machine e.hub.dir.leaves may.leaf may.frame rows
+  -- by key in ascending order, and each fits a row
+  pub in_order : InKeyOrder moved
+  pub moved_fit : AllFit moved
+  pub evicted : (w : World) → Stands e w → w.machine.checkpoint ≡ None → IsEvictedTo w.machine e.hub.dir.leaves may.leaf may.frame rows (λ key. versions_in key moved)
 
 -- a version that is held is of a transaction of this id, which the snapshot does not see
 pub record HoldsUnseen (s : Sight) (held : HeldLeaf) (id : ℕ) : Type 0 where
@@ -47,16 +53,10 @@ pub record HoldsUnseen (s : Sight) (held : HeldLeaf) (id : ℕ) : Type 0 where
   pub unseen : is_seen s version.window.name ≡ false
   pub is : version.window.name.id ≡ id
 
--- an older version than the newest of a key is within reach
-pub record HoldsOlder (e : Engine) (held : HeldLeaf) : Type 0 where
-  pub key : List ℕ
-  pub moves : moved_of (is_live All) (is_past (horizon_of e).pin (horizon_of e).floor) (held_at key held.page held.chains) ≢ []
-
 abbrev pub IsCutOut : Engine → ℕ → CutOut → Type 0
 IsCutOut e id (Stays why) = KeepsLeaf e id why
 IsCutOut e id (Unresolved by) = (w : World) → Stands e w → IsUnended w.machine by
-IsCutOut e id Moves = (held : HeldLeaf) × (held_in e id ≡ Some held) × HoldsOlder e held
-IsCutOut e id (Images images) = AreCut e id images.items
+IsCutOut e id (Images made) = AreCut e id made.images.items made.moved.items
 
 -- ---- of what a frame holds
 
@@ -64,14 +64,16 @@ IsCutOut e id (Images images) = AreCut e id images.items
 abbrev pub AllHeldSeen : Sight → HeldLeaf → Type 0
 AllHeldSeen s held = (key : List ℕ) (v : Version Change) → Member v (held_at key held.page held.chains) → is_seen s v.window.name ≡ true
 
--- no version is of a transaction that has not ended, and none has to move
-pub record IsCutFrom (e : Engine) (held : HeldLeaf) (images : List Image) : Type 0 where
+-- no version is of a transaction that has not ended, and these move
+pub record IsCutFrom (e : Engine) (held : HeldLeaf) (images : List Image) (moved : List Moved) : Type 0 where
   pub rows : List Row
   pub are : AreImages images rows
   pub reconciled : IsReconciled (is_live All) held.page held.chains rows
   pub pin : ℕ
   pub floor : Name
-  pub stay : (key : List ℕ) → moved_of (is_live All) (is_past pin floor) (held_at key held.page held.chains) ≡ []
+  pub moves : (key : List ℕ) → versions_in key moved ≡ moved_of (is_live All) (is_past pin floor) (held_at key held.page held.chains)
+  pub in_order : InKeyOrder moved
+  pub moved_fit : AllFit moved
   pub past : (w : World) → Stands e w → w.machine.checkpoint ≡ None → (table : ℕ) (key : List ℕ) → IsPast w.machine table key pin floor
   pub sight : Sight
   pub seen : AllHeldSeen sight held
@@ -80,5 +82,4 @@ pub record IsCutFrom (e : Engine) (held : HeldLeaf) (images : List Image) : Type
 abbrev pub IsCutOf : Engine → HeldLeaf → CutOut → Type 0
 IsCutOf e held (Stays why) = ⊥
 IsCutOf e held (Unresolved by) = (s : Sight) × HoldsUnseen s held by × ((w : World) → Stands e w → EndedIsSeen w.machine s × AreUnended w.machine s.list)
-IsCutOf e held Moves = HoldsOlder e held
-IsCutOf e held (Images images) = IsCutFrom e held images.items
+IsCutOf e held (Images made) = IsCutFrom e held made.images.items made.moved.items

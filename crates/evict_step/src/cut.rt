@@ -8,7 +8,7 @@ use crate::held::unresolved_in;
 use engine::{Local, Stays};
 use failure::NoMemory;
 use leaf_frame::LeafFrame;
-use reconcile::{Image, Live, keys_are_reconciled};
+use reconcile::{Live, Made, keys_are_reconciled};
 use std::alloc::Global;
 use txn_table::ended_are_seen;
 
@@ -19,16 +19,14 @@ pub enum CutOut {
     Stays(Stays),
     /// It holds a version of the transaction of this id, which has not ended.
     Unresolved(u64),
-    /// It holds an older version of a key that may still be wanted, and would have to move to the
-    /// history.
-    Moves,
-    /// The images of its rows, in the order of their keys; none where no key is held.
-    Images(Vec<Image>),
+    /// The images of its rows, in the order of their keys, none where no key is held; and the older
+    /// versions that may still be wanted, which move to the history.
+    Images(Made),
 }
 
 /// Cuts the leaf of this id into the images that are written where it is evicted: the newest version
-/// of each key, a removal too. Nothing is changed. The error is want of memory. `O(rows + updates +
-/// bytes)`, and `O(n log n)` in the sessions.
+/// of each key, a removal too; and into the older versions that move to the history. Nothing is
+/// changed. The error is want of memory. `O(rows + updates + bytes)`, and `O(n log n)` in the sessions.
 pub fn cut_out(alloc: Global, engine: &Local, leaf: u64) -> Result<CutOut, NoMemory>
     ensures { IfOk result (λ out. IsCutOut engine.now leaf out) }
 {
@@ -62,10 +60,8 @@ fn cut(alloc: Global, engine: &Local, leaf: &LeafFrame) -> Result<CutOut, NoMemo
         return Ok(CutOut::Unresolved(id));
     }
     let horizon = engine.horizon();
+    // Its rows fit, so each that moves does.
+    let _page = leaf.page();
     let made = leaf.reconcile(alloc, Live::All, horizon.pin, horizon.floor)?;
-    if made.moved.as_slice().is_empty() {
-        Ok(CutOut::Images(made.images))
-    } else {
-        Ok(CutOut::Moves)
-    }
+    Ok(CutOut::Images(made))
 }

@@ -1,11 +1,13 @@
-// A leaf that is evicted and read again from its image, and what keeps a leaf from it.
+// A leaf that is evicted and comes back from its image and what moved, and what keeps a leaf from it.
 ghost use Rattle.std.specs.Prelude.{IfOk};
 ghost use Rattle.leaf_rows.specs.Rows.{AreFit};
+ghost use Rattle.leaf_capture.specs.Capture.{ChainsFit};
+ghost use Rattle.evict_step.specs.Backs.{AllFit};
 
 use catalog::Catalog;
 use device_layout::{Addr, Link};
 use engine::{Called, Local};
-use evict_step::{CutOut, Stays, cut_out};
+use evict_step::{CutOut, Made, Stays, bring_back, cut_out};
 use failure::NoMemory;
 use item::{Format, Formats, Item};
 use leaf_frame::LeafFrame;
@@ -113,14 +115,16 @@ fn stays(alloc: Global, engine: &Local) -> Result<Option<Stays>, NoMemory> {
     }
 }
 
-// The block of its only image.
-fn image(alloc: Global, engine: &Local) -> Result<Vec<u8>, NoMemory> {
-    match cut_first(alloc, engine)? {
-        Some(CutOut::Images(mut images)) => match images.pop() {
-            None => Err(NoMemory),
-            Some(image) => Ok(image.block),
+// Its images, and what moves to the history.
+fn cut(alloc: Global, engine: &Local) -> Result<Made, NoMemory>
+    ensures { IfOk result (λ made. AllFit made.moved.items) }
+{
+    match engine.id_in(0) {
+        None => Err(NoMemory),
+        Some(leaf) => match cut_out(alloc, engine, leaf)? {
+            CutOut::Images(made) => Ok(made),
+            _ => Err(NoMemory),
         },
-        _ => Err(NoMemory),
     }
 }
 
@@ -134,20 +138,33 @@ fn page(alloc: Global, block: Vec<u8>) -> Result<Leaf, NoMemory>
     }
 }
 
-// What session 1 reads of `k`, whose leaf comes into a frame from this block where it waits for it.
+// The leaf that comes back of what it was cut into.
+fn back(alloc: Global, made: Made) -> Result<LeafFrame, NoMemory>
+    requires { AllFit made.moved.items }
+    ensures { IfOk result (λ leaf. ChainsFit leaf.chains) }
+{
+    let mut images = made.images;
+    match images.pop() {
+        None => Err(NoMemory),
+        Some(image) => bring_back(alloc, page(alloc, image.block)?, made.moved),
+    }
+}
+
+// What session 1 reads of `k`, whose leaf comes into a frame so where it waits for it.
 fn reads_from(
     alloc: Global,
     engine: &mut Local,
-    block: Vec<u8>,
-) -> Result<Option<Answer<Item>>, NoMemory> {
-    let page = LeafFrame::of_page(alloc, page(alloc, block)?);
+    leaf: LeafFrame,
+) -> Result<Option<Answer<Item>>, NoMemory>
+    requires { ChainsFit leaf.chains }
+{
     if engine.sessions() < 2 {
         return Ok(None);
     }
     match engine.get(alloc, 1, b"t", b"k") {
         Called::Ended(_) => Ok(None),
-        Called::Waits(leaf) => {
-            engine.fill(leaf, page)?;
+        Called::Waits(id) => {
+            engine.fill(id, leaf)?;
             match engine.resume(alloc, 1) {
                 Called::Ended(answer) => Ok(Some(answer)),
                 Called::Waits(_) => Ok(None),
@@ -169,12 +186,13 @@ fn an_evicted_leaf_is_read_from_its_image(rt: HostRuntime) -> Result<(), NoMemor
     let alloc = rt.alloc();
     let mut engine = engine(alloc)?;
     assert!(rt; begins_put(alloc, &mut engine, b"new")? && commits(alloc, &mut engine));
-    let block = image(alloc, &engine)?;
+    let made = cut(alloc, &engine)?;
     assert!(rt; evicts(&mut engine)?);
     assert!(rt; !evicts(&mut engine)?);
     assert!(rt; is_done(alloc, &mut engine, 1, SessionCall::Begin(None)));
     let value = Some(Answer::Value(item(alloc, b"new")?));
-    assert!(rt; reads_from(alloc, &mut engine, block)? == value);
+    let leaf = back(alloc, made)?;
+    assert!(rt; reads_from(alloc, &mut engine, leaf)? == value);
     Ok(())
 }
 
@@ -187,11 +205,26 @@ fn a_leaf_stays_while_it_is_wanted(rt: HostRuntime) -> Result<(), NoMemory> {
     assert!(rt; commits(alloc, &mut engine));
     assert!(rt; is_done(alloc, &mut engine, 1, SessionCall::Begin(None)));
     assert!(rt; begins_put(alloc, &mut engine, b"new")? && commits(alloc, &mut engine));
-    assert!(rt; matches!(cut_first(alloc, &engine)?, Some(CutOut::Moves)));
     assert!(rt; seeks(alloc, &mut engine)?);
     assert!(rt; matches!(stays(alloc, &engine)?, Some(Stays::Pinned(5..10))));
     assert!(rt; !evicts(&mut engine)?);
     assert!(rt; is_done(alloc, &mut engine, 1, SessionCall::Rollback));
     assert!(rt; evicts(&mut engine)?);
+    Ok(())
+}
+
+#[test]
+fn an_older_version_comes_back_with_its_leaf(rt: HostRuntime) -> Result<(), NoMemory> {
+    let alloc = rt.alloc();
+    let mut engine = engine(alloc)?;
+    assert!(rt; begins_put(alloc, &mut engine, b"old")? && commits(alloc, &mut engine));
+    assert!(rt; is_done(alloc, &mut engine, 1, SessionCall::Begin(None)));
+    assert!(rt; begins_put(alloc, &mut engine, b"new")? && commits(alloc, &mut engine));
+    let made = cut(alloc, &engine)?;
+    assert!(rt; made.moved.len() == 1);
+    let leaf = back(alloc, made)?;
+    assert!(rt; evicts(&mut engine)?);
+    let value = Some(Answer::Value(item(alloc, b"old")?));
+    assert!(rt; reads_from(alloc, &mut engine, leaf)? == value);
     Ok(())
 }

@@ -177,7 +177,7 @@ four (a ∷ b ∷ c ∷ d ∷ e ∷ systems) is = absurd (omega (arith, is))
 
 opened_is : (content : Content) (shelf : ℕ → List Row) (e : Engine) → length e.systems ≡ 4 → first_world content shelf e ≡ opened_world (start content) shelf
 opened_is content shelf e is = let Systems : Type 0 = List (Option Call) in
-    ap (λ (l : Systems). let w : World = record { machine = start content; sessions = []; systems = l; shelf = shelf; again = λ session. false } in w) (four e.systems is)
+    ap (λ (l : Systems). let w : World = record { machine = start content; sessions = []; systems = l; shelf = shelf; records = λ id key. []; again = λ session. false } in w) (four e.systems is)
 
 module _ {D : Type 0} (g : Ghosts D) (first : D) (stamped : Bool) (s : Script) (store store' : Store) (disk disk' : D) (at : IsAt g first stamped store disk s) where
   pub reopened : (law : StartsCalm) (told : Told) (kept : List Formats) → length store'.engine.systems ≡ 4 → held.Reopens g first s.world s.first s.made store store' disk disk' → told.reply ≡ Answered Done → told.formats ≡ plain → kept ≡ replicate SESSIONS_MAX plain

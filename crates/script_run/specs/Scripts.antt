@@ -204,9 +204,9 @@ pub record Ends (who : EngineActor) (s : Script) (formats : Formats) (reply : Re
 
 -- ---- lines that are asked of the device
 
--- the world of an engine as an opening makes it, with these rows in leaves that are in no frame: no session, and nothing started
+-- the world of an engine as an opening makes it, with these rows in leaves that are in no frame: no session, nothing started, and nothing in the history
 abbrev pub opened_world : Machine → (ℕ → List Row) → World
-opened_world m shelf = record { machine = m; sessions = []; systems = None ∷ None ∷ None ∷ None ∷ []; shelf = shelf; again = λ session. false }
+opened_world m shelf = record { machine = m; sessions = []; systems = None ∷ None ∷ None ∷ None ∷ []; shelf = shelf; records = λ id key. []; again = λ session. false }
 
 -- a line of `sys` that is no call: refused where `sys` has a call that is not finished
 abbrev pub BySystem : Script → Reply → Script → Type 0 → Type 0

@@ -215,6 +215,32 @@ fn there_are_1024_tables_at_most_and_a_checkpoint_has_them(rt: HostRuntime) -> R
     Ok(())
 }
 
+// Lines that give a key a value, so many times, in a transaction each.
+fn puts(alloc: Global, count: u32) -> Result<String, Fail> {
+    let mut text = String::new(alloc);
+    for number in 0..count {
+        let lines = format!(in alloc; "s1 begin\ns1 put t a v{number}\ns1 commit\n")?;
+        text.push_str(lines.as_str())?;
+    }
+    Ok(text)
+}
+
+#[test]
+fn a_reader_sees_its_version_under_300_later_ones(rt: HostRuntime) -> Result<(), Fail> {
+    let alloc = rt.alloc();
+    let later = puts(alloc, 300)?;
+    let mut text = String::from_str(
+        alloc,
+        "sys create t S S\ns1 begin\ns1 put t a first\ns1 commit\ns2 begin\n",
+    )?;
+    text.push_str(later.as_str())?;
+    text.push_str("s2 get t a\ns1 begin\ns1 get t a\n")?;
+    let told = outcome(&rt, alloc, plain(text.as_str()))?;
+    let wanted = oks(alloc, 905, "ok first\nok\nok v299\nThrough None")?;
+    assert_eq!(rt; told.as_str(), wanted.as_str());
+    Ok(())
+}
+
 // Each of the first ten lines has 18 bytes here, each of the next ninety 19, and each behind them
 // 20. What is read at once are 4,096 bytes, which 210 lines fit.
 #[test]

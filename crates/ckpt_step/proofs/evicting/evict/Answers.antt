@@ -1,7 +1,8 @@
-use Rattle.std.proofs.Common.{◌∙◌, List, ap, arith, inl, inr, length, refl, sym, subst}
+use Rattle.std.proofs.Common.{◌∙◌, List, [], ap, arith, inl, inr, length, refl, sym, subst}
 use Rattle.evict_step.specs.declared.cut.CutOut.{CutOut}
 use Rattle.evict_step.specs.Cuts.{AreCut, IsCutOut}
 use Rattle.reconcile.specs.declared.image.Image.{Image}
+use Rattle.reconcile.specs.declared.image.Moved.{Moved}
 use Rattle.ckpt_step.proofs.LedEnds.{down_led, stayed_led}
 use Rattle.ckpt_step.proofs.OutCuts.{is_none, not_none}
 use Rattle.ckpt_step.proofs.OutEnds.{refused_out, told_engine}
@@ -27,39 +28,48 @@ returns-in-Unresolved-clause-evicts g c h w stands idle old on follows device = 
   subst (λ (x : CutOut). IsCutOut c.args.engine.now c.args.leaf x) c.in-Unresolved.is c.in-Ok.ensures w stands,
 )
 
-pub returns-in-Moves-clause-evicts : goal.returns-in-Moves-clause-evicts
-returns-in-Moves-clause-evicts g c h w stands idle old on follows device = (
+pub returns-then-not-is_empty-clause-evicts : goal.returns-then-not-is_empty-clause-evicts
+returns-then-not-is_empty-clause-evicts g c h w stands idle old on follows device = (
   stayed_led g.D.Disk old w c.args.ground.now c.args.engine.now c.args.leaf c.args.disk.now (λ x is. g.met.D.Disk.only_now _ x is) on follows device,
-  subst (λ (x : CutOut). IsCutOut c.args.engine.now c.args.leaf x) c.in-Moves.is c.in-Ok.ensures,
+  record {
+    images = c.in-Images.made.images.items;
+    moved = c.in-Images.made.moved.items;
+    cut = subst (λ (x : CutOut). IsCutOut c.args.engine.now c.args.leaf x) c.in-Images.is c.in-Ok.ensures;
+    some = not_none c.in-Images.made.moved.items c.in-Images.made.moved.len (sym c.in-Images.made.moved.ok.0) (sym c.is_empty.ensures ∙ c.if-not-is_empty.true);
+  },
 )
 
 pub returns-then-is_empty-clause-evicts : goal.returns-then-is_empty-clause-evicts
 returns-then-is_empty-clause-evicts g c h w stands idle old on follows device = (
   stayed_led g.D.Disk old w c.args.ground.now c.args.engine.now c.args.leaf c.args.disk.now (λ x is. g.met.D.Disk.only_now _ x is) on follows device,
-  subst (λ (l : List Image). AreCut c.args.engine.now c.args.leaf l) (is_none c.in-Images.images.items c.in-Images.images.len (sym c.in-Images.images.ok.0) (sym c.is_empty.ensures ∙ c.if-is_empty.true))
-      (subst (λ (x : CutOut). IsCutOut c.args.engine.now c.args.leaf x) c.in-Images.is c.in-Ok.ensures),
+  subst (λ (l : List Image). AreCut c.args.engine.now c.args.leaf l []) (is_none c.in-Images.made.images.items c.in-Images.made.images.len (sym c.in-Images.made.images.ok.0) (sym c.is_empty-2.ensures ∙ c.if-is_empty.true))
+      (subst (λ (m : List Moved). AreCut c.args.engine.now c.args.leaf c.in-Images.made.images.items m) (is_none c.in-Images.made.moved.items c.in-Images.made.moved.len (sym c.in-Images.made.moved.ok.0) (sym c.is_empty.ensures ∙ c.if-not-is_empty.false))
+      (subst (λ (x : CutOut). IsCutOut c.args.engine.now c.args.leaf x) c.in-Images.is c.in-Ok.ensures)),
 )
 
 pub returns-then-len-gt1-clause-evicts : goal.returns-then-len-gt1-clause-evicts
 returns-then-len-gt1-clause-evicts g c h w stands idle old on follows device = (
   stayed_led g.D.Disk old w c.args.ground.now c.args.engine.now c.args.leaf c.args.disk.now (λ x is. g.met.D.Disk.only_now _ x is) on follows device,
   record {
-    images = c.in-Images.images.items;
-    cut = subst (λ (x : CutOut). IsCutOut c.args.engine.now c.args.leaf x) c.in-Images.is c.in-Ok.ensures;
-    more = (let long = c.in-Images.images.ok.0 in let count = c.len.ensures in let more = c.if-len-gt1.true in omega (arith, long, count, more));
+    images = c.in-Images.made.images.items;
+    cut = subst (λ (m : List Moved). AreCut c.args.engine.now c.args.leaf c.in-Images.made.images.items m) (is_none c.in-Images.made.moved.items c.in-Images.made.moved.len (sym c.in-Images.made.moved.ok.0) (sym c.is_empty.ensures ∙ c.if-not-is_empty.false))
+        (subst (λ (x : CutOut). IsCutOut c.args.engine.now c.args.leaf x) c.in-Images.is c.in-Ok.ensures);
+    more = (let long = c.in-Images.made.images.ok.0 in let count = c.len.ensures in let more = c.if-len-gt1.true in omega (arith, long, count, more));
   },
 )
 
 pub put_back-requires-clause-cut : goal.put_back-requires-clause-cut
 put_back-requires-clause-cut g c =
-    subst (λ (l : List Image). AreCut c.args.engine.now c.args.leaf l) (sym c.deref.ensures.value) (subst (λ (x : CutOut). IsCutOut c.args.engine.now c.args.leaf x) c.in-Images.is c.in-Ok.ensures)
+    subst (λ (l : List Image). AreCut c.args.engine.now c.args.leaf l []) (sym c.deref.ensures.value)
+    (subst (λ (m : List Moved). AreCut c.args.engine.now c.args.leaf c.in-Images.made.images.items m) (is_none c.in-Images.made.moved.items c.in-Images.made.moved.len (sym c.in-Images.made.moved.ok.0) (sym c.is_empty.ensures ∙ c.if-not-is_empty.false))
+    (subst (λ (x : CutOut). IsCutOut c.args.engine.now c.args.leaf x) c.in-Images.is c.in-Ok.ensures))
 
 pub put_back-requires-clause-one : goal.put_back-requires-clause-one
 put_back-requires-clause-one g c =
-    let some = not_none c.in-Images.images.items c.in-Images.images.len (sym c.in-Images.images.ok.0) (sym c.is_empty.ensures ∙ c.if-is_empty.false) in
+    let some = not_none c.in-Images.made.images.items c.in-Images.made.images.len (sym c.in-Images.made.images.ok.0) (sym c.is_empty-2.ensures ∙ c.if-is_empty.false) in
     let few = c.if-len-gt1.false in
     let count = c.len.ensures in
-    let long = c.in-Images.images.ok.0 in
+    let long = c.in-Images.made.images.ok.0 in
     ap (λ (l : List Image). length l) c.deref.ensures.value ∙ omega (arith, some, few, count, long)
 
 pub returns-clause-evicts : goal.returns-clause-evicts

@@ -96,7 +96,7 @@ returns-in_ok-parts-in-Ok-clause-found g c = λ honest surveyed content reads.
     let names : c.deref-2.result.now ≡ ids = c.deref-2.ensures.value ∙ c.into_parts-tables.ensures.ids in
     let kept = λ (l : Leaf) (there : Contains e.hub.dir.leaves l). subst (λ (n : Marks). IsLeafKept bytes e.hub.dir n c.deref-2.result.now on_shelf l) (sym c.marks_of-marks.ensures)
     (subst (λ (xs : List ℕ). IsLeafKept bytes e.hub.dir m xs on_shelf l) (sym names) (begun_kept bytes c.args.place a of both with recorded e unread l there)) in
-    let now = c.in-Ok.ensures.stands honest (begun bytes c.args.place a of both with recorded e unread) first kept in
+    let now = c.in-Ok.ensures.stands honest (begun bytes c.args.place a of both with recorded e unread) first (λ id key. refl) kept in
     let unmarked = λ (l : Leaf) (there : Contains c.bring_marked.new.engine.hub.dir.leaves l) (none : l.frame ≡ None). subst (λ (n : Marks). IsUnmarked n l) c.marks_of-marks.ensures (c.in-Ok.ensures.unmarked l there none) in
     let keep = subst (λ (n : Marks). KeepMarked c.bring_marked.new.engine.hub.tables.tables c.bring_marked.new.engine.hub.dir.leaves n (known_in c.in_ok-parts-in-Ok.parts)) c.marks_of-marks.ensures c.in_ok-parts-in-Ok.ensures in
     let s : Store = record { engine = c.bring_marked.new.engine; ground = record { place = c.args.place; number = c.number_of-number.result; trees = c.in_ok-trees-2.trees; parts = c.in_ok-parts-in-Ok.parts; lives = c.new.result; floor = no_name }; frames = c.args.frames; clock = c.new-in-Ok.result } in

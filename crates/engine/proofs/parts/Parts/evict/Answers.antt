@@ -9,6 +9,7 @@ use Rattle.engine_world.specs.Evicting.{evicted, with_rows}
 use Rattle.engine_world.specs.GoingOut.{with_again}
 use Rattle.engine_world.specs.Leaves.{emptied, generation_at}
 use Rattle.engine_world.specs.Stands.{Engine, Stands}
+use Rattle.engine_world.specs.Worlds.{with_records}
 use Rattle.engine.specs.Evictions.{MayBeEvicted}
 use Rattle.engine.specs.Sound.{IsSound}
 use Rattle.engine.proofs.Evictions.{evicted-is, evicted-sound, evicted-stands, same-frame}
@@ -41,8 +42,8 @@ returns-clause-out c = λ is. record { may = may.0; is = sym made } where
       ∙ evicted-is e c.args.leaf c.args.link c.in-Some.frame c.set_link.new.self c.set_frame.new.self (with_items c.self.inside.pieces c.leave-generation.new.pieces).items (with_items c.self.inside.states c.clear.new.states).items c.set_link.ensures c.set_frame.ensures pieces-are states-are)
 
 pub returns-clause-stands : goal.returns-clause-stands
-returns-clause-stands c = λ is may w rows st to. subst (λ (x : Engine). Stands x (with_rows c.args.leaf rows (with_again now may.framed.frame w))) (ap (evicted now c.args.leaf c.args.link) (same-frame now c.args.leaf may found.0) ∙ made)
-    (evicted-stands c.leaves_are_evicted.ensures now c.args.leaf c.args.link may (subst IsDirectory (ap (λ (x : Engine). x.hub.dir) (sym (ap (evicted now c.args.leaf c.args.link) (same-frame now c.args.leaf may found.0) ∙ made))) c.stands.ensures) w rows st to) where
+returns-clause-stands c = λ is may w rows moved st to. subst (λ (x : Engine). Stands x (with_records c.args.leaf moved (with_rows c.args.leaf rows (with_again now may.framed.frame w)))) (ap (evicted now c.args.leaf c.args.link) (same-frame now c.args.leaf may found.0) ∙ made)
+    (evicted-stands c.leaves_are_evicted.ensures now c.args.leaf c.args.link may (subst IsDirectory (ap (λ (x : Engine). x.hub.dir) (sym (ap (evicted now c.args.leaf c.args.link) (same-frame now c.args.leaf may found.0) ∙ made))) c.stands.ensures) w rows moved st to) where
       e : Engine
       e = record { hub = c.self.inside.hub; pieces = c.self.inside.pieces.items; states = c.self.inside.states.items; hazards = c.self.inside.hazards.items; sessions = c.self.inside.sessions.items; systems = c.self.inside.systems.items }
 

@@ -7,6 +7,7 @@ use Rattle.call_steps.specs.declared.frame.FramePiece.{FramePiece}
 use Rattle.call_steps.specs.Tables.{filled as word_filled}
 use Rattle.engine_world.specs.Stands.{Engine, Stands}
 use Rattle.engine_world.specs.Leaves.{generation_at}
+use Rattle.engine_world.specs.Worlds.{without_records}
 use Rattle.engine.specs.Frames.{IsFilled, framed_at, piece_of, put_at}
 use Rattle.engine.specs.Sound.{IsSound}
 use Rattle.engine.specs.Waits.{IsAway}
@@ -23,8 +24,8 @@ returns-in_err-frame-clause-sound c = subst (λ (ps : List FramePiece). IsSound 
       sound = subst (λ (x : Engine). IsSound x) (sym c.self.view_is) c.requires.sound
 
 pub returns-clause-stands : goal.returns-clause-stands
-returns-clause-stands c = λ w st page. subst (λ (x : Engine). Stands x w) made (fill-stands e l id frame c.args.page named none c.in_ok-frame.ensures.bare c.requires.bare sound c.frames_grow.ensures c.leaves_come.ensures
-    (subst IsDirectory framed c.stands.ensures) w (subst (λ (x : Engine). Stands x w) (sym c.self.view_is) st) page) where
+returns-clause-stands c = λ w st from. subst (λ (x : Engine). Stands x (without_records c.args.leaf w)) made (fill-stands e l id frame c.args.page named none c.in_ok-frame.ensures.bare c.requires.fit sound c.frames_grow.ensures c.leaves_come.ensures
+    (subst IsDirectory framed c.stands.ensures) w (subst (λ (x : Engine). Stands x w) (sym c.self.view_is) st) from) where
       e : Engine
       e = record { hub = c.self.inside.hub; pieces = c.self.inside.pieces.items; states = c.self.inside.states.items; hazards = c.self.inside.hazards.items; sessions = c.self.inside.sessions.items; systems = c.self.inside.systems.items }
 
@@ -64,7 +65,7 @@ returns-clause-stands c = λ w st page. subst (λ (x : Engine). Stands x w) made
           pieces-are (c.put-2.ensures ∙ (ap (λ (ws : List ℕ). put_at ws frame c.filled.result) c.frame_for_one.ensures.states ∙ ap (put_at e.states frame) (c.filled.ensures ∙ ap word_filled aged)))
 
 pub returns-clause-sound : goal.returns-clause-sound
-returns-clause-sound c = subst (λ (x : Engine). IsSound x) made (fill-sound e l id frame c.args.page named none c.in_ok-frame.ensures.bare c.requires.bare sound) where
+returns-clause-sound c = subst (λ (x : Engine). IsSound x) made (fill-sound e l id frame c.args.page named none c.in_ok-frame.ensures.bare c.requires.fit sound) where
   e : Engine
   e = record { hub = c.self.inside.hub; pieces = c.self.inside.pieces.items; states = c.self.inside.states.items; hazards = c.self.inside.hazards.items; sessions = c.self.inside.sessions.items; systems = c.self.inside.systems.items }
 

@@ -1,0 +1,7 @@
+-- A leaf without updates.
+use Rattle.std.proofs.Common.{◌≡◌, [], subst, sym}
+use Rattle.leaf_capture.specs.Capture.{ChainsFit}
+use Rattle.leaf_frame.specs.Leaf.{HeldLeaf}
+
+pub bare_fits : (leaf : HeldLeaf) → leaf.chains ≡ [] → ChainsFit leaf.chains
+bare_fits leaf bare = subst ChainsFit (sym bare) (λ key. tt)
