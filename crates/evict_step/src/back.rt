@@ -5,9 +5,7 @@ ghost use Rattle.item.specs.declared.Change.{Change as AChange};
 ghost use Rattle.stamp.specs.declared.Version.{Version as AVersion};
 ghost use Rattle.kv_model.specs.Holds.{Descends};
 ghost use Rattle.kv_model.specs.Ordered.{Older};
-ghost use Rattle.row_page.specs.Changes.{change_in, change_seen, version_in};
 ghost use Rattle.row_page.specs.Rows.{RowFits, key_most};
-ghost use Rattle.row_page.specs.Views.{row_seen};
 ghost use Rattle.leaf_rows.specs.Rows.{AreFit};
 ghost use Rattle.leaf_capture.specs.Capture.{ChainsFit};
 ghost use Rattle.leaf_capture.specs.Cells.{cell_version};
@@ -16,10 +14,10 @@ ghost use Rattle.engine_world.specs.Coming.{ComesFrom};
 ghost use Rattle.evict_step.specs.Backs.{AllFit, AreNewestFirst, HasVersions, with_shown, with_version};
 
 use failure::NoMemory;
-use item::{Change, Item};
+use item::Change;
 use leaf_frame::LeafFrame;
-use reconcile::Moved;
-use row_page::{Cell, CellChange, Leaf};
+use reconcile::{Moved, version_of};
+use row_page::Leaf;
 use stamp::Version;
 use std::alloc::Global;
 use update_chain::Update;
@@ -88,23 +86,4 @@ fn put(
     };
     let _slot = leaf.install(alloc, key, update)?;
     Ok(())
-}
-
-// The version of a row, owned.
-fn version_of(alloc: Global, cell: &Cell<'_>) -> Result<Version<Change>, NoMemory>
-    ensures { IfOk result (λ v. v ≡ version_in (row_seen cell.now).1) }
-{
-    Ok(Version {
-        window: cell.window,
-        change: change_of(alloc, &cell.change)?,
-    })
-}
-
-fn change_of(alloc: Global, change: &CellChange<&[u8]>) -> Result<Change, NoMemory>
-    ensures { IfOk result (λ c. c ≡ change_in (change_seen change.now)) }
-{
-    match change {
-        CellChange::Put(value) => Ok(Change::Put(Item::new(Vec::from_slice(alloc, value)?))),
-        CellChange::Remove => Ok(Change::Remove),
-    }
 }

@@ -23,5 +23,5 @@ pub use failure::NoMemory;
 pub use image::{Image, Made, Moved};
 pub use laws::keys_are_reconciled;
 pub use live::Live;
-pub use made::reconcile;
+pub use made::{reconcile, version_of};
 pub use page::row_at;

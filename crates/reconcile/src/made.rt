@@ -2,7 +2,7 @@
 
 ghost use Rattle.std.specs.Prelude.{◌≡◌, ◌++◌, ℕ, List, [], ◌∷◌, drop, map, filter, IfOk, OnOk};
 ghost use Rattle.std.specs.List.{AllByRecursion};
-ghost use Rattle.row_page.specs.Changes.{change_in, change_seen};
+ghost use Rattle.row_page.specs.Changes.{change_in, change_seen, version_in};
 ghost use Rattle.row_page.specs.Rows.{Row, RowFits, key_most};
 ghost use Rattle.row_page.specs.Views.{row_seen};
 ghost use Rattle.kv_model.specs.History.{down_to};
@@ -168,16 +168,23 @@ fn move_rest(
     Ok(())
 }
 
-// The version of a row, owned. Its bytes are copied once.
+// The version that moves, of a row. Its bytes are copied once.
 fn moved_of(alloc: Global, cell: &Cell<'_>) -> Result<Moved, NoMemory>
     ensures { IfOk result (λ m. m ≡ moved_row (row_seen cell.now)) }
 {
     Ok(Moved {
         key: Item::new(Vec::from_slice(alloc, cell.key)?),
-        version: Version {
-            window: cell.window,
-            change: change_of(alloc, &cell.change)?,
-        },
+        version: version_of(alloc, cell)?,
+    })
+}
+
+/// The version of a row, owned. Its bytes are copied once.
+pub fn version_of(alloc: Global, cell: &Cell<'_>) -> Result<Version<Change>, NoMemory>
+    ensures { IfOk result (λ v. v ≡ version_in (row_seen cell.now).1) }
+{
+    Ok(Version {
+        window: cell.window,
+        change: change_of(alloc, &cell.change)?,
     })
 }
 

@@ -19,7 +19,7 @@ const KEY_MAX: usize = 1_024; // bytes
 const VALUE_MAX: usize = 16_384; // bytes
 
 /// A key and a version of it, lent by the leaf's bytes.
-#[derive(Drop)]
+#[derive(Clone, Copy)]
 pub struct Cell<'a> {
     /// The key.
     pub key: &'a [u8],

@@ -1,7 +1,7 @@
 // What a page says of a key.
 
 /// What a page says of a key. A value is lent by the page's bytes, or owned.
-#[derive(Drop)]
+#[derive(Clone, Copy, Drop)]
 pub enum CellChange<V> {
     /// The key has this value, which stands in the cell.
     Put(V),
