@@ -1,5 +1,5 @@
 -- A search for a row, from the nearest key to the next.
-use Rattle.std.proofs.Common.{◌≡◌, ◌∙◌, ℕ, true, false, List, [], ◌∷◌, Option, Some, None, refl, sym, subst, inl, inr}
+use Rattle.std.proofs.Common.{◌≡◌, ◌<◌, ◌∙◌, ℕ, true, false, List, [], ◌∷◌, Option, Some, None, refl, sym, ap, subst, inl, inr}
 use Rattle.std.proofs.lemmas.Bool.{both_ways, cases_Bool}
 use Rattle.item.specs.declared.Change.{Change}
 use Rattle.stamp.specs.declared.Version.{Version}
@@ -13,11 +13,14 @@ use Rattle.leaf_frame.specs.declared.near.HeldRow.{HeldRow}
 use Rattle.leaf_frame.specs.Leaf.{HeldLeaf}
 use Rattle.leaf_frame.specs.Looks.{read_at, read_held, reply_in}
 use Rattle.leaf_frame.specs.Next.{IsNextHeld, IsPassed, NoneHeld, held_of}
+use Rattle.leaf_frame.specs.Walks.{Walked, onward, walk_on}
 use Rattle.leaf_frame.proofs.Keys.{further, sides}
+use Rattle.leaf_frame.proofs.Walking.{ahead, fewer_behind}
+use Rattle.call_steps.proofs.HeldKeys.{held_known}
 use Rattle.call_steps.specs.declared.rows.RowFound.{RowFound}
 use Rattle.call_steps.specs.declared.rows.RowFound.TheVariants as row
 use Rattle.call_steps.specs.HeldRows.{IsQuiet, IsRowOf}
-use Rattle.call_steps.specs.Looks.{IsSilent, SilentBefore, NoRow, RowFoundBy}
+use Rattle.call_steps.specs.Looks.{GoesBehind, IsSilent, SilentBefore, NoRow, RowFoundBy}
 
 -- where the search has come: the keys past where it began and not past here are silent
 pub record Stands (view : View) (way : Way) (from : Option (List ℕ)) (leaf : HeldLeaf) (here : Option (List ℕ)) : Type 0 where
@@ -72,3 +75,57 @@ ends view way from here leaf stands none = λ k past. elim (cases_Bool (is_past 
   | inl on ↦ passed_silent view k leaf (none k on)
   | inr isnt ↦ stands.silent k past isnt
 ]
+
+-- ---- by a walk
+
+pub record Walks (view : View) (w here : Walked) : Type 0 where
+  pub way : here.way ≡ w.way
+  pub leaf : here.leaf ≡ w.leaf
+  pub stands : Stands view w.way w.from w.leaf here.from
+
+next_there : (view : View) (w here : Walked) (held : HeldRow) → Walks view w here → IsNextHeld here.way here.from view here.leaf held → IsNextHeld w.way here.from view w.leaf held
+next_there view w here held walks next = subst (λ (y : Way). IsNextHeld y here.from view w.leaf held) walks.way (subst (λ (l : HeldLeaf). IsNextHeld here.way here.from view l held) walks.leaf next)
+
+pub walk_goes_on : (view : View) (w here new : Walked) (held : HeldRow) → Walks view w here → IsNextHeld here.way here.from view here.leaf held → new.from ≡ Some held.key.now → new.way ≡ here.way → new.leaf ≡ here.leaf → IsQuiet (reply_in held.read)
+    → Walks view w new
+walk_goes_on view w here new held walks next from way leaf quiet = record {
+  way = way ∙ walks.way;
+  leaf = leaf ∙ walks.leaf;
+  stands = subst (λ (o : Option (List ℕ)). Stands view w.way w.from w.leaf o) (sym from) (goes_on view w.way w.from here.from w.leaf held walks.stands (next_there view w here held walks next) quiet);
+}
+
+is_onward : (here new : Walked) (key : List ℕ) → new.from ≡ Some key → new.way ≡ here.way → new.leaf ≡ here.leaf → new ≡ onward key here
+is_onward here new key from way leaf = ap (λ (o : Option (List ℕ)). walk_on new.way o new.leaf) from ∙ (ap (λ (y : Way). walk_on y (Some key) new.leaf) way ∙ ap (λ (l : HeldLeaf). walk_on here.way (Some key) l) leaf)
+
+pub fewer_ahead : (view : View) (here new : Walked) (held : HeldRow) → IsNextHeld here.way here.from view here.leaf held → new.from ≡ Some held.key.now → new.way ≡ here.way → new.leaf ≡ here.leaf → ahead new < ahead here
+fewer_ahead view here new held next from way leaf =
+    let is : new ≡ onward held.key.now here = is_onward here new held.key.now from way leaf in
+    subst (λ (y : Walked). ahead y < ahead here) (sym is) (fewer_behind here held.key.now next.past (held_known held.key.now here.leaf next.held))
+
+pub walk_finds : (view : View) (w here : Walked) (held : HeldRow) (found : RowFound) → Walks view w here → IsNextHeld here.way here.from view here.leaf held → IsRowOf held found → RowFoundBy view w.way w.from w.leaf found
+walk_finds view w here held found walks next is = finds view w.way w.from here.from w.leaf held found walks.stands (next_there view w here held walks next) is
+
+-- where it is left
+pub walk_stays : (view : View) (w here new : Walked) (held : HeldRow) (found : RowFound) → Walks view w here → IsNextHeld here.way here.from view here.leaf held → new.from ≡ Some held.key.now → new.way ≡ here.way → new.leaf ≡ here.leaf → IsRowOf held found
+    → GoesBehind view found w new
+unfolding finds
+walk_stays view w here new held (row.Row k v) walks next from way leaf is = is_onward w new k.now (from ∙ ap Some (sym is.0)) (way ∙ walks.way) (leaf ∙ walks.leaf)
+walk_stays view w here new held (row.Conflict id) walks next from way leaf is = (
+  held.key.now,
+  (finds view w.way w.from here.from w.leaf held (row.Conflict id) walks.stands (next_there view w here held walks next) is).1,
+  is_onward w new held.key.now from (way ∙ walks.way) (leaf ∙ walks.leaf),
+)
+walk_stays view w here new held row.End walks next from way leaf is = absurd is
+
+none_there : (view : View) (w here : Walked) → Walks view w here → NoneHeld here.way here.from view here.leaf → NoneHeld w.way here.from view w.leaf
+none_there view w here walks none = subst (λ (y : Way). NoneHeld y here.from view w.leaf) walks.way (subst (λ (l : HeldLeaf). NoneHeld here.way here.from view l) walks.leaf none)
+
+pub walk_ends : (view : View) (w here : Walked) → Walks view w here → NoneHeld here.way here.from view here.leaf → NoRow view w.way w.from w.leaf
+walk_ends view w here walks none = ends view w.way w.from here.from w.leaf walks.stands (none_there view w here walks none)
+
+pub walk_is_through : (view : View) (w here new : Walked) → Walks view w here → NoneHeld new.way new.from view new.leaf → new.way ≡ here.way → new.leaf ≡ here.leaf → GoesBehind view row.End w new
+walk_is_through view w here new walks none way leaf =
+    let to_way = way ∙ walks.way in
+    let to_leaf = leaf ∙ walks.leaf in
+    let left : NoneHeld w.way new.from view w.leaf = subst (λ (y : Way). NoneHeld y new.from view w.leaf) to_way (subst (λ (l : HeldLeaf). NoneHeld new.way new.from view l) to_leaf none) in
+    (to_way, to_leaf, λ k past. passed_silent view k w.leaf (left k past))

@@ -21,6 +21,7 @@ use Rattle.update_chain.specs.Writing.{judgement_by}
 use Rattle.leaf_chains.specs.Slots.{chain_at, slot_of, with_update}
 use Rattle.leaf_frame.specs.Leaf.{HeldLeaf}
 use Rattle.leaf_frame.specs.Looks.{read_at}
+use Rattle.leaf_frame.specs.Walks.{Walked, onward}
 use Rattle.wt_calls.specs.declared.demand.Demand.{Demand}
 use Rattle.wt_calls.specs.declared.demand.Demand.TheVariants as demand
 use Rattle.wt_calls.specs.Calls.{way_in}
@@ -154,6 +155,12 @@ abbrev pub RowFoundBy : View → Way → Option (List ℕ) → HeldLeaf → RowF
 RowFoundBy view way from leaf (row.Row key v) = IsNearestRow view way from leaf key.now (Gives v.now)
 RowFoundBy view way from leaf (row.Conflict id) = (key : List ℕ) × IsNearestRow view way from leaf key (Conflicts id)
 RowFoundBy view way from leaf row.End = NoRow view way from leaf
+
+-- the way goes on behind the key that gave it, or has no row further on
+abbrev pub GoesBehind : View → RowFound → Walked → Walked → Type 0
+GoesBehind view (row.Row key v) w w' = w' ≡ onward key.now w
+GoesBehind view (row.Conflict id) w w' = (key : List ℕ) × IsNearestRow view w.way w.from w.leaf key (Conflicts id) × (w' ≡ onward key w)
+GoesBehind view row.End w w' = (w'.way ≡ w.way) × (w'.leaf ≡ w.leaf) × NoRow view w.way w'.from w.leaf
 
 -- a row that is found, copied, with its key once more for the cursor
 abbrev pub StepsAs : RowFound → Stepped → Type 0

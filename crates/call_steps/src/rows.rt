@@ -3,14 +3,14 @@
 ghost use Rattle.std.specs.Prelude.{◌≡◌, IfOk, MatchOption, option_map};
 ghost use Rattle.snapshot.specs.Sight.{IsSight, sight_of};
 ghost use Rattle.leaf_frame.specs.Looks.{reply_in};
-ghost use Rattle.leaf_frame.specs.Next.{IsNextHeld, NoneHeld};
+ghost use Rattle.leaf_frame.specs.Walks.{walk_on};
 ghost use Rattle.wt_calls.specs.Calls.{way_in};
 ghost use Rattle.call_steps.specs.HeldRows.{IsQuiet, IsRowOf};
-ghost use Rattle.call_steps.specs.Looks.{RowFoundBy, StepsAs};
+ghost use Rattle.call_steps.specs.Looks.{GoesBehind, RowFoundBy, StepsAs};
 
 use failure::NoMemory;
 use item::Item;
-use leaf_frame::{FrameRead, HeldRow, LeafFrame};
+use leaf_frame::{FrameRead, HeldRow, LeafFrame, LeafWalk};
 use stamp::View;
 use std::alloc::Global;
 use wt_calls::Way;
@@ -37,8 +37,7 @@ pub(crate) enum Stepped {
     End,
 }
 
-/// The nearest row on the way. `O(log n)` comparisons with n keys and rows for it and for each key
-/// that is passed.
+/// The nearest row on the way. `O(log n)` comparisons with n keys and rows, and those of `next_row`.
 pub fn find_row<'a>(
     leaf: &'a LeafFrame,
     view: &View<'_>,
@@ -48,9 +47,28 @@ pub fn find_row<'a>(
     requires { IsSight (sight_of view.now) }
     ensures { RowFoundBy view.now (way_in way) (option_map (λ k. k.now) from.entry) leaf.now result }
 {
-    let mut bound = from;
-    while let Some(held) = next_held(leaf, view, way, bound) {
-        bound = Some(held.key);
+    next_row(&mut walk_of(leaf, way, from), view)
+}
+
+/// The way over the keys of a leaf, past a bound or from its end on. `O(log n)` comparisons with n
+/// keys and rows.
+pub fn walk_of<'a>(leaf: &'a LeafFrame, way: Way, from: Option<&'a [u8]>) -> LeafWalk<'a>
+    ensures { result ≡ walk_on (way_in way) (option_map (λ k. k.now) from.entry) leaf.now }
+{
+    match way {
+        Way::Up => leaf.walk_up(from),
+        Way::Down => leaf.walk_down(from),
+    }
+}
+
+/// The nearest row on the way, which goes on behind its key. `O(1)` for each row that is given or
+/// passed, and `O(log n)` comparisons with n keys of the chains for a key of theirs.
+pub fn next_row<'a>(walk: &mut LeafWalk<'a>, view: &View<'_>) -> RowFound<'a>
+    requires { IsSight (sight_of view.now) }
+    ensures found { RowFoundBy view.now walk.old.way walk.old.from walk.old.leaf result }
+    ensures behind { GoesBehind view.now result walk.old walk.new }
+{
+    while let Some(held) = walk.next_held(view) {
         if let Some(found) = row_of(held) {
             return found;
         }
@@ -66,22 +84,6 @@ fn row_of(held: HeldRow<'_>) -> Option<RowFound<'_>>
         FrameRead::Found(value) => Some(RowFound::Row(held.key, value)),
         FrameRead::Conflict(id) => Some(RowFound::Conflict(id)),
         FrameRead::Removed | FrameRead::Older => None,
-    }
-}
-
-// The nearest key on the way that is held and does not read as removed.
-fn next_held<'a>(
-    leaf: &'a LeafFrame,
-    view: &View<'_>,
-    way: Way,
-    bound: Option<&[u8]>,
-) -> Option<HeldRow<'a>>
-    requires { IsSight (sight_of view.now) }
-    ensures { let from = option_map (λ k. k.now) bound.entry in MatchOption result (NoneHeld (way_in way) from view.now leaf.now) (IsNextHeld (way_in way) from view.now leaf.now) }
-{
-    match way {
-        Way::Up => leaf.next_above(bound, view),
-        Way::Down => leaf.next_below(bound, view),
     }
 }
 

@@ -5,13 +5,14 @@ use Rattle.stamp.specs.declared.View.{View}
 use Rattle.kv_model.specs.Rows.{Way}
 use Rattle.update_chain.specs.Updates.{Gives}
 use Rattle.leaf_frame.specs.Leaf.{HeldLeaf}
+use Rattle.leaf_frame.specs.Walks.{Walked, walk_on}
 use Rattle.call_steps.specs.Looks.{IsNearestRow}
 use Rattle.engine.specs.RowReads.{AreNearest, start_behind}
 
--- so far
-pub record Copied (view : View) (way : Way) (from bound : Option (List ℕ)) (leaf : HeldLeaf) (most : ℕ) (rows : List (List ℕ × List ℕ)) : Type 0 where
+-- so far: the way goes on behind the last of them
+pub record Copied (view : View) (way : Way) (from : Option (List ℕ)) (here : Walked) (leaf : HeldLeaf) (most : ℕ) (rows : List (List ℕ × List ℕ)) : Type 0 where
   pub near : AreNearest view way from leaf rows
-  pub bound_is : bound ≡ start_behind from rows
+  pub here_is : here ≡ walk_on way (start_behind from rows) leaf
   pub few : length rows ≤ most
 
 pub start-more : (from : Option (List ℕ)) (rows : List (List ℕ × List ℕ)) (row : List ℕ × List ℕ) → start_behind from (rows ++ row ∷ []) ≡ Some row.0

@@ -21,7 +21,7 @@ use crate::batch::RowBatch;
 use crate::local::Local;
 use crate::parts::Parts;
 use crate::reads::refused_first;
-use call_steps::{RowFound, find_row, leaf_of_row};
+use call_steps::{RowFound, leaf_of_row, next_row, walk_of};
 use failure::NoMemory;
 use leaf_frame::{LeafFrame, held_reads_stand};
 use stamp::View;
@@ -37,7 +37,8 @@ impl Local {
     /// is copied once, into the batch in place of what that had, and the cursor stands on the last. A
     /// batch that is not full has all that the leaf has up to a conflict: what comes then, in the next
     /// leaf or in one that is in no frame, is told by `call`. A refusal is that of such a call; then there
-    /// are no rows, and nothing is changed. `O(log n)` comparisons for each row with n keys of the leaf.
+    /// are no rows, and nothing is changed. `O(log n)` comparisons with n keys of the leaf, then `O(1)`
+    /// for each row of its page and as many for each key that has updates.
     pub fn next_rows(
         &mut self,
         alloc: Global,
@@ -215,13 +216,10 @@ fn copy_rows<'a>(
     ensures ends { OnOk result (length rows.new < most → NoneNearest view.now (way_in way) (start_behind (option_map (λ k. k.now) from.entry) rows.new) leaf.now) }
     ensures few { length rows.new ≤ most }
 {
-    let mut bound = from;
+    let mut walk = walk_of(leaf, way, from);
     while rows.len() < most {
-        match find_row(leaf, view, way, bound) {
-            RowFound::Row(key, value) => {
-                rows.push(key, value)?;
-                bound = Some(key);
-            }
+        match next_row(&mut walk, view) {
+            RowFound::Row(key, value) => rows.push(key, value)?,
             _ => return Ok(()),
         }
     }

@@ -7,3 +7,4 @@ pub mod Passing
 pub mod Leasts
 pub mod Greatests
 pub mod Reading
+pub mod Walking

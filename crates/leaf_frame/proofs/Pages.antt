@@ -1,6 +1,6 @@
 -- Rows of a page by key.
 use Rattle.std.proofs.Common.{◌≡◌, ◌∙◌, ℕ, zero, suc, ◌+◌, ◌≤◌, true, false, IsTrue, List, [], ◌∷◌, length, take, drop, map, Option, Some, None, refl, sym, ap, subst, inl, inr, arith}
-use Rattle.std.specs.Prelude.{bytes_eq, slice_get, option_map}
+use Rattle.std.specs.Prelude.{MatchOption, bytes_eq, slice_get, option_map}
 use Rattle.std.specs.List.{AllByRecursion}
 use Rattle.std.proofs.lemmas.Bool.{both_ways, cases_Bool}
 use Rattle.std.proofs.lemmas.List.{take_all}
@@ -15,7 +15,9 @@ use Rattle.row_page.proofs.Ascending.{above_at, all_above, below_differs, below_
 use Rattle.leaf_rows.specs.Rows.{version_at}
 use Rattle.rows_shown.specs.Shows.{shown_at}
 use Rattle.rows_shown.proofs.Keyed.{key_self, none_above, same_key}
+use Rattle.leaf_frame.specs.declared.page.RowAt.{RowAt}
 use Rattle.leaf_frame.specs.Near.{IsNearRow, IsPlaceAbove, IsPlaceBelow, NoRowPast}
+use Rattle.leaf_frame.specs.Walks.{IsRowAt}
 
 -- ---- the order of keys
 
@@ -176,7 +178,7 @@ gap_down from k before (x ∷ rows) (suc i) r up is all past below =
     let f = below_differs x.0 k (below_trans x.0 r.0 k (row_above x.0 rows i r up.1 is) below) in
     rw f (gap_down from k (Some x.0) rows i r up.1 is all past below)
 
-pub near_up : (from : Option (List ℕ)) (rows : List Row) (i : ℕ) (c : Cell) → Ascends None rows → IsPlaceAbove from rows i → slice_get rows i ≡ Some (row_seen c) → IsNearRow Up from rows c
+near_up : (from : Option (List ℕ)) (rows : List Row) (i : ℕ) (c : Cell) → Ascends None rows → IsPlaceAbove from rows i → slice_get rows i ≡ Some (row_seen c) → IsNearRow Up from rows c
 near_up from rows i c up place is = record {
   past = at_place (λ r. is_past Up from r.0 ≡ true) rows i (row_seen c) is place.above;
   known = row_member rows i (row_seen c) is;
@@ -184,11 +186,11 @@ near_up from rows i c up place is = record {
   before = λ k past below. ap (option_map version_in) (gap_up from k None rows i (row_seen c) up is place.below past below);
 }
 
-pub none_up : (from : Option (List ℕ)) (rows : List Row) (i : ℕ) → IsPlaceAbove from rows i → length rows ≤ i → NoRowPast Up from rows
+none_up : (from : Option (List ℕ)) (rows : List Row) (i : ℕ) → IsPlaceAbove from rows i → length rows ≤ i → NoRowPast Up from rows
 none_up from rows i place end k past =
     ap (option_map version_in) (none_of Up from k rows (subst (λ (l : List Row). AllByRecursion (λ (r : Row). is_past Up from r.0 ≡ false) l) (take_all i rows end) place.below) past)
 
-pub near_down : (from : Option (List ℕ)) (rows : List Row) (i j : ℕ) (c : Cell) → Ascends None rows → IsPlaceBelow from rows i → i ≡ suc j → slice_get rows j ≡ Some (row_seen c) → IsNearRow Down from rows c
+near_down : (from : Option (List ℕ)) (rows : List Row) (i j : ℕ) (c : Cell) → Ascends None rows → IsPlaceBelow from rows i → i ≡ suc j → slice_get rows j ≡ Some (row_seen c) → IsNearRow Down from rows c
 near_down from rows i j c up place next is =
     let at : IsPlaceBelow from rows (suc j) = subst (λ (n : ℕ). IsPlaceBelow from rows n) next place in
     record {
@@ -198,6 +200,28 @@ near_down from rows i j c up place next is =
       before = λ k past below. ap (option_map version_in) (gap_down from k None rows j (row_seen c) up is at.above past below);
     }
 
-pub none_down : (from : Option (List ℕ)) (rows : List Row) (i : ℕ) → IsPlaceBelow from rows i → i ≡ 0 → NoRowPast Down from rows
+none_down : (from : Option (List ℕ)) (rows : List Row) (i : ℕ) → IsPlaceBelow from rows i → i ≡ 0 → NoRowPast Down from rows
 none_down from rows i place start k past =
     ap (option_map version_in) (none_of Down from k rows (subst (λ (n : ℕ). AllByRecursion (λ (r : Row). is_past Down from r.0 ≡ false) (drop n rows)) start place.above) past)
+
+-- ---- the row at a place
+
+pub up_at : (from : Option (List ℕ)) (rows : List Row) (i : ℕ) (o : Option RowAt) → Ascends None rows → IsPlaceAbove from rows i → MatchOption o (length rows ≤ i) (λ r. (r.index ≡ i) × (slice_get rows i ≡ Some (row_seen r.cell)))
+    → MatchOption o (NoRowPast Up from rows) (IsRowAt Up from rows)
+up_at from rows i None up place end = none_up from rows i place end
+up_at from rows i (Some r) up place is = record { near = near_up from rows i r.cell up place is.1; place = subst (λ (n : ℕ). slice_get rows n ≡ Some (row_seen r.cell)) (sym is.0) is.1 }
+
+pub down_at : (from : Option (List ℕ)) (rows : List Row) (end : ℕ) (o : Option RowAt) → Ascends None rows → IsPlaceBelow from rows end → MatchOption o (end ≡ 0) (λ r. (end ≡ suc r.index) × (slice_get rows r.index ≡ Some (row_seen r.cell)))
+    → MatchOption o (NoRowPast Down from rows) (IsRowAt Down from rows)
+down_at from rows end None up place start = none_down from rows end place start
+down_at from rows end (Some r) up place is = record { near = near_down from rows end r.index r.cell up place is.0 is.1; place = is.1 }
+
+-- behind a row of this key
+
+pub behind_up : (rows : List Row) (c : Cell) (i : ℕ) (o : Option RowAt) → Ascends None rows → slice_get rows i ≡ Some (row_seen c) → MatchOption o (length rows ≤ i + 1) (λ r. (r.index ≡ i + 1) × (slice_get rows (i + 1) ≡ Some (row_seen r.cell)))
+    → MatchOption o (NoRowPast Up (Some c.key.now) rows) (IsRowAt Up (Some c.key.now) rows)
+behind_up rows c i o up here next = up_at (Some c.key.now) rows (i + 1) o up (place_above_row rows c.key.now i up (row_seen c, here, refl)) next
+
+pub behind_down : (rows : List Row) (c : Cell) (i : ℕ) (o : Option RowAt) → Ascends None rows → slice_get rows i ≡ Some (row_seen c) → MatchOption o (i ≡ 0) (λ r. (i ≡ suc r.index) × (slice_get rows r.index ≡ Some (row_seen r.cell)))
+    → MatchOption o (NoRowPast Down (Some c.key.now) rows) (IsRowAt Down (Some c.key.now) rows)
+behind_down rows c i o up here next = down_at (Some c.key.now) rows i o up (place_below_row rows c.key.now i up (row_seen c, here, refl)) next

@@ -6,3 +6,4 @@ pub mod Next
 pub mod Updates
 pub mod Laws
 pub mod ReadLaws
+pub mod Walks

@@ -19,11 +19,13 @@ ghost use Rattle.leaf_frame.specs.Leaf.{durable_under};
 ghost use Rattle.leaf_frame.specs.Looks.{judgement_at, read_at, reply_in, version_seen};
 ghost use Rattle.leaf_frame.specs.Next.{IsNextHeld, NoneHeld};
 ghost use Rattle.leaf_frame.specs.Updates.{AllSeen, IsLeastUnseen, NoneAbove};
+ghost use Rattle.leaf_frame.specs.Walks.{walk_on};
 
 use crate::look::FrameRead;
-use crate::near::{HeldRow, next_held};
+use crate::near::HeldRow;
 use crate::page::{durable_on, judge_page, page_of, read_page, row_with};
 use crate::updates::{has_updates, least_unseen};
+use crate::walk::LeafWalk;
 use crate::way::Way;
 use failure::NoMemory;
 use leaf_chains::{Added, KeyChain, LeafChains};
@@ -217,23 +219,36 @@ impl LeafFrame {
         }
     }
 
+    /// The way to greater keys, from above the bound on, or from the least. `O(log n)` comparisons in
+    /// keys and rows. Takes no memory.
+    pub fn walk_up<'a>(&'a self, bound: Option<&'a [u8]>) -> LeafWalk<'a>
+        ensures { result ≡ walk_on Up (option_map (λ k. k.now) bound.entry) self.now }
+    {
+        LeafWalk::over(page_of(&self.page), &self.chains, Way::Up, bound)
+    }
+
+    /// The way to smaller keys, from below the bound on, or from the greatest, as `walk_up`.
+    pub fn walk_down<'a>(&'a self, bound: Option<&'a [u8]>) -> LeafWalk<'a>
+        ensures { result ≡ walk_on Down (option_map (λ k. k.now) bound.entry) self.now }
+    {
+        LeafWalk::over(page_of(&self.page), &self.chains, Way::Down, bound)
+    }
+
     /// The least key above the bound, or of all, of which the leaf holds something and that does not
-    /// read as removed, with its read; none exactly where there is none. A key of which nothing is
-    /// admitted counts: older versions of it may stand elsewhere. Takes no memory. `O(log n)`
-    /// comparisons in keys and rows, and as many for each key that is passed.
-    pub fn next_above(&self, bound: Option<&[u8]>, view: &View<'_>) -> Option<HeldRow<'_>>
+    /// read as removed, with its read; none exactly where there is none: the first of `walk_up`.
+    pub fn next_above<'a>(&'a self, bound: Option<&'a [u8]>, view: &View<'_>) -> Option<HeldRow<'a>>
         requires { IsSight (sight_of view.now) }
         ensures { let from = option_map (λ k. k.now) bound.entry in MatchOption result (NoneHeld Up from view.now self.now) (IsNextHeld Up from view.now self.now) }
     {
-        next_held(page_of(&self.page), &self.chains, Way::Up, bound, view)
+        self.walk_up(bound).next_held(view)
     }
 
     /// The greatest key below the bound, or of all, as `next_above`.
-    pub fn next_below(&self, bound: Option<&[u8]>, view: &View<'_>) -> Option<HeldRow<'_>>
+    pub fn next_below<'a>(&'a self, bound: Option<&'a [u8]>, view: &View<'_>) -> Option<HeldRow<'a>>
         requires { IsSight (sight_of view.now) }
         ensures { let from = option_map (λ k. k.now) bound.entry in MatchOption result (NoneHeld Down from view.now self.now) (IsNextHeld Down from view.now self.now) }
     {
-        next_held(page_of(&self.page), &self.chains, Way::Down, bound, view)
+        self.walk_down(bound).next_held(view)
     }
 
     /// A name that no version it holds is above. `O(1)`.

@@ -3,8 +3,9 @@
 //! Stands for what a leaf holds of each key: the updates of its chain, then its row on the page,
 //! newest first. Promises that a read answers by the chain and, where that has nothing for the view,
 //! by the row; that a write is judged by the newest of what is held; that what is done to chains
-//! leaves the page as it is; that the next key above or below a bound is the nearest that holds
-//! something and does not read as removed, whether it stands in chains, on the page or in both; and
+//! leaves the page as it is; that the next key above or below a bound, and each key of a walk, is the
+//! nearest that holds something and does not read as removed, whether it stands in chains, on the
+//! page or in both; and
 //! that an eviction or a checkpoint makes of both parts what `reconcile` says. Leaves to the caller
 //! which updates come, which versions stand elsewhere, and that a leaf with an unresolved update
 //! stays.
@@ -16,6 +17,7 @@ mod look;
 mod near;
 mod page;
 mod updates;
+mod walk;
 mod way;
 
 pub use failure::NoMemory;
@@ -26,3 +28,4 @@ pub use laws::{
 };
 pub use look::{FrameRead, judge_row};
 pub use near::HeldRow;
+pub use walk::LeafWalk;

@@ -1,23 +1,21 @@
 //! The next key of a leaf, from its chains and its page.
 
-ghost use Rattle.std.specs.Prelude.{◌≡◌, ◌↔◌, [], IsTrue, MatchOption, option_map};
+ghost use Rattle.std.specs.Prelude.{◌≡◌, ◌↔◌, [], IsTrue, MatchOption, None, Some, option_map};
 ghost use Rattle.snapshot.specs.Sight.{IsSight, sight_of};
-ghost use Rattle.leaf_rows.specs.Rows.{AreFit};
 ghost use Rattle.update_chain.specs.Updates.{read_of};
 ghost use Rattle.leaf_chains.specs.Nearest.{IsNearest, NonePast as NoSlot};
-ghost use Rattle.reconcile.specs.Held.{page_rows};
-ghost use Rattle.leaf_frame.specs.Leaf.{leaf_of};
 ghost use Rattle.leaf_frame.specs.Looks.{read_held, reply_by_row, reply_in, version_seen};
-ghost use Rattle.leaf_frame.specs.Near.{IsNear, IsNearSlot, IsNearer, IsOfRow, IsOfSlot, NoSlotPast, NonePast, chain_in, towards};
-ghost use Rattle.leaf_frame.specs.Next.{IsNextHeld, NoneHeld, PassedBy, StaysBy, held_of};
+ghost use Rattle.leaf_frame.specs.Near.{IsNearSlot, IsOfBoth, IsOfRow, IsOfSlot, NoSlotPast, chain_in, towards};
+ghost use Rattle.leaf_frame.specs.Next.{PassedBy, StaysBy, held_of};
+ghost use Rattle.leaf_frame.specs.Walks.{IsFirst};
 ghost use Rattle.leaf_frame.specs.Ways.{way_in};
 
 use crate::look::{FrameRead, read_row};
-use crate::page::near_row;
+use crate::page::RowAt;
 use crate::way::Way;
 use byte_order::order;
 use leaf_chains::{KeyChain, LeafChains};
-use row_page::{Cell, Leaf};
+use row_page::Cell;
 use stamp::View;
 use std::cmp::Ordering;
 use update_chain::Read;
@@ -39,31 +37,16 @@ pub(crate) struct Near<'a> {
     pub cell: Option<Cell<'a>>,
 }
 
-// The next key past the bound that is held and does not read as removed, or the first on the way,
-// with its read. `O(log n)` for it and for each key that is passed.
-pub(crate) fn next_held<'a>(
-    page: Option<&'a Leaf>,
-    chains: &'a LeafChains,
-    way: Way,
-    from: Option<&[u8]>,
-    view: &View<'_>,
-) -> Option<HeldRow<'a>>
-    requires fit { AreFit (page_rows page) }
-    requires sight { IsSight (sight_of view.now) }
-    ensures { let start = option_map (λ k. k.now) from.entry in let leaf = leaf_of (page_rows page.entry) chains.now in MatchOption result (NoneHeld (way_in way) start view.now leaf) (IsNextHeld (way_in way) start view.now leaf) }
-{
-    let mut bound = from;
-    while let Some(near) = nearest(page, chains, way, bound) {
-        bound = Some(near.key);
-        if let Some(row) = row_of(near, view) {
-            return Some(row);
-        }
-    }
-    None
+// What comes first on a way.
+pub(crate) enum First<'a> {
+    Slot(&'a KeyChain),
+    Row(RowAt<'a>),
+    // Of one key.
+    Both(&'a KeyChain, RowAt<'a>),
 }
 
 // What is given of a key, unless it is passed.
-fn row_of<'a>(near: Near<'a>, view: &View<'_>) -> Option<HeldRow<'a>>
+pub(crate) fn row_of<'a>(near: Near<'a>, view: &View<'_>) -> Option<HeldRow<'a>>
     requires { IsSight (sight_of view.now) }
     ensures { let chain = chain_in near.entry.there in let row = option_map version_seen near.entry.cell in MatchOption result (PassedBy view.now chain row) (StaysBy view.now near.entry.key.now chain row) }
 {
@@ -131,31 +114,7 @@ fn read_cell<'a>(cell: Option<Cell<'a>>, view: &View<'_>) -> FrameRead<'a>
     }
 }
 
-// The nearest key past the bound, or the first on the way. `O(log n)`.
-fn nearest<'a>(
-    page: Option<&'a Leaf>,
-    chains: &'a LeafChains,
-    way: Way,
-    from: Option<&[u8]>,
-) -> Option<Near<'a>>
-    requires { AreFit (page_rows page) }
-    ensures { let start = option_map (λ k. k.now) from.entry in let leaf = leaf_of (page_rows page.entry) chains.now in MatchOption result (NonePast (way_in way) start leaf) (IsNear (way_in way) start leaf) }
-{
-    let there = near_slot(chains, way, from);
-    let cell = near_row(page, way, from);
-    match there {
-        None => match cell {
-            None => None,
-            Some(cell) => Some(of_row(cell)),
-        },
-        Some(there) => match cell {
-            None => Some(of_slot(there)),
-            Some(cell) => Some(nearer(way, there, cell)),
-        },
-    }
-}
-
-fn of_row<'a>(cell: Cell<'a>) -> Near<'a>
+pub(crate) fn of_row<'a>(cell: Cell<'a>) -> Near<'a>
     ensures { IsOfRow result cell.entry }
 {
     Near {
@@ -165,7 +124,7 @@ fn of_row<'a>(cell: Cell<'a>) -> Near<'a>
     }
 }
 
-fn of_slot<'a>(there: &'a KeyChain) -> Near<'a>
+pub(crate) fn of_slot<'a>(there: &'a KeyChain) -> Near<'a>
     ensures { IsOfSlot result there.now }
 {
     Near {
@@ -175,18 +134,44 @@ fn of_slot<'a>(there: &'a KeyChain) -> Near<'a>
     }
 }
 
-// The nearer of a slot and a row, or both where they are of one key.
-fn nearer<'a>(way: Way, there: &'a KeyChain, cell: Cell<'a>) -> Near<'a>
-    ensures { IsNearer (way_in way) there.now cell.entry result }
+pub(crate) fn of_both<'a>(there: &'a KeyChain, cell: Cell<'a>) -> Near<'a>
+    requires { there.now.key ≡ cell.key.now }
+    ensures { IsOfBoth result there.now cell.entry }
 {
-    match towards(way, order(there.key.as_bytes(), cell.key)) {
-        Ordering::Less => of_slot(there),
-        Ordering::Greater => of_row(cell),
-        Ordering::Equal => Near {
-            key: cell.key,
-            there: Some(there),
-            cell: Some(cell),
+    Near {
+        key: cell.key,
+        there: Some(there),
+        cell: Some(cell),
+    }
+}
+
+// The one that comes first on the way, or both where they are of one key.
+pub(crate) fn first_of<'a>(
+    there: Option<&'a KeyChain>,
+    row: Option<RowAt<'a>>,
+    way: Way,
+) -> Option<First<'a>>
+    ensures { MatchOption result ((there.entry ≡ None) × (row.entry ≡ None)) (IsFirst (way_in way) there.entry row.entry) }
+{
+    match there {
+        None => match row {
+            None => None,
+            Some(row) => Some(First::Row(row)),
         },
+        Some(there) => match row {
+            None => Some(First::Slot(there)),
+            Some(row) => Some(nearer(way, there, row)),
+        },
+    }
+}
+
+fn nearer<'a>(way: Way, there: &'a KeyChain, row: RowAt<'a>) -> First<'a>
+    ensures { IsFirst (way_in way) (Some there.entry) (Some row.entry) result }
+{
+    match towards(way, order(there.key.as_bytes(), row.cell.key)) {
+        Ordering::Less => First::Slot(there),
+        Ordering::Greater => First::Row(row),
+        Ordering::Equal => First::Both(there, row),
     }
 }
 
@@ -201,7 +186,11 @@ fn towards(way: Way, order: Ordering) -> Ordering
 }
 
 // The slot of the nearest key past the bound, or of the first on the way. `O(log n)`.
-fn near_slot<'a>(chains: &'a LeafChains, way: Way, from: Option<&[u8]>) -> Option<&'a KeyChain>
+pub(crate) fn near_slot<'a>(
+    chains: &'a LeafChains,
+    way: Way,
+    from: Option<&[u8]>,
+) -> Option<&'a KeyChain>
     ensures { let start = option_map (λ k. k.now) from.entry in MatchOption result (NoSlotPast (way_in way) start chains.now) (λ s. IsNearSlot (way_in way) start chains.now s.now) }
 {
     let slot = next_slot(chains, way, from)?;

@@ -4,8 +4,8 @@ use Rattle.wt_calls.specs.Calls.{way_in}
 use Rattle.engine.proofs.CopyingRows.{Copied}
 use Rattle.engine.proofs.row_reads.copy_rows.Given as goal
 
-abbrev pub invariant-loop-bound : goal.invariant-loop-bound
-invariant-loop-bound l = Copied l.view (way_in l.way) (option_map (λ k. k.now) l.fn.from) (option_map (λ k. k.now) l.bound) l.leaf l.most l.rows
+abbrev pub invariant-loop-walk : goal.invariant-loop-walk
+invariant-loop-walk l = Copied l.view (way_in l.fn.way) (option_map (λ k. k.now) l.fn.from) l.walk l.leaf l.most l.rows
 
-abbrev pub decreases-loop-bound : goal.decreases-loop-bound
-decreases-loop-bound l = l.most - length l.rows
+abbrev pub decreases-loop-walk : goal.decreases-loop-walk
+decreases-loop-walk l = l.most - length l.rows

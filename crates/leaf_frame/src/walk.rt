@@ -1,0 +1,114 @@
+//! A way over the keys of a leaf that keeps its place.
+
+ghost use Rattle.std.specs.Prelude.{◌≡◌, None, Some, MatchOption, option_map};
+ghost use Rattle.snapshot.specs.Sight.{IsSight, sight_of};
+ghost use Rattle.leaf_rows.specs.Rows.{AreFit};
+ghost use Rattle.reconcile.specs.Held.{page_rows};
+ghost use Rattle.leaf_frame.specs.Leaf.{leaf_of};
+ghost use Rattle.leaf_frame.specs.Near.{IsNear, NonePast};
+ghost use Rattle.leaf_frame.specs.Next.{IsNextHeld, NoneHeld};
+ghost use Rattle.leaf_frame.specs.Walks.{onward, walk_on};
+ghost use Rattle.leaf_frame.specs.Ways.{way_in};
+
+use crate::near::{First, HeldRow, Near, first_of, near_slot, of_both, of_row, of_slot, row_of};
+use crate::page::{RowAt, near_row, row_behind};
+use crate::way::Way;
+use leaf_chains::{KeyChain, LeafChains};
+use row_page::Leaf;
+use stamp::View;
+use std::marker::Model;
+
+/// A way over the keys of a leaf, past a bound or from its end on, which keeps its place on the page
+/// and in the chains.
+#[derive(Drop)]
+pub struct LeafWalk<'a> {
+    page: Option<&'a Leaf>,
+    chains: &'a LeafChains,
+    way: Way,
+    from: Option<&'a [u8]>,
+    // The nearest slot, and the nearest row.
+    there: Option<&'a KeyChain>,
+    row: Option<RowAt<'a>>,
+}
+
+impl<'a> Model for LeafWalk<'a> {
+    ghost use Rattle.std.specs.Prelude.{option_map};
+    ghost use Rattle.reconcile.specs.Held.{page_rows};
+    ghost use Rattle.leaf_frame.specs.Leaf.{leaf_of};
+    ghost use Rattle.leaf_frame.specs.Walks.{IsPlaced, Walked, walk_on};
+    ghost use Rattle.leaf_frame.specs.Ways.{way_in};
+
+    ghost Value = { Walked };
+
+    ghost view = { λ a. walk_on (way_in a.way) (option_map (λ k. k.now) a.from) (leaf_of (page_rows a.page) a.chains.now) };
+
+    ghost invariant = { λ a. IsPlaced (way_in a.way) (option_map (λ k. k.now) a.from) (page_rows a.page) a.chains.now a.there a.row };
+}
+
+impl<'a> LeafWalk<'a> {
+    // A way that begins past the bound, or at the end. `O(log n)` comparisons in keys and rows.
+    pub(crate) fn over(
+        page: Option<&'a Leaf>,
+        chains: &'a LeafChains,
+        way: Way,
+        from: Option<&'a [u8]>,
+    ) -> LeafWalk<'a>
+        requires { AreFit (page_rows page) }
+        ensures { result ≡ walk_on (way_in way) (option_map (λ k. k.now) from.entry) (leaf_of (page_rows page.entry) chains.now) }
+    {
+        LeafWalk {
+            page,
+            chains,
+            way,
+            from,
+            there: near_slot(chains, way, from),
+            row: near_row(page, way, from),
+        }
+    }
+
+    /// The nearest key on the way of which the leaf holds something and that does not read as
+    /// removed, with its read; none exactly where there is none. The way goes on behind it. A key of
+    /// which nothing is admitted counts: older versions of it may stand elsewhere. Takes no memory.
+    /// `O(1)` for each row that is given or passed, and `O(log n)` comparisons for a key of a chain.
+    pub fn next_held(&mut self, view: &View<'_>) -> Option<HeldRow<'a>>
+        requires { IsSight (sight_of view.now) }
+        ensures held { MatchOption result (NoneHeld self.old.way self.old.from view.now self.old.leaf) (IsNextHeld self.old.way self.old.from view.now self.old.leaf) }
+        ensures behind { MatchOption result (NoneHeld self.new.way self.new.from view.now self.new.leaf) (λ row. self.new.from ≡ Some row.key.now) }
+        ensures way { self.new.way ≡ self.old.way }
+        ensures leaf { self.new.leaf ≡ self.old.leaf }
+    {
+        while let Some(near) = self.pass() {
+            if let Some(row) = row_of(near, view) {
+                return Some(row);
+            }
+        }
+        None
+    }
+
+    // The nearest key; the way goes on behind it.
+    fn pass(&mut self) -> Option<Near<'a>>
+        ensures { MatchOption result (NonePast self.old.way self.old.from self.old.leaf × (self.new ≡ self.old)) (λ n. IsNear self.old.way self.old.from self.old.leaf n × (self.new ≡ onward n.key.now self.old)) }
+    {
+        match first_of(self.there, self.row, self.way)? {
+            First::Slot(there) => {
+                let near = of_slot(there);
+                self.from = Some(near.key);
+                self.there = near_slot(self.chains, self.way, Some(near.key));
+                Some(near)
+            }
+            First::Row(row) => {
+                let near = of_row(row.cell);
+                self.from = Some(near.key);
+                self.row = row_behind(self.page, self.way, row);
+                Some(near)
+            }
+            First::Both(there, row) => {
+                let near = of_both(there, row.cell);
+                self.from = Some(near.key);
+                self.there = near_slot(self.chains, self.way, Some(near.key));
+                self.row = row_behind(self.page, self.way, row);
+                Some(near)
+            }
+        }
+    }
+}
