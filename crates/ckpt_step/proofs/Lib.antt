@@ -117,6 +117,7 @@ mod OutWay
 mod OutSteps
 mod OutEnds
 mod LedNewest
+mod OutConcluding
 mod LedOut
 mod LedLives
 mod LedWay

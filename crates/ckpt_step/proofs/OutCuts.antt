@@ -8,6 +8,7 @@ use Rattle.frame_capture.specs.Capture.{IsCaptured}
 use Rattle.frame_capture.specs.Laws.{CapturesAreNewest}
 use Rattle.leaf_frame.specs.Leaf.{HeldLeaf}
 use Rattle.kv_model.specs.Holds.{Member}
+use Rattle.kv_model.specs.Machine.{Machine}
 use Rattle.leaf_rows.specs.Rows.{AreFit}
 use Rattle.reconcile.specs.declared.image.Image.{Image}
 use Rattle.reconcile.specs.Images.{AreImages}
@@ -23,16 +24,17 @@ use Rattle.tree_dir.specs.Leaves.{TakePlace, entry_of, leaf_behind, leaf_named}
 use Rattle.tree_write.specs.Drafts.{AreBelow, AreFrom, LeavesOf}
 use Rattle.tree_write.specs.Steps.{AreSpelled, image_keys, keys_of, part_keys}
 use Rattle.tree_write.proofs.LeafKeys.{AreEntriesOf, climbs_both, entries_fit, entries_of, leaves_of}
+use Rattle.engine.specs.Frames.{IsFramed}
 use Rattle.engine.proofs.LeavesCome.{named-there}
 use Rattle.engine_world.specs.Stands.{Engine, Stands}
 use Rattle.engine_world.specs.Worlds.{World}
-use Rattle.ckpt_step.specs.CutOuts.{AreAhead, AreOldAt, IsCutOut}
+use Rattle.ckpt_step.specs.CutOuts.{AreAhead, AreOldAt, IsCutOut, MayReplace}
 use Rattle.ckpt_step.specs.Parts.{IsPart}
 use Rattle.ckpt_step.specs.Steps.{IsLoaded}
 use Rattle.ckpt_step.specs.WritesOut.{AreRowsIn, IsNotOld}
 use Rattle.ckpt_step.specs.declared.cutting_out.LeafCut.{LeafCut}
 use Rattle.ckpt_step.proofs.LoadedLeaves.{captured_lie, captured_newest, stands_in}
-use Rattle.ckpt_step.proofs.Members.{in_back, in_front}
+use Rattle.ckpt_step.proofs.Members.{in_back, in_front, none_some}
 use Rattle.ckpt_step.proofs.OrderedByName.{all_join}
 use Rattle.ckpt_step.proofs.PartStamps.{RowsDurable, durable_rows}
 
@@ -114,17 +116,14 @@ module _ (e : Engine) (w : World) (l : Leaf) (there : Contains e.hub.dir.leaves 
         let late = subst (λ (all : List Row). HasLate oldest all) of.whole (late_row oldest images of.leaves of.spelled isnt) in
         record { leaf = l; there = named; rows = rows; are = captured_rows; why = inr (late.0, late.1, subst (λ (n : ℕ). n < late.0.1.window.durable) is late.2) }
 
--- ---- of a leaf
+-- ---- that stand where a leaf does
 
-module _ (e : Engine) (id : ℕ) (cut : LeafCut) (is : IsCutOut e id cut) where
-  abbrev pub own_images : LeavesOf cut.images.items is.rows
-  own_images = leaves_of cut.images.items is.rows is.are
+module _ (e : Engine) (id : ℕ) (cut : LeafCut) (rows : List Row) (is : MayReplace e id cut rows) where
+  abbrev pub own_images : LeavesOf cut.images.items rows
+  own_images = leaves_of cut.images.items rows is.are
 
   all_fit : AreFit (join own_images.leaves)
-  all_fit = subst AreFit (sym own_images.whole) is.captured.fit
-
-  pub own_there : Contains e.hub.dir.leaves is.leaf
-  own_there = named-there id e.hub.dir.leaves is.leaf is.there
+  all_fit = subst AreFit (sym own_images.whole) is.fit
 
   module _ (es : List Entry) (keys : keys_of es ≡ part_keys cut.low cut.images.items) where
     known : AreEntriesOf cut.low es own_images.leaves
@@ -139,13 +138,10 @@ module _ (e : Engine) (id : ℕ) (cut : LeafCut) (is : IsCutOut e id cut) where
       climbs = climbs_ahead cut.low cut.images.items es (leaf_behind id e.hub.dir.leaves) keys known.climbs is.ahead;
     }
 
-  module _ (w : World) (law : CapturesAreNewest) (stands : Stands e w) (none : NoneResolves w.machine) where
+  module _ (m : Machine) (newest : AreRowsIn m e.hub.dir.leaves is.leaf rows) where
     -- the rows are the newest of its keys
-    pub newest_rows : AreRowsIn w.machine e.hub.dir.leaves is.leaf (join own_images.leaves)
-    newest_rows = subst (λ (rows : List Row). AreRowsIn w.machine e.hub.dir.leaves is.leaf rows) (sym own_images.whole) (captured_rows e w is.leaf own_there is.held is.loaded is.sight is.rows is.captured law stands none (is.sees w stands none))
-
-    pub old_enough : RowsDurable w.machine.oldest (join own_images.leaves)
-    old_enough = subst (λ (n : ℕ). RowsDurable n (join own_images.leaves)) (is.oldest_is w stands) (old_rows is.oldest cut.images.items own_images.leaves own_images.spelled is.durable)
+    pub newest_rows : AreRowsIn m e.hub.dir.leaves is.leaf (join own_images.leaves)
+    newest_rows = subst (λ (all : List Row). AreRowsIn m e.hub.dir.leaves is.leaf all) (sym own_images.whole) newest
 
     -- they are a part of the leaf
     pub whole_part : (es : List Entry) → keys_of es ≡ part_keys cut.low cut.images.items → AllByRecursion (λ (x : Entry). LinkFits x.link) es → IsPart e.hub.dir.leaves is.leaf.table is.leaf es own_images.leaves
@@ -161,6 +157,25 @@ module _ (e : Engine) (id : ℕ) (cut : LeafCut) (is : IsCutOut e id cut) where
           rows_fit = all_fit;
           lie = newest_rows.lie;
         }
+
+-- ---- that are captured
+
+module _ (e : Engine) (id : ℕ) (cut : LeafCut) (is : IsCutOut e id cut) (w : World) (law : CapturesAreNewest) (stands : Stands e w) (none : NoneResolves w.machine) where
+  -- they have the newest of its keys
+  pub cut_rows : AreRowsIn w.machine e.hub.dir.leaves is.place.leaf is.rows
+  cut_rows = captured_rows e w is.place.leaf (named-there id e.hub.dir.leaves is.place.leaf is.place.there) is.held is.loaded is.sight is.rows is.captured law stands none (is.sees w stands none)
+
+  pub old_enough : RowsDurable w.machine.oldest is.rows
+  old_enough =
+      let own = leaves_of cut.images.items is.rows is.place.are in
+      subst (λ (rows : List Row). RowsDurable w.machine.oldest rows) own.whole (subst (λ (n : ℕ). RowsDurable n (join own.leaves)) (is.oldest_is w stands) (old_rows is.oldest cut.images.items own.leaves own.spelled is.durable))
+
+pub found_cut : (e : Engine) (id : ℕ) (found : Option LeafCut) (cut : LeafCut) → found ≡ Some cut → IfSome found (λ x. IsCutOut e id x) → IsCutOut e id cut
+found_cut e id found cut is own = subst (λ (o : Option LeafCut). IfSome o (λ x. IsCutOut e id x)) is own
+
+-- the leaf is in a frame
+pub cut_framed : (e : Engine) (id : ℕ) (cut : LeafCut) → IsCutOut e id cut → IsFramed e.hub.dir.leaves id
+cut_framed e id cut is = (is.place.leaf, is.place.there, λ none. none_some (sym none ∙ is.loaded.placed))
 
 -- ---- of answers
 

@@ -1,15 +1,13 @@
 -- A leaf that was written out gave way: the shelf with the rows of its new leaves.
-use Rattle.std.specs.Prelude.{◌≡◌, ℕ, ◌<◌, ◌≤◌, true, false, List, [], ◌∷◌, ◌++◌, length, map, nat_lt, Option, None, Some, IfSome, option_map, if◌then◌else◌, refl}
-use Rattle.std.specs.List.{AllByRecursion, Contains}
+use Rattle.std.specs.Prelude.{◌≡◌, ℕ, ◌<◌, true, false, List, [], ◌∷◌, length, map, nat_lt, Option, None, Some, option_map, if◌then◌else◌, refl}
+use Rattle.std.specs.List.{Contains}
 use Rattle.std.proofs.Common.{inl, inr, sym, ◌∙◌, ap, subst, arith}
 use Rattle.std.proofs.lemmas.Bool.{cases_eq, le-ltb, lt-ltb}
 use Rattle.std.proofs.lemmas.List.{append-nil}
 use Rattle.engine_world.proofs.Homes.{same-id}
-use Rattle.engine_world.specs.GivingWay.{IsShelved}
-use Rattle.kv_model.specs.AgreementLaws.{head_of}
-use Rattle.kv_model.specs.History.{line}
 use Rattle.kv_model.specs.Holds.{Member}
 use Rattle.kv_model.specs.Machine.{Machine, of_some}
+use Rattle.item.specs.declared.Change.{Change}
 use Rattle.leaf_rows.specs.Rows.{AreFit, version_at}
 use Rattle.row_page.specs.Changes.{PageChange, version_in}
 use Rattle.row_page.specs.Rows.{Row}
@@ -25,6 +23,7 @@ use Rattle.tree_dir.specs.Leaves.{Directory, leaf_named, leaf_under, leaves_with
 use Rattle.tree_write.specs.Captures.{AreDistinct}
 use Rattle.tree_write.specs.Drafts.{HasLeaves, addrs_to}
 use Rattle.tree_write.specs.Steps.{links_in}
+use Rattle.ckpt_step.specs.CutOuts.{AreShelved}
 use Rattle.ckpt_step.specs.Floors.{AreNewestBefore, AreNewestIn}
 use Rattle.ckpt_step.specs.Parts.{AreBelowFloor, IsPart, LieIn, rows_behind}
 use Rattle.ckpt_step.specs.Rooms.{Written}
@@ -33,29 +32,14 @@ use Rattle.ckpt_step.proofs.Below.{low_rows}
 use Rattle.ckpt_step.proofs.CleanTrees.{newest_under}
 use Rattle.ckpt_step.proofs.GivingLeaves.{below_next}
 use Rattle.ckpt_step.proofs.MadeParts.{made_part}
-use Rattle.ckpt_step.proofs.Members.{map_member, none_some, some_same}
+use Rattle.ckpt_step.proofs.Members.{none_some, some_same}
 use Rattle.ckpt_step.proofs.OutLives.{IsOut, giving, news, over}
 use Rattle.ckpt_step.proofs.PartNames.{all_show, shown_lies}
-use Rattle.ckpt_step.proofs.PartStamps.{RowsDurable, shown_durable}
 use Rattle.ckpt_step.proofs.RowsByLink.{some_behind}
 use Rattle.ckpt_step.proofs.TableLeaves.{contains_of, member_of, under_in}
 use Rattle.ckpt_step.proofs.UnderMade.{made_entry}
 
 -- ---- lists
-
-front_of : {A : Type 0} (P : A → Type 0) (xs ys : List A) → AllByRecursion P (xs ++ ys) → AllByRecursion P xs
-front_of P [] ys all = tt
-front_of P (x ∷ xs) ys all = (all.0, front_of P xs ys all.1)
-
-back_of : {A : Type 0} (P : A → Type 0) (xs ys : List A) → AllByRecursion P (xs ++ ys) → AllByRecursion P ys
-back_of P [] ys all = all
-back_of P (x ∷ xs) ys all = back_of P xs ys all.1
-
--- what holds of all rows holds of those of one leaf
-pub one_of : (P : Row → Type 0) (leaves : List (List Row)) (rows : List Row) → AllByRecursion P (join leaves) → Member rows leaves → AllByRecursion P rows
-one_of P [] rows all there = absurd there
-one_of P (first ∷ leaves) rows all (inl same) = subst (λ (l : List Row). AllByRecursion P l) (sym same) (front_of P first (join leaves) all)
-one_of P (first ∷ leaves) rows all (inr later) = one_of P leaves rows (back_of P first (join leaves) all) later
 
 -- leaves by their entries: one of them
 has_one : (seen : List ℕ) (rows_of : Entry → List Row) (es : List Entry) (e : Entry) → HasLeaves seen es (map {A = Entry} rows_of es) → Member e es → HasLeaves seen (e ∷ []) (rows_of e ∷ [])
@@ -74,7 +58,6 @@ made_join table rows_of (id ∷ ids) (e ∷ es) many = ap (λ (m : List (List Ro
 pub record AreImagesOut (seen : List ℕ) (m : Machine) (leaves_in : List Leaf) (l : Leaf) (entries : List Entry) (images : List (List Row)) : Type 0 where
   pub part : IsPart leaves_in l.table l entries images
   pub newest : AreNewestIn m leaves_in l.table l (join images)
-  pub durable : RowsDurable m.oldest (join images)
   pub apart : AreDistinct (addrs_to entries)
   pub many : length entries ≡ length images
   pub has : HasLeaves seen entries images
@@ -102,9 +85,6 @@ module _ (d n : Directory) (l : Leaf) (entries : List Entry) (ids : List ℕ) (h
 
   entry_in : (x : Leaf) → Contains (news d n l entries ids had has lives next o) x → Member x.entry entries
   entry_in x c = made_entry l.table ids entries x c
-
-  rows_in : (x : Leaf) → Contains (news d n l entries ids had has lives next o) x → Member (rows_of x.entry) images
-  rows_in x c = subst (λ (all : List (List Row)). Member (rows_of x.entry) all) all_rows (map_member {A = Entry} {B = List Row} rows_of x.entry entries (entry_in x c))
 
   pub one_part : (x : Leaf) → Contains (news d n l entries ids had has lives next o) x → IsPart n.leaves l.table x (x.entry ∷ []) (rows_of x.entry ∷ [])
   one_part x c = made_part d n l entries ids o.now o.stand rows_of (subst (λ (all : List (List Row)). IsPart d.leaves l.table l entries all) (sym all_rows) own.part) x c
@@ -134,38 +114,34 @@ module _ (d n : Directory) (l : Leaf) (entries : List Entry) (ids : List ℕ) (h
   all_are : join (map {A = Leaf} (λ x. rows_of x.entry ∷ []) (news d n l entries ids had has lives next o)) ≡ images
   all_are = made_join l.table rows_of ids entries o.gave.fresh.many ∙ all_rows
 
-  pub new_newest : (x : Leaf) → Contains (news d n l entries ids had has lives next o) x → AreNewestIn m n.leaves l.table x (rows_of x.entry)
-  new_newest x c key under =
-      own.newest key (lay_in x key c under)
-      ∙ (ap (λ (all : List (List Row)). shown_at key (join all)) (sym all_are)
+  -- of a key that lies in it, it shows what all rows show
+  new_shown : (x : Leaf) (key : List ℕ) → Contains (news d n l entries ids had has lives next o) x → leaf_under l.table key n.leaves ≡ Some x → shown_at key (join images) ≡ shown_at key (rows_of x.entry)
+  new_shown x key c under =
+      ap (λ (all : List (List Row)). shown_at key (join all)) (sym all_are)
       ∙ (ap (option_map version_in) (all_show n.leaves l.table key x under (λ y. rows_of y.entry ∷ []) (news d n l entries ids had has lives next o) (λ y there. (one_part y (contains_of (news d n l entries ids had has lives next o) y there)).lie) (member_of (news d n l entries ids had has lives next o) x c))
-      ∙ ap (λ (rows : List Row). shown_at key rows) (append-nil (rows_of x.entry))))
+      ∙ ap (λ (rows : List Row). shown_at key rows) (append-nil (rows_of x.entry)))
 
-  -- nothing of keys that do not lie in it
-  new_bare : (x : Leaf) (key : List ℕ) → Contains (news d n l entries ids had has lives next o) x → (leaf_under l.table key n.leaves ≡ Some x → ⊥) → shown_at key (rows_of x.entry) ≡ None
-  new_bare x key c away = by (version_at key (rows_of x.entry)) refl
+  pub new_newest : (x : Leaf) → Contains (news d n l entries ids had has lives next o) x → AreNewestIn m n.leaves l.table x (rows_of x.entry)
+  new_newest x c key under = own.newest key (lay_in x key c under) ∙ new_shown x key c under
+
+  -- it has only keys that lie in it
+  new_lies : (x : Leaf) (key : List ℕ) (v : Version Change) → Contains (news d n l entries ids had has lives next o) x → shown_at key (rows_of x.entry) ≡ Some v → leaf_under l.table key n.leaves ≡ Some x
+  new_lies x key v c shows = by (version_at key (rows_of x.entry)) refl
     where
-      by : (found : Option (Version PageChange)) → version_at key (rows_of x.entry) ≡ found → shown_at key (rows_of x.entry) ≡ None
-      by None is = ap (λ (v : Option (Version PageChange)). option_map version_in v) is
-      by (Some v) is = absurd (away (shown_lies n.leaves l.table x key (rows_of x.entry) v (one_lie x c) is))
-
-  new_durable : (x : Leaf) (key : List ℕ) → Contains (news d n l entries ids had has lives next o) x → IfSome (shown_at key (rows_of x.entry)) (λ v. v.window.durable ≤ m.oldest)
-  new_durable x key c = shown_durable m.oldest key (rows_of x.entry) (one_of (λ (r : Row). r.1.window.durable ≤ m.oldest) images (rows_of x.entry) own.durable (rows_in x c))
+      by : (found : Option (Version PageChange)) → version_at key (rows_of x.entry) ≡ found → leaf_under l.table key n.leaves ≡ Some x
+      by None is = absurd (none_some (sym (ap (λ (u : Option (Version PageChange)). option_map version_in u) is) ∙ shows))
+      by (Some u) is = shown_lies n.leaves l.table x key (rows_of x.entry) u (one_lie x c) is
 
   -- where all its names are below a floor it has the newest before that
   pub new_before : (floor : Name) (x : Leaf) → Contains (news d n l entries ids had has lives next o) x → AreBelowFloor floor (x.entry ∷ []) → AreNewestBefore m floor n.leaves l.table x (rows_of x.entry)
   new_before floor x c below =
       newest_under m l.table n.leaves x floor (rows_of x.entry) (one_fit x c) (low_rows floor (rows_of x.entry) (subst (λ (name : Name). is_below name floor ≡ true) (one_has x c).0.1.bears.says.greatest below.0)) (new_newest x c)
 
-  pub shelved_out : (before : ℕ → List Row) → IsShelved m d n (news d n l entries ids had has lives next o) before (shelf_out before)
+  pub shelved_out : (before : ℕ → List Row) → AreShelved d n l (join images) (news d n l entries ids had has lives next o) before (shelf_out before)
   shelved_out before = record {
+    stand = o.stand;
     others = λ id lt. shelf_old before id lt;
-    newest = λ x c key under.
-        let its = (o.stand.own x c).0 in
-        ap (λ (t : ℕ). head_of (line m.history t key)) its
-        ∙ (new_newest x c key (ap (λ (t : ℕ). leaf_under t key n.leaves) (sym its) ∙ under) ∙ ap (λ (rows : List Row). shown_at key rows) (sym (shelf_new before x c)));
-    bare = λ x c key away.
-        ap (λ (rows : List Row). shown_at key rows) (shelf_new before x c)
-        ∙ new_bare x key c (λ under. away (ap (λ (t : ℕ). leaf_under t key n.leaves) (o.stand.own x c).0 ∙ under));
-    durable = λ x c key. subst (λ (rows : List Row). IfSome (shown_at key rows) (λ v. v.window.durable ≤ m.oldest)) (sym (shelf_new before x c)) (new_durable x key c);
+    within = λ x c key under. lay_in x key c under;
+    shown = λ x c key under. ap (λ (rows : List Row). shown_at key rows) (shelf_new before x c) ∙ sym (new_shown x key c under);
+    lies = λ x c key v shows. new_lies x key v c (ap (λ (rows : List Row). shown_at key rows) (sym (shelf_new before x c)) ∙ shows);
   }

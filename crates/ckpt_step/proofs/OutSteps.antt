@@ -1,5 +1,5 @@
 -- The steps of the writing out of a leaf: what each leaves.
-use Rattle.std.specs.Prelude.{◌≡◌, ℕ, suc, ◌≤◌, List, [], ◌∷◌, length, Option, None, Some, Vec, refl}
+use Rattle.std.specs.Prelude.{◌≡◌, ℕ, suc, ◌≤◌, List, [], ◌∷◌, length, Option, Some, Vec, refl}
 use Rattle.std.specs.List.{AllByRecursion, Contains}
 use Rattle.std.specs.declared.alloc.Global.{Global}
 use Rattle.std.proofs.Common.{inl, inr, sym, ◌∙◌, ap, subst, arith}
@@ -19,11 +19,9 @@ use Rattle.device_layout.specs.declared.addr.Addr.{Addr}
 use Rattle.engine.proofs.LeavesCome.{named-there}
 use Rattle.engine_world.specs.Stands.{Engine, Stands}
 use Rattle.engine_world.specs.Worlds.{World}
-use Rattle.frame_capture.specs.Laws.{CapturesAreNewest}
 use Rattle.kv_model.specs.Holds.{Member}
 use Rattle.leaf_write.specs.Writes.{LeavesGivenBack, LeavesWritten, leaf_sizes}
 use Rattle.row_page.specs.Rows.{Row}
-use Rattle.snapshot.specs.Matters.{NoneResolves}
 use Rattle.stored.specs.Links.{LinkFits}
 use Rattle.stored.specs.Stored.{Stored}
 use Rattle.stored.specs.TableTree.{Entry}
@@ -45,14 +43,14 @@ use Rattle.wt_code.specs.declared.store_error.StoreError.TheVariants.{NoMemory, 
 use Rattle.ckpt_step.specs.declared.ground.Ground.{Ground}
 use Rattle.ckpt_step.specs.declared.lives.Lone.{Lone}
 use Rattle.ckpt_step.specs.declared.cutting_out.LeafCut.{LeafCut}
-use Rattle.ckpt_step.specs.CutOuts.{HasMoved, HasNotMoved, IsCutOut, IsSameBut, LetGo, NotPut}
+use Rattle.ckpt_step.specs.declared.moving_in.When.{When}
+use Rattle.ckpt_step.specs.CutOuts.{AreShelved, HasMoved, HasNotMoved, HasPut, IsSameBut, LetGo, MayReplace, NotPut}
 use Rattle.ckpt_step.specs.Floors.{AreLivesOn, AreOnDevice, Follows, FollowsFrom}
 use Rattle.ckpt_step.specs.Frees.{without_all}
-use Rattle.ckpt_step.specs.Giving.{StandsStill}
 use Rattle.ckpt_step.specs.Grounds.{AreLedTo, AreRoots, AreSince, AreWritten, StandsOn, start_cell}
 use Rattle.ckpt_step.specs.Holding.{AreNewAt, addrs_if, gone_if, held_all, named_all, own_of}
 use Rattle.ckpt_step.specs.Rooms.{Rooms, known_in}
-use Rattle.ckpt_step.specs.WritesOut.{AreRowsIn, WrittenOut}
+use Rattle.ckpt_step.specs.WritesOut.{AreRowsIn}
 use Rattle.ckpt_step.proofs.HeldLives.{are_more, named_ids, named_is}
 use Rattle.ckpt_step.proofs.HalfCells.{may_of}
 use Rattle.ckpt_step.proofs.LeavesNow.{device_kept}
@@ -60,7 +58,7 @@ use Rattle.ckpt_step.proofs.LookedAt.{stands_looked}
 use Rattle.ckpt_step.proofs.LowUnder.{low_under}
 use Rattle.ckpt_step.proofs.Members.{some_same}
 use Rattle.ckpt_step.proofs.OutBlocks.{cells_back, placed_new}
-use Rattle.ckpt_step.proofs.OutCuts.{may_take, newest_rows, old_enough, own_images, whole_part}
+use Rattle.ckpt_step.proofs.OutCuts.{may_take, newest_rows, own_images, whole_part}
 use Rattle.ckpt_step.proofs.OutLives.{IsOut}
 use Rattle.ckpt_step.proofs.OutShelf.{AreImagesOut}
 use Rattle.ckpt_step.proofs.OutWay.{device_ground, follows_ground, freed_ground, live_ground, shelf, shelved_ground, stands_out}
@@ -196,20 +194,20 @@ module _ {D : Type 0} (g : Ghosts D) (before start : D) (looked : Looked g befor
             full = λ no_space. absurd (cc);
           }
 
-  module _ (cut : LeafCut) (is : IsCutOut e id cut) (stands : Stands e w) (none : NoneResolves w.machine) (law : CapturesAreNewest) (after : D) (books : Books) where
+  module _ (cut : LeafCut) (all : List Row) (is : MayReplace e id cut all) (stands : Stands e w) (newest : AreRowsIn w.machine e.hub.dir.leaves is.leaf all) (after : D) (books : Books) where
     -- not all images were written
-    pub given_back : (x : StoreError) (g' : Ground) → LeavesGivenBack g old stand.place.blocks books start after (own_images e id cut is).leaves x → (IsSafe x → end_of books.space ≤ length (g.seen after)) → books.is_held ≡ stand.place.blocks.is_held → g'.place.blocks ≡ books → g'.lives ≡ stand.lives → g'.parts ≡ stand.parts → IsSameBut stand g'
+    pub given_back : (x : StoreError) (g' : Ground) → LeavesGivenBack g old stand.place.blocks books start after (own_images e id cut all is).leaves x → (IsSafe x → end_of books.space ≤ length (g.seen after)) → books.is_held ≡ stand.place.blocks.is_held → g'.place.blocks ≡ books → g'.lives ≡ stand.lives → g'.parts ≡ stand.parts → IsSameBut stand g'
         → NotPut g old w stand g' e e id before after x
-    given_back x g' back within held blocks lives parts same = given_back_all after books (own_images e id cut is).leaves is.leaf is.there (newest_rows e id cut is w law stands none) (own_images e id cut is).full x g' back within held blocks lives parts same
+    given_back x g' back within held blocks lives parts same = given_back_all after books (own_images e id cut all is).leaves is.leaf is.there (newest_rows e id cut all is w.machine newest) (own_images e id cut all is).full x g' back within held blocks lives parts same
 
-    module _ (es : List Entry) (wrote : LeavesWritten g old stand.place.blocks books start after (own_images e id cut is).leaves es) (within : end_of books.space ≤ length (g.seen after)) (held : books.is_held ≡ stand.place.blocks.is_held)
+    module _ (es : List Entry) (wrote : LeavesWritten g old stand.place.blocks books start after (own_images e id cut all is).leaves es) (within : end_of books.space ≤ length (g.seen after)) (held : books.is_held ≡ stand.place.blocks.is_held)
         (mid : Ground) (blocks : mid.place.blocks ≡ books) (lives : mid.lives ≡ stand.lives) (parts : mid.parts ≡ stand.parts) (same : IsSameBut stand mid) where
       -- there was no memory for the rest
       pub moved_back : (e' : Engine) (g' : Ground) → HasNotMoved e e' mid g' id cut.table es → NotPut g old w stand g' e e' id before after NoMemory
-      moved_back e' g' back = moved_back_all after books (own_images e id cut is).leaves es wrote within held mid blocks lives parts same cut.table e' g' back
+      moved_back e' g' back = moved_back_all after books (own_images e id cut all is).leaves es wrote within held mid blocks lives parts same cut.table e' g' back
 
       -- the leaf gave way
-      module _ (laws : LeavesGiveWay) (keys : keys_of es ≡ part_keys cut.low cut.images.items) (fits : AllByRecursion (λ (x : Entry). LinkFits x.link) es) (e' : Engine) (g' : Ground) (moved : HasMoved e e' mid g' id cut.table es) where
+      module _ (laws : LeavesGiveWay) (keys : keys_of es ≡ part_keys cut.low cut.images.items) (fits : AllByRecursion (λ (x : Entry). LinkFits x.link) es) (e' : Engine) (g' : Ground) (when : When) (moved : HasMoved e e' mid g' id cut.table es when) where
         abbrev l : Leaf
         l = moved.way.leaf
 
@@ -229,7 +227,7 @@ module _ {D : Type 0} (g : Ghosts D) (before start : D) (looked : Looked g befor
         there = named-there id d.leaves l moved.way.there
 
         place : TakePlace l.id es d.leaves
-        place = subst (λ (k : ℕ). TakePlace k es d.leaves) (sym id_is) (may_take e id cut is es keys)
+        place = subst (λ (k : ℕ). TakePlace k es d.leaves) (sym id_is) (may_take e id cut all is es keys)
 
         gave : GaveWay d n l.id es moved.way.ids
         gave = subst (λ (k : ℕ). GaveWay d n k es moved.way.ids) (sym id_is) moved.way.gave
@@ -260,18 +258,17 @@ module _ {D : Type 0} (g : Ghosts D) (before start : D) (looked : Looked g befor
           stand = stand_for;
           later = stood.written.later;
           others = λ other differ. moved.others other (λ met. differ (met ∙ sym id_is)) ∙ ap (λ (p : Rooms). known_in p other) parts;
-          more = are_more id l.table stand.lives moved.way.ids es gave.fresh.many stood.since.lone.distinct (new_at after books (own_images e id cut is).leaves es wrote within held mid blocks lives parts same);
+          more = are_more id l.table stand.lives moved.way.ids es gave.fresh.many stood.since.lone.distinct (new_at after books (own_images e id cut all is).leaves es wrote within held mid blocks lives parts same);
           distinct = stood.since.lone.distinct;
         }
 
         abbrev rows : List (List Row)
-        rows = (own_images e id cut is).leaves
+        rows = (own_images e id cut all is).leaves
 
         images_out : AreImagesOut (g.seen after) w.machine d.leaves l es rows
         images_out = subst (λ (x : Leaf). AreImagesOut (g.seen after) w.machine d.leaves x es rows) leaf_is (record {
-          part = whole_part e id cut is w law stands none es keys fits;
-          newest = (newest_rows e id cut is w law stands none).newest;
-          durable = old_enough e id cut is w law stands none;
+          part = whole_part e id cut all is w.machine newest es keys fits;
+          newest = (newest_rows e id cut all is w.machine newest).newest;
           apart = wrote.added.distinct;
           many = has_many (g.seen after) es rows wrote.has;
           has = wrote.has;
@@ -296,22 +293,21 @@ module _ {D : Type 0} (g : Ghosts D) (before start : D) (looked : Looked g befor
         hub_is : e'.hub ≡ record e.hub { dir = n }
         hub_is = ap (λ (x : Engine). x.hub) moved.way.is
 
-        still : StandsStill (g.seen after) (g.may_leave after) old e.hub e'.hub g' w (leaves_with l.table moved.way.ids es)
-        still = record {
-          shelf = shelf (g.seen start) (g.seen after) (g.may_leave start) (g.may_leave after) e n w stand g' old l es moved.way.ids next stands stood follows device_start out first.0 first.1 rows images_out books wrote.added wrote.may wrote.keeps within held lives_are let_go alike;
-          shelved = shelved_ground (g.seen start) (g.seen after) (g.may_leave start) (g.may_leave after) e n w stand g' old l es moved.way.ids next stands stood follows device_start out first.0 first.1 rows images_out books wrote.added wrote.may wrote.keeps within held lives_are let_go alike;
-          on = subst (λ (hub : Hub). StandsOn (g.seen after) (g.may_leave after) hub g' old) (sym hub_is) (stands_out (g.seen start) (g.seen after) (g.may_leave start) (g.may_leave after) e n w stand g' old l es moved.way.ids next stands stood follows device_start out first.0 first.1 rows images_out books wrote.added wrote.may wrote.keeps within held lives_are let_go alike);
-          follows = subst (λ (hub : Hub). Follows old hub g' (record w { shelf = shelf (g.seen start) (g.seen after) (g.may_leave start) (g.may_leave after) e n w stand g' old l es moved.way.ids next stands stood follows device_start out first.0 first.1 rows images_out books wrote.added wrote.may wrote.keeps within held lives_are let_go alike })) (sym hub_is) (follows_ground (g.seen start) (g.seen after) (g.may_leave start) (g.may_leave after) e n w stand g' old l es moved.way.ids next stands stood follows device_start out first.0 first.1 rows images_out books wrote.added wrote.may wrote.keeps within held lives_are let_go alike);
-          since = subst (λ (hub : Hub). AreLivesOn (g.seen after) hub g' (record w { shelf = shelf (g.seen start) (g.seen after) (g.may_leave start) (g.may_leave after) e n w stand g' old l es moved.way.ids next stands stood follows device_start out first.0 first.1 rows images_out books wrote.added wrote.may wrote.keeps within held lives_are let_go alike })) (sym hub_is) (device_ground (g.seen start) (g.seen after) (g.may_leave start) (g.may_leave after) e n w stand g' old l es moved.way.ids next stands stood follows device_start out first.0 first.1 rows images_out books wrote.added wrote.may wrote.keeps within held lives_are let_go alike);
-        }
+        -- of the new leaves it has the rows of their blocks
+        abbrev then_shelf : ℕ → List Row
+        then_shelf = shelf (g.seen start) (g.seen after) (g.may_leave start) (g.may_leave after) e n w stand g' old l es moved.way.ids next stands stood follows device_start out first.0 first.1 rows images_out books wrote.added wrote.may wrote.keeps within held lives_are let_go alike
 
-        pub moved_out : w.machine.checkpoint ≡ None → WrittenOut g old w stand g' e e' id before after
-        moved_out idle = record {
+        pub moved_out : HasPut g old w stand g' e e' id before after when all
+        moved_out = record {
           entries = es;
           way = moved.way;
+          stands = moved.stands;
           left = all_left after wrote.left;
-          still = still;
-          stands = moved.stands moved.way w still.shelf stands idle still.shelved;
+          shelf = then_shelf;
+          shelved = subst (λ (x : List Row). AreShelved d n l x (leaves_with l.table moved.way.ids es) w.shelf then_shelf) (own_images e id cut all is).whole (shelved_ground (g.seen start) (g.seen after) (g.may_leave start) (g.may_leave after) e n w stand g' old l es moved.way.ids next stands stood follows device_start out first.0 first.1 rows images_out books wrote.added wrote.may wrote.keeps within held lives_are let_go alike);
+          on = subst (λ (hub : Hub). StandsOn (g.seen after) (g.may_leave after) hub g' old) (sym hub_is) (stands_out (g.seen start) (g.seen after) (g.may_leave start) (g.may_leave after) e n w stand g' old l es moved.way.ids next stands stood follows device_start out first.0 first.1 rows images_out books wrote.added wrote.may wrote.keeps within held lives_are let_go alike);
+          follows = subst (λ (hub : Hub). Follows old hub g' (record w { shelf = then_shelf })) (sym hub_is) (follows_ground (g.seen start) (g.seen after) (g.may_leave start) (g.may_leave after) e n w stand g' old l es moved.way.ids next stands stood follows device_start out first.0 first.1 rows images_out books wrote.added wrote.may wrote.keeps within held lives_are let_go alike);
+          since = subst (λ (hub : Hub). AreLivesOn (g.seen after) hub g' (record w { shelf = then_shelf })) (sym hub_is) (device_ground (g.seen start) (g.seen after) (g.may_leave start) (g.may_leave after) e n w stand g' old l es moved.way.ids next stands stood follows device_start out first.0 first.1 rows images_out books wrote.added wrote.may wrote.keeps within held lives_are let_go alike);
           live = λ x c. live_ground (g.seen start) (g.seen after) (g.may_leave start) (g.may_leave after) e n w stand g' old l es moved.way.ids next stands stood follows device_start out first.0 first.1 rows images_out books wrote.added wrote.may wrote.keeps within held lives_are let_go alike x c;
           freed = freed_ground (g.seen start) (g.seen after) (g.may_leave start) (g.may_leave after) e n w stand g' old l es moved.way.ids next stands stood follows device_start out first.0 first.1 rows images_out books wrote.added wrote.may wrote.keeps within held lives_are let_go alike;
           forgets = moved.gone;

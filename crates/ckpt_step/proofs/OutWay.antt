@@ -14,7 +14,6 @@ use Rattle.checkpoint_core.specs.Stands.{Stands as StandsHere, blocks_of}
 use Rattle.device_layout.specs.declared.addr.Addr.{Addr}
 use Rattle.device_layout.specs.declared.link.Link.{Link}
 use Rattle.engine_world.proofs.Homes.{same-id}
-use Rattle.engine_world.specs.GivingWay.{IsShelved}
 use Rattle.engine_world.specs.Stands.{Engine, Stands}
 use Rattle.engine_world.specs.Worlds.{World}
 use Rattle.kv_model.specs.Holds.{Member}
@@ -25,6 +24,7 @@ use Rattle.stamp.specs.declared.Name.{Name}
 use Rattle.recover_open.specs.Bare.{IsBare}
 use Rattle.stored.specs.Stored.{Stored}
 use Rattle.stored.specs.TableTree.{Entry, root_entry}
+use Rattle.stored.specs.Tree.{join}
 use Rattle.tree_dir.specs.declared.leaf.Leaf.{Leaf}
 use Rattle.tree_dir.specs.Leaves.{Directory, leaves_of, leaves_with}
 use Rattle.tree_open.specs.declared.place.TreePlace.{TreePlace}
@@ -34,7 +34,7 @@ use Rattle.tree_write.specs.Steps.{links_in}
 use Rattle.tree_write.specs.Writes.{IsLiveLeaf, LeadApart}
 use Rattle.ckpt_step.specs.declared.ground.Ground.{Ground}
 use Rattle.ckpt_step.specs.declared.lives.Lone.{Lone}
-use Rattle.ckpt_step.specs.CutOuts.{IsSameBut, LetGo}
+use Rattle.ckpt_step.specs.CutOuts.{AreShelved, IsSameBut, LetGo}
 use Rattle.ckpt_step.specs.Floors.{AreLivesOn, AreOnDevice, Follows, FollowsFrom}
 use Rattle.ckpt_step.specs.Frees.{without, without_all}
 use Rattle.ckpt_step.specs.Goings.{HasPartsAt}
@@ -344,5 +344,5 @@ module _ (seen later : List ℕ) (images left : List ℕ → Type 0) (e : Engine
   pub freed_ground : is_live g.lives l ≡ true → has_at g'.lives l.entry.link.addr.offset ≡ false
   freed_ground = less.freed
 
-  pub shelved_ground : IsShelved w.machine d n (leaves_with l.table ids entries) w.shelf shelf
+  pub shelved_ground : AreShelved d n l (join rows) (leaves_with l.table ids entries) w.shelf shelf
   shelved_ground = shelved_out d n l entries ids had has g.lives next o later w.machine rows own w.shelf

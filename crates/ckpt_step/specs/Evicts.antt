@@ -1,5 +1,6 @@
 -- What the eviction of a leaf answers, and what it leaves.
-use Rattle.std.specs.Prelude.{◌≡◌, ◌⊎◌, ℕ, ◌≤◌, true, false, List, [], length, Option, None, Some, Result, Ok, Err}
+use Rattle.std.specs.Prelude.{◌≡◌, ◌⊎◌, ℕ, ◌≤◌, true, false, List, [], length, Option, None, Result, Ok, Err}
+use Rattle.std.specs.List.{Contains}
 use Rattle.failure.specs.declared.Fault.{Fault}
 use Rattle.device_layout.specs.declared.link.Link.{Link}
 use Rattle.disk_model.specs.Crash.{LeavesOnly}
@@ -10,16 +11,22 @@ use Rattle.reconcile.specs.declared.image.Moved.{Moved}
 use Rattle.row_page.specs.Rows.{Row}
 use Rattle.snapshot.specs.Matters.{IsUnended}
 use Rattle.stored.specs.Stored.{Stored}
+use Rattle.stored.specs.TableTree.{Entry}
+use Rattle.tree_dir.specs.declared.leaf.Leaf.{Leaf}
+use Rattle.tree_dir.specs.Leaves.{leaves_with}
 use Rattle.checkpoint_core.specs.Finishes.{IsOld}
 use Rattle.engine_world.specs.Evicting.{led_out, with_rows}
 use Rattle.engine_world.specs.GoingOut.{with_again}
+use Rattle.engine_world.specs.Parting.{IsPartedTo}
 use Rattle.engine_world.specs.Stands.{Engine, Stands}
 use Rattle.engine_world.specs.Systems.{with_fault}
 use Rattle.engine_world.specs.Worlds.{World, without_records}
+use Rattle.engine.specs.declared.evicting.Stays.{Stays as Why}
 use Rattle.engine.specs.Evictions.{HasBeenEvicted, KeepsLeaf}
+use Rattle.engine.specs.Partings.{HasParted, KeepsWhole}
 use Rattle.evict_step.specs.Cuts.{AreCut}
 use Rattle.ckpt_step.specs.declared.evicting.Evicted.{Evicted}
-use Rattle.ckpt_step.specs.declared.evicting.Evicted.TheVariants.{Done, Stays, Unresolved, Moves, Empty, Grown}
+use Rattle.ckpt_step.specs.declared.evicting.Evicted.TheVariants.{Done, Parted, Stays, Unresolved, Moves, Empty}
 use Rattle.ckpt_step.specs.declared.ground.Ground.{Ground}
 use Rattle.ckpt_step.specs.Floors.{AreLivesOn, Follows}
 use Rattle.ckpt_step.specs.Grounds.{StandsOn}
@@ -36,16 +43,21 @@ pub record HasMoving (e : Engine) (id : ℕ) : Type 0 where
   pub cut : AreCut e id images moved
   pub some : 1 ≤ length moved
 
--- it is cut into more than one image
+-- where it may be evicted, its rows need more than one block
 pub record IsGrown (e : Engine) (id : ℕ) : Type 0 where
   pub images : List Image
   pub cut : AreCut e id images []
   pub more : 2 ≤ length images
 
+-- why it stays at this moment: it may not be evicted, or its rows need more than one block, and it may not part
+abbrev pub WhyNotNow : Engine → ℕ → Why → Type 0
+WhyNotNow e id why = KeepsLeaf e id why ⊎ (IsGrown e id × KeepsWhole e id why)
+
 -- ---- the engine then, whatever the disk
 
 abbrev pub EvictsEngine : Engine → Engine → ℕ → Result Evicted Refusal → Type 0
 EvictsEngine e e' id (Ok Done) = (link : Link) × HasBeenEvicted e e' id link
+EvictsEngine e e' id (Ok Parted) = (entries : List Entry) × HasParted e e' id entries
 EvictsEngine e e' id (Ok stayed) = e' ≡ e
 EvictsEngine e e' id (Err r) = (e' ≡ e) ⊎ ((fault : Fault) × (e' ≡ with_fault e fault))
 
@@ -66,11 +78,28 @@ module _ {D : Type 0} (g : Ghosts D) (old : Option Stored) (w : World) (stand st
     pub freed : is_live stand.lives out.may.leaf ≡ true → has_at stand'.lives out.may.leaf.entry.link.addr.offset ≡ false
     pub forgets : known_in stand'.parts id ≡ None
 
+  -- The leaf, whose rows need more than one block, parted into others, each in a block that the live tree alone has, in the world in which their blocks have its rows, and the history nothing of them. forgets: nothing is kept of what checkpoints wrote of it; freed: nor its former block, where it was written since the one before.
+  pub record LeftInParts : Type 0 where
+    pub grown : IsGrown e id
+    pub entries : List Entry
+    pub parted : HasParted e e' id entries
+    pub left : LeavesOnly g before after (IsOld (g.may_leave before) old)
+    pub shelf : ℕ → List Row
+    pub to : IsPartedTo w e.hub.dir e'.hub.dir parted.way.leaf parted.may.may.frame (leaves_with parted.way.leaf.table parted.way.ids entries) shelf w.records
+    pub bare : (n : Leaf) → Contains (leaves_with parted.way.leaf.table parted.way.ids entries) n → (key : List ℕ) → w.records n.id key ≡ []
+    pub stands : Stands e' (record w { shelf = shelf })
+    pub on : StandsOn (g.seen after) (g.may_leave after) e'.hub stand' old
+    pub follows : Follows old e'.hub stand' (record w { shelf = shelf })
+    pub since : AreLivesOn (g.seen after) e'.hub stand' (record w { shelf = shelf })
+    pub live : (n : Leaf) → Contains (leaves_with parted.way.leaf.table parted.way.ids entries) n → is_live stand'.lives n ≡ true
+    pub freed : is_live stand.lives parted.way.leaf ≡ true → has_at stand'.lives parted.way.leaf.entry.link.addr.offset ≡ false
+    pub forgets : known_in stand'.parts id ≡ None
+
   abbrev pub Evicts : Result Evicted Refusal → Type 0
   Evicts (Ok Done) = LeftFrame
-  Evicts (Ok (Stays why)) = NotWritten g old w stand stand' e e' id before after × KeepsLeaf e id why
+  Evicts (Ok Parted) = LeftInParts
+  Evicts (Ok (Stays why)) = NotWritten g old w stand stand' e e' id before after × WhyNotNow e id why
   Evicts (Ok (Unresolved by)) = NotWritten g old w stand stand' e e' id before after × IsUnended w.machine by
   Evicts (Ok Moves) = NotWritten g old w stand stand' e e' id before after × HasMoving e id
   Evicts (Ok Empty) = NotWritten g old w stand stand' e e' id before after × AreCut e id [] []
-  Evicts (Ok Grown) = NotWritten g old w stand stand' e e' id before after × IsGrown e id
   Evicts (Err r) = RefusesOut g old w stand stand' e e' id before after r

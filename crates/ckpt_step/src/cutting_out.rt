@@ -10,7 +10,7 @@ ghost use Rattle.tree_write.specs.Drafts.{AreFrom};
 ghost use Rattle.engine_world.specs.Stands.{Stands};
 ghost use Rattle.engine_world.specs.Worlds.{World};
 ghost use Rattle.engine.specs.Frames.{IsFramed};
-ghost use Rattle.ckpt_step.specs.CutOuts.{AreAhead, AreOldAt, IsCutOut};
+ghost use Rattle.ckpt_step.specs.CutOuts.{AreAhead, AreOldAt, IsCutOut, MayReplace};
 ghost use Rattle.ckpt_step.specs.WritesOut.{IsNotOld};
 
 use crate::clean::frame_of;
@@ -31,7 +31,7 @@ pub(crate) struct LeafCut {
     pub(crate) table: u32,
     // Its low key.
     pub(crate) low: Item,
-    // The newest committed versions of its keys.
+    // The newest versions of its keys.
     pub(crate) images: Vec<Image>,
 }
 
@@ -56,15 +56,29 @@ pub(crate) fn cut_leaf(
     if images.is_empty() || !are_old(&images, engine.marks().oldest) {
         return Ok(None);
     }
+    let cut = in_place(engine, leaf, images)?;
+    Ok(Some(cut))
+}
+
+// Images with the table and the low key of the leaf in whose place they stand, as those of each leaf
+// may. The error is want of memory.
+pub(crate) fn in_place(engine: &Local, leaf: u64, images: Vec<Image>) -> Result<LeafCut, NoMemory>
+    requires { 1 ≤ length images.items }
+    ensures are { IfOk result (λ cut. cut.images ≡ images) }
+    ensures place { IfOk result (λ cut. (rows : List Row) → AreImages images.items rows → AreFit rows → MayReplace engine.now leaf cut rows) }
+{
+    let Some(found) = engine.leaves().leaf(leaf) else {
+        return Err(NoMemory);
+    };
     let low = found.entry.key.copy()?;
     if !may_stand(&images, &low, behind(engine.leaves(), leaf)) {
         return Err(NoMemory);
     }
-    Ok(Some(LeafCut {
+    Ok(LeafCut {
         table: found.table,
         low,
         images,
-    }))
+    })
 }
 
 // Whether each image is durable at this stamp.

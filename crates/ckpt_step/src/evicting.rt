@@ -1,4 +1,4 @@
-// A leaf that is evicted to a block of its own while others are at work.
+// A leaf that is evicted to a block of its own, or to several, while others are at work.
 ghost use Rattle.std.specs.Prelude.{◌≡◌, [], Option, Some, None, Err, length, IfErr, IfOk, OnErr, OnOk, IsTrue};
 ghost use Rattle.failure.specs.Counts.{Rose};
 ghost use Rattle.failure.specs.declared.Fault.{Fault as AFault};
@@ -19,6 +19,7 @@ ghost use Rattle.ckpt_step.specs.Takes.{IsOfCheckpoint};
 use crate::ground::Ground;
 use crate::leaves::{may_begin_behind, stand_from};
 use crate::moving_out::move_out;
+use crate::parting::part_out;
 use crate::writing::is_within;
 use crate::writing_out::tell;
 use disk_model::Disk;
@@ -36,7 +37,9 @@ use wt_code::{Refusal, StoreError};
 pub enum Evicted {
     /// It is in no frame, and is read from its new block when a call needs it.
     Done,
-    /// It may not be evicted at this moment.
+    /// Its rows need more than one block: leaves of these have its place, and are in no frame.
+    Parted,
+    /// It may not be evicted at this moment, or its rows need more than one block and it may not part.
     Stays(Stays),
     /// It holds a version of the transaction of this id, which has not ended.
     Unresolved(u64),
@@ -45,23 +48,23 @@ pub enum Evicted {
     Moves,
     /// It holds no key, so that there is no block to read it from.
     Empty,
-    /// It holds more than one block has room for, and parts only while nobody is at work.
-    Grown,
 }
 
 /// Evicts a leaf to a block of its own, whoever is at work: the newest version of each of its keys is
-/// written as one block that the live tree alone has, and the leaf leaves its frame and leads to it. The
-/// next checkpoint keeps the block as it stands. Where the leaf was written since the last one before,
-/// its former block is free again.
+/// written as one block that the live tree alone has, and the leaf leaves its frame and leads to it.
+/// Where it needs more than one, it parts: leaves of these blocks take its place, and are in no frame.
+/// The next checkpoint keeps the blocks as they stand. Where the leaf was written since the last one
+/// before, its former block is free again.
 ///
-/// But for `Done` it stays where it is, and nothing changed. Refused where the engine is down; `28 no
-/// space` where the device has no room for the block; `12 no memory` also where it has become shorter
-/// than its blocks. What was written is free again then, and nothing changed. A failed read leaves the
-/// engine up; a failed write takes it down, and the device has the last checkpoint still.
+/// But for `Done` and `Parted` it stays where it is, and nothing changed. Refused where the engine is
+/// down; `28 no space` where the device has no room for the blocks, one behind the other; `12 no memory`
+/// also where it has become shorter than its blocks. What was written is free again then, and nothing
+/// changed. A failed read leaves the engine up; a failed write takes it down, and the device has the last
+/// checkpoint still.
 ///
 /// `O(n log n)` in the sessions and what their transactions wrote, and `O(rows + updates + bytes)` of
-/// the leaf, which is copied once into its image; one write, and one look-up each among the leaves and
-/// among those that were written since.
+/// the leaf, which is copied once into its images; for each one write, and one look-up among the leaves
+/// and among those that were written since.
 pub fn evict<D: Disk>(
     alloc: Global,
     disk: &mut D,
@@ -99,7 +102,7 @@ pub fn evict<D: Disk>(
         return Ok(Evicted::Empty);
     }
     if made.images.len() > 1 {
-        return Ok(Evicted::Grown);
+        return part_out(alloc, disk, ground, engine, leaf, made.images);
     }
     match put_back(alloc, disk, ground, engine, leaf, &made.images) {
         Ok(()) => Ok(Evicted::Done),

@@ -7,7 +7,7 @@
 //! and that the new one opens as the checkpoint that the machine takes (`checkpoints_open`). Says what
 //! may take the place of a leaf that leaves memory, and that the next checkpoint stands then as before;
 //! and writes a leaf that changed out while nobody is at work (`write_out`), or evicts it to a block of
-//! its own whoever is (`evict`), so that the next checkpoint keeps its blocks.
+//! its own, or to several, whoever is (`evict`), so that the next checkpoint keeps its blocks.
 //! Leaves to the caller to open the device, when a checkpoint may come, and which leaves leave.
 #![tactic(auto)]
 
@@ -23,6 +23,7 @@ mod leaves;
 mod lives;
 mod moving_in;
 mod moving_out;
+mod parting;
 mod parts;
 mod record;
 mod roots;

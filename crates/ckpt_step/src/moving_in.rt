@@ -1,9 +1,9 @@
-// Leaves that take the place of one that is written out.
+// Leaves that take the place of one that is written out, while nobody is at work or beside others.
 ghost use Rattle.std.specs.Prelude.{◌≡◌, ℕ, List, OnErr, OnOk};
 ghost use Rattle.tree_dir.specs.Leaves.{IsDirectory, TakePlace, leaf_named};
-ghost use Rattle.engine_world.specs.GivingWay.{IsIdle};
-ghost use Rattle.engine.specs.Frames.{HasGivenWay, IsFramed};
-ghost use Rattle.ckpt_step.specs.CutOuts.{HasMoved, HasNotMoved, IsSameBut, LetGo, StandsOut};
+ghost use Rattle.engine.specs.Frames.{HasGivenWay};
+ghost use Rattle.engine.specs.Partings.{MayPart};
+ghost use Rattle.ckpt_step.specs.CutOuts.{HasMoved, HasNotMoved, IsSameBut, LetGo, MayGiveWay, StandsParted, StandsThen};
 ghost use Rattle.ckpt_step.specs.Holding.{AreNewAt, addrs_if, gone_if, held_all, named_all, own_of};
 ghost use Rattle.ckpt_step.specs.declared.lives.Lone.{Lone as ALone};
 
@@ -18,6 +18,15 @@ use inner_page::Entry;
 use std::alloc::Global;
 use tree_dir::Dir;
 
+// When a leaf gives way to others.
+#[derive(Clone, Copy)]
+pub(crate) enum When {
+    // While nobody is at work.
+    Idle,
+    // Whoever is at work.
+    AtWork,
+}
+
 // The leaf gives way to the leaves of these entries, which lead to new blocks. Without memory these are
 // free again, and nothing changed.
 pub(crate) fn move_in(
@@ -27,11 +36,11 @@ pub(crate) fn move_in(
     leaf: u64,
     table: u32,
     entries: Vec<Entry>,
+    when: When,
 ) -> Result<(), NoMemory>
-    requires idle { IsIdle engine.old }
-    requires framed { IsFramed engine.old.hub.dir.leaves leaf }
+    requires may { MayGiveWay when engine.old leaf }
     requires place { TakePlace leaf entries.items engine.old.hub.dir.leaves }
-    ensures moved { OnOk result (HasMoved engine.old engine.new ground.old ground.new leaf table entries.items) }
+    ensures moved { OnOk result (HasMoved engine.old engine.new ground.old ground.new leaf table entries.items when) }
     ensures kept { OnErr result (HasNotMoved engine.old engine.new ground.old ground.new leaf table entries.items) }
 {
     let Ok(kept) = copy_of(alloc, &entries) else {
@@ -39,7 +48,7 @@ pub(crate) fn move_in(
         return Err(NoMemory);
     };
     let own = own_block(&ground.lives, engine.leaves(), leaf);
-    match take_place(&mut ground.lives, engine, leaf, table, entries, &kept) {
+    match take_place(&mut ground.lives, engine, leaf, table, entries, &kept, when) {
         Ok(()) => {
             ground.parts.forget(leaf);
             free_own(ground, own);
@@ -86,19 +95,19 @@ fn take_place(
     table: u32,
     entries: Vec<Entry>,
     kept: &[Entry],
+    when: When,
 ) -> Result<(), NoMemory>
-    requires idle { IsIdle engine.old }
-    requires framed { IsFramed engine.old.hub.dir.leaves leaf }
+    requires may { MayGiveWay when engine.old leaf }
     requires place { TakePlace leaf entries.items engine.old.hub.dir.leaves }
     ensures given { OnOk result (HasGivenWay engine.old engine.new leaf entries.items) }
-    ensures stands { OnOk result (StandsOut engine.old engine.new leaf entries.items) }
+    ensures stands { OnOk result (StandsThen engine.old engine.new leaf entries.items when) }
     ensures now { OnOk result (IsDirectory engine.new.hub.dir) }
     ensures lives { OnOk result (lives.new ≡ named_all engine.new.hub.dir table (held_all leaf lives.old kept.now) kept.now) }
     ensures engine { OnErr result (engine.new ≡ engine.old) }
     ensures kept { OnErr result (AreNewAt lives.old kept.now → lives.new ≡ lives.old) }
 {
     hold_all(lives, leaf, kept)?;
-    match engine.give_way(leaf, entries) {
+    match give_way(engine, leaf, entries, when) {
         Ok(()) => {
             name_all(lives, engine.leaves(), table, kept);
             Ok(())
@@ -107,6 +116,35 @@ fn take_place(
             drop_all(lives, kept);
             Err(error)
         }
+    }
+}
+
+// The leaf gives way to the leaves of these entries. Without memory nothing changed.
+fn give_way(engine: &mut Local, leaf: u64, entries: Vec<Entry>, when: When) -> Result<(), NoMemory>
+    requires may { MayGiveWay when engine.old leaf }
+    requires place { TakePlace leaf entries.items engine.old.hub.dir.leaves }
+    ensures given { OnOk result (HasGivenWay engine.old engine.new leaf entries.items) }
+    ensures stands { OnOk result (StandsThen engine.old engine.new leaf entries.items when) }
+    ensures kept { OnErr result (engine.new ≡ engine.old) }
+{
+    match when {
+        When::Idle => engine.give_way(leaf, entries),
+        When::AtWork => part(engine, leaf, entries),
+    }
+}
+
+// The leaf, which may part, parts into the leaves of these entries. Without memory nothing changed.
+fn part(engine: &mut Local, leaf: u64, entries: Vec<Entry>) -> Result<(), NoMemory>
+    requires may { MayPart engine.old leaf }
+    requires place { TakePlace leaf entries.items engine.old.hub.dir.leaves }
+    ensures given { OnOk result (HasGivenWay engine.old engine.new leaf entries.items) }
+    ensures stands { OnOk result (StandsParted engine.old engine.new leaf entries.items) }
+    ensures kept { OnErr result (engine.new ≡ engine.old) }
+{
+    match engine.part(leaf, entries) {
+        Ok(true) => Ok(()),
+        // It may part, so only memory is wanting.
+        Ok(false) | Err(_) => Err(NoMemory),
     }
 }
 

@@ -2,24 +2,23 @@
 ghost use Rattle.std.specs.Prelude.{◌≡◌, List, Option, Some, None, Err, length, IfErr, OnErr, OnOk, IsTrue};
 ghost use Rattle.failure.specs.Counts.{Rose};
 ghost use Rattle.failure.specs.declared.Fault.{Fault as AFault};
+ghost use Rattle.row_page.specs.Rows.{Row};
 ghost use Rattle.wt_code.specs.StoreErrors.{IsOfDisk};
 ghost use Rattle.disk_model.specs.Crash.{SameDisk};
 ghost use Rattle.stored.specs.Stored.{Stored};
 ghost use Rattle.stored.specs.TableTree.{Entry as StoredEntry};
-ghost use Rattle.snapshot.specs.Matters.{NoneResolves};
-ghost use Rattle.engine_world.specs.GivingWay.{IsIdle};
 ghost use Rattle.engine_world.specs.Stands.{Stands};
 ghost use Rattle.engine_world.specs.Worlds.{World};
 ghost use Rattle.engine.specs.Frames.{HasGivenWay};
-ghost use Rattle.ckpt_step.specs.CutOuts.{IsCutOut, PutsOut, TellsOut};
+ghost use Rattle.ckpt_step.specs.CutOuts.{MayGiveWay, MayReplace, PutsOut, TellsOut};
 ghost use Rattle.ckpt_step.specs.Floors.{AreLivesOn, Follows};
 ghost use Rattle.ckpt_step.specs.Grounds.{StandsOn};
 ghost use Rattle.ckpt_step.specs.Takes.{IsOfCheckpoint};
-ghost use Rattle.ckpt_step.specs.WritesOut.{LeavesEngine, WritesOut};
+ghost use Rattle.ckpt_step.specs.WritesOut.{AreRowsIn, LeavesEngine, WritesOut};
 
 use crate::cutting_out::{LeafCut, cut_leaf};
 use crate::ground::Ground;
-use crate::moving_in::move_in;
+use crate::moving_in::{When, move_in};
 use crate::writing::is_within;
 use disk_model::Disk;
 use engine::Local;
@@ -64,6 +63,7 @@ pub fn write_out<D: Disk>(
     ensures engine { LeavesEngine engine.old engine.new leaf result }
     ensures disk { SameDisk D.Disk disk.old disk.new }
 {
+    captures_are_newest();
     match engine.may_checkpoint(ground.number) {
         Ok(()) => {}
         Err(refusal) => return Err(refusal),
@@ -77,7 +77,7 @@ pub fn write_out<D: Disk>(
     let Some(cut) = cut else {
         return Ok(false);
     };
-    match put_out(alloc, disk, ground, engine, leaf, &cut) {
+    match put_out(alloc, disk, ground, engine, leaf, &cut, When::Idle) {
         Ok(()) => Ok(true),
         Err(error) => Err(tell(engine, error)),
     }
@@ -98,18 +98,19 @@ pub(crate) fn tell(engine: &mut Local, error: StoreError) -> Refusal
 
 // Writes the images, and the leaf gives way to the leaves of their blocks. After an error what was
 // written is given back, and nothing changed.
-fn put_out<D: Disk>(
+pub(crate) fn put_out<D: Disk>(
     alloc: Global,
     disk: &mut D,
     ground: &mut Ground,
     engine: &mut Local,
     leaf: u64,
     cut: &LeafCut,
+    when: When,
 ) -> Result<(), StoreError>
-    requires idle { IsIdle engine.old }
-    requires cut { IsCutOut engine.old leaf cut.now }
-    ensures puts { IsTrue (D.honest disk.old) → (w : World) → Stands engine.old w → NoneResolves w.machine → w.machine.checkpoint ≡ None → (old : Option Stored) → StandsOn (D.seen disk.old) (D.may_leave disk.old) engine.old.hub ground.old old
-        → Follows old engine.old.hub ground.old w → AreLivesOn (D.seen disk.old) engine.old.hub ground.old w → PutsOut D.Disk old w ground.old ground.new engine.old engine.new leaf disk.old disk.new result }
+    requires may { MayGiveWay when engine.old leaf }
+    requires cut { (rows : List Row) × MayReplace engine.old leaf cut.now rows }
+    ensures puts { IsTrue (D.honest disk.old) → (rows : List Row) (place : MayReplace engine.old leaf cut.now rows) (w : World) → Stands engine.old w → AreRowsIn w.machine engine.old.hub.dir.leaves place.leaf rows → (old : Option Stored) → StandsOn (D.seen disk.old) (D.may_leave disk.old) engine.old.hub ground.old old
+        → Follows old engine.old.hub ground.old w → AreLivesOn (D.seen disk.old) engine.old.hub ground.old w → PutsOut D.Disk old w ground.old ground.new engine.old engine.new leaf disk.old disk.new when rows result }
     ensures given { OnOk result ((entries : List StoredEntry) × HasGivenWay engine.old engine.new leaf entries) }
     ensures kept { OnErr result (engine.new ≡ engine.old) }
     ensures number { ground.new.number ≡ ground.old.number }
@@ -119,7 +120,6 @@ fn put_out<D: Disk>(
     ensures fault { IfErr result (λ e. IsOfDisk e → Rose (D.faults disk.old) (D.faults disk.new)) }
     ensures disk { SameDisk D.Disk disk.old disk.new }
 {
-    captures_are_newest();
     leaves_give_way();
     match is_within(disk, &ground.place.blocks) {
         Ok(true) => {}
@@ -129,7 +129,7 @@ fn put_out<D: Disk>(
     }
     let blocks = &mut ground.place.blocks;
     match write_leaves(alloc, disk, blocks, &cut.low, &cut.images) {
-        Ok(entries) => match move_in(alloc, ground, engine, leaf, cut.table, entries) {
+        Ok(entries) => match move_in(alloc, ground, engine, leaf, cut.table, entries, when) {
             Ok(()) => Ok(()),
             Err(_) => Err(StoreError::NoMemory),
         },

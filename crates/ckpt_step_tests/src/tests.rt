@@ -5,9 +5,9 @@ ghost use Rattle.ckpt_step.specs.Trees.{AreLow};
 
 use block_sum::sum;
 use catalog::Catalog;
-use ckpt_step::{Ground, Lives, Parts, checkpoint};
+use ckpt_step::{Evicted, Ground, Lives, Parts, checkpoint, evict};
 use disk_model::{Call as DiskCall, Look, MemDisk};
-use engine::{Called, Local};
+use engine::{Called, Local, Stays};
 use item::{Format, Formats, Item};
 use plain_disk::PlainDisk;
 use recover_open::{Kept, Recovered, recover};
@@ -498,6 +498,40 @@ fn a_table_past_one_leaf_keeps_the_leaves_that_are_the_same(rt: HostRuntime) {
         assert!(rt; take(&rt, alloc, &mut bench) == Ok(()), "row {key}");
         assert!(rt; bench.disk.medium.bytes().len() <= 167_936, "row {key}");
     }
+    let left = bench.disk.medium.crash(0).expect(&rt, "there is memory");
+    assert_eq!(rt; rows_on(&rt, alloc, left), 300);
+}
+
+// Evicts the first leaf that was made.
+fn let_out(alloc: Global, bench: &mut Bench) -> Result<Evicted, Refusal> {
+    evict(
+        alloc,
+        &mut bench.disk,
+        &mut bench.ground,
+        &mut bench.engine,
+        0,
+    )
+}
+
+// The leaf of these rows parts while a transaction runs, and the checkpoint keeps its three blocks as
+// they stand.
+#[test]
+fn a_leaf_of_three_blocks_parts_beside_a_transaction(rt: HostRuntime) {
+    let alloc = rt.alloc();
+    let mut bench = new_bench(&rt, alloc, ROOM, &[], &[b"a"]);
+    put_rows(&rt, alloc, &mut bench, 200);
+    assert!(rt; bench.engine.open_session(alloc).is_ok());
+    assert!(rt; bench.engine.sessions() > 1);
+    let begun = bench.engine.call(alloc, 1, SessionCall::Begin(None));
+    assert!(rt; begun == Called::Ended(Answer::Done));
+    assert!(rt; let_out(alloc, &mut bench) == Ok(Evicted::Parted));
+    assert!(rt; let_out(alloc, &mut bench) == Ok(Evicted::Stays(Stays::Away)));
+    assert_eq!(rt; bench.disk.medium.bytes().len(), 81_920);
+    assert!(rt; take(&rt, alloc, &mut bench) == Ok(()));
+    assert_eq!(rt;
+        leaf_offsets(&rt, alloc, &bench).as_slice(),
+        [8_192u64, 40_960, 73_728].as_slice()
+    );
     let left = bench.disk.medium.crash(0).expect(&rt, "there is memory");
     assert_eq!(rt; rows_on(&rt, alloc, left), 300);
 }

@@ -33,7 +33,7 @@ use Rattle.engine_world.specs.Stands.{Engine, Stands}
 use Rattle.engine_world.specs.Worlds.{World, with_records}
 use Rattle.engine_world.proofs.LeavesChanged.{changed-twice, contains-source}
 use Rattle.engine.specs.declared.evicting.Stays.{Stays}
-use Rattle.engine.specs.declared.evicting.Stays.TheVariants.{Away, Call, Pinned, Written, LastGeneration}
+use Rattle.engine.specs.declared.evicting.Stays.TheVariants.{Away, Call, Pinned, Written, LastGeneration, Coming, Walked}
 use Rattle.engine.specs.Evictions.{KeepsFrame, KeepsLeaf, MayBeEmptied, MayBeEvicted, framed_in}
 use Rattle.engine.specs.Sound.{IsSound}
 use Rattle.engine.proofs.GivingWay.{empty-fits}
@@ -83,6 +83,8 @@ keeps-frame e frame (Call session) at some may = may.aside session at.0 at.1 at.
 keeps-frame e frame (Pinned word) named some may = may.unpinned word named
 keeps-frame e frame (Written session) wrote some may = may.unwritten session wrote.0 wrote.1 wrote.2 wrote.3 wrote.4
 keeps-frame e frame LastGeneration last some may = let next = may.next in omega (arith, last, next)
+keeps-frame e frame (Coming session) none some may = none
+keeps-frame e frame (Walked session) none some may = none
 
 -- and its leaf
 pub keeps-leaf : (e : Engine) (id : ℕ) (framed : Framed) (why : Stays) → framed_in e id ≡ Some framed → KeepsFrame e framed.frame why → KeepsLeaf e id why
@@ -91,6 +93,8 @@ keeps-leaf e id framed (Call session) placed keeps = (framed, placed, keeps)
 keeps-leaf e id framed (Pinned word) placed keeps = (framed, placed, keeps)
 keeps-leaf e id framed (Written session) placed keeps = (framed, placed, keeps)
 keeps-leaf e id framed LastGeneration placed keeps = (framed, placed, keeps)
+keeps-leaf e id framed (Coming session) placed keeps = (framed, placed, keeps)
+keeps-leaf e id framed (Walked session) placed keeps = (framed, placed, keeps)
 
 pub keeps-not : (e : Engine) (id : ℕ) (framed : Framed) (why : Stays) → framed_in e id ≡ Some framed → KeepsFrame e framed.frame why → MayBeEvicted e id → ⊥
 keeps-not e id framed why placed keeps may = let it = may-in e id framed placed may in keeps-frame e framed.frame why keeps it.0 it.1

@@ -1,6 +1,6 @@
 -- A leaf that gives way to others, while nobody is at work.
 use Rattle.std.proofs.Common.{◌≡◌, ◌+◌, ℕ, refl, ap, sym, ◌∙◌, List, [], ◌∷◌, inl, inr, subst, arith}
-use Rattle.std.specs.Prelude.{None, ◌==◌, slice_set}
+use Rattle.std.specs.Prelude.{None, ◌==◌, Result, Ok, Err, OnOk, slice_set}
 use Rattle.std.specs.List.{Contains}
 use Rattle.std.proofs.lemmas.Bool.{cases_Bool}
 use Rattle.std.proofs.lemmas.List.{length-set}
@@ -84,3 +84,8 @@ way-stands law old new id entries idle place is way w shelf st none shelved = su
     (subst (λ (n : ℕ). TakePlace n entries old.hub.dir.leaves) (sym id-is) place) (subst (λ (n : ℕ). GaveWay old.hub.dir new.hub.dir n entries way.ids) (sym id-is) way.gave) is shelved) where
       id-is : way.leaf.id ≡ id
       id-is = named-is id old.hub.dir.leaves way.leaf way.there
+
+pub way-stands-if : {E : Type 0} → LeavesGiveWay → (old new : Engine) (id : ℕ) (entries : List Entry) → IsIdle old → TakePlace id entries old.hub.dir.leaves → (told : Result (Unit {0}) E) → OnOk told (IsDirectory new.hub.dir)
+    → OnOk told ((way : HasGivenWay old new id entries) (w : World) (shelf : ℕ → List Row) → Stands old w → w.machine.checkpoint ≡ None → IsShelved w.machine old.hub.dir new.hub.dir (leaves_with way.leaf.table way.ids entries) w.shelf shelf → Stands new (record w { shelf = shelf }))
+way-stands-if law old new id entries idle place (Ok done) is = way-stands law old new id entries idle place is
+way-stands-if law old new id entries idle place (Err error) is = tt

@@ -28,6 +28,7 @@ pub mod LeavesCome
 pub mod GivingWay
 pub mod GoingOut
 pub mod Evictions
+pub mod PartedLeaves
 pub mod EachBelow
 pub mod Directories
 pub mod Owning

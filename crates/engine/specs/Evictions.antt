@@ -15,7 +15,7 @@ use Rattle.engine_world.specs.Leaves.{frame_in, generation_at}
 use Rattle.engine_world.specs.Stands.{Engine}
 use Rattle.engine.specs.declared.evicting.Horizon.{Horizon}
 use Rattle.engine.specs.declared.evicting.Stays.{Stays}
-use Rattle.engine.specs.declared.evicting.Stays.TheVariants.{Away, Call, Pinned, Written, LastGeneration}
+use Rattle.engine.specs.declared.evicting.Stays.TheVariants.{Away, Call, Pinned, Written, LastGeneration, Coming, Walked}
 use Rattle.engine.specs.Frames.{IsUnpinned}
 
 -- the pin stamp and the floor of names while no checkpoint runs
@@ -59,13 +59,15 @@ IsCalledIn frame sessions session = (a : State) × (slice_get sessions session �
 abbrev pub HasWrittenIn : ℕ → List State → ℕ → Type 0
 HasWrittenIn frame sessions session = (a : State) × (slice_get sessions session ≡ Some a) × (k : WrittenKey) × Member k a.written × (k.frame ≡ frame)
 
--- why this frame is not emptied
+-- why this frame is not emptied; what keeps a leaf from parting alone is no reason
 abbrev pub KeepsFrame : Engine → ℕ → Stays → Type 0
 KeepsFrame e frame Away = frame_in e.pieces frame ≡ None
 KeepsFrame e frame (Call session) = IsCalledIn frame e.sessions session
 KeepsFrame e frame (Pinned word) = slice_get e.hazards word ≡ Some (frame + 1)
 KeepsFrame e frame (Written session) = HasWrittenIn frame e.sessions session
 KeepsFrame e frame LastGeneration = 2 ^ 62 ≤ generation_at e.pieces frame + 1
+KeepsFrame e frame (Coming session) = ⊥
+KeepsFrame e frame (Walked session) = ⊥
 
 -- where the leaf of this id is
 abbrev pub framed_in : Engine → ℕ → Option Framed

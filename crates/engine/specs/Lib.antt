@@ -12,6 +12,7 @@ pub mod Closes
 pub mod Waits
 pub mod Frames
 pub mod Evictions
+pub mod Partings
 pub mod Directories
 pub mod Told
 pub mod Reads

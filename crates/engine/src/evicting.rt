@@ -40,7 +40,7 @@ pub struct Horizon {
     pub floor: Name,
 }
 
-/// Why a leaf may not be evicted at this moment.
+/// Why a leaf may not be evicted at this moment, or may not part.
 #[derive(Clone, Copy, Debug, PartialEq, Eq)]
 pub enum Stays {
     /// It is not there, or in no frame.
@@ -53,6 +53,10 @@ pub enum Stays {
     Written(u32),
     /// Its frame is at its last generation.
     LastGeneration,
+    /// It does not part: a call of this session is on its way to it.
+    Coming(u32),
+    /// It does not part: a call of this session goes over its table leaf by leaf.
+    Walked(u32),
 }
 
 impl Local {
@@ -145,7 +149,7 @@ impl Parts {
         }
     }
 
-    fn why_it_stays(&self, leaf: u64) -> Option<Stays>
+    pub(crate) fn why_it_stays(&self, leaf: u64) -> Option<Stays>
         requires sound { IsSound self.now }
         ensures none { result ≡ None → MayBeEvicted self.now leaf }
         ensures some { IfSome result (λ why. KeepsLeaf self.now leaf why) }

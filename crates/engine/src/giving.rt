@@ -3,7 +3,7 @@
 ghost use Rattle.std.specs.Prelude.{◌≡◌, ◌<◌, ◌+◌, ◌^◌, ℕ, List, false, length, option_map, IsTrue, OnErr, OnOk, slice_set};
 ghost use Rattle.row_page.specs.Rows.{Row as ARow};
 ghost use Rattle.call_steps.specs.Tables.{empty};
-ghost use Rattle.tree_dir.specs.Leaves.{TakePlace, leaves_with};
+ghost use Rattle.tree_dir.specs.Leaves.{IsDirectory, TakePlace, leaves_with};
 ghost use Rattle.engine_world.specs.GivingWay.{IsIdle, IsShelved, RestsWhole};
 ghost use Rattle.engine_world.specs.Leaves.{emptied, frame_in, generation_at};
 ghost use Rattle.engine_world.specs.Stands.{Stands};
@@ -105,8 +105,21 @@ impl Parts {
         ensures sound { IsSound self.new }
     {
         leaves_give_way();
-        // What holds of every directory holds of this one.
-        self.hub.dir.stands();
+        self.replace_leaf(leaf, entries)
+    }
+
+    /// Others take the place of a leaf that is in a frame, and are in none. Without memory, or where the
+    /// frame is at its last generation, nothing is changed.
+    pub(crate) fn replace_leaf(&mut self, leaf: u64, entries: Vec<Entry>) -> Result<(), NoMemory>
+        requires framed { IsFramed self.old.hub.dir.leaves leaf }
+        requires place { TakePlace leaf entries.items self.old.hub.dir.leaves }
+        requires sound { IsSound self.old }
+        ensures given { OnOk result (HasGivenWay self.old self.new leaf entries.items) }
+        ensures now { OnOk result (IsDirectory self.new.hub.dir) }
+        ensures kept { OnErr result (self.new ≡ self.old) }
+        ensures own { KeepOwn self.old self.new }
+        ensures sound { IsSound self.new }
+    {
         let Some(framed) = self.hub.dir.frame(leaf) else {
             return Err(NoMemory);
         };
@@ -115,6 +128,7 @@ impl Parts {
         }
         self.bare.reserve(1)?;
         self.hub.dir.replace(leaf, entries)?;
+        // What holds of every directory holds of this one.
         self.hub.dir.stands();
         let generation = leave(&mut self.pieces, framed.frame);
         clear(&mut self.states, framed.frame, generation);

@@ -28,6 +28,7 @@ mod leaves;
 mod lent;
 mod local;
 mod opening;
+mod parting;
 mod parts;
 mod reads;
 mod row_reads;

@@ -19,7 +19,7 @@ returns-in_default-cut_out-clause-evicts g c h w stands idle old on follows devi
 pub returns-in-Stays-clause-evicts : goal.returns-in-Stays-clause-evicts
 returns-in-Stays-clause-evicts g c h w stands idle old on follows device = (
   stayed_led g.D.Disk old w c.args.ground.now c.args.engine.now c.args.leaf c.args.disk.now (λ x is. g.met.D.Disk.only_now _ x is) on follows device,
-  subst (λ (x : CutOut). IsCutOut c.args.engine.now c.args.leaf x) c.in-Stays.is c.in-Ok.ensures,
+  inl (subst (λ (x : CutOut). IsCutOut c.args.engine.now c.args.leaf x) c.in-Stays.is c.in-Ok.ensures),
 )
 
 pub returns-in-Unresolved-clause-evicts : goal.returns-in-Unresolved-clause-evicts
@@ -47,16 +47,13 @@ returns-then-is_empty-clause-evicts g c h w stands idle old on follows device = 
       (subst (λ (x : CutOut). IsCutOut c.args.engine.now c.args.leaf x) c.in-Images.is c.in-Ok.ensures)),
 )
 
-pub returns-then-len-gt1-clause-evicts : goal.returns-then-len-gt1-clause-evicts
-returns-then-len-gt1-clause-evicts g c h w stands idle old on follows device = (
-  stayed_led g.D.Disk old w c.args.ground.now c.args.engine.now c.args.leaf c.args.disk.now (λ x is. g.met.D.Disk.only_now _ x is) on follows device,
-  record {
-    images = c.in-Images.made.images.items;
-    cut = subst (λ (m : List Moved). AreCut c.args.engine.now c.args.leaf c.in-Images.made.images.items m) (is_none c.in-Images.made.moved.items c.in-Images.made.moved.len (sym c.in-Images.made.moved.ok.0) (sym c.is_empty.ensures ∙ c.if-not-is_empty.false))
-        (subst (λ (x : CutOut). IsCutOut c.args.engine.now c.args.leaf x) c.in-Images.is c.in-Ok.ensures);
-    more = (let long = c.in-Images.made.images.ok.0 in let count = c.len.ensures in let more = c.if-len-gt1.true in omega (arith, long, count, more));
-  },
-)
+pub part_out-requires-clause-cut : goal.part_out-requires-clause-cut
+part_out-requires-clause-cut g c =
+    subst (λ (m : List Moved). AreCut c.args.engine.now c.args.leaf c.in-Images.made.images.items m) (is_none c.in-Images.made.moved.items c.in-Images.made.moved.len (sym c.in-Images.made.moved.ok.0) (sym c.is_empty.ensures ∙ c.if-not-is_empty.false))
+    (subst (λ (x : CutOut). IsCutOut c.args.engine.now c.args.leaf x) c.in-Images.is c.in-Ok.ensures)
+
+pub part_out-requires-clause-more : goal.part_out-requires-clause-more
+part_out-requires-clause-more g c = let long = c.in-Images.made.images.ok.0 in let count = c.len.ensures in let more = c.if-len-gt1.true in omega (arith, long, count, more)
 
 pub put_back-requires-clause-cut : goal.put_back-requires-clause-cut
 put_back-requires-clause-cut g c =
