@@ -52,3 +52,4 @@ pub mod Finishing
 pub mod SystemCalls
 pub mod Stepping
 pub mod KeptAnswers
+pub mod MakingRoom

@@ -46,7 +46,7 @@ same_still bytes None (Some t) blank on = let e : None ≡ Some t.slot = chooses
 same_still bytes (Some s) None on blank = let e : None ≡ Some s.slot = chooses_one bytes None (Some s.slot) blank.shut on.chosen in absurd (cc)
 same_still bytes (Some s) (Some t) one other = ap (λ (x : Stored). Some x) (one_stored bytes s t one other)
 
-still_later : (before after : List ℕ) (old : Option Stored) → HasStill old before → HasStill old after → (s : Option Stored) → HasStill s before → HasStill s after
+pub still_later : (before after : List ℕ) (old : Option Stored) → HasStill old before → HasStill old after → (s : Option Stored) → HasStill s before → HasStill s after
 still_later before after old was now s has = subst (λ (o : Option Stored). HasStill o after) (same_still before old s was has) now
 
 -- ---- a leaf
@@ -66,7 +66,7 @@ barred_down m number fault r fell barred = same_refusal (sym barred ∙ decided-
     same_refusal e = let f : NotDone r ≡ NotDone (Panic fault) = ap (λ (d : Outcome × Event). d.0) e in cc
 
 -- where no commit had a stamp, none has one in a machine that went down
-plain_down : (m : Machine) (fault : Fault) → IsPlain m → IsPlain (after_event m (GoDown fault))
+pub plain_down : (m : Machine) (fault : Fault) → IsPlain m → IsPlain (after_event m (GoDown fault))
 plain_down m fault plain = record { idle = plain.idle; suffice = λ table key. record { reached = (plain.suffice table key).reached } }
 
 module _ {D : Type 0} (g : Ghosts D) (start_disk before after : D)
@@ -229,7 +229,7 @@ module _ {D : Type 0} (g : Ghosts D) where
   }
 
   module _ (a b c : Store) (before mid after : D) where
-    alike_then : StaysAlike a b → StaysAlike b c → StaysAlike a c
+    pub alike_then : StaysAlike a b → StaysAlike b c → StaysAlike a c
     alike_then one two = record {
       frames = two.frames ∙ one.frames;
       sessions = two.sessions ∙ one.sessions;

@@ -15,3 +15,4 @@ pub mod Found
 pub mod Held
 pub mod Relieves
 pub mod WritesOut
+pub mod Room

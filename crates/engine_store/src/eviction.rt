@@ -12,7 +12,10 @@ use tree_dir::Dir;
 pub const FRAMES: u32 = 64;
 
 // At most so many frames are looked at for a leaf that goes out, each time that one came in.
-const TRIES: usize = 4;
+pub(crate) const TRIES: usize = 4;
+
+// So many calls are passed over between two looks for leaves of which many keys were written.
+const LOOK_EVERY: u32 = 1_000; // calls
 
 /// Which leaves go out: a hand that goes over the frames, one after the other.
 #[derive(Drop)]
@@ -21,6 +24,10 @@ pub(crate) struct Clock {
     hand: u32,
     // Whether a leaf came in since leaves last went out.
     is_due: bool,
+    // Whether more frames had leaves than the store has, as leaves last went out.
+    is_over: bool,
+    // How many calls went by since leaves were looked for of which many keys were written.
+    calls: u32,
 }
 
 impl Clock {
@@ -28,6 +35,8 @@ impl Clock {
         Clock {
             hand: 0,
             is_due: false,
+            is_over: false,
+            calls: 0,
         }
     }
 
@@ -36,8 +45,31 @@ impl Clock {
         self.is_due = true;
     }
 
+    // Whether more frames had leaves than the store has. It is told once.
+    pub(crate) fn take_over(&mut self) -> bool {
+        let is_over = self.is_over;
+        self.is_over = false;
+        is_over
+    }
+
+    pub(crate) fn note_over(&mut self, is_over: bool) {
+        self.is_over = is_over;
+    }
+
+    // A call went by. Whether leaves are looked for of which many keys were written.
+    pub(crate) fn count_call(&mut self) -> bool {
+        self.calls = self.calls.wrapping_add(1);
+        if self.calls < LOOK_EVERY {
+            return false;
+        }
+        self.calls = 0;
+        // Leaves of new tables came into frames unread.
+        self.is_due = true;
+        true
+    }
+
     // The next one of so many frames.
-    fn next(&mut self, frames: usize) -> u32 {
+    pub(crate) fn next(&mut self, frames: usize) -> u32 {
         let frame = self.hand;
         let next = frame.wrapping_add(1);
         self.hand = if (next as usize) < frames { next } else { 0 };
@@ -66,6 +98,7 @@ impl Store {
     {
         self.clock.is_due = false;
         let over = self.filled().saturating_sub(self.frames as usize);
+        self.clock.note_over(over > 0);
         for _ in 0..over.min(TRIES) {
             let frame = self.clock.next(self.engine.frames());
             self.let_out::<D>(frame);
@@ -73,7 +106,7 @@ impl Store {
     }
 
     // How many frames have leaves.
-    fn filled(&self) -> usize {
+    pub(crate) fn filled(&self) -> usize {
         let mut filled: usize = 0;
         for frame in 0..self.engine.frames() {
             if self.has_leaf(frame) {

@@ -34,7 +34,8 @@ pub struct Store {
     /// The last completed checkpoint of its device.
     pub ground: Ground,
     /// How many frames it has: so many leaves stay in memory that were only read, while calls need
-    /// others. A leaf whose keys were written stays beside them up to the next checkpoint.
+    /// others. A leaf whose keys were written stays beside them up to the next checkpoint, or until
+    /// `make_room` finds it.
     pub frames: u32,
     // Which leaves go out of their frames.
     pub(crate) clock: Clock,

@@ -66,14 +66,19 @@ impl Store {
         Ok(())
     }
 
-    // The leaf in a frame, where so many of its keys were written since it was read.
+    // The leaf in a frame, where `CHANGED_LEAST` of its keys or more were written since it was read.
     fn changed_in(&self, frame: usize) -> Option<u64> {
         let number = u32::try_from(frame).ok()?;
-        let held = self.engine.leaf_in(number)?;
-        if held.chains().len() < CHANGED_LEAST {
+        self.changed_by(number, CHANGED_LEAST)
+    }
+
+    // The leaf in a frame, where so many of its keys or more were written since it was read.
+    pub(crate) fn changed_by(&self, frame: u32, least: usize) -> Option<u64> {
+        let held = self.engine.leaf_in(frame)?;
+        if held.chains().len() < least {
             None
         } else {
-            self.engine.id_in(number)
+            self.engine.id_in(frame)
         }
     }
 
@@ -98,7 +103,7 @@ impl Store {
 }
 
 // Whether memory or room was short.
-fn is_short(refusal: Refusal) -> bool
+pub(crate) fn is_short(refusal: Refusal) -> bool
     ensures { result ≡ is_short refusal }
 {
     match refusal {

@@ -5,6 +5,7 @@ ghost use Rattle.ckpt_step.specs.Trees.{AreLow};
 mod checkpoints;
 mod closings;
 mod leaves;
+mod room;
 mod spoilt;
 mod written_out;
 

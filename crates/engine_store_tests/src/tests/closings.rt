@@ -14,7 +14,7 @@ const BYTES: Formats = Formats {
     value: Format::U,
 };
 
-const COMMIT: SessionCall = SessionCall::Commit {
+pub(super) const COMMIT: SessionCall = SessionCall::Commit {
     commit: None,
     durable: None,
 };

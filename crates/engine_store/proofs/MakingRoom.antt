@@ -1,0 +1,259 @@
+-- What the eviction of leaves leaves of what holds between two calls.
+use Rattle.std.proofs.Common.{◌≡◌, ◌≤◌, ◌∙◌, ℕ, List, [], ◌∷◌, Option, Some, None, Result, Ok, Err, refl, sym, ap, subst, inl, inr, arith}
+use Rattle.std.specs.Prelude.{Bool, true, false, ◌||◌}
+use Rattle.failure.specs.Counts.{Rose}
+use Rattle.failure.specs.declared.Fault.{Fault}
+use Rattle.disk_model.specs.Crash.{LeavesOnly, SameDisk}
+use Rattle.disk_model.specs.declared.disk.Disk.{Ghosts}
+use Rattle.wt_code.specs.declared.refusals.Refusal.{Refusal}
+use Rattle.wt_code.specs.declared.refusals.Refusal.TheVariants.{Panic}
+use Rattle.kv_model.specs.Machine.{Completed, GoDown, Machine, after as after_event}
+use Rattle.row_page.specs.Rows.{Row}
+use Rattle.stored.specs.Stored.{Stored}
+use Rattle.checkpoint_core.specs.Finishes.{IsOld}
+use Rattle.checkpoint_core.specs.Stands.{HasStill}
+use Rattle.engine_world.specs.Evicting.{with_rows}
+use Rattle.engine_world.specs.GoingOut.{with_again}
+use Rattle.engine_world.specs.Stands.{Engine, Stands}
+use Rattle.engine_world.specs.Systems.{DownsGo}
+use Rattle.engine_world.specs.Worlds.{World, without_records}
+use Rattle.engine.proofs.BareLeaves.{none-kept}
+use Rattle.ckpt_step.specs.declared.evicting.Evicted.{Evicted}
+use Rattle.ckpt_step.specs.declared.evicting.Evicted.TheVariants.{Done, Parted, Stays, Unresolved, Moves, Empty}
+use Rattle.ckpt_step.specs.declared.ground.Ground.{Ground}
+use Rattle.ckpt_step.specs.Evicts.{Evicts, EvictsEngine, LeftFrame, LeftInParts}
+use Rattle.ckpt_step.specs.Floors.{AreLivesOn, Follows}
+use Rattle.ckpt_step.specs.Grounds.{StandsOn}
+use Rattle.ckpt_step.specs.WritesOut.{FallenOut, NotWritten}
+use Rattle.engine_store.specs.declared.store.Store.{Store}
+use Rattle.engine_store.specs.Devices.{Installed, IsLater, KeepsCheckpoint, device_of, may_open_to}
+use Rattle.engine_store.specs.Held.{IsGrounded, IsHeld}
+use Rattle.engine_store.specs.Room.{MakesRoom, RoomAlike, RoomDown, RoomMade, RoomOf, RoomUp}
+use Rattle.engine_store.proofs.GoingOut.{held_out, none_out}
+use Rattle.engine_store.proofs.Taking.{kept_held}
+use Rattle.engine_store.proofs.WritingOut.{alike_then, still_later}
+
+-- ---- none is, but that the hand went on
+
+module _ {D : Type 0} (g : Ghosts D) where
+  still_up : (s s' : Store) → s'.engine ≡ s.engine → s'.ground ≡ s.ground → s'.frames ≡ s.frames → (start disk : D) (w : World) (first : Completed) (made : List Installed) → IsHeld g start s disk w first made → RoomUp g start w first made s s' disk disk
+  still_up s s' engine ground frames start disk w first made held = record {
+    room = record {
+      shelf = w.shelf;
+      again = w.again;
+      more = λ session is. is;
+      later = record { faults = omega arith; moment = omega arith };
+      capacity = refl;
+      held = held_out g s s' (none_out g s s' engine ground frames) start disk w first made held;
+    };
+    keeps = record { capacity = refl; checkpoint = λ o has. has };
+  }
+
+  pub still_room : (s s' : Store) → s'.engine ≡ s.engine → s'.ground ≡ s.ground → s'.frames ≡ s.frames → (disk : D) → MakesRoom g s s' disk disk
+  still_room s s' engine ground frames disk honest start w first made held = inl (still_up s s' engine ground frames start disk w first made held)
+
+  pub still_alike : (s s' : Store) → s'.engine ≡ s.engine → s'.ground ≡ s.ground → s'.frames ≡ s.frames → (disk : D) → RoomAlike g s s' disk disk
+  still_alike s s' engine ground frames disk = record {
+    alike = record {
+      frames = frames;
+      sessions = ap (λ (e : Engine). e.sessions) engine;
+      tables = ap (λ (e : Engine). e.hub.tables) engine;
+      txns = ap (λ (e : Engine). e.hub.txns) engine;
+      number = ap (λ (x : Ground). x.number) ground;
+      trees = ap (λ (x : Ground). x.trees) ground;
+    };
+    disk = record { same = refl; room = refl; home = refl; later = omega arith };
+  }
+
+-- ---- some are, and then others
+
+module _ {D : Type 0} (g : Ghosts D) (a b c : Store) (before mid after : D) where
+  pub alike_more : RoomAlike g a b before mid → RoomAlike g b c mid after → RoomAlike g a c before after
+  alike_more one two = record {
+    alike = alike_then g a b c before mid after one.alike two.alike;
+    disk = record { same = two.disk.same ∙ one.disk.same; room = two.disk.room ∙ one.disk.room; home = two.disk.home ∙ one.disk.home; later = omega (arith, one.disk.later, two.disk.later) };
+  }
+
+  module _ (start : D) (w : World) (first : Completed) (made : List Installed) where
+    -- the world in between
+    abbrev between : (next : Machine) → RoomMade g start w first made a b before mid next → World
+    between next x = record w { machine = next; shelf = x.shelf; again = x.again }
+
+    room_more : (next last : Machine) (x : RoomMade g start w first made a b before mid next) → RoomMade g start (between next x) first made b c mid after last → RoomMade g start w first made a c before after last
+    room_more next last x y = record {
+      shelf = y.shelf;
+      again = y.again;
+      more = λ session is. y.more session (x.more session is);
+      later = record { faults = (let one = x.later.faults in let two = y.later.faults in omega (arith, one, two)); moment = (let one = x.later.moment in let two = y.later.moment in omega (arith, one, two)) };
+      capacity = y.capacity ∙ x.capacity;
+      held = y.held;
+    }
+
+    sooner : g.faults before ≤ g.faults mid → Rose (g.faults mid) (g.faults after) → Rose (g.faults before) (g.faults after)
+    sooner le rose = omega (arith, le, rose)
+
+    longer : g.faults mid ≤ g.faults after → Rose (g.faults before) (g.faults mid) → Rose (g.faults before) (g.faults after)
+    longer le rose = omega (arith, le, rose)
+
+    up_more : (x : RoomUp g start w first made a b before mid) → RoomOf g start (between w.machine x.room) first made b c mid after → RoomOf g start w first made a c before after
+    up_more x (inl y) = inl (record {
+      room = room_more w.machine w.machine x.room y.room;
+      keeps = record { capacity = y.keeps.capacity ∙ x.keeps.capacity; checkpoint = λ o has. y.keeps.checkpoint o (x.keeps.checkpoint o has) };
+    })
+    up_more x (inr y) = inr (record { fault = y.fault; rose = sooner x.room.later.faults y.rose; room = room_more w.machine (after_event w.machine (GoDown y.fault)) x.room y.room })
+
+    down_more : (x : RoomDown g start w first made a b before mid) → RoomOf g start (between (after_event w.machine (GoDown x.fault)) x.room) first made b c mid after → RoomOf g start w first made a c before after
+    down_more x (inl y) = inr (record { fault = x.fault; rose = longer y.room.later.faults x.rose; room = room_more (after_event w.machine (GoDown x.fault)) (after_event w.machine (GoDown x.fault)) x.room y.room })
+    down_more x (inr y) = inr (record { fault = y.fault; rose = longer y.room.later.faults x.rose; room = room_more (after_event w.machine (GoDown x.fault)) (after_event w.machine (GoDown y.fault)) x.room y.room })
+
+  pub makes_more : g.honest mid ≡ g.honest before → MakesRoom g a b before mid → MakesRoom g b c mid after → MakesRoom g a c before after
+  makes_more same one two honest start w first made held = by (one honest start w first made held)
+    where
+      by : RoomOf g start w first made a b before mid → RoomOf g start w first made a c before after
+      by (inl x) = up_more start w first made x (two (same ∙ honest) start (between start w first made w.machine x.room) first made x.room.held)
+      by (inr x) = down_more start w first made x (two (same ∙ honest) start (between start w first made (after_event w.machine (GoDown x.fault)) x.room) first made x.room.held)
+
+-- ---- a leaf
+
+or_later : (a b : Bool) → b ≡ true → a || b ≡ true
+or_later true b is = refl
+or_later false b is = is
+
+module _ {D : Type 0} (g : Ghosts D) (start_disk before after : D)
+    (counts : g.moment before ≤ g.moment after → (c : List ℕ) → g.may_leave after c → g.left_since after (g.moment before) c) (only : (c : List ℕ) → g.left_since after (g.moment after) c → g.may_leave after c)
+    (image : g.may_leave before (g.seen before)) (s s' : Store) (frames : s'.frames ≡ s.frames) (w : World) (first : Completed) (made : List Installed) (held : IsHeld g start_disk s before w first made)
+    (disk : SameDisk g before after) (downs : DownsGo) (id : ℕ) where
+  abbrev Made : Type 0
+  Made = RoomOf g start_disk w first made s s' before after
+
+  -- ---- of an engine that is up
+
+  module _ (grounded : IsGrounded (g.seen before) (g.may_leave before) s w (may_open_to (first ∷ []) made)) where
+    abbrev Kept : Type 0
+    Kept = LeavesOnly g before after (IsOld (g.may_leave before) grounded.old)
+
+    is_later : Kept → IsLater (device_of g before) (device_of g after)
+    is_later left = record { faults = disk.later; moment = left.later }
+
+    keeps : HasStill grounded.old (g.seen after) → KeepsCheckpoint (device_of g before) (device_of g after)
+    keeps now = record { capacity = disk.room; checkpoint = still_later (g.seen before) (g.seen after) grounded.old grounded.on.stands.seen_has now }
+
+    -- with this on the shelf, and these calls that may be told so
+    went : (shelf : ℕ → List Row) (again : ℕ → Bool) → ((session : ℕ) → w.again session ≡ true → again session ≡ true) → Kept → Stands s'.engine (record w { shelf = shelf; again = again })
+        → StandsOn (g.seen after) (g.may_leave after) s'.engine.hub s'.ground grounded.old → Follows grounded.old s'.engine.hub s'.ground (record w { shelf = shelf; again = again }) → AreLivesOn (g.seen after) s'.engine.hub s'.ground (record w { shelf = shelf; again = again })
+        → RoomUp g start_disk w first made s s' before after
+    went shelf again more left stands on follows since = record {
+      room = record {
+        shelf = shelf;
+        again = again;
+        more = more;
+        later = is_later left;
+        capacity = disk.room;
+        held = kept_held g start_disk before after counts only image s s' w first made held grounded (record w { shelf = shelf; again = again }) stands held.idle refl left (λ up. (on, follows, since));
+      };
+      keeps = keeps on.stands.seen_has;
+    }
+
+    -- it left its frame
+    goes : LeftFrame g grounded.old w s.ground s'.ground s.engine s'.engine id before after → RoomUp g start_disk w first made s s' before after
+    goes x =
+        let v : World = with_rows id x.rows (with_again s.engine x.out.may.framed.frame w) in
+        let same : without_records id v ≡ v = none-kept id v grounded.follows.nothing in
+        went v.shelf v.again (λ session is. or_later _ (w.again session) is) x.left (subst (λ (u : World). Stands s'.engine u) same x.stands) x.on
+        (subst (λ (u : World). Follows grounded.old s'.engine.hub s'.ground u) same x.follows) (subst (λ (u : World). AreLivesOn (g.seen after) s'.engine.hub s'.ground u) same x.since)
+
+    -- it parted
+    parts : LeftInParts g grounded.old w s.ground s'.ground s.engine s'.engine id before after → RoomUp g start_disk w first made s s' before after
+    parts x = went x.shelf w.again (λ session is. is) x.left x.stands x.on x.follows x.since
+
+    -- it stays
+    stays : NotWritten g grounded.old w s.ground s'.ground s.engine s'.engine id before after → RoomUp g start_disk w first made s s' before after
+    stays n =
+        went w.shelf w.again (λ session is. is) n.left (subst (λ (e : Engine). Stands e w) (sym n.same) held.stands) (subst (λ (e : Engine). StandsOn (g.seen after) (g.may_leave after) e.hub s'.ground grounded.old) (sym n.same) n.on)
+        (subst (λ (e : Engine). Follows grounded.old e.hub s'.ground w) (sym n.same) n.follows) (subst (λ (e : Engine). AreLivesOn (g.seen after) e.hub s'.ground w) (sym n.same) n.since)
+
+    -- a write failed
+    fell : (r : Refusal) → FallenOut g grounded.old w s.ground s'.ground s.engine s'.engine id before after r → RoomDown g start_disk w first made s s' before after
+    fell r f =
+        let down : World = record w { machine = after_event w.machine (GoDown f.fault) } in
+        record {
+          fault = f.fault;
+          rose = f.rose;
+          room = record {
+            shelf = w.shelf;
+            again = w.again;
+            more = λ session is. is;
+            later = is_later f.left;
+            capacity = disk.room;
+            held = kept_held g start_disk before after counts only image s s' w first made held grounded down (subst (λ (e : Engine). Stands e down) (sym f.down) (downs s.engine w f.fault held.stands)) held.idle refl f.left (λ up. absurd (not_up f.fault up));
+          };
+        }
+      where
+        not_up : (fault : Fault) → (after_event w.machine (GoDown fault)).fault ≡ None → ⊥
+        not_up fault up = let e : Some fault ≡ None = up in cc
+
+    by_result : (result : Result Evicted Refusal) → Evicts g grounded.old w s.ground s'.ground s.engine s'.engine id before after result → Made
+    by_result (Ok Done) x = inl (goes x)
+    by_result (Ok Parted) x = inl (parts x)
+    by_result (Ok (Stays why)) (n, keeps) = inl (stays n)
+    by_result (Ok (Unresolved who)) (n, unended) = inl (stays n)
+    by_result (Ok Moves) (n, moving) = inl (stays n)
+    by_result (Ok Empty) (n, none) = inl (stays n)
+    by_result (Err r) (inl (n, why)) = inl (stays n)
+    by_result (Err r) (inr f) = inr (fell r f)
+
+  -- ---- of either
+
+  module _ (result : Result Evicted Refusal)
+      (evicts : (old : Option Stored) → StandsOn (g.seen before) (g.may_leave before) s.engine.hub s.ground old → Follows old s.engine.hub s.ground w → AreLivesOn (g.seen before) s.engine.hub s.ground w → Evicts g old w s.ground s'.ground s.engine s'.engine id before after result)
+      (down : (fault : Fault) → s.engine.hub.fault ≡ Some fault → (result ≡ Err (Panic fault)) × (s'.engine ≡ s.engine) × (s'.ground ≡ s.ground) × (after ≡ before)) where
+    by_fault : (f : Option Fault) → w.machine.fault ≡ f → Made
+    by_fault None up = let on = held.on up in by_result on result (evicts on.old on.on on.follows on.since)
+    by_fault (Some fault) fell =
+        let t = down fault (held.stands.fault ∙ fell) in
+        subst (λ (d : D). RoomOf g start_disk w first made s s' before d) (sym t.3) (inl (still_up g s s' t.1 t.2 frames start_disk before w first made held))
+
+    pub leaf_room : Made
+    leaf_room = by_fault w.machine.fault refl
+
+-- whatever the disk
+pub leaf_alike : {D : Type 0} (g : Ghosts D) (s s' : Store) (before after : D) → s'.frames ≡ s.frames → s'.ground.number ≡ s.ground.number → s'.ground.trees ≡ s.ground.trees → SameDisk g before after
+    → (s'.engine.hub.tables ≡ s.engine.hub.tables) × (s'.engine.hub.txns ≡ s.engine.hub.txns) → (id : ℕ) (result : Result Evicted Refusal) → EvictsEngine s.engine s'.engine id result → RoomAlike g s s' before after
+leaf_alike g s s' before after frames number trees disk hub id result evicts = record { alike = record { frames = frames; sessions = by result evicts; tables = hub.0; txns = hub.1; number = number; trees = trees }; disk = disk }
+  where
+    same : s'.engine ≡ s.engine → s'.engine.sessions ≡ s.engine.sessions
+    same is = ap (λ (e : Engine). e.sessions) is
+
+    by : (r : Result Evicted Refusal) → EvictsEngine s.engine s'.engine id r → s'.engine.sessions ≡ s.engine.sessions
+    by (Ok Done) (link, out) = ap (λ (e : Engine). e.sessions) out.is
+    by (Ok Parted) (entries, parted) = ap (λ (e : Engine). e.sessions) parted.way.is
+    by (Ok (Stays why)) is = same is
+    by (Ok (Unresolved who)) is = same is
+    by (Ok Moves) is = same is
+    by (Ok Empty) is = same is
+    by (Err r) (inl is) = same is
+    by (Err r) (inr (fault, is)) = ap (λ (e : Engine). e.sessions) is
+
+-- so far
+pub record RoomSoFar {D : Type 0} (g : Ghosts D) (a b : Store) (before now : D) : Type 0 where
+  pub room : MakesRoom g a b before now
+  pub alike : RoomAlike g a b before now
+
+module _ {D : Type 0} (g : Ghosts D) (a b b' : Store) (before mid : D) (so_far : RoomSoFar g a b before mid) (engine : b'.engine ≡ b.engine) (ground : b'.ground ≡ b.ground) (frames : b'.frames ≡ b.frames) where
+  -- the hand went on
+  pub room_passed : RoomSoFar g a b' before mid
+  room_passed = record {
+    room = makes_more g a b b' before mid mid so_far.alike.disk.same so_far.room (still_room g b b' engine ground frames mid);
+    alike = alike_more g a b b' before mid mid so_far.alike (still_alike g b b' engine ground frames mid);
+  }
+
+  -- and then a leaf was evicted, or stayed
+  pub room_goes : (c : Store) (after : D) → MakesRoom g b' c mid after → RoomAlike g b' c mid after → RoomSoFar g a c before after
+  room_goes c after room alike = record {
+    room = makes_more g a b' c before mid after so_far.alike.disk.same room_passed.room room;
+    alike = alike_more g a b' c before mid after room_passed.alike alike;
+  }
+
+-- of what is the same
+pub room_joined : {D : Type 0} (g : Ghosts D) (a : Store) (before : D) (b b' : Store) (now now' : D) → b' ≡ b → now' ≡ now → RoomSoFar g a b before now → RoomSoFar g a b' before now'
+room_joined {D} g a before b b' now now' store disk so_far = subst (λ (d : D). RoomSoFar g a b' before d) (sym disk) (subst (λ (x : Store). RoomSoFar g a x before now) (sym store) so_far)

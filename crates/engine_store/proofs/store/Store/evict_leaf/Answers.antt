@@ -1,0 +1,23 @@
+use Rattle.std.proofs.Common.{refl}
+use Rattle.engine_store.proofs.MakingRoom.{leaf_alike, leaf_room}
+use Rattle.engine_store.proofs.store.Store.evict_leaf.Goals as goal
+
+pub returns-in-Ok-clause-room : goal.returns-in-Ok-clause-room
+returns-in-Ok-clause-room g c = λ h start w first made held.
+    leaf_room g.D.Disk start c.args.disk.now c.evict.new.disk (λ later d left. g.met.D.Disk.counts_now _ _ d later left) (λ d left. g.met.D.Disk.only_now _ d left) (g.met.D.Disk.reads_an_image c.args.disk.now h)
+    c.args.self.now (record c.args.self.now { engine = c.evict.new.engine; ground = c.evict.new.ground }) refl w first made held c.evict.ensures.disk c.downs_go.ensures c.args.leaf c.evict.result
+    (λ old on follows device. c.evict.ensures.evicts h w held.stands held.idle old on follows device) c.evict.ensures.down
+
+pub returns-in-Ok-clause-alike : goal.returns-in-Ok-clause-alike
+returns-in-Ok-clause-alike g c =
+    leaf_alike g.D.Disk c.args.self.now (record c.args.self.now { engine = c.evict.new.engine; ground = c.evict.new.ground }) c.args.disk.now c.evict.new.disk refl c.evict.ensures.number c.evict.ensures.trees c.evict.ensures.disk c.evict.ensures.hub c.args.leaf c.evict.result c.evict.ensures.engine
+
+pub returns-in-Err-clause-room : goal.returns-in-Err-clause-room
+returns-in-Err-clause-room g c = λ h start w first made held.
+    leaf_room g.D.Disk start c.args.disk.now c.evict.new.disk (λ later d left. g.met.D.Disk.counts_now _ _ d later left) (λ d left. g.met.D.Disk.only_now _ d left) (g.met.D.Disk.reads_an_image c.args.disk.now h)
+    c.args.self.now (record c.args.self.now { engine = c.evict.new.engine; ground = c.evict.new.ground }) refl w first made held c.evict.ensures.disk c.downs_go.ensures c.args.leaf c.evict.result
+    (λ old on follows device. c.evict.ensures.evicts h w held.stands held.idle old on follows device) c.evict.ensures.down
+
+pub returns-in-Err-clause-alike : goal.returns-in-Err-clause-alike
+returns-in-Err-clause-alike g c =
+    leaf_alike g.D.Disk c.args.self.now (record c.args.self.now { engine = c.evict.new.engine; ground = c.evict.new.ground }) c.args.disk.now c.evict.new.disk refl c.evict.ensures.number c.evict.ensures.trees c.evict.ensures.disk c.evict.ensures.hub c.args.leaf c.evict.result c.evict.ensures.engine

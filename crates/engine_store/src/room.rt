@@ -1,0 +1,106 @@
+//! Leaves that are evicted behind calls.
+
+ghost use Rattle.std.specs.Prelude.{◌≡◌, length};
+ghost use Rattle.disk_model.specs.Crash.{SameDisk};
+ghost use Rattle.engine_store.specs.Calls.{StaysTold};
+ghost use Rattle.engine_store.specs.Opened.{IsReady};
+ghost use Rattle.engine_store.specs.Room.{MakesRoom, RoomAlike};
+
+use crate::eviction::TRIES;
+use crate::store::Store;
+use crate::writing_out::{CHANGED_LEAST, is_short};
+use ckpt_step::evict;
+use disk_model::Disk;
+use engine_world::downs_go;
+use std::alloc::Global;
+
+impl Store {
+    /// Behind a call, whoever is at work: some leaves are evicted (`ckpt_step::evict`), so that the
+    /// newest version of each of their keys stands in a block that the live tree alone has, and they are
+    /// in no frame. One that has grown past one block parts: leaves of several such blocks, in no frame
+    /// either, have its place. Calls read them when they need them, the next checkpoint keeps them as they
+    /// stand, and an opening knows nothing of them.
+    ///
+    /// While more than `self.frames` frames have leaves, these are the next ones of which keys were
+    /// written since they were read. Every 1,000 calls it is each of which `CHANGED_LEAST` keys or more
+    /// were. At most four are tried. A leaf stays in its frame that may not go, and for which memory or
+    /// the device has no room. A failed write takes the engine down; a failed read does not. Either ends
+    /// it.
+    ///
+    /// `O(1)` where nothing is due, else `O(n)` in the frames, and of each such leaf what
+    /// `ckpt_step::evict` costs.
+    #[inline(always)]
+    pub fn make_room<D: Disk>(&mut self, alloc: Global, disk: &mut D)
+        ensures room { MakesRoom D.Disk self.old self.new disk.old disk.new }
+        ensures frames { self.new.frames ≡ self.old.frames }
+        ensures sessions { length self.new.engine.sessions ≡ length self.old.engine.sessions }
+        ensures number { self.new.ground.number ≡ self.old.ground.number }
+        ensures ready { IsReady self.old → IsReady self.new }
+        ensures told { StaysTold D.Disk self.old self.new disk.old disk.new }
+        ensures disk { SameDisk D.Disk disk.old disk.new }
+    {
+        self.evict_due(alloc, disk);
+    }
+
+    // Those leaves, if any are due.
+    #[inline(always)]
+    fn evict_due<D: Disk>(&mut self, alloc: Global, disk: &mut D)
+        ensures room { MakesRoom D.Disk self.old self.new disk.old disk.new }
+        ensures alike { RoomAlike D.Disk self.old self.new disk.old disk.new }
+    {
+        if self.clock.take_over() {
+            self.evict_over(alloc, disk);
+        } else if self.clock.count_call() {
+            self.evict_some(alloc, disk, TRIES, CHANGED_LEAST);
+        }
+    }
+
+    // Some of the leaves beyond so many as there are frames. As long as some go, others go behind the next
+    // call.
+    #[inline(never)]
+    fn evict_over<D: Disk>(&mut self, alloc: Global, disk: &mut D)
+        ensures room { MakesRoom D.Disk self.old self.new disk.old disk.new }
+        ensures alike { RoomAlike D.Disk self.old self.new disk.old disk.new }
+    {
+        let filled = self.filled();
+        let over = filled.saturating_sub(self.frames as usize);
+        self.evict_some(alloc, disk, over.min(TRIES), 1);
+        let has_fewer = self.filled() < filled;
+        self.clock.note_over(over > TRIES && has_fewer);
+    }
+
+    // At most so many of the leaves in frames of each of which so many keys or more were written since it
+    // was read, by the hand of the clock.
+    #[inline(never)]
+    fn evict_some<D: Disk>(&mut self, alloc: Global, disk: &mut D, tries: usize, least: usize)
+        ensures room { MakesRoom D.Disk self.old self.new disk.old disk.new }
+        ensures alike { RoomAlike D.Disk self.old self.new disk.old disk.new }
+    {
+        let mut left = tries;
+        for _ in 0..self.engine.frames() {
+            if left == 0 {
+                return;
+            }
+            let frame = self.clock.next(self.engine.frames());
+            if let Some(leaf) = self.changed_by(frame, least) {
+                left = left.wrapping_sub(1);
+                if !self.evict_leaf(alloc, disk, leaf) {
+                    return;
+                }
+            }
+        }
+    }
+
+    // A leaf is evicted, parts or stays. Whether others are tried: a fault of the disk ends it, want of
+    // memory or room does not.
+    fn evict_leaf<D: Disk>(&mut self, alloc: Global, disk: &mut D, leaf: u64) -> bool
+        ensures room { MakesRoom D.Disk self.old self.new disk.old disk.new }
+        ensures alike { RoomAlike D.Disk self.old self.new disk.old disk.new }
+    {
+        downs_go();
+        match evict(alloc, disk, &mut self.ground, &mut self.engine, leaf) {
+            Ok(_) => true,
+            Err(refusal) => is_short(refusal),
+        }
+    }
+}
