@@ -25,7 +25,6 @@ use Rattle.row_page.specs.Rows.{Row}
 use Rattle.engine_world.specs.Stands.{Engine}
 use Rattle.engine_world.specs.Systems.{first_world}
 use Rattle.engine_world.specs.Worlds.{World}
-use Rattle.ckpt_step.specs.declared.lives.Lone.{Lone}
 use Rattle.ckpt_step.specs.Calm.{IsCalm, StartsCalm}
 use Rattle.ckpt_step.specs.Plain.{IsPlain}
 use Rattle.engine_store.specs.declared.store.Store.{Store}
@@ -35,7 +34,7 @@ use Rattle.engine_store.specs.Held as held
 use Rattle.engine_store.specs.Held.{IsHeld}
 use Rattle.script_run.specs.declared.told.Told.{Told}
 use Rattle.script_run.specs.Runs.{IsAt, IsStopped, IsTold, RepliedAs}
-use Rattle.script_run.specs.Scripts.{BySystem, Checkpoints, Closes, NotReopened, Reopens, Script, gives_stamp, on_device, opened_world, plain}
+use Rattle.script_run.specs.Scripts.{BySystem, Checkpoints, Closes, NotReopened, Reopens, RunsLine, Script, gives_stamp, on_device, opened_world, plain}
 
 -- ---- what goes on
 
@@ -48,7 +47,7 @@ calm_on w m shelf calm plain = record { plain = plain; doings = calm.doings; sys
 
 -- nothing is known of stamps
 pub at_any : {D : Type 0} (g : Ghosts D) (first : D) (stamped : Bool) (store : Store) (disk : D) (s : Script) → IsAt g first stamped store disk s → IsAt g first true store disk s
-at_any g first stamped store disk s at = record { held = at.held; device = at.device; calm = λ is. absurd (false≢true (sym is)); none = at.none }
+at_any g first stamped store disk s at = record { held = at.held; device = at.device; calm = λ is. absurd (false≢true (sym is)) }
 
 -- a line of `sys`, by whether it has a call that is not finished
 by_busy : (s : Script) (reply : Reply) (later : Script) (Goes : Type 0) → is_there (slice_index_or s.world.systems 0 None) ≡ true → reply ≡ Answered (Refused (Invalid InCall)) → later ≡ s → BySystem s reply later Goes
@@ -78,8 +77,8 @@ module _ {D : Type 0} (g : Ghosts D) (first : D) (s : Script) (store store' : St
       device = device_of g disk';
       made = x.now;
       behind = subst (λ (d : Device). IsLeft d (device_of g disk') s.world.machine x.next (answer_of result)) (sym at.device) x.behind;
-      takes = subst (λ (l : List Lone). CheckpointTakes l s.device (device_of g disk') s.world.machine (answer_of result) x.next) at.none
-          (subst (λ (d : Device). CheckpointTakes store.ground.lives d (device_of g disk') s.world.machine (answer_of result) x.next) (sym at.device) x.takes);
+      lives = store.ground.lives;
+      takes = subst (λ (d : Device). CheckpointTakes store.ground.lives d (device_of g disk') s.world.machine (answer_of result) x.next) (sym at.device) x.takes;
       installs = x.installs;
       told = told;
       shelf = shelf;
@@ -87,7 +86,7 @@ module _ {D : Type 0} (g : Ghosts D) (first : D) (s : Script) (store store' : St
     }
 
     checkpoint_at : IsAt g first false store' disk' checkpoint_later
-    checkpoint_at = record { held = x.held; device = refl; calm = λ is. calm_on s.world x.next shelf calm x.plain; none = x.none at.none }
+    checkpoint_at = record { held = x.held; device = refl; calm = λ is. calm_on s.world x.next shelf calm x.plain }
 
   module _ (x : held.Shuts g first s.world s.first s.made store store' disk disk' result) where
     abbrev close_later : Script
@@ -99,23 +98,23 @@ module _ {D : Type 0} (g : Ghosts D) (first : D) (s : Script) (store store' : St
       device = device_of g disk';
       made = x.now;
       behind = subst (λ (d : Device). IsLeft d (device_of g disk') (rolled_back s.world.machine) x.next (answer_of result)) (sym at.device) x.behind;
-      takes = subst (λ (l : List Lone). CloseTakes l s.device (device_of g disk') s.world (answer_of result) x.next) at.none
-          (subst (λ (d : Device). CloseTakes store.ground.lives d (device_of g disk') s.world (answer_of result) x.next) (sym at.device) x.takes);
+      lives = store.ground.lives;
+      takes = subst (λ (d : Device). CloseTakes store.ground.lives d (device_of g disk') s.world (answer_of result) x.next) (sym at.device) x.takes;
       installs = x.installs;
       leaves = refl;
     }
 
     close_at : IsAt g first false store' disk' close_later
-    close_at = record { held = x.held; device = refl; calm = λ is. calm_on s.world x.next s.world.shelf calm x.plain; none = x.none at.none }
+    close_at = record { held = x.held; device = refl; calm = λ is. calm_on s.world x.next s.world.shelf calm x.plain }
 
 module _ {D : Type 0} (g : Ghosts D) (first : D) (s : Script) (store : Store) (disk : D) (told : Told) where
   pub checkpoint_busy : IsAt g first false store disk s → is_there (slice_index_or s.world.systems 0 None) ≡ true → told.reply ≡ Answered (Refused (Invalid InCall)) → told.formats ≡ plain
       → IsTold g first false (OfAll Checkpoint) s store disk s.formats told
-  checkpoint_busy at busy reply formats = record { later = s; replies = (formats, by_busy s told.reply s _ busy reply refl); at = at; start = refl; kept_is = refl }
+  checkpoint_busy at busy reply formats = record { later = s; replies = (s, (formats, by_busy s told.reply s _ busy reply refl), refl); at = at; start = refl; kept_is = refl }
 
   pub close_busy : (kept : List Formats) → IsAt g first false store disk s → s.formats ≡ kept → is_there (slice_index_or s.world.systems 0 None) ≡ true → told.reply ≡ Answered (Refused (Invalid InCall)) → told.formats ≡ plain
       → IsTold g first false (OfAll Close) s store disk kept told
-  close_busy kept at same busy reply formats = record { later = s; replies = (formats, by_busy s told.reply s _ busy reply refl); at = at; start = refl; kept_is = same }
+  close_busy kept at same busy reply formats = record { later = s; replies = (s, (formats, by_busy s told.reply s _ busy reply refl), refl); at = at; start = refl; kept_is = same }
 
 module _ {D : Type 0} (g : Ghosts D) (first : D) (s : Script) (store store' : Store) (disk disk' : D) (at : IsAt g first false store disk s) (idle : is_there (slice_index_or s.world.systems 0 None) ≡ false) (x : held.Shuts g first s.world s.first s.made store store' disk disk' (Ok tt)) where
   abbrev between : Script
@@ -127,11 +126,14 @@ module _ {D : Type 0} (g : Ghosts D) (first : D) (s : Script) (store store' : St
   close_then : (last : Store) (now : D) (kept : List Formats) (result : Result Told Refusal) → RepliedAs g first false (OfAll Crash) between last now kept result → RepliedAs g first false (OfAll Close) s last now kept result
   close_then last now kept (Ok told) r = record {
     later = r.later;
-    replies = (r.replies.0, by_idle s told.reply r.later _ idle (inr (between, closes, r.replies.1.0, r.replies.1.1)));
+    replies = by r.replies;
     at = r.at;
     start = r.start;
     kept_is = r.kept_is;
   }
+    where
+      by : RunsLine (OfAll Crash) between told.formats told.reply r.later → RunsLine (OfAll Close) s told.formats told.reply r.later
+      by (middle, (formats, (reopens, reply)), same) = (middle, (formats, by_idle s told.reply middle _ idle (inr (between, closes, reopens, reply))), same)
   close_then last now kept (Err e) r = record { later = r.later; stops = (not_there (slice_index_or s.world.systems 0 None) idle, (between, closes, r.stops)); at = r.at; start = r.start }
 
 module _ {D : Type 0} (g : Ghosts D) (first : D) (s : Script) (store : Store) (disk : D) (at : IsAt g first false store disk s) (idle : is_there (slice_index_or s.world.systems 0 None) ≡ false) (store' : Store) (disk' : D) where
@@ -141,7 +143,7 @@ module _ {D : Type 0} (g : Ghosts D) (first : D) (s : Script) (store : Store) (d
       let later = checkpoint_later g first s store store' disk disk' result at x.0 x.1 in
       record {
         later = later;
-        replies = (formats, by_idle s told.reply later _ idle (checkpoint_is g first s store store' disk disk' result at x.0 x.1 told.reply reply));
+        replies = (later, (formats, by_idle s told.reply later _ idle (checkpoint_is g first s store store' disk disk' result at x.0 x.1 told.reply reply)), refl);
         at = checkpoint_at g first s store store' disk disk' result at x.0 x.1;
         start = refl;
         kept_is = refl;
@@ -154,7 +156,7 @@ module _ {D : Type 0} (g : Ghosts D) (first : D) (s : Script) (store : Store) (d
       let later = close_later g first s store store' disk disk' (Err r) at x in
       record {
         later = later;
-        replies = (formats, by_idle s told.reply later _ idle (inl (r, close_is g first s store store' disk disk' (Err r) at x, reply)));
+        replies = (later, (formats, by_idle s told.reply later _ idle (inl (r, close_is g first s store store' disk disk' (Err r) at x, reply))), refl);
         at = close_at g first s store store' disk disk' (Err r) at x;
         start = refl;
         kept_is = same;
@@ -198,12 +200,11 @@ module _ {D : Type 0} (g : Ghosts D) (first : D) (stamped : Bool) (s : Script) (
       } in
       record {
         later = later;
-        replies = (formats, (reopens, reply));
+        replies = (later, (formats, (reopens, reply)), refl);
         at = record {
           held = subst (λ (w : World). IsHeld g first store' disk' w s.first s.made) same x.held;
           device = refl;
           calm = λ none. subst (λ (w : World). IsCalm w) same (law x.content x.shelf store'.engine x.plain);
-          none = x.none;
         };
         start = refl;
         kept_is = sym new;
@@ -220,7 +221,7 @@ module _ {D : Type 0} (g : Ghosts D) (first : D) (stamped : Bool) (s : Script) (
         why = subst (λ (d : Device). RefusesReopening d (device_of g disk') r) (sym at.device) x.why;
         leaves = refl;
       } in
-      record { later = later; stops = stops; at = record { held = x.held; device = refl; calm = λ is. absurd (false≢true (sym is)); none = x.none at.none }; start = refl }
+      record { later = later; stops = stops; at = record { held = x.held; device = refl; calm = λ is. absurd (false≢true (sym is)) }; start = refl }
 
 -- ---- the lines together
 
@@ -239,7 +240,7 @@ pub gives_none : {D : Type 0} (g : Ghosts D) (first : D) (stamped : Bool) (asked
 gives_none g first stamped asked s store disk kept (Ok told) r = record {
   later = r.later;
   replies = r.replies;
-  at = record { held = r.at.held; device = r.at.device; calm = λ none. r.at.calm (or_none stamped none); none = r.at.none };
+  at = record { held = r.at.held; device = r.at.device; calm = λ none. r.at.calm (or_none stamped none) };
   start = r.start;
   kept_is = r.kept_is;
 }

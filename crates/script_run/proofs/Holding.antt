@@ -1,6 +1,6 @@
 -- What the line of an actor keeps of a store and its disk, and what is printed of a line.
 use Rattle.std.specs.Prelude.{◌≡◌, ◌||◌, ◌++◌, ◌∷◌, [], ℕ, Bool, true, false, List, Option, Some, None, Result, Ok, Err, IfOk, IfErr, IsTrue}
-use Rattle.std.proofs.Common.{inr, refl, sym, ap, subst, ◌∙◌}
+use Rattle.std.proofs.Common.{inr, refl, sym, subst, ◌∙◌}
 use Rattle.std.proofs.lemmas.Bool.{false≢true}
 use Rattle.disk_model.specs.declared.disk.Disk.{Ghosts}
 use Rattle.disk_model.proofs.Crash.{looked_then}
@@ -16,9 +16,9 @@ use Rattle.script_text.specs.declared.replies.Reply.TheVariants.{Answered}
 use Rattle.script_text.specs.declared.replies.Reply.{Reply}
 use Rattle.script_text.specs.Grammar.{IsLine}
 use Rattle.script_text.specs.Replies.{line_of_reply}
-use Rattle.ckpt_step.specs.declared.ground.Ground.{Ground}
 use Rattle.engine_store.specs.declared.store.Store.{Store}
 use Rattle.engine_store.specs.Calls.{CallKeeps}
+use Rattle.engine_store.specs.Room.{RoomOf}
 use Rattle.script_run.specs.declared.told.Told.{Told as LineTold}
 use Rattle.script_run.specs.declared.one_line.Printed.{Printed}
 use Rattle.script_run.specs.declared.one_line.Stop.{Stop}
@@ -27,6 +27,7 @@ use Rattle.engine_store.specs.Opened.{IsReady}
 use Rattle.script_run.specs.Runs.{IsAt, IsOfActor, IsReplied, IsTold, LineMade}
 use Rattle.script_run.specs.Scripts.{IsLater, Script, gives_stamp, listed, refusals_in}
 use Rattle.script_run.proofs.Calming.{CalmLaws, line_calm}
+use Rattle.script_run.proofs.GoneBehind.{behind_actor, gone_behind}
 
 -- ---- a store that keeps what it is held to
 
@@ -64,20 +65,22 @@ of_actor (Step who) stamped now other = tt
 of_actor (Finish who) stamped now other = tt
 of_actor (Control asked) stamped now other = absurd (other asked refl)
 
-pub actor_told : {D : Type 0} (g : Ghosts D) (first : D) (store store' : Store) (disk disk' : D) (asked : Line) (laws : CalmLaws) (stamped : Bool) (s : Script) (told : LineTold) (kept : List Formats) → IsOfActor asked → IsAt g first stamped store disk s → store'.ground ≡ store.ground
-    → IsReplied g first s store' disk' asked kept told → IsTold g first (stamped || gives_stamp asked) asked s store' disk' kept told
-actor_told g first store store' disk disk' asked laws stamped s told kept now at ground r = record {
-  later = r.later;
-  replies = r.is;
-  at = record {
-    held = r.held;
-    device = r.device;
-    calm = λ none. line_calm laws s told.formats told.reply r.later asked (or_second stamped (gives_stamp asked) none) now (at.calm (or_first stamped (gives_stamp asked) none)) r.is;
-    none = ap (λ (x : Ground). x.lives) ground ∙ at.none;
-  };
-  start = r.start;
-  kept_is = r.kept_is;
-}
+-- behind the line leaves may have left their frames
+pub actor_told : {D : Type 0} (g : Ghosts D) (first : D) (store middle store' : Store) (disk between disk' : D) (asked : Line) (laws : CalmLaws) (stamped : Bool) (s : Script) (told : LineTold) (kept : List Formats) → IsOfActor asked → IsAt g first stamped store disk s
+    → (r : IsReplied g first s middle between asked kept told) → RoomOf g first r.later.world r.later.first r.later.made middle store' between disk' → IsTold g first (stamped || gives_stamp asked) asked s store' disk' kept told
+actor_told g first store middle store' disk between disk' asked laws stamped s told kept now at r room =
+    let behind = gone_behind g first r.later middle store' between disk' r.device room in
+    record {
+      later = behind.later;
+      replies = (r.later, r.is, behind_actor asked r.later behind.later now behind.gone);
+      at = record {
+        held = behind.held;
+        device = behind.device;
+        calm = λ none. behind.calm (line_calm laws s told.formats told.reply r.later asked (or_second stamped (gives_stamp asked) none) now (at.calm (or_first stamped (gives_stamp asked) none)) r.is);
+      };
+      start = behind.start ∙ r.start;
+      kept_is = behind.kept ∙ r.kept_is;
+    }
 
 -- ---- what is printed of a line
 

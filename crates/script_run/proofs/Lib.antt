@@ -5,6 +5,7 @@ pub mod Naming
 pub mod Replying
 pub mod Telling
 pub mod Calming
+pub mod GoneBehind
 pub mod Holding
 pub mod Devices
 pub mod Scripting

@@ -213,13 +213,13 @@ module _ {D : Type 0} (g : Ghosts D) (disk : D) (w : World) where
     pub kept : script.formats ≡ place.formats
 
   -- before the first line
-  pub first-at : (store : Store) → IsHeld g disk store disk w w.machine.completed [] → IsCalm w → store.ground.lives ≡ [] → (stamped : Bool) → IsAt g disk stamped store disk (fresh w (device_of g disk))
-  first-at store held calm unwritten stamped = record { held = held; device = refl; calm = λ none. calm; none = unwritten }
+  pub first-at : (store : Store) → IsHeld g disk store disk w w.machine.completed [] → IsCalm w → (stamped : Bool) → IsAt g disk stamped store disk (fresh w (device_of g disk))
+  first-at store held calm stamped = record { held = held; device = refl; calm = λ none. calm }
 
   pub none-done : {S K : Type 0} (source : SourceGhosts S) (sink : SinkGhosts K) (input : S) (out : K) (held : Held) (place : Place) (store : Store)
-      → held.behind ≡ [] → place.line ≡ 1 → place.used ≡ 0 → place.stamped ≡ false → place.formats ≡ replicate SESSIONS_MAX plain → place.met ≡ None → IsHeld g disk store disk w w.machine.completed [] → IsCalm w → store.ground.lives ≡ []
+      → held.behind ≡ [] → place.line ≡ 1 → place.used ≡ 0 → place.stamped ≡ false → place.formats ≡ replicate SESSIONS_MAX plain → place.met ≡ None → IsHeld g disk store disk w w.machine.completed [] → IsCalm w
       → IsDone source sink input input out out held place store disk
-  none-done source sink input out held place store empty line used stamped formats met holds calm unwritten = record {
+  none-done source sink input out held place store empty line used stamped formats met holds calm = record {
     given = [];
     gave = gave_none (source.left input);
     texts = [];
@@ -230,7 +230,7 @@ module _ {D : Type 0} (g : Ghosts D) (disk : D) (w : World) where
     done = (line, used, stamped, refl, refl, refl);
     took = took_none (sink.written out);
     met = met;
-    at = first-at store holds calm unwritten place.stamped;
+    at = first-at store holds calm place.stamped;
     start = refl;
     kept = sym formats;
   }

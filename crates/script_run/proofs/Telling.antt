@@ -92,3 +92,10 @@ module _ {D : Type 0} (g : Ghosts D) where
   -- what is told more
   pub more_faults : (store store' : Store) (disk disk' : D) (Says Sooner : Type 0) → (Sooner → Says) → TellsFaults g store store' disk disk' (λ rose. Says → rose) → TellsFaults g store store' disk disk' (λ rose. Sooner → rose)
   more_faults store store' disk disk' Says Sooner sooner tells start le are = let x = tells start le are in ((λ says. x.0 (sooner says)), x.1)
+
+  -- ---- of what goes behind a line
+
+  pub later_faults : (store middle store' : Store) (disk between disk' : D) (Says : Type 0) → g.faults disk ≤ g.faults between → g.faults between ≤ g.faults disk' → TellsFaults g store middle disk between (λ rose. Says → rose) → StaysTold g middle store' between disk'
+      → TellsFaults g store store' disk disk' (λ rose. Says → rose)
+  later_faults store middle store' disk between disk' Says sooner later tells stays start le are =
+      let x = tells start le are in ((λ says. let rose = x.0 says in omega (arith, rose, later)), stays start (omega (arith, le, sooner)) x.1)

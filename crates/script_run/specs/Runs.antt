@@ -36,7 +36,7 @@ use Rattle.script_run.specs.Faults.{RepliesFault, TellsFaults}
 use Rattle.script_run.specs.Lines.{AreLines}
 use Rattle.wt_io.specs.declared.streams.Source.{Ghosts as SourceGhosts}
 use Rattle.wt_io.specs.declared.streams.Sink.{Ghosts as SinkGhosts}
-use Rattle.script_run.specs.Scripts.{outside, Answers, Begins, CauseOn, Ends, Goes, Outside, Ran, Refuses, Replies, RunsLines, Script, IsLater, IsLaterCall, NoSession, StopsBy, actor_in, caller, counts, first_of, fresh, gives_stamp, listed, missing, opened_more, refusals_in}
+use Rattle.script_run.specs.Scripts.{outside, Answers, Begins, CauseOn, Ends, Goes, Outside, Ran, Refuses, Replies, RunsLine, RunsLines, Script, IsLater, IsLaterCall, NoSession, StopsBy, actor_in, caller, counts, first_of, fresh, gives_stamp, listed, missing, opened_more, refusals_in}
 
 -- one of the four actors of the system, or any session
 abbrev pub IsKnown : Actor → Type 0
@@ -79,12 +79,11 @@ IsOfActor (OfAll asked) = ⊥
 
 -- ---- on a device
 
--- The store and its disk stand for s, in a run that began on the first disk. Until a commit has a stamp, none that is under way has one. No leaf was written since the last checkpoint.
+-- The store and its disk stand for s, in a run that began on the first disk. Until a commit has a stamp, none that is under way has one.
 pub record IsAt {D : Type 0} (g : Ghosts D) (first : D) (stamped : Bool) (store : Store) (disk : D) (s : Script) : Type 0 where
   pub held : IsHeld g first store disk s.world s.first s.made
   pub device : s.device ≡ device_of g disk
   pub calm : stamped ≡ false → IsCalm s.world
-  pub none : store.ground.lives ≡ []
 
 -- ---- of an actor, in a run that began on the first disk
 
@@ -152,7 +151,7 @@ module _ {D : Type 0} (g : Ghosts D) (first : D) where
   -- a line was replied to, and left the store and its disk so
   pub record IsTold (stamped : Bool) (asked : Line) (s : Script) (store : Store) (disk : D) (kept : List Formats) (told : Told) : Type 0 where
     pub later : Script
-    pub replies : Replies asked s told.formats told.reply later
+    pub replies : RunsLine asked s told.formats told.reply later
     pub at : IsAt g first stamped store disk later
     pub start : later.first ≡ s.first
     pub kept_is : later.formats ≡ kept
@@ -173,7 +172,7 @@ module _ {D : Type 0} (g : Ghosts D) (first : D) where
     pub line : IsLine text asked
     pub now : IsLater stamped asked → ⊥
     pub later : Script
-    pub replies : Replies asked s formats reply later
+    pub replies : RunsLine asked s formats reply later
     pub at : IsAt g first (stamped || gives_stamp asked) store disk later
     pub start : later.first ≡ s.first
     pub kept_is : later.formats ≡ kept

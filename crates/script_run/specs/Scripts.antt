@@ -2,6 +2,7 @@
 use Rattle.std.specs.Prelude.{◌≡◌, ◌⊎◌, ◌<◌, ◌≤◌, ◌+◌, ◌-◌, ◌||◌, ℕ, zero, suc, Bool, true, false, IsTrue, MatchBool, List, [], ◌∷◌, ◌++◌, length, take, replicate, slice_index_or, slice_set, Option, None, Some}
 use Rattle.limits.specs.declared.TheConstants.{SESSIONS_MAX}
 use Rattle.failure.specs.Counts.{Rose}
+use Rattle.failure.specs.declared.Fault.{Fault}
 use Rattle.item.specs.declared.formats.Format.TheVariants.{U}
 use Rattle.item.specs.declared.formats.Formats.{Formats}
 use Rattle.wt_code.specs.declared.answers.Answer.{Answer}
@@ -14,7 +15,7 @@ use Rattle.wt_io.specs.Streams.{AtEnd}
 use Rattle.wt_io.specs.declared.streams.Source.{Ghosts as SourceGhosts}
 use Rattle.wt_io.specs.declared.streams.Sink.{Ghosts as SinkGhosts}
 use Rattle.kv_model.specs.History.{named, tables}
-use Rattle.kv_model.specs.Machine.{Machine, Completed, of_some}
+use Rattle.kv_model.specs.Machine.{GoDown, Machine, Completed, after as after_event, of_some}
 use Rattle.kv_model.specs.Calls.{rolled_back}
 use Rattle.kv_model.specs.Content.{Content, OpensAs, start}
 use Rattle.kv_model.specs.Decisions.{is_there}
@@ -44,9 +45,10 @@ use Rattle.engine.specs.declared.step.Actor.TheVariants as by
 use Rattle.engine.specs.declared.step.Step.TheVariants as step
 use Rattle.engine.specs.Runs.{MayStep, IsBuilt}
 use Rattle.engine.specs.Whole.{with_session_more}
+use Rattle.ckpt_step.specs.declared.lives.Lone.{Lone}
 use Rattle.engine_store.specs.Answers.{CheckpointTakes, CloseTakes, Installs, IsLeft, RefusesReopening}
 use Rattle.engine_store.specs.Calls.{EndsBy, MayAnswerOn, MayStepOn}
-use Rattle.engine_store.specs.Devices.{Device, Installed, IsLater as IsLaterDevice, IsRead, may_open_to}
+use Rattle.engine_store.specs.Devices.{Device, Installed, IsLater as IsLaterDevice, IsRead, KeepsCheckpoint, may_open_to}
 use Rattle.engine_store.specs.Loads.{IsCause}
 use Rattle.script_run.specs.declared.script.End.{End}
 use Rattle.script_run.specs.declared.script.End.TheVariants.{Through, Stopped, InputFailed, OutputFailed}
@@ -215,26 +217,28 @@ BySystem s reply later Goes = MatchBool (is_there (slice_index_or s.world.system
 abbrev pub on_device : Script → Machine → Device → List Installed → Script
 on_device s m device made = record s { world = record s.world { machine = m }; device = device; made = made }
 
--- a checkpoint in one event, behind which leaves may have left their frames
+-- a checkpoint in one event, behind which leaves may have left their frames; lives: the leaves that were written since the last one
 pub record Checkpoints (s : Script) (reply : Reply) (later : Script) : Type 0 where
   pub answer : Answer (List ℕ)
   pub next : Machine
   pub device : Device
   pub made : List Installed
   pub behind : IsLeft s.device device s.world.machine next answer
-  pub takes : CheckpointTakes [] s.device device s.world.machine answer next
+  pub lives : List Lone
+  pub takes : CheckpointTakes lives s.device device s.world.machine answer next
   pub installs : Installs answer (checkpointed s.world.machine).completed device next s.made made
   pub told : reply ≡ Answered answer
   pub shelf : ℕ → List Row
   pub leaves : later ≡ on_device (record s { world = record s.world { shelf = shelf } }) next device made
 
--- a close
+-- a close; lives: the leaves that were written since the last checkpoint
 pub record Closes (s : Script) (answer : Answer (List ℕ)) (later : Script) : Type 0 where
   pub next : Machine
   pub device : Device
   pub made : List Installed
   pub behind : IsLeft s.device device (rolled_back s.world.machine) next answer
-  pub takes : CloseTakes [] s.device device s.world answer next
+  pub lives : List Lone
+  pub takes : CloseTakes lives s.device device s.world answer next
   pub installs : Installs answer (checkpointed (rolled_back s.world.machine)).completed device next s.made made
   pub leaves : later ≡ on_device s next device made
 
@@ -284,6 +288,47 @@ Replies (Start made) s formats reply later =
 Replies (Step who) s formats reply later = Opens (actor_in who) s.world (λ w. Goes (actor_in who) s formats reply later w) (λ r w. Refuses r s w reply later)
 Replies (Finish who) s formats reply later = Opens (actor_in who) s.world (λ w. Ends (actor_in who) s formats reply later w) (λ r w. Refuses r s w reply later)
 Replies (OfAll asked) s formats reply later = (formats ≡ plain) × ControlReplies asked s reply later
+
+-- ---- what goes behind a line
+
+-- Leaves may have left their frames, and the machine is this one then: nobody sees it, but that calls which had found such a leaf may be told so.
+pub record LeavesGone (s : Script) (next : Machine) (device : Device) (later : Script) : Type 0 where
+  pub shelf : ℕ → List Row
+  pub again : ℕ → Bool
+  pub more : (session : ℕ) → s.world.again session ≡ true → again session ≡ true
+  pub after : IsLaterDevice s.device device
+  pub capacity : device.capacity ≡ s.device.capacity
+  pub leaves : later ≡ record s { world = record s.world { machine = next; shelf = shelf; again = again }; device = device }
+
+-- the machine is the same, and the device has the checkpoint that it had
+pub record GoneUp (s later : Script) : Type 0 where
+  pub device : Device
+  pub gone : LeavesGone s s.world.machine device later
+  pub keeps : KeepsCheckpoint s.device device
+
+-- a write or a sync of the device failed, which no reply tells, and the machine is down
+pub record GoneDown (s later : Script) : Type 0 where
+  pub fault : Fault
+  pub device : Device
+  pub gone : LeavesGone s (after_event s.world.machine (GoDown fault)) device later
+  pub rose : Rose s.device.faults device.faults
+
+abbrev pub GoneBehind : Script → Script → Type 0
+GoneBehind s later = GoneUp s later ⊎ GoneDown s later
+
+-- behind a line of an actor; nothing is done behind one that is asked of the device
+abbrev pub Behind : Line → Script → Script → Type 0
+Behind (Whole made) s later = GoneBehind s later
+Behind (Start made) s later = GoneBehind s later
+Behind (Step who) s later = GoneBehind s later
+Behind (Finish who) s later = GoneBehind s later
+Behind (OfAll asked) s later = later ≡ s
+
+-- the reply to a line, and what it and what goes behind it leave
+abbrev pub RunsLine : Line → Script → Formats → Reply → Script → Type 0
+RunsLine asked s formats reply later = (middle : Script) × Replies asked s formats reply middle × Behind asked middle later
+
+-- ---- refusals
 
 -- the refusal that a reply tells, if it does
 abbrev pub refusals_in : Reply → List Refusal
@@ -350,7 +395,7 @@ RunsLines o at used stamped (text ∷ texts) s ran =
     ⊎ (((texts ≡ []) × (ran ≡ ends (Stopped refusal.NoMemory) s))
     ⊎ ((used + length text ≤ INPUT_MAX) × (asked : Line) × IsLine text asked × (IsLater stamped asked → ⊥)
     × (((r : Refusal) × (later : Script) × StopsBy asked s r later × (texts ≡ []) × (ran ≡ ends (Stopped r) later))
-    ⊎ ((formats : Formats) × (reply : Reply) × (later : Script) × Replies asked s formats reply later
+    ⊎ ((formats : Formats) × (reply : Reply) × (later : Script) × RunsLine asked s formats reply later
     × Prints o (line_of_reply formats reply) (λ rest. RunsLines o (at + 1) (used + (length text + 1)) (stamped || gives_stamp asked) texts later rest) texts reply later ran))))
 
 -- of the refusals that a script replies, a fault of the disk and want of memory count

@@ -20,7 +20,7 @@ use Rattle.script_run.specs.declared.script.Place.{Place}
 use Rattle.script_run.specs.declared.script.TheConstants.{INPUT_MAX}
 use Rattle.script_run.specs.Lines.{AreLines, GaveMore, Held, IsCut}
 use Rattle.script_run.specs.Runs.{IsAt}
-use Rattle.script_run.specs.Scripts.{IsLater, Outside, Ran, Replies, RunsLines, Script, counts, first_of, gives_stamp, listed, outside, refusals_in}
+use Rattle.script_run.specs.Scripts.{IsLater, Outside, Ran, RunsLine, RunsLines, Script, counts, first_of, gives_stamp, listed, outside, refusals_in}
 
 -- the first fault of the disk or want of memory, with one reply more
 abbrev pub met_with : Option Refusal → Option Refusal → Option Refusal
@@ -42,7 +42,7 @@ pub record LineDone (text : List ℕ) (used : ℕ) (stamped stamped' : Bool) (s 
   pub reply : Reply
   pub line : IsLine text asked
   pub now : IsLater stamped asked → ⊥
-  pub replies : Replies asked s formats reply later
+  pub replies : RunsLine asked s formats reply later
   pub printed_is : printed ≡ line_of_reply formats reply ++ 10 ∷ []
   pub refusal_is : listed refusal ≡ refusals_in reply
   pub stamped_is : stamped' ≡ (stamped || gives_stamp asked)

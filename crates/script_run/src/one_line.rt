@@ -181,7 +181,7 @@ fn gives_stamp(line: &Line) -> bool
     }
 }
 
-// The error is why the device was not opened anew.
+// The error is why the device was not opened anew. Behind a line of an actor leaves may leave memory.
 fn reply_to<D: Disk>(
     alloc: Global,
     store: &mut Store,
@@ -203,7 +203,9 @@ fn reply_to<D: Disk>(
         Line::Control(asked) => control(alloc, store, disk, formats, asked),
         line => {
             calm_stays();
-            Ok(reply_of(alloc, store, disk, formats.as_mut_slice(), line))
+            let told = reply_of(alloc, store, disk, formats.as_mut_slice(), line);
+            store.make_room(alloc, disk);
+            Ok(told)
         }
     }
 }

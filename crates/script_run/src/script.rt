@@ -53,7 +53,8 @@ pub const INPUT_MAX: u64 = 1 << 30;
 
 /// Runs a script: the lines of the input in order, each a call or a step of one, or something that
 /// is asked of the device, up to the end of the input. For each of them a line is printed that tells
-/// its reply, with one write. A refusal that a line replies does not end the script. A line that is
+/// its reply, with one write. Behind a line of an actor leaves may leave memory
+/// (`engine_store::Store::make_room`). A refusal that a line replies does not end the script. A line that is
 /// none, or is of a later stage, stops it by `Invalid::Text` with the number of the line, counted
 /// from 1, and is not run; an opening that is refused, want of memory and a stream that fails end it
 /// too. Once a line has committed with a stamp, a checkpoint and a close are of a later stage.
@@ -68,7 +69,7 @@ pub fn run_script<D: Disk, S: Source, K: Sink>(
     out: &mut K,
 ) -> ScriptRun
     requires ready { IsReady store.old }
-    ensures run { IsTrue (D.honest disk.old) → (w : World) → IsHeld D.Disk disk.old store.old disk.old w w.machine.completed [] → IsCalm w → store.old.ground.lives ≡ [] → IsRunOver D.Disk S.Source K.Sink input.old input.new out.old out.new w disk.old disk.new store.new result }
+    ensures run { IsTrue (D.honest disk.old) → (w : World) → IsHeld D.Disk disk.old store.old disk.old w w.machine.completed [] → IsCalm w → IsRunOver D.Disk S.Source K.Sink input.old input.new out.old out.new w disk.old disk.new store.new result }
     ensures input { result.end ≡ InputFails → Rose (S.fault_count input.old) (S.fault_count input.new) }
     ensures output { result.end ≡ OutputFails → Rose (K.fault_count out.old) (K.fault_count out.new) }
     ensures fault { length store.old.engine.sessions ≡ 0 → MetFault result → Rose (D.faults disk.old) (D.faults disk.new) }

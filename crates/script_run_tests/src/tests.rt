@@ -1,6 +1,7 @@
 // Scripts, with what each prints and how it ends, on a device on which nothing was done.
 mod bad_lines;
 mod devices;
+mod rooms;
 mod steps;
 mod stories;
 

@@ -12,7 +12,7 @@ use Rattle.script_text.specs.declared.replies.Reply.TheVariants.{Answered}
 use Rattle.engine_store.specs.Answers.{Installs}
 use Rattle.engine_store.specs.Devices.{Installed, IsLater}
 use Rattle.script_run.specs.declared.script.End.TheVariants.{Through, Stopped}
-use Rattle.script_run.specs.Scripts.{Replies, Script, StopsBy, ends as no_more}
+use Rattle.script_run.specs.Scripts.{RunsLine, Script, StopsBy, ends as no_more}
 use Rattle.wt_tool.specs.Points.{Point, Ran, prints, Closes}
 use Rattle.wt_tool.specs.Scripts.{ran_by}
 
@@ -63,7 +63,7 @@ module _ (around : Script → Script → Around) where
 
   -- the reply to it, and what it leaves
   abbrev pub Makes : Turn → Script → Reply → Script → Type 0
-  Makes (Says asked) s reply t = (formats : Formats) × Replies asked s formats reply t
+  Makes (Says asked) s reply t = (formats : Formats) × RunsLine asked s formats reply t
   Makes BySteps s reply t = (answer : Answer (List ℕ)) × (reply ≡ Answered answer) × TakesBySteps s answer t
 
   -- an opening that is refused ends the run

@@ -15,7 +15,7 @@ pub returns-in_default : goal.returns-in_default
 returns-in_default g c =
     let told : ScriptRun = record { end = Stopped NoMemory; met = None } in
     record {
-      run = λ honest w held calm unwritten. none-run g.D.Disk c.args.disk.now w g.S.Source g.K.Sink c.args.input.now c.args.out.now c.args.store.now told refl refl held;
+      run = λ honest w held calm. none-run g.D.Disk c.args.disk.now w g.S.Source g.K.Sink c.args.input.now c.args.out.now c.args.store.now told refl refl held;
       input = λ is. absurd cc;
       output = λ is. absurd cc;
       fault = λ none met. absurd (none-told met);
@@ -36,8 +36,8 @@ lines-init g c =
       disk = same_disk g.D.Disk c.args.disk.now;
       told = λ none. told_none g.D.Disk c.args.store.now.engine c.args.disk.now none;
       met = λ none met. absurd (none-met DiskFault (sym place.met ∙ met));
-      done = λ honest w held calm unwritten.
-          none-done g.D.Disk c.args.disk.now w g.S.Source g.K.Sink c.args.input.now c.args.out.now c.in-Ok.lines c.first-place.result c.args.store.now (ap (λ (h : Held). h.behind) c.in-Ok.ensures) place.line place.used place.stamped place.formats place.met held calm unwritten;
+      done = λ honest w held calm.
+          none-done g.D.Disk c.args.disk.now w g.S.Source g.K.Sink c.args.input.now c.args.out.now c.in-Ok.lines c.first-place.result c.args.store.now (ap (λ (h : Held). h.behind) c.in-Ok.ensures) place.line place.used place.stamped place.formats place.met held calm;
     }
 
 pub returns-in-Some : goal.returns-in-Some
@@ -46,8 +46,8 @@ returns-in-Some g c =
     let e = c.in-Some.ensures in
     let told : ScriptRun = record { end = c.in-Some.end; met = c.turn.new.place.met } in
     record {
-      run = λ honest w held calm unwritten.
-          let d = i.done honest w held calm unwritten in
+      run = λ honest w held calm.
+          let d = i.done honest w held calm in
           run-done g.D.Disk c.args.disk.now w g.S.Source g.K.Sink c.args.input.now c.lines.input c.turn.new.input c.args.out.now c.lines.out c.turn.new.out c.lines.lines c.lines.place c.turn.new.place c.lines.store c.turn.new.store c.lines.disk c.turn.new.disk told
           i.reads i.writes d (e.made (i.disk.same ∙ honest) c.args.disk.now d.script d.at d.kept) refl;
       input = λ is. rose-before (g.S.Source.fault_count c.args.input.now) (g.S.Source.fault_count c.lines.input) (g.S.Source.fault_count c.turn.new.input) i.reads (e.input_fails is);
@@ -74,8 +74,8 @@ lines-preserved g c =
       told = λ none. (e.told c.args.disk.now i.disk.later (i.told none)).1;
       met = λ none met.
           rose-either (c.lines.place.met ≡ Some DiskFault) (g.D.Disk.faults c.args.disk.now) (g.D.Disk.faults c.lines.disk) (g.D.Disk.faults c.turn.new.disk) c.turn.ensures.disk.later (i.met none) ((e.told c.args.disk.now i.disk.later (i.told none)).0 met);
-      done = λ honest w held calm unwritten.
-          let d = i.done honest w held calm unwritten in
+      done = λ honest w held calm.
+          let d = i.done honest w held calm in
           more-done g.D.Disk c.args.disk.now w g.S.Source g.K.Sink c.args.input.now c.lines.input c.turn.new.input c.args.out.now c.lines.out c.turn.new.out c.lines.lines c.turn.new.lines c.lines.place c.turn.new.place c.lines.store c.turn.new.store c.lines.disk c.turn.new.disk
           e.stays d (e.made (i.disk.same ∙ honest) c.args.disk.now d.script d.at d.kept);
     }

@@ -22,7 +22,7 @@ returns-clause-run g c h content each =
     let world = ap (λ (l : List (Option Call)). let v : World = record { machine = start content; sessions = []; systems = l; shelf = on.shelf; records = λ id key. []; again = λ session. false } in v) (four_rest s.engine.systems c.actors.ensures.systems) in
     scripted D o content on.shelf w c.args.disk.now c.run_script-ran.new.disk c.run_script-ran.new.store c.run_script-ran.result c.told-status.result
     (subst (λ (v : World). IsRun D o w.in_before w.in_now w.out_before w.out_now v c.args.disk.now c.run_script-ran.new.disk c.run_script-ran.new.store c.run_script-ran.result) world
-    (c.run_script-ran.ensures.run h (first_of D c.args.disk.now s on content each reads) held calm on.none))
+    (c.run_script-ran.ensures.run h (first_of D c.args.disk.now s on content each reads) held calm))
     c.told-status.ensures
 
 pub returns-clause-told : goal.returns-clause-told

@@ -1,0 +1,71 @@
+-- What goes behind the line of an actor.
+use Rattle.std.specs.Prelude.{◌≡◌, ℕ, Bool, List}
+use Rattle.std.proofs.Common.{inl, inr, refl, sym, ap, subst, ◌∙◌}
+use Rattle.failure.specs.Counts.{Rose}
+use Rattle.disk_model.specs.declared.disk.Disk.{Ghosts}
+use Rattle.kv_model.specs.Machine.{GoDown, Machine, after as after_event}
+use Rattle.script_text.specs.declared.line.Line.{Line}
+use Rattle.script_text.specs.declared.line.Line.TheVariants.{Whole, Start, Step, Finish, Control}
+use Rattle.row_page.specs.Rows.{Row}
+use Rattle.engine_world.specs.Worlds.{World}
+use Rattle.ckpt_step.specs.Calm.{IsCalm}
+use Rattle.ckpt_step.specs.Plain.{IsPlain}
+use Rattle.engine_store.specs.declared.store.Store.{Store}
+use Rattle.engine_store.specs.Devices.{Device, IsLater, KeepsCheckpoint, device_of}
+use Rattle.engine_store.specs.Held.{IsHeld}
+use Rattle.engine_store.specs.Room.{RoomMade, RoomOf}
+use Rattle.engine_store.proofs.WritingOut.{plain_down}
+use Rattle.script_run.specs.Runs.{IsOfActor}
+use Rattle.script_run.specs.Scripts.{Behind, GoneBehind, LeavesGone, Script}
+
+-- ---- calm worlds
+
+-- the calls that are under way are the same
+calm_as : (w : World) (m : Machine) (shelf : ℕ → List Row) (again : ℕ → Bool) → IsCalm w → IsPlain m → IsCalm (record w { machine = m; shelf = shelf; again = again })
+calm_as w m shelf again calm plain = record { plain = plain; doings = calm.doings; systems = calm.systems }
+
+-- ---- a line of an actor
+
+pub behind_actor : (asked : Line) (s later : Script) → IsOfActor asked → GoneBehind s later → Behind asked s later
+behind_actor (Whole made) s later now gone = gone
+behind_actor (Start made) s later now gone = gone
+behind_actor (Step who) s later now gone = gone
+behind_actor (Finish who) s later now gone = gone
+behind_actor (Control asked) s later now gone = absurd now
+
+module _ {D : Type 0} (g : Ghosts D) (first : D) (s : Script) (store store' : Store) (disk disk' : D) (there : s.device ≡ device_of g disk) where
+  -- the store and its disk stand for what it leaves
+  pub record IsBehind : Type 0 where
+    pub later : Script
+    pub gone : GoneBehind s later
+    pub held : IsHeld g first store' disk' later.world later.first later.made
+    pub device : later.device ≡ device_of g disk'
+    pub start : later.first ≡ s.first
+    pub kept : later.formats ≡ s.formats
+    pub calm : IsCalm s.world → IsCalm later.world
+
+  module _ (next : Machine) (x : RoomMade g first s.world s.first s.made store store' disk disk' next) where
+    abbrev now : Script
+    now = record s { world = record s.world { machine = next; shelf = x.shelf; again = x.again }; device = device_of g disk' }
+
+    gone : LeavesGone s next (device_of g disk') now
+    gone = record {
+      shelf = x.shelf;
+      again = x.again;
+      more = x.more;
+      after = subst (λ (d : Device). IsLater d (device_of g disk')) (sym there) x.later;
+      capacity = x.capacity ∙ sym (ap (λ (d : Device). d.capacity) there);
+      leaves = refl;
+    }
+
+    is_behind : GoneBehind s now → (IsCalm s.world → IsPlain next) → IsBehind
+    is_behind went plain = record { later = now; gone = went; held = x.held; device = refl; start = refl; kept = refl; calm = λ calm. calm_as s.world next x.shelf x.again calm (plain calm) }
+
+  pub gone_behind : RoomOf g first s.world s.first s.made store store' disk disk' → IsBehind
+  gone_behind (inl up) =
+      is_behind s.world.machine up.room
+      (inl (record { device = device_of g disk'; gone = gone s.world.machine up.room; keeps = subst (λ (d : Device). KeepsCheckpoint d (device_of g disk')) (sym there) up.keeps })) (λ calm. calm.plain)
+  gone_behind (inr down) =
+      let next = after_event s.world.machine (GoDown down.fault) in
+      is_behind next down.room
+      (inr (record { fault = down.fault; device = device_of g disk'; gone = gone next down.room; rose = subst (λ (d : Device). Rose d.faults (g.faults disk')) (sym there) down.rose })) (λ calm. plain_down s.world.machine down.fault calm.plain)
