@@ -7,4 +7,5 @@ pub mod Passing
 pub mod Leasts
 pub mod Greatests
 pub mod Reading
+mod SlotWays
 pub mod Walking

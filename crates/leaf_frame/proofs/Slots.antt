@@ -14,10 +14,10 @@ use Rattle.leaf_chains.proofs.Changes.{held, slot_of_none, with_chain}
 use Rattle.leaf_chains.proofs.Installs.{no_chain}
 use Rattle.leaf_frame.specs.Near.{IsNearSlot, NoSlotPast}
 
-no_slot : KeyChain
+pub no_slot : KeyChain
 no_slot = record { key = []; chain = [] }
 
-key_read : (slots : List KeyChain) (i : ℕ) (d : KeyChain) → i < length slots → key_at slots i ≡ (get_or slots i d).key
+pub key_read : (slots : List KeyChain) (i : ℕ) (d : KeyChain) → i < length slots → key_at slots i ≡ (get_or slots i d).key
 key_read [] i d lt = absurd (omega (arith, lt))
 key_read (s ∷ slots) zero d lt = refl
 key_read (s ∷ slots) (suc i) d lt = key_read slots i d (omega (arith, lt))

@@ -1,14 +1,17 @@
 -- A way over the keys of a leaf that keeps its place.
-use Rattle.std.specs.Prelude.{◌≡◌, ◌⊎◌, ℕ, true, List, Option, Some, None, MatchOption, slice_get}
+use Rattle.std.specs.Prelude.{◌≡◌, ℕ, true, List, [], Option, Some, None, MatchOption, slice_get}
 use Rattle.std.specs.Borrow.{Bor}
-use Rattle.kv_model.specs.Rows.{Way, comes_after}
+use Rattle.kv_model.specs.Rows.{Way, Up, Down, comes_after}
 use Rattle.row_page.specs.Rows.{Row}
 use Rattle.row_page.specs.Views.{row_seen}
 use Rattle.leaf_rows.specs.Rows.{AreFit}
 use Rattle.leaf_chains.specs.declared.slot.KeyChain.{KeyChain}
+use Rattle.leaf_chains.specs.Nearest.{IsWayUp}
 use Rattle.leaf_frame.specs.declared.near.First.{First}
 use Rattle.leaf_frame.specs.declared.near.First.TheVariants as first
 use Rattle.leaf_frame.specs.declared.page.RowAt.{RowAt}
+use Rattle.leaf_frame.specs.declared.slot_way.SlotsAhead.{SlotsAhead}
+use Rattle.leaf_frame.specs.declared.slot_way.SlotsAhead.TheVariants as along
 use Rattle.leaf_frame.specs.Leaf.{HeldLeaf}
 use Rattle.leaf_frame.specs.Near.{IsNearRow, IsNearSlot, NoRowPast, NoSlotPast}
 
@@ -30,11 +33,28 @@ pub record IsRowAt (way : Way) (from : Option (List ℕ)) (page : List Row) (r :
   pub near : IsNearRow way from page r.cell
   pub place : slice_get page r.index ≡ Some (row_seen r.cell)
 
--- where it has come: the slot and the row of the nearest keys
-pub record IsPlaced (way : Way) (from : Option (List ℕ)) (page : List Row) (chains : List KeyChain) (there : Option (Bor KeyChain)) (row : Option RowAt) : Type 0 where
+-- the way of the slots that are left
+abbrev pub way_along : SlotsAhead → Way
+way_along (along.Up walk) = Up
+way_along along.Down = Down
+
+-- the slots that are left are those past where it has come, behind the nearest one where that was sought
+abbrev pub SlotsFrom : SlotsAhead → Option (List ℕ) → List KeyChain → Option (Bor KeyChain) → Type 0
+SlotsFrom (along.Up walk) from chains None = IsWayUp from chains walk
+SlotsFrom (along.Up walk) from chains (Some s) = IsNearSlot Up from chains s.now × IsWayUp (Some s.now.key) chains walk
+SlotsFrom along.Down from chains None = Unit {0}
+SlotsFrom along.Down from chains (Some s) = IsNearSlot Down from chains s.now
+
+-- none is left
+abbrev pub AreThrough : SlotsAhead → Option (List ℕ) → List KeyChain → Type 0
+AreThrough (along.Up walk) from chains = walk ≡ []
+AreThrough along.Down from chains = NoSlotPast Down from chains
+
+-- where it has come: the nearest slot, where it was sought, and those behind it, and the nearest row
+pub record IsPlaced (slots : SlotsAhead) (from : Option (List ℕ)) (page : List Row) (chains : List KeyChain) (there : Option (Bor KeyChain)) (row : Option RowAt) : Type 0 where
   pub fit : AreFit page
-  pub slot : MatchOption there (NoSlotPast way from chains) (λ s. IsNearSlot way from chains s.now)
-  pub row_at : MatchOption row (NoRowPast way from page) (IsRowAt way from page)
+  pub slot : SlotsFrom slots from chains there
+  pub row_at : MatchOption row (NoRowPast (way_along slots) from page) (IsRowAt (way_along slots) from page)
 
 -- ---- which of them comes first on the way
 

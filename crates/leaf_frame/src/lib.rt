@@ -16,6 +16,7 @@ mod laws;
 mod look;
 mod near;
 mod page;
+mod slot_way;
 mod updates;
 mod walk;
 mod way;

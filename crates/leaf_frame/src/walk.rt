@@ -10,8 +10,9 @@ ghost use Rattle.leaf_frame.specs.Next.{IsNextHeld, NoneHeld};
 ghost use Rattle.leaf_frame.specs.Walks.{onward, walk_on};
 ghost use Rattle.leaf_frame.specs.Ways.{way_in};
 
-use crate::near::{First, HeldRow, Near, first_of, near_slot, of_both, of_row, of_slot, row_of};
+use crate::near::{First, HeldRow, Near, first_of, of_both, of_row, of_slot, row_of};
 use crate::page::{RowAt, near_row, row_behind};
+use crate::slot_way::{SlotsAhead, slots_ahead, way_of};
 use crate::way::Way;
 use leaf_chains::{KeyChain, LeafChains};
 use row_page::Leaf;
@@ -24,10 +25,11 @@ use std::marker::Model;
 pub struct LeafWalk<'a> {
     page: Option<&'a Leaf>,
     chains: &'a LeafChains,
-    way: Way,
     from: Option<&'a [u8]>,
-    // The nearest slot, and the nearest row.
+    // The nearest slot, where it was sought, and those behind it.
     there: Option<&'a KeyChain>,
+    slots: SlotsAhead<'a>,
+    // The nearest row.
     row: Option<RowAt<'a>>,
 }
 
@@ -35,14 +37,13 @@ impl<'a> Model for LeafWalk<'a> {
     ghost use Rattle.std.specs.Prelude.{option_map};
     ghost use Rattle.reconcile.specs.Held.{page_rows};
     ghost use Rattle.leaf_frame.specs.Leaf.{leaf_of};
-    ghost use Rattle.leaf_frame.specs.Walks.{IsPlaced, Walked, walk_on};
-    ghost use Rattle.leaf_frame.specs.Ways.{way_in};
+    ghost use Rattle.leaf_frame.specs.Walks.{IsPlaced, Walked, walk_on, way_along};
 
     ghost Value = { Walked };
 
-    ghost view = { λ a. walk_on (way_in a.way) (option_map (λ k. k.now) a.from) (leaf_of (page_rows a.page) a.chains.now) };
+    ghost view = { λ a. walk_on (way_along a.slots) (option_map (λ k. k.now) a.from) (leaf_of (page_rows a.page) a.chains.now) };
 
-    ghost invariant = { λ a. IsPlaced (way_in a.way) (option_map (λ k. k.now) a.from) (page_rows a.page) a.chains.now a.there a.row };
+    ghost invariant = { λ a. IsPlaced a.slots (option_map (λ k. k.now) a.from) (page_rows a.page) a.chains.now a.there a.row };
 }
 
 impl<'a> LeafWalk<'a> {
@@ -59,9 +60,9 @@ impl<'a> LeafWalk<'a> {
         LeafWalk {
             page,
             chains,
-            way,
             from,
-            there: near_slot(chains, way, from),
+            there: None,
+            slots: slots_ahead(chains, way, from),
             row: near_row(page, way, from),
         }
     }
@@ -69,7 +70,8 @@ impl<'a> LeafWalk<'a> {
     /// The nearest key on the way of which the leaf holds something and that does not read as
     /// removed, with its read; none exactly where there is none. The way goes on behind it. A key of
     /// which nothing is admitted counts: older versions of it may stand elsewhere. Takes no memory.
-    /// `O(1)` for each row that is given or passed, and `O(log n)` comparisons for a key of a chain.
+    /// `O(1)` for each key that is given or passed, but `O(log n)` comparisons for a key of a chain on
+    /// the way to smaller ones.
     pub fn next_held(&mut self, view: &View<'_>) -> Option<HeldRow<'a>>
         requires { IsSight (sight_of view.now) }
         ensures held { MatchOption result (NoneHeld self.old.way self.old.from view.now self.old.leaf) (IsNextHeld self.old.way self.old.from view.now self.old.leaf) }
@@ -89,24 +91,27 @@ impl<'a> LeafWalk<'a> {
     fn pass(&mut self) -> Option<Near<'a>>
         ensures { MatchOption result (NonePast self.old.way self.old.from self.old.leaf × (self.new ≡ self.old)) (λ n. IsNear self.old.way self.old.from self.old.leaf n × (self.new ≡ onward n.key.now self.old)) }
     {
-        match first_of(self.there, self.row, self.way)? {
-            First::Slot(there) => {
-                let near = of_slot(there);
+        let way = way_of(&self.slots);
+        self.there = self.slots.nearest(self.chains, self.from, self.there);
+        match first_of(self.there, self.row, way) {
+            None => None,
+            Some(First::Slot(slot)) => {
+                let near = of_slot(slot);
                 self.from = Some(near.key);
-                self.there = near_slot(self.chains, self.way, Some(near.key));
+                self.there = None;
                 Some(near)
             }
-            First::Row(row) => {
+            Some(First::Row(row)) => {
                 let near = of_row(row.cell);
                 self.from = Some(near.key);
-                self.row = row_behind(self.page, self.way, row);
+                self.row = row_behind(self.page, way, row);
                 Some(near)
             }
-            First::Both(there, row) => {
-                let near = of_both(there, row.cell);
+            Some(First::Both(slot, row)) => {
+                let near = of_both(slot, row.cell);
                 self.from = Some(near.key);
-                self.there = near_slot(self.chains, self.way, Some(near.key));
-                self.row = row_behind(self.page, self.way, row);
+                self.there = None;
+                self.row = row_behind(self.page, way, row);
                 Some(near)
             }
         }
