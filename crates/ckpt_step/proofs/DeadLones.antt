@@ -64,7 +64,6 @@ module _ (old : Option Stored) (lives : List Lone) (lone : AreLone old lives) (x
     respects = follows.respects;
     leaf = λ i t place tree l at stands has c its dead. follows.leaf i t place tree l at stands has c its (sym (live_fewer l c) ∙ dead);
     since = λ l c live. follows.since l c (sym (live_fewer l c) ∙ live);
-    nothing = follows.nothing;
   }
 
   pub device_fewer : (seen : List ℕ) (shelf : ℕ → List Row) → AreOnDevice seen lives leaves shelf → AreOnDevice seen fewer leaves shelf

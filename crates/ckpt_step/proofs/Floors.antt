@@ -16,13 +16,13 @@ use Rattle.kv_model.proofs.Ordering.{line-writes}
 use Rattle.snapshot.specs.Past.{is_below}
 use Rattle.stored.specs.Stored.{Stored}
 use Rattle.engine_world.specs.Systems.{checkpointed}
-use Rattle.engine_world.specs.Worlds.{Records, World}
+use Rattle.engine_world.specs.Worlds.{World}
 use Rattle.row_page.specs.Rows.{Row}
 use Rattle.rows_shown.specs.Shows.{shown_at}
 use Rattle.stored.specs.TableTree.{Entry as TreeEntry, TableTree}
 use Rattle.stored.specs.Tree.{join}
 use Rattle.tree_dir.specs.declared.leaf.Leaf.{Leaf}
-use Rattle.ckpt_step.specs.Floors.{AreNewestBefore, FollowsFrom, GoesOn, IsAsItLies, IsLeafBefore, KeepsNothing, Respects, is_before, laid_of, newest_before}
+use Rattle.ckpt_step.specs.Floors.{AreNewestBefore, FollowsFrom, GoesOn, IsAsItLies, IsLeafBefore, Respects, is_before, newest_before}
 use Rattle.ckpt_step.specs.Parts.{AreBelowFloor, part_in, part_leaves, part_of}
 use Rattle.ckpt_step.specs.Rooms.{Written}
 use Rattle.ckpt_step.specs.Trees.{HasTreeAt}
@@ -243,17 +243,15 @@ before_goes leaves written floor w v table l rows newest shelf own = record {
   same = λ lies. own.same lies ∙ ap (λ (s : ℕ → List Row). s l.id) (sym shelf);
 }
 
-pub follows_goes : (old : Option Stored) (known : List Table) (lives : List Lone) (leaves : List Leaf) (written : Written) (places : List TreePlace) (floor : Name) (w v : World) → GoesOn w.machine v.machine → laid_of v ≡ laid_of w → FollowsFrom old known lives leaves written places floor w → FollowsFrom old known lives leaves written places floor v
-follows_goes old known lives leaves written places floor w v goes laid follows =
+pub follows_goes : (old : Option Stored) (known : List Table) (lives : List Lone) (leaves : List Leaf) (written : Written) (places : List TreePlace) (floor : Name) (w v : World) → GoesOn w.machine v.machine → v.shelf ≡ w.shelf → FollowsFrom old known lives leaves written places floor w → FollowsFrom old known lives leaves written places floor v
+follows_goes old known lives leaves written places floor w v goes shelf follows =
     let on = goes floor follows.respects in
-    let shelf : v.shelf ≡ w.shelf = ap (λ (x : (ℕ → List Row) × Records). x.0) laid in
     record {
       respects = on.0;
       leaf = λ i t place tree l at stands has there its dead. before_goes leaves written floor w v t.number l _ on.1 shelf (follows.leaf i t place tree l at stands has there its dead);
       since = λ l there live.
           subst (λ (rows : List Row). IsLeafBefore v.machine v.shelf floor leaves written l.table l rows) (ap (λ (s : ℕ → List Row). s l.id) (sym shelf))
           (before_goes leaves written floor w v l.table l (w.shelf l.id) on.1 shelf (follows.since l there live));
-      nothing = λ id key. ap (λ (x : (ℕ → List Row) × Records). x.1 id key) laid ∙ follows.nothing id key;
     }
 
 -- the floor with which an engine begins
@@ -273,15 +271,14 @@ AreShelved old known leaves written places w =
     (i : ℕ) (t : Table) (place : TreePlace) (tree : TableTree) (l : Leaf) → slice_get known i ≡ Some t → slice_get places i ≡ Some place → HasTreeAt old t place tree → Contains leaves l → l.table ≡ t.number → IsAsItLies written l → join (part_leaves place tree (part_of written l)) ≡ w.shelf l.id
 
 -- no leaf in a frame is clean before the first checkpoint
-pub follows_none : (old : Option Stored) (known : List Table) (leaves : List Leaf) (written : Written) (places : List TreePlace) (w : World) → AreShelved old known leaves written places w → KeepsNothing w → FollowsFrom old known [] leaves written places no_floor w
-follows_none old known leaves written places w shelved bare = record {
+pub follows_none : (old : Option Stored) (known : List Table) (leaves : List Leaf) (written : Written) (places : List TreePlace) (w : World) → AreShelved old known leaves written places w → FollowsFrom old known [] leaves written places no_floor w
+follows_none old known leaves written places w shelved = record {
   respects = record { next = elim (cases_lt 0 w.machine.run) [ inl more ↦ inl more | inr none ↦ inr (omega (arith, none), omega arith) ]; living = λ session. each (transaction_of w.machine session) };
   leaf = λ i t place tree l at stands has there its dead. record {
     before = λ part is below. nothing t.number l place tree part (part_is written l part is) below;
     same = shelved i t place tree l at stands has there its;
   };
   since = λ l there live. absurd (false≢true live);
-  nothing = bare;
 }
   where
     each : (o : Option Transaction) → MatchOption o (Unit {0}) (λ t. is_before no_floor (name_of w.machine t) ≡ false)

@@ -16,7 +16,7 @@ use Rattle.stored.specs.Tree.{join}
 use Rattle.recover_open.specs.Bare.{IsBare, tree_rows}
 use Rattle.tree_open.specs.declared.place.TreePlace.{TreePlace}
 use Rattle.ckpt_step.specs.Checkpoints.{AreRowsOf, IsRowsOf}
-use Rattle.ckpt_step.specs.Floors.{AreNewestBefore, FollowsFrom, KeepsNothing, Respects, is_before}
+use Rattle.ckpt_step.specs.Floors.{AreNewestBefore, FollowsFrom, Respects, is_before}
 use Rattle.ckpt_step.specs.Halves.{AreOnShelf, AreParted}
 use Rattle.ckpt_step.specs.Parts.{AreBelowFloor, part_in, part_leaves, part_of}
 use Rattle.ckpt_step.specs.Rooms.{Written}
@@ -46,8 +46,8 @@ rows_at m (u ∷ known) (x ∷ trees) (suc i) t tree are at also = rows_at m kno
 module _ (known : List Table) (next : ℕ) (ascend : NumbersAscend 1 known next) (places : List TreePlace) (trees : List TableTree) (count : length places ≡ length known) (bytes : List ℕ) (there : AreTreesAt bytes places trees) (r : Record) (a : Addr) (bare : IsBare r) (tables : r.tables ≡ roots_by_name known (roots_of places))
     (leaves : List Leaf) (written : Written) (w : World) (are : AreRowsOf w.machine known trees) (parted : AreParted known leaves written places trees) (shelved : AreOnShelf known leaves written places trees w.shelf) (lead : (i : ℕ) (p : TreePlace) → slice_get places i ≡ Some p → LeadApart p.leaves.items) where
   -- a leaf that is as it lies has the rows of its block, and the part of one whose names are below a floor has the newest before it
-  pub follows_new : (floor : Name) → Respects w.machine floor → KeepsNothing w → FollowsFrom (Some (made_of r known trees a)) known [] leaves written places floor w
-  follows_new floor respects nothing = record {
+  pub follows_new : (floor : Name) → Respects w.machine floor → FollowsFrom (Some (made_of r known trees a)) known [] leaves written places floor w
+  follows_new floor respects = record {
     respects = respects;
     leaf = λ i t p tree l at stands has mine its dead.
         let here = made_at known next ascend places trees count bytes there r a bare tables i t p tree at stands has in
@@ -56,7 +56,6 @@ module _ (known : List Table) (next : ℕ) (ascend : NumbersAscend 1 known next)
           same = shelved i t p tree l at stands here mine its;
         };
     since = λ l mine live. absurd (false≢true live);
-    nothing = nothing;
   } where
     before : (floor : Name) (i : ℕ) (t : Table) (p : TreePlace) (tree : TableTree) (l : Leaf) (part : List Entry) → slice_get known i ≡ Some t → slice_get places i ≡ Some p → slice_get trees i ≡ Some tree → Contains leaves l → l.table ≡ t.number → part_in written l ≡ Some part → AreBelowFloor floor part
         → AreNewestBefore w.machine floor leaves t.number l (join (part_leaves p tree (part_of written l)))

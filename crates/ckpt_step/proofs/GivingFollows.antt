@@ -86,7 +86,7 @@ module _ (d n : Directory) (l : Leaf) (entries : List Entry) (ids : List ℕ) (h
   ]
 
   pub follows_then : FollowsFrom old known lives n.leaves has places floor (record w { shelf = shelf })
-  follows_then = record { respects = follows.respects; leaf = leaf_then; since = since_then; nothing = follows.nothing }
+  follows_then = record { respects = follows.respects; leaf = leaf_then; since = since_then }
 
   -- what was written since is on the device
   pub device_then : AreOnDevice seen lives d.leaves w.shelf → AreOnDevice seen lives n.leaves shelf

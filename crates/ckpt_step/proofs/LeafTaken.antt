@@ -93,7 +93,7 @@ module _ {D : Type 0} (g : Ghosts D) (old : Option Stored) (first : Books) (e : 
         let kept_draft = draft_kept g old first books mid before between links (join drafting.parts) drafting.addrs es drafting.drafted only part images books' has (addrs_live first (g.seen between) part images has live) keeps in
         drafting_more g old first leaves had w t.number books mid books' more between_more more' captured between_captured captured' before between between front es drafting l images part [] (addrs_to part)
         differs tt refl below (more_are ∙ sym (append-nil between_more)) captured_are
-        (kept_drafted law e w s stands none sees had floor t.number l there own follows.nothing (g.seen before) images kept one.1)
+        (kept_drafted law e w s stands none sees had floor t.number l there own (g.seen before) images kept one.1)
         (subst (λ (m : List Link). Drafted g old first books books' before between (links ++ m) (join drafting.parts ++ images) (drafting.addrs ++ addrs_to part) (es ++ part)) (sym (aligned_same (links_in part) images (kept_long (g.seen between) part images has))) kept_draft)
   ]
 

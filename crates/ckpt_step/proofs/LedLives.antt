@@ -7,7 +7,7 @@ use Rattle.block_mgr.specs.Blocks.{Books, HasLive}
 use Rattle.device_layout.specs.declared.link.Link.{Link}
 use Rattle.engine_world.proofs.Homes.{same-id}
 use Rattle.engine_world.specs.Evicting.{led_out, with_rows}
-use Rattle.engine_world.specs.Worlds.{World, without_records}
+use Rattle.engine_world.specs.Worlds.{World}
 use Rattle.kv_model.specs.Holds.{Member}
 use Rattle.kv_model.specs.History.{Table}
 use Rattle.kv_model.specs.Machine.{Machine, of_some}
@@ -265,7 +265,7 @@ module _ (d : Directory) (l : Leaf) (link : Link) (had has : Written) (lives nex
         same = λ lies. refl;
       }
 
-      pub follows_led : (old : Option Stored) (known : List Table) (places : List TreePlace) → FollowsFrom old known lives d.leaves had places floor w → FollowsFrom old known next after has places floor (without_records l.id (with_rows l.id rows w))
+      pub follows_led : (old : Option Stored) (known : List Table) (places : List TreePlace) → FollowsFrom old known lives d.leaves had places floor w → FollowsFrom old known next after has places floor (with_rows l.id rows w)
       follows_led old known places follows = record {
         respects = follows.respects;
         leaf = λ i t p tree x at stands there c its dead.
@@ -275,10 +275,6 @@ module _ (d : Directory) (l : Leaf) (link : Link) (had has : Written) (lives nex
         since = λ x c live. elim (which d l link o.was o.there x c) [
           | inl is ↦ subst (λ (y : Leaf). IsLeafBefore w.machine shelf floor after has y.table y (shelf y.id)) (sym is) came
           | inr old ↦ subst (λ (rs : List Row). IsLeafBefore w.machine shelf floor after has x.table x rs) (sym (shelf_same x.id old.1)) (stayed x.table x (w.shelf x.id) old.0 old.1 (follows.since x old.0 (sym (live_same x old.1) ∙ live)))
-        ];
-        nothing = λ id key. elim (cases_Bool (id == l.id)) [
-          | inl is ↦ rw is refl
-          | inr other ↦ rw other (follows.nothing id key)
         ];
       }
 

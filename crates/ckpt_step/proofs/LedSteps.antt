@@ -16,12 +16,14 @@ use Rattle.engine.specs.Evictions.{HasBeenEvicted, MayBeEvicted}
 use Rattle.engine_world.specs.Evicting.{IsEvictedTo, evicted, led_out, with_rows}
 use Rattle.engine_world.specs.GoingOut.{with_again}
 use Rattle.engine_world.specs.Stands.{Engine, Stands}
-use Rattle.engine_world.specs.Worlds.{World, without_records}
+use Rattle.engine_world.specs.Worlds.{World, with_records}
 use Rattle.evict_step.specs.Cuts.{AreCut}
 use Rattle.kv_model.specs.Holds.{Member}
 use Rattle.leaf_write.specs.Adds.{AreAdded}
 use Rattle.leaf_write.specs.Writes.{LeavesGivenBack, LeavesWritten}
 use Rattle.reconcile.specs.declared.image.Image.{Image}
+use Rattle.reconcile.specs.declared.image.Moved.{Moved}
+use Rattle.reconcile.specs.Moving.{versions_in}
 use Rattle.row_page.specs.Rows.{Row, key_most}
 use Rattle.stored.specs.Links.{LinkFits}
 use Rattle.stored.specs.Stored.{Stored}
@@ -48,6 +50,7 @@ use Rattle.ckpt_step.specs.Lives.{addrs_in, has_at}
 use Rattle.ckpt_step.specs.Rooms.{Rooms, known_in}
 use Rattle.ckpt_step.specs.WritesOut.{AreRowsIn}
 use Rattle.ckpt_step.proofs.HeldLives.{AreMore, lone_as}
+use Rattle.ckpt_step.proofs.KeptGround.{follows_records}
 use Rattle.ckpt_step.proofs.LedLives.{IsImageLed, IsLed}
 use Rattle.ckpt_step.proofs.LedNewest.{evicted_rows}
 use Rattle.ckpt_step.proofs.LedWay.{device_ground, follows_ground, freed_ground, live_ground, stands_led}
@@ -95,24 +98,24 @@ more_led lives l link distinct new = record {
 
 -- a world in which calls may be told more is followed as well
 again_follows : (old : Option Stored) (hub : Hub) (g : Ground) (w : World) (e : Engine) (frame : ℕ) → Follows old hub g w → Follows old hub g (with_again e frame w)
-again_follows old hub g w e frame follows = record { respects = follows.respects; leaf = follows.leaf; since = follows.since; nothing = follows.nothing }
+again_follows old hub g w e frame follows = record { respects = follows.respects; leaf = follows.leaf; since = follows.since }
 
 -- ---- on a disk that was only looked at before
 
 module _ {D : Type 0} (g : Ghosts D) (before start : D) (looked : Looked g before start) (only : (c : List ℕ) → g.left_since before (g.moment before) c → g.may_leave before c) (old : Option Stored) (w : World) (stand : Ground) (e : Engine) (id : ℕ)
     (on : StandsOn (g.seen before) (g.may_leave before) e.hub stand old) (follows : Follows old e.hub stand w) (device : AreLivesOn (g.seen before) e.hub stand w)
-    (images : List Image) (cut : AreCut e id images []) (one : length images ≡ 1) (low : List ℕ) (begins : IsLowOf e id images low) (stands : Stands e w) (idle : w.machine.checkpoint ≡ None) (after : D) (books : Books) where
+    (images : List Image) (moved : List Moved) (cut : AreCut e id images moved) (one : length images ≡ 1) (low : List ℕ) (begins : IsLowOf e id images low) (stands : Stands e w) (idle : w.machine.checkpoint ≡ None) (after : D) (books : Books) where
   abbrev pub own : LeavesOf images cut.rows
   own = leaves_of images cut.rows cut.are
 
   abbrev l : Leaf
   l = cut.may.leaf
 
-  is_evicted : IsEvictedTo w.machine e.hub.dir.leaves l cut.may.frame cut.rows (λ key. [])
+  is_evicted : IsEvictedTo w.machine e.hub.dir.leaves l cut.may.frame cut.rows (λ key. versions_in key moved)
   is_evicted = cut.evicted w stands idle
 
   rows_in : AreRowsIn w.machine e.hub.dir.leaves l cut.rows
-  rows_in = evicted_rows e w stands id cut.may cut.rows cut.fit is_evicted
+  rows_in = evicted_rows e w stands id cut.may cut.rows cut.fit (λ key. versions_in key moved) is_evicted
 
   start_on : StandsOn (g.seen start) (g.may_leave start) e.hub stand old
   start_on = stood g before start looked only old w stand e id on follows device
@@ -208,7 +211,7 @@ module _ {D : Type 0} (g : Ghosts D) (before start : D) (looked : Looked g befor
       let_go = subst (λ (b : Books). LetGo b g'.place.blocks (addrs_if (own_of stand.lives (Some l)))) blocks (subst (λ (a : Option Addr). LetGo mid.place.blocks g'.place.blocks (addrs_if a)) former_is gone.blocks)
 
       alike : IsSameBut stand g'
-      alike = record { slot = gone.same.slot ∙ same.slot; number = gone.same.number ∙ same.number; trees = gone.same.trees ∙ same.trees; floor = gone.same.floor ∙ same.floor }
+      alike = record { slot = gone.same.slot ∙ same.slot; number = gone.same.number ∙ same.number; trees = gone.same.trees ∙ same.trees; floor = gone.same.floor ∙ same.floor; kept = gone.same.kept ∙ same.kept }
 
       follows_then : Follows old e.hub stand v
       follows_then = again_follows old e.hub stand w e cut.may.framed.frame follows
@@ -220,22 +223,26 @@ module _ {D : Type 0} (g : Ghosts D) (before start : D) (looked : Looked g befor
       hub_is : e'.hub ≡ record e.hub { dir = record e.hub.dir { leaves = changed l.id (led_out link) e.hub.dir.leaves } }
       hub_is = ap (λ (x : Engine). x.hub) out.is ∙ ap (λ (k : ℕ). let h : Hub = record e.hub { dir = record e.hub.dir { leaves = changed k (led_out link) e.hub.dir.leaves } } in h) (sym id_is)
 
-      rows_are : without_records l.id (with_rows l.id cut.rows v) ≡ without_records id (with_rows id cut.rows v)
-      rows_are = ap (λ (k : ℕ). without_records k (with_rows k cut.rows v)) id_is
+      rows_are : with_rows l.id cut.rows v ≡ with_rows id cut.rows v
+      rows_are = ap (λ (k : ℕ). with_rows k cut.rows v) id_is
 
-      pub moved_out_led : LeftFrame g old w stand g' e e' id before after
+      -- its world, in which the history has what moved
+      abbrev then_world : World
+      then_world = with_records id (λ key. versions_in key moved) (with_rows id cut.rows v)
+
+      pub moved_out_led : LeftFrame g old w stand g' e e' id before after moved
       unfolding out
       moved_out_led = record {
         link = link;
         rows = cut.rows;
         out = out;
         left = all_left g before start looked only old w stand e id on follows device after wrote.left;
-        stands = gone.stands cut.may w cut.rows stands is_evicted;
+        stands = gone.stands cut.may w cut.rows (λ key. versions_in key moved) stands is_evicted;
         on = subst (λ (hub : Hub). StandsOn (g.seen after) (g.may_leave after) hub g' old) (sym hub_is)
             (stands_led (g.seen start) (g.seen after) (g.may_leave start) (g.may_leave after) e w v stand g' old l link cut.rows next stands start_on follows_then start_device led image new books added wrote.may wrote.keeps within held lives_are let_go alike);
-        follows = subst (λ (x : World). Follows old e'.hub g' x) rows_are (subst (λ (hub : Hub). Follows old hub g' (without_records l.id (with_rows l.id cut.rows v))) (sym hub_is)
-            (follows_ground (g.seen start) (g.seen after) (g.may_leave start) (g.may_leave after) e w v stand g' old l link cut.rows next stands start_on follows_then start_device led image new books added wrote.may wrote.keeps within held lives_are let_go alike));
-        since = subst (λ (x : World). AreLivesOn (g.seen after) e'.hub g' x) rows_are (subst (λ (hub : Hub). AreLivesOn (g.seen after) hub g' (without_records l.id (with_rows l.id cut.rows v))) (sym hub_is)
+        follows = follows_records old e'.hub g' (with_rows id cut.rows v) then_world.records (subst (λ (x : World). Follows old e'.hub g' x) rows_are (subst (λ (hub : Hub). Follows old hub g' (with_rows l.id cut.rows v)) (sym hub_is)
+            (follows_ground (g.seen start) (g.seen after) (g.may_leave start) (g.may_leave after) e w v stand g' old l link cut.rows next stands start_on follows_then start_device led image new books added wrote.may wrote.keeps within held lives_are let_go alike)));
+        since = subst (λ (x : World). AreLivesOn (g.seen after) e'.hub g' x) rows_are (subst (λ (hub : Hub). AreLivesOn (g.seen after) hub g' (with_rows l.id cut.rows v)) (sym hub_is)
             (device_ground (g.seen start) (g.seen after) (g.may_leave start) (g.may_leave after) e w v stand g' old l link cut.rows next stands start_on follows_then start_device led image new books added wrote.may wrote.keeps within held lives_are let_go alike));
         live = live_ground (g.seen start) (g.seen after) (g.may_leave start) (g.may_leave after) e w v stand g' old l link cut.rows next stands start_on follows_then start_device led image new books added wrote.may wrote.keeps within held lives_are let_go alike;
         freed = freed_ground (g.seen start) (g.seen after) (g.may_leave start) (g.may_leave after) e w v stand g' old l link cut.rows next stands start_on follows_then start_device led image new books added wrote.may wrote.keeps within held lives_are let_go alike;

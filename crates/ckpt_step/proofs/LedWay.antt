@@ -16,7 +16,7 @@ use Rattle.device_layout.specs.declared.link.Link.{Link}
 use Rattle.engine_world.proofs.Homes.{same-id}
 use Rattle.engine_world.specs.Evicting.{led_out, with_rows}
 use Rattle.engine_world.specs.Stands.{Engine, Stands}
-use Rattle.engine_world.specs.Worlds.{World, without_records}
+use Rattle.engine_world.specs.Worlds.{World}
 use Rattle.kv_model.specs.Holds.{Member}
 use Rattle.kv_model.specs.History.{Table}
 use Rattle.leaf_write.specs.Adds.{AreAdded, with_all_fresh}
@@ -136,7 +136,7 @@ module _ (seen later : List ℕ) (images left : List ℕ → Type 0) (e : Engine
           other was (sym one.addr ∙ ap (λ (y : Leaf). y.entry.link.addr) it) (subst (λ (y : Leaf). is_live g.lives y ≡ true) it (led_live known g.lives d.leaves x on.since.lone.distinct was one))
 
   abbrev then_world : World
-  then_world = without_records l.id (with_rows l.id rows v)
+  then_world = with_rows l.id rows v
 
   follows_now : FollowsFrom old known next n.leaves has g.trees.items g.floor then_world
   follows_now = follows_led d l link had has g.lives next o later v rows own g.floor old known g.trees.items follows
@@ -258,12 +258,12 @@ module _ (seen later : List ℕ) (images left : List ℕ → Type 0) (e : Engine
     led = less.led;
   }
 
-  pub follows_ground : Follows old (record e.hub { dir = n }) g' (without_records l.id (with_rows l.id rows v))
+  pub follows_ground : Follows old (record e.hub { dir = n }) g' (with_rows l.id rows v)
   follows_ground =
       subst (λ (places : List TreePlace). FollowsFrom old known g'.lives n.leaves has places g'.floor then_world) (sym (ap (λ (p : Vec TreePlace Global). p.items) same.trees))
       (subst (λ (floor : Name). FollowsFrom old known g'.lives n.leaves has g.trees.items floor then_world) (sym same.floor) less.follow_on)
 
-  pub device_ground : AreLivesOn later (record e.hub { dir = n }) g' (without_records l.id (with_rows l.id rows v))
+  pub device_ground : AreLivesOn later (record e.hub { dir = n }) g' (with_rows l.id rows v)
   device_ground = less.on_disk
 
   pub live_ground : is_live g'.lives (led_out link l) ≡ true

@@ -222,7 +222,6 @@ module _ (hub : Hub) (l : Leaf) (dir : IsDirectory hub.dir) (named : leaf_named 
         let own = follows.since b.leaf b.there (live_then g.lives n b live) in
         subst (λ (k : ℕ). IsLeafBefore w.machine w.shelf g.floor after (known_in g.parts) k n (w.shelf n.id)) b.back.table
         (leaf_now g w b.leaf.table n b (w.shelf n.id) unwritten (subst (λ (k : ℕ). IsLeafBefore w.machine w.shelf g.floor leaves (known_in g.parts) b.leaf.table b.leaf (w.shelf k)) b.back.id own));
-    nothing = follows.nothing;
   }
 
   lives_now : (seen : List ℕ) (g : Ground) (w : World) → AreLivesOn seen hub g w → AreLivesOn seen (let_go hub l.id) g w

@@ -55,6 +55,8 @@ pub mod Links
 pub mod Apart
 pub mod Behind
 pub mod KnownRooms
+pub mod KeptLists
+pub mod KeptGround
 mod LonesIn
 pub mod Unwritten
 pub mod NewParts
@@ -63,6 +65,7 @@ pub mod EntryKeys
 pub mod LeafSteps
 mod LettingGo
 mod LoadedLeaves
+pub mod RowNewest
 mod TakenLeaves
 mod DraftingMore
 mod LeafWrites

@@ -146,4 +146,4 @@ module _ {D : Type 0} (g : Ghosts D) (old : Option Stored) (w : World) (stand st
 -- what a leaf is cut into where it is evicted has the newest of its keys
 pub parted_rows : (e : Engine) (w : World) (id : ℕ) (images : List Image) (cut : AreCut e id images []) (leaf : Leaf) → leaf_named id e.hub.dir.leaves ≡ Some leaf → Stands e w → w.machine.checkpoint ≡ None → AreRowsIn w.machine e.hub.dir.leaves leaf cut.rows
 parted_rows e w id images cut leaf there stands idle =
-    subst (λ (l : Leaf). AreRowsIn w.machine e.hub.dir.leaves l cut.rows) (some_same (sym cut.may.there ∙ there)) (evicted_rows e w stands id cut.may cut.rows cut.fit (cut.evicted w stands idle))
+    subst (λ (l : Leaf). AreRowsIn w.machine e.hub.dir.leaves l cut.rows) (some_same (sym cut.may.there ∙ there)) (evicted_rows e w stands id cut.may cut.rows cut.fit (λ key. []) (cut.evicted w stands idle))

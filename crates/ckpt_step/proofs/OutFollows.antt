@@ -75,7 +75,6 @@ module _ (d n : Directory) (l : Leaf) (entries : List Entry) (ids : List ℕ) (h
         | inl was ↦ subst (λ (rows : List Row). IsLeafBefore w.machine shelf floor n.leaves has x.table x rows) (sym (shelf_same x was.0)) (stayed x.table x (w.shelf x.id) was.0 c was.1 (follows.since x was.0 (sym (live_same d n l entries ids had has lives next o x was.0) ∙ live)))
         | inr new ↦ came x new
       ];
-      nothing = follows.nothing;
     }
 
   -- ---- on the device

@@ -9,7 +9,7 @@ use Rattle.call_steps.specs.declared.hub.Hub.{Hub}
 use Rattle.catalog.specs.Known.{AreTables}
 use Rattle.device_layout.specs.declared.link.Link.{Link}
 use Rattle.engine.specs.Directories.{HubGoesOn, LeafGoesOn}
-use Rattle.engine_world.specs.Worlds.{Records, World}
+use Rattle.engine_world.specs.Worlds.{World}
 use Rattle.kv_model.specs.History.{Table, line}
 use Rattle.kv_model.specs.Holds.{Member}
 use Rattle.row_page.specs.Rows.{Row}
@@ -22,7 +22,7 @@ use Rattle.tree_dir.specs.Leaves.{IsDirectory, leaves_of}
 use Rattle.tree_open.specs.declared.place.TreePlace.{TreePlace}
 use Rattle.tree_write.specs.Steps.{links_in}
 use Rattle.tree_write.specs.Writes.{LeadApart}
-use Rattle.ckpt_step.specs.Floors.{AreLivesOn, Follows, GoesOn, IsLeafBefore, IsOnDevice, laid_of, newest_before}
+use Rattle.ckpt_step.specs.Floors.{AreLivesOn, Follows, GoesOn, IsLeafBefore, IsOnDevice, newest_before}
 use Rattle.ckpt_step.specs.Grounds.{AreLedTo, AreRoots, AreSince, AreWritten, StandsOn}
 use Rattle.ckpt_step.specs.Lives.{is_live}
 use Rattle.ckpt_step.specs.Parts.{IsPart, IsParted, own_part, part_in, part_leaves, part_of, parts_of}
@@ -189,10 +189,9 @@ module _ (hub next : Hub) (goes : HubGoesOn hub next) (was : IsDirectory hub.dir
   }
 
   -- few_places: the checkpoint has no more trees than there were tables
-  follows_on : (old : Option Stored) (g : Ground) (w v : World) → length g.trees.items ≤ length known → AreSince old g.lives hub.dir (known_in g.parts) → GoesOn w.machine v.machine → laid_of v ≡ laid_of w → Follows old hub g w → Follows old next g v
-  follows_on old g w v few_places since on laid follows =
+  follows_on : (old : Option Stored) (g : Ground) (w v : World) → length g.trees.items ≤ length known → AreSince old g.lives hub.dir (known_in g.parts) → GoesOn w.machine v.machine → v.shelf ≡ w.shelf → Follows old hub g w → Follows old next g v
+  follows_on old g w v few_places since on shelf follows =
       let moved = on g.floor follows.respects in
-      let shelf : v.shelf ≡ w.shelf = ap (λ (x : (ℕ → List Row) × Records). x.0) laid in
       record {
         respects = moved.0;
         leaf = λ i t place tree n at stands has there its dead.
@@ -210,7 +209,6 @@ module _ (hub next : Hub) (goes : HubGoesOn hub next) (was : IsDirectory hub.dir
             (leaf_on w v g.floor (known_in g.parts) one.place one.table n b (v.shelf n.id) shelf one.at moved.1
             (subst (λ (rs : List Row). IsLeafBefore w.machine w.shelf g.floor hub.dir.leaves (known_in g.parts) one.table.number b.leaf rs) rows
             (subst (λ (k : ℕ). IsLeafBefore w.machine w.shelf g.floor hub.dir.leaves (known_in g.parts) k b.leaf (w.shelf b.leaf.id)) (sym b.goes_on.table ∙ one.own) own)));
-        nothing = λ id key. ap (λ (x : (ℕ → List Row) × Records). x.1 id key) laid ∙ follows.nothing id key;
       }
 
   -- what was written since is on the device

@@ -73,7 +73,7 @@ module _ (law : CapturesAreNewest) (e : Engine) (w : World) (s : Sight) (stands 
   newest_in l among =
       let in_it = in_table t.number leaves l among in
       let there = contains_of leaves l in_it.0 in
-      kept_newest law e w s stands none sees had floor t.number l there in_it.1 follows.nothing (join (images_of l)) (kept l (contains_of (leaves_of t.number leaves) l among)).1 (follows.leaf i t place tree l known_at at tree_at there in_it.1 (none_live l there in_it.1))
+      kept_newest law e w s stands none sees had floor t.number l there in_it.1 (join (images_of l)) (kept l (contains_of (leaves_of t.number leaves) l among)).1 (follows.leaf i t place tree l known_at at tree_at there in_it.1 (none_live l there in_it.1))
 
   fit_in : (some : List Leaf) → ((l : Leaf) → Member l some → Member l (leaves_of t.number leaves)) → AllByRecursion (λ (images : List (List Row)). AreFit (join images)) (map images_of some)
   fit_in [] within = tt

@@ -1,24 +1,16 @@
 -- A leaf of the directory as a draft has it, kept or written.
-use Rattle.std.specs.Prelude.{◌≡◌, ℕ, List, [], ◌∷◌, ◌++◌, length, Option, Some, None, refl}
+use Rattle.std.specs.Prelude.{◌≡◌, ℕ, List, [], ◌∷◌, length, Option, Some, None, refl}
 use Rattle.std.specs.List.{Contains}
 use Rattle.std.proofs.Common.{inl, inr, sym, ◌∙◌, ap, subst}
-use Rattle.std.proofs.lemmas.Bool.{cases_Bool}
 use Rattle.device_layout.specs.declared.link.Link.{Link}
 use Rattle.item.specs.declared.Change.{Change}
 use Rattle.stamp.specs.declared.Name.{Name}
 use Rattle.stamp.specs.declared.Version.{Version}
-use Rattle.kv_model.specs.AgreementLaws.{head_of}
-use Rattle.kv_model.specs.Holds.{Member}
-use Rattle.kv_model.specs.History.{line}
-use Rattle.kv_model.specs.Machine.{Machine}
-use Rattle.kv_model.specs.Pending.{TopStands, Update as ModelUpdate}
-use Rattle.kv_model.specs.Valid.{Valid}
 use Rattle.row_page.specs.Rows.{Row}
 use Rattle.rows_shown.specs.Shows.{shown_at}
 use Rattle.snapshot.specs.Matters.{NoneResolves, SeesCommitted}
-use Rattle.snapshot.specs.Sight.{Sight, is_seen}
+use Rattle.snapshot.specs.Sight.{Sight}
 use Rattle.update_chain.specs.EventLaws.{StandsFor}
-use Rattle.frame_capture.specs.Capture.{captured_over}
 use Rattle.frame_capture.specs.Laws.{CapturesAreNewest}
 use Rattle.leaf_frame.specs.Leaf.{HeldLeaf}
 use Rattle.stored.specs.TableTree.{Entry}
@@ -30,7 +22,7 @@ use Rattle.tree_write.specs.Writes.{KeepSame}
 use Rattle.engine_world.specs.Stands.{Engine, Stands}
 use Rattle.engine_world.specs.Worlds.{World}
 use Rattle.ckpt_step.specs.Drafting.{AreCutOf, AreEntriesFrom, IsLeafDrafted}
-use Rattle.ckpt_step.specs.Floors.{AreNewestIn, IsLeafBefore, KeepsNothing}
+use Rattle.ckpt_step.specs.Floors.{AreNewestIn, IsLeafBefore}
 use Rattle.ckpt_step.specs.Parts.{IsPart, part_of}
 use Rattle.ckpt_step.specs.Rooms.{Written}
 use Rattle.ckpt_step.specs.Steps.{IsKept, IsLoaded}
@@ -39,34 +31,8 @@ use Rattle.ckpt_step.proofs.KeptPlaces.{kept_long, links_long}
 use Rattle.ckpt_step.proofs.LeafImages.{HasImages}
 use Rattle.ckpt_step.proofs.LoadedLeaves.{captured_lie, captured_newest, stands_in}
 use Rattle.ckpt_step.proofs.Members.{none_some}
+use Rattle.ckpt_step.proofs.RowNewest.{row_newest}
 use Rattle.ckpt_step.proofs.WithParts.{part_written}
-
--- ---- a leaf in no frame
-
-head_none : (l : List (Version Change)) (v : Version Change) → head_of l ≡ None → Member v l → ⊥
-head_none [] v none there = there
-head_none (x ∷ l) v none there = none_some (sym none)
-
--- what its block shows of a key is the newest version
-pub shelf_newest : CapturesAreNewest → (m : Machine) (s : Sight) (table : ℕ) (key : List ℕ) (row : Option (Version Change)) → Valid m → NoneResolves m → SeesCommitted m (length m.history) s → StandsFor m table key [] row [] → head_of (line m.history table key) ≡ row
-shelf_newest law m s table key row valid none sees stands = by row refl
-  where
-    is : captured_over s [] row ≡ head_of (line m.history table key)
-    is = law m table key [] row s valid (λ session u wrote resolves. absurd (none session u wrote.0 resolves)) sees stands
-
-    all : (top : List ModelUpdate) (held : List ModelUpdate) → [] ≡ top ++ held → TopStands m table key top stands.below → line m.history table key ≡ stands.below
-    all [] held chained topped = topped.0
-    all (u ∷ top) held chained topped = absurd cc
-
-    by : (o : Option (Version Change)) → row ≡ o → head_of (line m.history table key) ≡ row
-    by None none_there = sym (sym (ap (λ (o : Option (Version Change)). captured_over s [] o) none_there) ∙ is) ∙ sym none_there
-    by (Some v) some = elim (cases_Bool (is_seen s v.window.name)) [
-      | inl seen ↦ let first : captured_over s [] (Some v) ≡ Some v = rw seen refl in sym is ∙ (ap (λ (o : Option (Version Change)). captured_over s [] o) some ∙ (first ∙ sym some))
-      | inr unseen ↦
-          let nothing : captured_over s [] (Some v) ≡ None = rw unseen refl in
-          let there : Member v stands.below = stands.stores.kept.within v (inl (inr some)) in
-          absurd (head_none (line m.history table key) v (sym is ∙ (ap (λ (o : Option (Version Change)). captured_over s [] o) some ∙ nothing)) (subst (λ (l : List (Version Change)). Member v l) (sym (all stands.top _ stands.chained stands.topped)) there))
-    ]
 
 -- ---- a leaf that is kept
 
@@ -79,23 +45,24 @@ module _ (law : CapturesAreNewest) (e : Engine) (w : World) (s : Sight) (stands 
   abbrev leaves : List Leaf
   leaves = e.hub.dir.leaves
 
-  -- the rows of its part are the newest
-  pub kept_newest : KeepsNothing w → (rows : List Row) → IsKept e had floor l → IsLeafBefore w.machine w.shelf floor leaves had table l rows → AreNewestIn w.machine leaves table l rows
-  kept_newest nothing rows (inl unloaded) before = elim (stands.leaves l there) [
+  -- the rows of its part are the newest; what the history keeps of a leaf in no frame is older
+  pub kept_newest : (rows : List Row) → IsKept e had floor l → IsLeafBefore w.machine w.shelf floor leaves had table l rows → AreNewestIn w.machine leaves table l rows
+  kept_newest rows (inl unloaded) before = elim (stands.leaves l there) [
     | inl frame ↦ absurd (none_some (sym (unloaded w stands there) ∙ frame.laid.placed))
     | inr device ↦ λ key under.
-        let stand : StandsFor w.machine table key [] (shown_at key (w.shelf l.id)) [] = subst (λ (n : ℕ). StandsFor w.machine n key [] (shown_at key (w.shelf l.id)) []) own (subst (λ (records : List (Version Change)). StandsFor w.machine l.table key [] (shown_at key (w.shelf l.id)) records) (nothing l.id key) (device.keys key (subst (λ (n : ℕ). leaf_under n key leaves ≡ Some l) (sym own) under))) in
-        shelf_newest law w.machine s table key (shown_at key (w.shelf l.id)) stands.valid none sees stand ∙ ap (λ (m : List Row). shown_at key m) (sym (before.same (inl device.none)))
+        let own_under : leaf_under l.table key leaves ≡ Some l = subst (λ (n : ℕ). leaf_under n key leaves ≡ Some l) (sym own) under in
+        let stand : StandsFor w.machine table key [] (shown_at key (w.shelf l.id)) (w.records l.id key) = subst (λ (n : ℕ). StandsFor w.machine n key [] (shown_at key (w.shelf l.id)) (w.records l.id key)) own (device.keys key own_under) in
+        row_newest w.machine table key (shown_at key (w.shelf l.id)) (w.records l.id key) stands.valid stand (device.ordered key own_under) ∙ ap (λ (m : List Row). shown_at key m) (sym (before.same (inl device.none)))
   ]
-  kept_newest nothing rows (inr clean) before =
+  kept_newest rows (inr clean) before =
       let stand = stands_in e w table l clean.held stands there own clean.loaded in
       clean_newest law w.machine s table leaves l clean.held clean.greatest floor rows stands.valid none sees stand.keys clean.loaded.chains_fit clean.loaded.rows_fit clean.none_above clean.under (before.before clean.part clean.there clean.below)
 
-  pub kept_drafted : KeepsNothing w → (seen : List ℕ) (images : List (List Row)) → IsKept e had floor l → HasImages seen leaves table had w floor l images → IsLeafDrafted seen leaves had w table had l images
-  kept_drafted nothing seen images kept has = record {
+  pub kept_drafted : (seen : List ℕ) (images : List (List Row)) → IsKept e had floor l → HasImages seen leaves table had w floor l images → IsLeafDrafted seen leaves had w table had l images
+  kept_drafted seen images kept has = record {
     is = has.is;
     many = sym (links_long (part_of had l)) ∙ kept_long seen (part_of had l) images has.on;
-    newest = kept_newest nothing (join images) kept has.before;
+    newest = kept_newest (join images) kept has.before;
     shelved = has.before.same;
     same = same_self seen (links_in (part_of had l)) images;
   }

@@ -96,6 +96,7 @@ pub record IsSameBut (g g' : Ground) : Type 0 where
   pub number : g'.number ≡ g.number
   pub trees : g'.trees ≡ g.trees
   pub floor : g'.floor ≡ g.floor
+  pub kept : g'.kept ≡ g.kept
 
 -- the live tree let go of the blocks at these addresses
 pub record LetGo (books books' : Books) (addrs : List Addr) : Type 0 where

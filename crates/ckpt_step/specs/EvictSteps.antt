@@ -4,8 +4,11 @@ use Rattle.device_layout.specs.declared.addr.Addr.{Addr}
 use Rattle.device_layout.specs.declared.link.Link.{Link}
 use Rattle.disk_model.specs.declared.disk.Disk.{Ghosts}
 use Rattle.wt_code.specs.declared.store_error.StoreError.{StoreError}
+use Rattle.item.specs.declared.Change.{Change}
+use Rattle.stamp.specs.declared.Version.{Version}
 use Rattle.leaf_rows.specs.Rows.{AreFit}
 use Rattle.reconcile.specs.declared.image.Image.{Image}
+use Rattle.reconcile.specs.declared.image.Moved.{Moved}
 use Rattle.reconcile.specs.Images.{AreImages}
 use Rattle.row_page.specs.Rows.{Row, key_most}
 use Rattle.stored.specs.Stored.{Stored}
@@ -15,7 +18,7 @@ use Rattle.tree_write.specs.Drafts.{AreFrom}
 use Rattle.engine_world.specs.Evicting.{IsEvictedTo, with_rows}
 use Rattle.engine_world.specs.GoingOut.{with_again}
 use Rattle.engine_world.specs.Stands.{Engine, Stands}
-use Rattle.engine_world.specs.Worlds.{World, without_records}
+use Rattle.engine_world.specs.Worlds.{World, with_records}
 use Rattle.engine.specs.Evictions.{HasBeenEvicted, MayBeEvicted}
 use Rattle.ckpt_step.specs.declared.ground.Ground.{Ground}
 use Rattle.ckpt_step.specs.CutOuts.{IsSameBut, LetGo, NotPut}
@@ -34,9 +37,9 @@ pub record IsLowOf (e : Engine) (id : ℕ) (images : List Image) (low : List ℕ
 
 -- ---- the leaf leaves its frame
 
--- in the world in which its block has the rows by which it may, the calls that had found it may be told so, and nobody else sees it
+-- in the world in which its block has the rows by which it may, and the history what moves, the calls that had found it may be told so, and nobody else sees it
 abbrev pub StandsEvicted : Engine → Engine → ℕ → Type 0
-StandsEvicted e e' id = (may : MayBeEvicted e id) (w : World) (rows : List Row) → Stands e w → IsEvictedTo w.machine e.hub.dir.leaves may.leaf may.frame rows (λ key. []) → Stands e' (without_records id (with_rows id rows (with_again e may.framed.frame w)))
+StandsEvicted e e' id = (may : MayBeEvicted e id) (w : World) (rows : List Row) (moved : List ℕ → List (Version Change)) → Stands e w → IsEvictedTo w.machine e.hub.dir.leaves may.leaf may.frame rows moved → Stands e' (with_records id moved (with_rows id rows (with_again e may.framed.frame w)))
 
 module _ (e e' : Engine) (g g' : Ground) (id : ℕ) (link : Link) where
   -- where its former block stands, if it was written since
@@ -64,6 +67,6 @@ module _ (e e' : Engine) (g g' : Ground) (id : ℕ) (link : Link) where
 -- ---- its image is written, and it does
 
 module _ {D : Type 0} (g : Ghosts D) (old : Option Stored) (w : World) (stand stand' : Ground) (e e' : Engine) (id : ℕ) (before after : D) where
-  abbrev pub PutsBack : Result (Unit {0}) StoreError → Type 0
-  PutsBack (Ok done) = LeftFrame g old w stand stand' e e' id before after
-  PutsBack (Err x) = NotPut g old w stand stand' e e' id before after x
+  abbrev pub PutsBack : List Moved → Result (Unit {0}) StoreError → Type 0
+  PutsBack moved (Ok done) = LeftFrame g old w stand stand' e e' id before after moved
+  PutsBack moved (Err x) = NotPut g old w stand stand' e e' id before after x

@@ -8,6 +8,7 @@ use Rattle.disk_model.specs.declared.disk.Disk.{Ghosts}
 use Rattle.wt_code.specs.declared.refusals.Refusal.{Refusal}
 use Rattle.reconcile.specs.declared.image.Image.{Image}
 use Rattle.reconcile.specs.declared.image.Moved.{Moved}
+use Rattle.reconcile.specs.Moving.{versions_in}
 use Rattle.row_page.specs.Rows.{Row}
 use Rattle.snapshot.specs.Matters.{IsUnended}
 use Rattle.stored.specs.Stored.{Stored}
@@ -20,27 +21,29 @@ use Rattle.engine_world.specs.GoingOut.{with_again}
 use Rattle.engine_world.specs.Parting.{IsPartedTo}
 use Rattle.engine_world.specs.Stands.{Engine, Stands}
 use Rattle.engine_world.specs.Systems.{with_fault}
-use Rattle.engine_world.specs.Worlds.{World, without_records}
+use Rattle.engine_world.specs.Worlds.{World, with_records}
 use Rattle.engine.specs.declared.evicting.Stays.{Stays as Why}
 use Rattle.engine.specs.Evictions.{HasBeenEvicted, KeepsLeaf}
 use Rattle.engine.specs.Partings.{HasParted, KeepsWhole}
 use Rattle.evict_step.specs.Cuts.{AreCut}
 use Rattle.ckpt_step.specs.declared.evicting.Evicted.{Evicted}
-use Rattle.ckpt_step.specs.declared.evicting.Evicted.TheVariants.{Done, Parted, Stays, Unresolved, Moves, Empty}
+use Rattle.ckpt_step.specs.declared.evicting.Evicted.TheVariants.{Done, Parted, Stays, Unresolved, MovesApart, Empty}
 use Rattle.ckpt_step.specs.declared.ground.Ground.{Ground}
 use Rattle.ckpt_step.specs.Floors.{AreLivesOn, Follows}
 use Rattle.ckpt_step.specs.Grounds.{StandsOn}
+use Rattle.ckpt_step.specs.Kept.{KeepsAt, KeepsThese, Lists}
 use Rattle.ckpt_step.specs.Lives.{has_at, is_live}
 use Rattle.ckpt_step.specs.Rooms.{known_in}
 use Rattle.ckpt_step.specs.WritesOut.{NotWritten, RefusesOut}
 
 -- ---- a leaf that stays
 
--- where it may be evicted, versions of its keys would move to the history
+-- where it may be evicted, its rows need more than one block, and versions of its keys would move to the history
 pub record HasMoving (e : Engine) (id : ℕ) : Type 0 where
   pub images : List Image
   pub moved : List Moved
   pub cut : AreCut e id images moved
+  pub more : 2 ≤ length images
   pub some : 1 ≤ length moved
 
 -- where it may be evicted, its rows need more than one block
@@ -53,6 +56,11 @@ pub record IsGrown (e : Engine) (id : ℕ) : Type 0 where
 abbrev pub WhyNotNow : Engine → ℕ → Why → Type 0
 WhyNotNow e id why = KeepsLeaf e id why ⊎ (IsGrown e id × KeepsWhole e id why)
 
+-- where it may be evicted, none of its keys has a version
+pub record HoldsNone (e : Engine) (id : ℕ) : Type 0 where
+  pub moved : List Moved
+  pub cut : AreCut e id [] moved
+
 -- ---- the engine then, whatever the disk
 
 abbrev pub EvictsEngine : Engine → Engine → ℕ → Result Evicted Refusal → Type 0
@@ -61,19 +69,26 @@ EvictsEngine e e' id (Ok Parted) = (entries : List Entry) × HasParted e e' id e
 EvictsEngine e e' id (Ok stayed) = e' ≡ e
 EvictsEngine e e' id (Err r) = (e' ≡ e) ⊎ ((fault : Fault) × (e' ≡ with_fault e fault))
 
+-- ---- what is kept then, whatever the disk
+
+-- what was, but where the leaf left its frame
+abbrev pub KeepsStill : World → Lists → Result Evicted Refusal → Type 0
+KeepsStill w lists (Ok Done) = Unit {0}
+KeepsStill w lists result = KeepsThese w lists
+
 -- ---- what is left
 
 module _ {D : Type 0} (g : Ghosts D) (old : Option Stored) (w : World) (stand stand' : Ground) (e e' : Engine) (id : ℕ) (before after : D) where
-  -- The leaf left its frame and leads to a block that the live tree alone has, with these rows, in the world in which the calls that had found it may be told so. forgets: nothing is kept of what checkpoints wrote of it; freed: nor its former block, where it was written since the one before.
-  pub record LeftFrame : Type 0 where
+  -- The leaf left its frame and leads to a block that the live tree alone has, with these rows, in the world in which the calls that had found it may be told so, and in which the history has of it what moved. forgets: nothing is kept of what checkpoints wrote of it; freed: nor its former block, where it was written since the one before.
+  pub record LeftFrame (moved : List Moved) : Type 0 where
     pub link : Link
     pub rows : List Row
     pub out : HasBeenEvicted e e' id link
     pub left : LeavesOnly g before after (IsOld (g.may_leave before) old)
-    pub stands : Stands e' (without_records id (with_rows id rows (with_again e out.may.framed.frame w)))
+    pub stands : Stands e' (with_records id (λ key. versions_in key moved) (with_rows id rows (with_again e out.may.framed.frame w)))
     pub on : StandsOn (g.seen after) (g.may_leave after) e'.hub stand' old
-    pub follows : Follows old e'.hub stand' (without_records id (with_rows id rows (with_again e out.may.framed.frame w)))
-    pub since : AreLivesOn (g.seen after) e'.hub stand' (without_records id (with_rows id rows (with_again e out.may.framed.frame w)))
+    pub follows : Follows old e'.hub stand' (with_records id (λ key. versions_in key moved) (with_rows id rows (with_again e out.may.framed.frame w)))
+    pub since : AreLivesOn (g.seen after) e'.hub stand' (with_records id (λ key. versions_in key moved) (with_rows id rows (with_again e out.may.framed.frame w)))
     pub live : is_live stand'.lives (led_out link out.may.leaf) ≡ true
     pub freed : is_live stand.lives out.may.leaf ≡ true → has_at stand'.lives out.may.leaf.entry.link.addr.offset ≡ false
     pub forgets : known_in stand'.parts id ≡ None
@@ -95,11 +110,17 @@ module _ {D : Type 0} (g : Ghosts D) (old : Option Stored) (w : World) (stand st
     pub freed : is_live stand.lives parted.way.leaf ≡ true → has_at stand'.lives parted.way.leaf.entry.link.addr.offset ≡ false
     pub forgets : known_in stand'.parts id ≡ None
 
+  -- it did, and what moved is kept of it
+  pub record HasLeftFrame : Type 0 where
+    pub moved : List Moved
+    pub left : LeftFrame moved
+    pub kept : KeepsAt stand.kept stand'.kept id moved
+
   abbrev pub Evicts : Result Evicted Refusal → Type 0
-  Evicts (Ok Done) = LeftFrame
+  Evicts (Ok Done) = HasLeftFrame
   Evicts (Ok Parted) = LeftInParts
   Evicts (Ok (Stays why)) = NotWritten g old w stand stand' e e' id before after × WhyNotNow e id why
   Evicts (Ok (Unresolved by)) = NotWritten g old w stand stand' e e' id before after × IsUnended w.machine by
-  Evicts (Ok Moves) = NotWritten g old w stand stand' e e' id before after × HasMoving e id
-  Evicts (Ok Empty) = NotWritten g old w stand stand' e e' id before after × AreCut e id [] []
+  Evicts (Ok MovesApart) = NotWritten g old w stand stand' e e' id before after × HasMoving e id
+  Evicts (Ok Empty) = NotWritten g old w stand stand' e e' id before after × HoldsNone e id
   Evicts (Err r) = RefusesOut g old w stand stand' e e' id before after r

@@ -54,10 +54,6 @@ GoesOn m next = (floor : Name) → Respects m floor
 abbrev pub laid_of : World → (ℕ → List Row) × Records
 laid_of w = (w.shelf, w.records)
 
--- the history keeps nothing
-abbrev pub KeepsNothing : World → Type 0
-KeepsNothing w = (id : ℕ) (key : List ℕ) → w.records id key ≡ []
-
 -- ---- the parts of a checkpoint's trees
 
 -- The rows have the newest version before the floor of each key that lies in this leaf of the table.
@@ -77,13 +73,12 @@ pub record IsLeafBefore (m : Machine) (shelf : ℕ → List Row) (floor : Name) 
   pub before : (part : List Entry) → part_in written l ≡ Some part → AreBelowFloor floor part → AreNewestBefore m floor leaves table l rows
   pub same : IsAsItLies written l → rows ≡ shelf l.id
 
--- The machine respects the floor, and so it is with each leaf of each table that the checkpoint has; with a leaf that was written since by the rows of its block. The history keeps nothing.
+-- The machine respects the floor, and so it is with each leaf of each table that the checkpoint has; with a leaf that was written since by the rows of its block. What the history keeps does not matter: the row of a block is newer.
 pub record FollowsFrom (old : Option Stored) (known : List Table) (lives : List Lone) (leaves : List Leaf) (written : Written) (places : List TreePlace) (floor : Name) (w : World) : Type 0 where
   pub respects : Respects w.machine floor
   pub leaf : (i : ℕ) (t : Table) (place : TreePlace) (tree : TableTree) (l : Leaf) → slice_get known i ≡ Some t → slice_get places i ≡ Some place → HasTreeAt old t place tree → Contains leaves l → l.table ≡ t.number → is_live lives l ≡ false
       → IsLeafBefore w.machine w.shelf floor leaves written t.number l (join (part_leaves place tree (part_of written l)))
   pub since : (l : Leaf) → Contains leaves l → is_live lives l ≡ true → IsLeafBefore w.machine w.shelf floor leaves written l.table l (w.shelf l.id)
-  pub nothing : KeepsNothing w
 
 abbrev pub Follows : Option Stored → Hub → Ground → World → Type 0
 Follows old hub g w = FollowsFrom old hub.tables.tables g.lives hub.dir.leaves (known_in g.parts) g.trees.items g.floor w

@@ -27,7 +27,7 @@ use Rattle.tree_write.specs.Captures.{IsSafe}
 use Rattle.engine_world.specs.Stands.{Engine}
 use Rattle.engine_world.specs.Systems.{with_fault}
 use Rattle.ckpt_step.specs.Checkpoints.{IsCheckpointOf, IsRecordOf}
-use Rattle.ckpt_step.specs.Floors.{AreLivesOn, Follows, FollowsFrom, KeepsNothing, Respects}
+use Rattle.ckpt_step.specs.Floors.{AreLivesOn, Follows, FollowsFrom, Respects}
 use Rattle.ckpt_step.specs.Parts.{AreOfLeaves, with_parts}
 use Rattle.ckpt_step.specs.Rooms.{Written, known_in}
 use Rattle.tree_dir.specs.declared.leaf.Leaf.{Leaf}
@@ -90,7 +90,7 @@ module _ {D : Type 0} (g : Ghosts D) (old : Option Stored) (lives : List Lone) (
     pub by_leaves : ByLeaves (g.seen before) known leaves had w.shelf places trees (with_parts had more)
     pub of_leaves : AreOfLeaves leaves more
     pub done : IsDone (g.seen after) books' old lives known places trees captured r a
-    pub follows : (floor : Name) → Respects w.machine floor → KeepsNothing w → FollowsFrom (Some (made_of r known trees a)) known [] leaves (with_parts had more) places floor w
+    pub follows : (floor : Name) → Respects w.machine floor → FollowsFrom (Some (made_of r known trees a)) known [] leaves (with_parts had more) places floor w
 
   -- they are not
   pub record SomePut (e : StoreError) : Type 0 where

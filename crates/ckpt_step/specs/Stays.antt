@@ -7,17 +7,17 @@ use Rattle.engine_world.specs.Worlds.{World}
 use Rattle.stored.specs.Stored.{Stored}
 use Rattle.tree_dir.specs.declared.leaf.Leaf.{Leaf}
 use Rattle.tree_dir.specs.Leaves.{IsDirectory, changed, in_frame, leaf_named}
-use Rattle.ckpt_step.specs.Floors.{AreLivesOn, Follows, GoesOn, laid_of}
+use Rattle.ckpt_step.specs.Floors.{AreLivesOn, Follows, GoesOn}
 use Rattle.ckpt_step.specs.Grounds.{StandsOn}
 use Rattle.ckpt_step.specs.Parts.{has_rows}
 use Rattle.ckpt_step.specs.Rooms.{known_in}
 use Rattle.ckpt_step.specs.declared.ground.Ground.{Ground}
 
--- The hub goes on, as over calls, steps and leaves that come into frames: the ground is still that of the last completed checkpoint, and where the machine goes on too and what lies beside stays, it follows as it did.
+-- The hub goes on, as over calls, steps and leaves that come into frames: the ground is still that of the last completed checkpoint, and where the machine goes on too and the shelf stays, it follows as it did.
 abbrev pub GroundsStay : List ℕ → (List ℕ → Type 0) → Type 0
 GroundsStay seen images = (hub next : Hub) (g : Ground) (old : Option Stored) → HubGoesOn hub next → IsDirectory hub.dir → IsDirectory next.dir → AreTables next.tables → StandsOn seen images hub g old
     → StandsOn seen images next g old
-    × ((w v : World) → GoesOn w.machine v.machine → laid_of v ≡ laid_of w → Follows old hub g w → Follows old next g v)
+    × ((w v : World) → GoesOn w.machine v.machine → v.shelf ≡ w.shelf → Follows old hub g w → Follows old next g v)
     × ((w v : World) → v.shelf ≡ w.shelf → AreLivesOn seen hub g w → AreLivesOn seen next g v)
 
 -- the leaf of this id is in no frame

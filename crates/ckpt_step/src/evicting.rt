@@ -1,5 +1,5 @@
 // A leaf that is evicted to a block of its own, or to several, while others are at work.
-ghost use Rattle.std.specs.Prelude.{◌≡◌, [], Option, Some, None, Err, length, IfErr, IfOk, OnErr, OnOk, IsTrue};
+ghost use Rattle.std.specs.Prelude.{◌≡◌, List, Option, Some, None, Err, length, IfErr, IfOk, OnErr, OnOk, IsTrue};
 ghost use Rattle.failure.specs.Counts.{Rose};
 ghost use Rattle.failure.specs.declared.Fault.{Fault as AFault};
 ghost use Rattle.wt_code.specs.StoreErrors.{IsOfDisk};
@@ -9,11 +9,13 @@ ghost use Rattle.stored.specs.Stored.{Stored};
 ghost use Rattle.engine_world.specs.Stands.{Stands};
 ghost use Rattle.engine_world.specs.Worlds.{World};
 ghost use Rattle.engine.specs.Evictions.{HasBeenEvicted};
+ghost use Rattle.reconcile.specs.declared.image.Moved.{Moved as AMoved};
 ghost use Rattle.evict_step.specs.Cuts.{AreCut};
 ghost use Rattle.ckpt_step.specs.EvictSteps.{IsLowOf, PutsBack};
-ghost use Rattle.ckpt_step.specs.Evicts.{EvictsEngine, Evicts};
+ghost use Rattle.ckpt_step.specs.Evicts.{EvictsEngine, Evicts, KeepsStill};
 ghost use Rattle.ckpt_step.specs.Floors.{AreLivesOn, Follows};
 ghost use Rattle.ckpt_step.specs.Grounds.{StandsOn};
+ghost use Rattle.ckpt_step.specs.Kept.{KeepsThese};
 ghost use Rattle.ckpt_step.specs.Takes.{IsOfCheckpoint};
 
 use crate::ground::Ground;
@@ -28,7 +30,7 @@ use evict_step::{CutOut, cut_out};
 use failure::NoMemory;
 use item::Item;
 use leaf_write::write_leaves;
-use reconcile::Image;
+use reconcile::{Image, Made};
 use std::alloc::Global;
 use wt_code::{Refusal, StoreError};
 
@@ -43,18 +45,20 @@ pub enum Evicted {
     Stays(Stays),
     /// It holds a version of the transaction of this id, which has not ended.
     Unresolved(u64),
-    /// It holds an older version of a key that may still be wanted, and would have to move to the
-    /// history.
-    Moves,
+    /// Its rows need more than one block, and it holds an older version of a key that may still be
+    /// wanted: such a leaf does not part.
+    MovesApart,
     /// It holds no key, so that there is no block to read it from.
     Empty,
 }
 
 /// Evicts a leaf to a block of its own, whoever is at work: the newest version of each of its keys is
 /// written as one block that the live tree alone has, and the leaf leaves its frame and leads to it.
-/// Where it needs more than one, it parts: leaves of these blocks take its place, and are in no frame.
-/// The next checkpoint keeps the blocks as they stand. Where the leaf was written since the last one
-/// before, its former block is free again.
+/// Older versions that somebody may still want are kept in memory (`ground.kept`) until the leaf comes
+/// back (`bring_back` of `evict_step`); no checkpoint has them. Where the leaf needs more than one block,
+/// and has no such versions, it parts: leaves of these blocks take its place, and are in no frame. The next
+/// checkpoint keeps the blocks as they stand. Where the leaf was written since the last one before, its
+/// former block is free again.
 ///
 /// But for `Done` and `Parted` it stays where it is, and nothing changed. Refused where the engine is
 /// down; `28 no space` where the device has no room for the blocks, one behind the other; `12 no memory`
@@ -82,6 +86,7 @@ pub fn evict<D: Disk>(
     ensures sessions { length engine.new.sessions ≡ length engine.old.sessions }
     ensures hub { (engine.new.hub.tables ≡ engine.old.hub.tables) × (engine.new.hub.txns ≡ engine.old.hub.txns) }
     ensures engine { EvictsEngine engine.old engine.new leaf result }
+    ensures keeps { (w : World) → Stands engine.old w → KeepsThese w ground.old.kept → KeepsStill w ground.new.kept result }
     ensures disk { SameDisk D.Disk disk.old disk.new }
 {
     if let Some(fault) = engine.fault() {
@@ -95,18 +100,51 @@ pub fn evict<D: Disk>(
         CutOut::Unresolved(id) => return Ok(Evicted::Unresolved(id)),
         CutOut::Images(made) => made,
     };
-    if !made.moved.is_empty() {
-        return Ok(Evicted::Moves);
-    }
     if made.images.is_empty() {
         return Ok(Evicted::Empty);
     }
-    if made.images.len() > 1 {
-        return part_out(alloc, disk, ground, engine, leaf, made.images);
+    if made.images.len() == 1 {
+        return evict_whole(alloc, disk, ground, engine, leaf, made);
     }
+    if !made.moved.is_empty() {
+        return Ok(Evicted::MovesApart);
+    }
+    part_out(alloc, disk, ground, engine, leaf, made.images)
+}
+
+// Evicts a leaf that needs one block. What moves is kept before the device is touched, so that want of
+// memory for it changes nothing.
+fn evict_whole<D: Disk>(
+    alloc: Global,
+    disk: &mut D,
+    ground: &mut Ground,
+    engine: &mut Local,
+    leaf: u64,
+    made: Made,
+) -> Result<Evicted, Refusal>
+    requires cut { AreCut engine.old leaf made.images.items made.moved.items }
+    requires one { length made.images.items ≡ 1 }
+    ensures evicts { IsTrue (D.honest disk.old) → (w : World) → Stands engine.old w → w.machine.checkpoint ≡ None → (old : Option Stored) → StandsOn (D.seen disk.old) (D.may_leave disk.old) engine.old.hub ground.old old
+        → Follows old engine.old.hub ground.old w → AreLivesOn (D.seen disk.old) engine.old.hub ground.old w → Evicts D.Disk old w ground.old ground.new engine.old engine.new leaf disk.old disk.new result }
+    ensures refusals { IfErr result IsOfCheckpoint }
+    ensures fault { IfErr result (λ r. r ≡ Refusal.DiskFault → Rose (D.faults disk.old) (D.faults disk.new)) }
+    ensures number { ground.new.number ≡ ground.old.number }
+    ensures trees { ground.new.trees ≡ ground.old.trees }
+    ensures sessions { length engine.new.sessions ≡ length engine.old.sessions }
+    ensures hub { (engine.new.hub.tables ≡ engine.old.hub.tables) × (engine.new.hub.txns ≡ engine.old.hub.txns) }
+    ensures engine { EvictsEngine engine.old engine.new leaf result }
+    ensures keeps { (w : World) → Stands engine.old w → KeepsThese w ground.old.kept → KeepsStill w ground.new.kept result }
+    ensures disk { SameDisk D.Disk disk.old disk.new }
+{
+    let Ok(()) = ground.kept.keep(leaf, made.moved) else {
+        return Err(Refusal::NoMemory);
+    };
     match put_back(alloc, disk, ground, engine, leaf, &made.images) {
         Ok(()) => Ok(Evicted::Done),
-        Err(error) => Err(tell(engine, error)),
+        Err(error) => {
+            ground.kept.forget(leaf);
+            Err(tell(engine, error))
+        }
     }
 }
 
@@ -120,12 +158,13 @@ fn put_back<D: Disk>(
     leaf: u64,
     images: &[Image],
 ) -> Result<(), StoreError>
-    requires cut { AreCut engine.old leaf images.now [] }
+    requires cut { (moved : List AMoved) × AreCut engine.old leaf images.now moved }
     requires one { length images.now ≡ 1 }
-    ensures puts { IsTrue (D.honest disk.old) → (w : World) → Stands engine.old w → w.machine.checkpoint ≡ None → (old : Option Stored) → StandsOn (D.seen disk.old) (D.may_leave disk.old) engine.old.hub ground.old old
-        → Follows old engine.old.hub ground.old w → AreLivesOn (D.seen disk.old) engine.old.hub ground.old w → PutsBack D.Disk old w ground.old ground.new engine.old engine.new leaf disk.old disk.new result }
+    ensures puts { IsTrue (D.honest disk.old) → (moved : List AMoved) → AreCut engine.old leaf images.now moved → (w : World) → Stands engine.old w → w.machine.checkpoint ≡ None → (old : Option Stored) → StandsOn (D.seen disk.old) (D.may_leave disk.old) engine.old.hub ground.old old
+        → Follows old engine.old.hub ground.old w → AreLivesOn (D.seen disk.old) engine.old.hub ground.old w → PutsBack D.Disk old w ground.old ground.new engine.old engine.new leaf disk.old disk.new moved result }
     ensures out { OnOk result ((link : ALink) × HasBeenEvicted engine.old engine.new leaf link) }
     ensures kept { OnErr result (engine.new ≡ engine.old) }
+    ensures history { ground.new.kept ≡ ground.old.kept }
     ensures number { ground.new.number ≡ ground.old.number }
     ensures trees { ground.new.trees ≡ ground.old.trees }
     ensures sessions { length engine.new.sessions ≡ length engine.old.sessions }

@@ -1,4 +1,5 @@
 // On what the next checkpoint of an engine stands.
+use crate::kept::Kept;
 use crate::lives::Lives;
 use crate::parts::Parts;
 use device_leaf::Place;
@@ -21,6 +22,8 @@ pub struct Ground {
     pub parts: Parts,
     /// The leaves that were written since, each as one block.
     pub lives: Lives,
+    /// The older versions of leaves that were evicted, which are in no frame. No checkpoint has them.
+    pub kept: Kept,
     /// Each name before it had ended at the last checkpoint that this engine took. No name is before
     /// run 0 and id 0, with which an engine begins.
     pub floor: Name,

@@ -7,7 +7,8 @@
 //! and that the new one opens as the checkpoint that the machine takes (`checkpoints_open`). Says what
 //! may take the place of a leaf that leaves memory, and that the next checkpoint stands then as before;
 //! and writes a leaf that changed out while nobody is at work (`write_out`), or evicts it to a block of
-//! its own, or to several, whoever is (`evict`), so that the next checkpoint keeps its blocks.
+//! its own, or to several, whoever is (`evict`), so that the next checkpoint keeps its blocks; the older
+//! versions that somebody may still want are kept in memory then (`Kept`).
 //! Leaves to the caller to open the device, when a checkpoint may come, and which leaves leave.
 #![tactic(auto)]
 
@@ -18,6 +19,7 @@ mod cutting_out;
 mod evicting;
 mod giving;
 mod ground;
+mod kept;
 mod laws;
 mod leaves;
 mod lives;
@@ -36,6 +38,7 @@ mod writing_out;
 pub use evicting::{Evicted, evict};
 pub use giving::entries_in_place;
 pub use ground::Ground;
+pub use kept::Kept;
 pub use laws::{
     calm_stays, checkpoints_are_kept, checkpoints_have_newest, checkpoints_open, grounds_give_way,
     grounds_let_go, grounds_stay, plain_stays,

@@ -43,6 +43,7 @@ pub(crate) fn part_out<D: Disk>(
     ensures sessions { length engine.new.sessions ≡ length engine.old.sessions }
     ensures hub { (engine.new.hub.tables ≡ engine.old.hub.tables) × (engine.new.hub.txns ≡ engine.old.hub.txns) }
     ensures engine { EvictsEngine engine.old engine.new leaf result }
+    ensures history { ground.new.kept ≡ ground.old.kept }
     ensures disk { SameDisk D.Disk disk.old disk.new }
 {
     if let Some(why) = engine.why_it_does_not_part(leaf) {

@@ -57,6 +57,7 @@ pub fn checkpoint<D: Disk>(
     ensures trees { length ground.new.trees.items ≤ length engine.old.hub.tables.tables }
     ensures low { AreLow ground.new.trees.items }
     ensures lives { OnErr result (ground.new.lives ≡ ground.old.lives) }
+    ensures history { ground.new.kept ≡ ground.old.kept }
     ensures sessions { length engine.new.sessions ≡ length engine.old.sessions }
     ensures hub { (engine.new.hub.tables ≡ engine.old.hub.tables) × (engine.new.hub.txns ≡ engine.old.hub.txns) }
     ensures engine { (engine.new ≡ engine.old) ⊎ ((fault : AFault) × (engine.new ≡ with_fault engine.old fault)) }

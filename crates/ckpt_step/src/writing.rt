@@ -65,6 +65,7 @@ pub(crate) fn write<D: Disk>(
     ensures trees { length ground.new.trees.items ≤ length engine.now.hub.tables.tables }
     ensures low { AreLow ground.new.trees.items }
     ensures lives { OnErr result (ground.new.lives ≡ ground.old.lives) }
+    ensures history { ground.new.kept ≡ ground.old.kept }
     ensures fault { IfErr result (λ e. IsOfDisk e → Rose (D.faults disk.old) (D.faults disk.new)) }
     ensures disk { SameDisk D.Disk disk.old disk.new }
 {
@@ -149,6 +150,7 @@ fn write_blocks<D: Disk>(
     ensures parts { (leaf : ℕ) → known_in ground.new.parts leaf ≡ known_in ground.old.parts leaf }
     ensures lives { ground.new.lives ≡ ground.old.lives }
     ensures floor { ground.new.floor ≡ ground.old.floor }
+    ensures history { ground.new.kept ≡ ground.old.kept }
     ensures fault { IfErr result (λ e. IsOfDisk e → Rose (D.faults disk.old) (D.faults disk.new)) }
     ensures disk { SameDisk D.Disk disk.old disk.new }
 {
@@ -247,6 +249,7 @@ fn settle(
     ensures floor { ground.new.floor ≡ floor }
     ensures slot { ground.new.place.slot ≡ Some (slot_at (ground.old.number + 1) addr) }
     ensures lives { ground.new.lives ≡ [] }
+    ensures history { ground.new.kept ≡ ground.old.kept }
     ensures cells { (old : Option Stored) (captured : List AnAddr) (a : AnAddr) → AreOldBlocks old ground.old.lives (addrs_of ground.old.trees.items ++ addrs_in ground.old.lives) → ((x : AnAddr) → Member x (addrs_of (kept_by ground.old.trees.items told.items)) → Member x captured) → AreOwn old ground.old.lives captured → IsFresh old ground.old.lives captured a → ((u : ℕ) → cell_at ground.old.place.blocks.cells u ≡ done_at old ground.old.lives captured a u) → (u : ℕ) → cell_at ground.new.place.blocks.cells u ≡ settled_at captured a u }
     ensures end { end_of ground.new.place.blocks.space ≡ end_of ground.old.place.blocks.space }
     ensures units { AreUnits ground.old.place.blocks.cells ground.old.place.blocks.space → AreUnits ground.new.place.blocks.cells ground.new.place.blocks.space }

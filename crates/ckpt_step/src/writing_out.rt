@@ -61,6 +61,7 @@ pub fn write_out<D: Disk>(
     ensures sessions { length engine.new.sessions ≡ length engine.old.sessions }
     ensures hub { (engine.new.hub.tables ≡ engine.old.hub.tables) × (engine.new.hub.txns ≡ engine.old.hub.txns) }
     ensures engine { LeavesEngine engine.old engine.new leaf result }
+    ensures history { ground.new.kept ≡ ground.old.kept }
     ensures disk { SameDisk D.Disk disk.old disk.new }
 {
     captures_are_newest();
@@ -113,6 +114,7 @@ pub(crate) fn put_out<D: Disk>(
         → Follows old engine.old.hub ground.old w → AreLivesOn (D.seen disk.old) engine.old.hub ground.old w → PutsOut D.Disk old w ground.old ground.new engine.old engine.new leaf disk.old disk.new when rows result }
     ensures given { OnOk result ((entries : List StoredEntry) × HasGivenWay engine.old engine.new leaf entries) }
     ensures kept { OnErr result (engine.new ≡ engine.old) }
+    ensures history { ground.new.kept ≡ ground.old.kept }
     ensures number { ground.new.number ≡ ground.old.number }
     ensures trees { ground.new.trees ≡ ground.old.trees }
     ensures sessions { length engine.new.sessions ≡ length engine.old.sessions }

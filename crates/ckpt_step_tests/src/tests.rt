@@ -8,7 +8,7 @@ use catalog::Catalog;
 use ckpt_step::{Evicted, Ground, Lives, Parts, checkpoint, evict};
 use disk_model::{Call as DiskCall, Look, MemDisk};
 use engine::{Called, Local, Stays};
-use item::{Format, Formats, Item};
+use item::{Change, Format, Formats, Item};
 use plain_disk::PlainDisk;
 use recover_open::{Kept, Recovered, recover};
 use row_page::CellChange;
@@ -78,6 +78,7 @@ fn new_bench(
             trees: Vec::new(alloc),
             parts: Parts::new(alloc),
             lives: Lives::new(alloc),
+            kept: ckpt_step::Kept::new(alloc),
             floor: Name { run: 0, id: 0 },
         },
         engine,
@@ -534,6 +535,55 @@ fn a_leaf_of_three_blocks_parts_beside_a_transaction(rt: HostRuntime) {
     );
     let left = bench.disk.medium.crash(0).expect(&rt, "there is memory");
     assert_eq!(rt; rows_on(&rt, alloc, left), 300);
+}
+
+// A reader may still want the value under a removal: the leaf goes out with the removal as its row, and
+// the value is kept. What comes back has both, newest first.
+#[test]
+fn what_a_reader_may_want_of_an_evicted_leaf_is_kept(rt: HostRuntime) {
+    let alloc = rt.alloc();
+    let mut bench = new_bench(&rt, alloc, ROOM, &[], &[b"a"]);
+    put(&rt, alloc, &mut bench, b"a", b"first");
+    assert!(rt; bench.engine.open_session(alloc).is_ok());
+    assert!(rt; bench.engine.sessions() > 1);
+    let begun = bench.engine.call(alloc, 1, SessionCall::Begin(None));
+    assert!(rt; begun == Called::Ended(Answer::Done));
+    remove(&rt, alloc, &mut bench, b"a");
+    assert!(rt; let_out(alloc, &mut bench) == Ok(Evicted::Done));
+    let moved = bench
+        .ground
+        .kept
+        .copy_of(alloc, 0)
+        .expect(&rt, "there is memory");
+    assert_eq!(rt; moved.len(), 1);
+    for one in &moved {
+        assert!(rt;
+            matches!(&one.version.change, Change::Put(value) if value.as_bytes() == b"first".as_slice())
+        );
+    }
+    bench.ground.kept.forget(0);
+    let none = bench
+        .ground
+        .kept
+        .copy_of(alloc, 0)
+        .expect(&rt, "there is memory");
+    assert!(rt; none.is_empty());
+}
+
+// A transaction that removes the key `k` of a table.
+fn remove(rt: &impl Abort, alloc: Global, bench: &mut Bench, table: &[u8]) {
+    let engine = &mut bench.engine;
+    ask(rt, alloc, engine, SessionCall::Begin(None));
+    let call = SessionCall::Remove {
+        table: item(rt, alloc, table),
+        key: item(rt, alloc, b"k"),
+    };
+    ask(rt, alloc, engine, call);
+    let commit = SessionCall::Commit {
+        commit: None,
+        durable: None,
+    };
+    ask(rt, alloc, engine, commit);
 }
 
 // There is room for the tree, and not for the record behind it.

@@ -1,5 +1,5 @@
 -- What holds between two calls goes on over a call of an actor, by which the disk is at most looked at.
-use Rattle.std.proofs.Common.{◌≡◌, ◌∙◌, ◌≤◌, ℕ, List, [], ◌∷◌, length, Option, refl, ap, sym, subst, inl, inr, arith}
+use Rattle.std.proofs.Common.{◌≡◌, ◌∙◌, ◌≤◌, ℕ, List, [], ◌∷◌, length, Option, refl, sym, subst, inl, inr, arith}
 use Rattle.disk_model.specs.Crash.{Each, Looked}
 use Rattle.disk_model.specs.Disk.{NoMore}
 use Rattle.disk_model.specs.declared.disk.Disk.{Ghosts}
@@ -10,22 +10,24 @@ use Rattle.kv_model.specs.Machine.{Completed}
 use Rattle.stored.specs.Stored.{Stored}
 use Rattle.checkpoint_core.specs.Stands.{HasStill}
 use Rattle.device_leaf.specs.Closings.{content_was}
-use Rattle.row_page.specs.Rows.{Row}
 use Rattle.tree_dir.specs.Leaves.{IsDirectory}
 use Rattle.call_steps.specs.declared.hub.Hub.{Hub}
 use Rattle.engine_world.specs.Stands.{Stands}
-use Rattle.engine_world.specs.Worlds.{Records, World}
+use Rattle.engine_world.specs.Worlds.{World}
 use Rattle.engine.specs.Directories.{HubGoesOn}
 use Rattle.ckpt_step.specs.declared.ground.Ground.{Ground}
-use Rattle.ckpt_step.specs.Floors.{AreLivesOn, Follows, GoesOn, laid_of}
+use Rattle.ckpt_step.specs.Floors.{AreLivesOn, Follows, GoesOn}
 use Rattle.ckpt_step.specs.Grounds.{StandsOn}
+use Rattle.ckpt_step.specs.Kept.{KeepsThese}
 use Rattle.ckpt_step.proofs.Floors.{goes_same}
+use Rattle.ckpt_step.proofs.KeptGround.{follows_records, stands_kept}
 use Rattle.ckpt_step.proofs.Staying.{grounds_stay, no_fewer}
 use Rattle.engine_store.specs.declared.store.Store.{Store}
 use Rattle.engine_store.specs.Devices.{Installed, may_open_to}
 use Rattle.engine_store.specs.Fetches.{IsBacked, IsReached}
-use Rattle.engine_store.specs.Held.{IsHeld}
+use Rattle.engine_store.specs.Held.{IsHeld, IsHeldIn}
 use Rattle.engine_store.specs.Images.{OpensToAny, OpensToLast}
+use Rattle.engine_store.specs.Keeping.{IsSameButKept, with_kept}
 use Rattle.engine_store.specs.Opened.{IsReady}
 use Rattle.engine_store.proofs.Going.{Goes}
 use Rattle.engine_store.proofs.Installing.{past_later, stays_on}
@@ -50,29 +52,32 @@ stands_looked bytes seen was images hub g old same fewer on = record {
   led = on.led;
 }
 
-pub ready_goes : (s s' : Store) → HubGoesOn s.engine.hub s'.engine.hub → s'.ground ≡ s.ground → IsReady s → IsReady s'
-ready_goes s s' goes ground ready = subst (λ (x : Ground). IsReady (record s' { ground = x })) (sym ground) (record {
+pub ready_goes : (s s' : Store) → HubGoesOn s.engine.hub s'.engine.hub → IsSameButKept s.ground s'.ground → IsReady s → IsReady s'
+ready_goes s s' goes ground ready = ready_in (subst (λ (x : Ground). IsReady (record s' { ground = x })) (sym ground) (record {
   run = omega (arith, goes.run, ready.run);
   trees = omega (arith, ready.trees, no_fewer s.engine.hub.tables.tables s'.engine.hub.tables.tables goes.tables);
   low = ready.low;
-})
+}))
+  where
+    ready_in : IsReady (record s' { ground = s'.ground }) → IsReady s'
+    ready_in is = record { run = is.run; trees = is.trees; low = is.low }
 
-module _ {D : Type 0} (g : Ghosts D) (s s' : Store) (before after : D) (looked : Looked g before after) (goes : HubGoesOn s.engine.hub s'.engine.hub) (ground : s'.ground ≡ s.ground) where
+module _ {D : Type 0} (g : Ghosts D) (s s' : Store) (before after : D) (looked : Looked g before after) (goes : HubGoesOn s.engine.hub s'.engine.hub) (ground : IsSameButKept s.ground s'.ground) where
   -- what the ground is to one hub and world, it is to those that come of them
   record Moved (old : Option Stored) (v : World) : Type 0 where
     on : StandsOn (g.seen after) (g.may_leave after) s'.engine.hub s'.ground old
     follows : Follows old s'.engine.hub s'.ground v
     since : AreLivesOn (g.seen after) s'.engine.hub s'.ground v
 
-  moved : (old : Option Stored) (w v : World) → IsDirectory s.engine.hub.dir → IsDirectory s'.engine.hub.dir → AreTables s'.engine.hub.tables → GoesOn w.machine v.machine → laid_of v ≡ laid_of w → StandsOn (g.seen before) (g.may_leave before) s.engine.hub s.ground old → Follows old s.engine.hub s.ground w → AreLivesOn (g.seen before) s.engine.hub s.ground w → Moved old v
-  moved old w v was now are on laid stands follows device =
+  moved : (old : Option Stored) (w v : World) → IsDirectory s.engine.hub.dir → IsDirectory s'.engine.hub.dir → AreTables s'.engine.hub.tables → GoesOn w.machine v.machine → v.shelf ≡ w.shelf → StandsOn (g.seen before) (g.may_leave before) s.engine.hub s.ground old → Follows old s.engine.hub s.ground w → AreLivesOn (g.seen before) s.engine.hub s.ground w → Moved old v
+  moved old w v was now are on shelf stands follows device =
       let stay = grounds_stay (g.seen before) (g.may_leave before) s.engine.hub s'.engine.hub s.ground old goes was now are stands in
       record {
         on = subst (λ (x : Ground). StandsOn (g.seen after) (g.may_leave after) s'.engine.hub x old) (sym ground)
-            (stands_looked (g.seen before) (g.seen after) (g.may_leave before) (g.may_leave after) s'.engine.hub s.ground old looked.content looked.images stay.0);
-        follows = subst (λ (x : Ground). Follows old s'.engine.hub x v) (sym ground) (stay.1 w v on laid follows);
+            (stands_kept (g.seen after) (g.may_leave after) s'.engine.hub s.ground old s'.ground.kept (stands_looked (g.seen before) (g.seen after) (g.may_leave before) (g.may_leave after) s'.engine.hub s.ground old looked.content looked.images stay.0));
+        follows = subst (λ (x : Ground). Follows old s'.engine.hub x v) (sym ground) (stay.1 w v on shelf follows);
         since = subst (λ (x : Ground). AreLivesOn (g.seen after) s'.engine.hub x v) (sym ground)
-            (subst (λ (l : List ℕ). AreLivesOn l s'.engine.hub s.ground v) (sym looked.content) (stay.2 w v (ap (λ (l : (ℕ → List Row) × Records). l.0) laid) device));
+            (subst (λ (l : List ℕ). AreLivesOn l s'.engine.hub s.ground v) (sym looked.content) (stay.2 w v shelf device));
       }
 
   pub backed_goes : (w : World) → IsDirectory s.engine.hub.dir → IsDirectory s'.engine.hub.dir → AreTables s'.engine.hub.tables → IsBacked g s before w → IsBacked g s' after w
@@ -83,13 +88,14 @@ module _ {D : Type 0} (g : Ghosts D) (s s' : Store) (before after : D) (looked :
 
   -- ---- what is held
 
-  pub held_goes : (start : D) (w later : World) (first : Completed) (made : List Installed) → Stands s'.engine later → Goes w later → IsHeld g start s before w first made → IsHeld g start s' after later first made
-  held_goes start w later first made stands on held = record {
+  pub held_goes : (start : D) (w later : World) (first : Completed) (made : List Installed) → Stands s'.engine later → KeepsThese later s'.ground.kept → Goes w later → IsHeldIn g start s before w first made → IsHeldIn g start s' after later first made
+  held_goes start w later first made stands kept on held = record {
     stands = stands;
     idle = on.keeps.checkpoint ∙ held.idle;
+    kept = kept;
     on = λ up.
         let x = held.on (sym on.keeps.fault ∙ up) in
-        let m = moved x.old w later held.stands.dir stands.dir stands.catalog on.machine on.laid x.on x.follows x.since in
+        let m = moved x.old w later held.stands.dir stands.dir stands.catalog on.machine on.shelf x.on x.follows x.since in
         record {
           old = x.old;
           on = m.on;
@@ -119,7 +125,7 @@ module _ {D : Type 0} (g : Ghosts D) (s s' : Store) (before after : D) (looked :
 -- ---- where a call begins
 
 pub backed_held : {D : Type 0} (g : Ghosts D) (start disk : D) (s : Store) (w : World) (first : Completed) (made : List Installed) → IsHeld g start s disk w first made → IsBacked g s disk w
-backed_held g start disk s w first made held up = let x = held.on (sym held.stands.fault ∙ up) in (x.old, x.on, x.follows, x.since)
+backed_held g start disk s w first made held up = let x = held.on (sym held.stands.fault ∙ up) in (x.old, x.on, follows_records x.old s.engine.hub s.ground (with_kept s.ground.kept w) w.records x.follows, x.since)
 
-pub reached_first : {D : Type 0} (g : Ghosts D) (s : Store) (disk : D) (w : World) → Stands s.engine w → IsBacked g s disk w → IsReached g s disk w w
-reached_first g s disk w stands backed = record { backed = backed; stands = stands; fault = refl; laid = refl }
+pub reached_first : {D : Type 0} (g : Ghosts D) (s : Store) (disk : D) (w : World) → Stands s.engine (with_kept s.ground.kept w) → IsBacked g s disk w → IsReached g s disk w w
+reached_first g s disk w stands backed = record { backed = backed; stands = stands; fault = refl; shelf = refl }

@@ -21,22 +21,23 @@ use Rattle.ckpt_step.proofs.Ordinary.{engines_are}
 use Rattle.engine_store.specs.declared.store.Store.{Store}
 use Rattle.engine_store.specs.Calls.{AreToldSo, Basis, CallKeeps, Called as CalledAs, IsBasis, MayAnswerSo, TellsSo}
 use Rattle.engine_store.specs.Devices.{Installed}
+use Rattle.engine_store.specs.Keeping.{IsSameButKept, with_kept}
 use Rattle.engine_store.specs.Fetches.{CalledSo, CallsBy, CausedSince, IsBacked}
 use Rattle.engine_store.specs.Held.{IsHeld}
 use Rattle.engine_store.proofs.Backed.{backed_goes, backed_held, held_goes, ready_goes}
 use Rattle.engine_store.proofs.Bases.{basis_goes, basis_here}
-use Rattle.engine_store.proofs.Going.{Goes, goes_kept}
+use Rattle.engine_store.proofs.Going.{Goes, goes_kept, goes_other, ordinary_other}
 use Rattle.engine_store.proofs.MoreSessions.{with_engine}
 use Rattle.engine_store.proofs.Telling.{called_told, keep_told}
 use Rattle.engine_store.proofs.UnderWay.{calls_stand, calls_to}
 
 -- what the ends of a call leave. s: the store before the call; e: its engine once the call had come as far as it does by itself; s': at the end
 pub record Ended {D : Type 0} (g : Ghosts D) (s : Store) (e : Engine) (s' : Store) (made : Called) (before after : D) (session : ℕ) (asked : Call) (answer : Answer (List ℕ)) : Type 0 where
-  pub calls : IsTrue (g.honest before) → (w : World) → session < length w.sessions → e.hub.fault ≡ w.machine.fault → IsBacked g (with_engine s e) before w → CallsBy g before before made e w session asked → CallsBy g before after (called.Ended answer) s'.engine w session asked
+  pub calls : IsTrue (g.honest before) → (w : World) → session < length w.sessions → e.hub.fault ≡ w.machine.fault → IsBacked g (with_engine s e) before w → CallsBy g before before made e s.ground.kept w session asked → CallsBy g before after (called.Ended answer) s'.engine s'.ground.kept w session asked
   pub begun : (w : World) → Stands s.engine w → CallsTo made e w session asked
   pub goes : HubGoesOn s.engine.hub e.hub
   pub on : (h : Hub) → HubGoesOn h e.hub → HubGoesOn h s'.engine.hub
-  pub ground : s'.ground ≡ s.ground
+  pub ground : IsSameButKept s.ground s'.ground
   pub frames : s'.frames ≡ s.frames
   pub looked : Looked g before after
   pub home : g.home after ≡ g.home before
@@ -57,13 +58,13 @@ module _ {D : Type 0} (g : Ghosts D) (s : Store) (e : Engine) (s' : Store) (made
     caused : CausedSince g before after w kept
     later : World
     may : MayCallKept kept w session asked answer later
-    stands : Stands s'.engine later
+    stands : Stands s'.engine (with_kept s'.ground.kept later)
     goes : Goes w later
 
-  led : IsTrue (g.honest before) → (w : World) → Stands s.engine w → IsBacked g s before w → Led w
+  led : IsTrue (g.honest before) → (w : World) → Stands s.engine (with_kept s.ground.kept w) → IsBacked g s before w → Led w
   led honest w stands backed =
-      let by = calls_to g before made e w session asked (x.goes.fault ∙ stands.fault) (x.begun w stands) in
-      let stood = calls_stand g before before made e w session asked by in
+      let by = calls_to g before made e s.ground.kept w session asked (x.goes.fault ∙ stands.fault) (x.begun (with_kept s.ground.kept w) stands) in
+      let stood = calls_stand g before before made e s.ground.kept w session asked by in
       let end = x.calls honest w (omega (arith, x.there, stands.doings)) (x.goes.fault ∙ stands.fault)
       (backed_goes g s (with_engine s e) before before (looked_none g before) x.goes refl w stands.dir stood.1.dir stood.1.catalog backed) by in
       record {
@@ -72,7 +73,7 @@ module _ {D : Type 0} (g : Ghosts D) (s : Store) (e : Engine) (s' : Store) (made
         later = end.2;
         may = end.3;
         stands = end.4;
-        goes = goes_kept end.0 w end.2 session asked answer (engines_are s.engine w stands x.built) x.ordinary end.3;
+        goes = goes_kept end.0 w end.2 session asked answer (ordinary_other w (with_kept s.ground.kept w).records (engines_are s.engine (with_kept s.ground.kept w) stands x.built)) x.ordinary end.3;
       }
 
   pub calls_held : IsTrue (g.honest before) → (start : D) (w : World) (first : Completed) (installed : List Installed) → IsHeld g start s before w first installed → CalledAs g start w first installed s s' before after session asked answer
@@ -83,7 +84,7 @@ module _ {D : Type 0} (g : Ghosts D) (s : Store) (e : Engine) (s' : Store) (made
         caused = l.caused;
         later = l.later;
         called = l.may;
-        held = held_goes g s s' before after x.looked hub x.ground start w l.later first installed l.stands l.goes held;
+        held = held_goes g s s' before after x.looked hub x.ground start (with_kept s.ground.kept w) (with_kept s'.ground.kept l.later) first installed l.stands (λ leaf key. refl) (goes_other w l.later (with_kept s.ground.kept w).records (with_kept s'.ground.kept l.later).records l.goes) held;
       }
 
   pub calls_keep : CallKeeps g s s' before after

@@ -1,20 +1,19 @@
 -- What a leaf that a call waits for brings, and what is told where it cannot be had.
-use Rattle.std.proofs.Common.{◌≡◌, ◌∙◌, ◌≤◌, ℕ, List, Option, None, sym, ap, subst, inl, inr, arith}
+use Rattle.std.proofs.Common.{◌≡◌, ◌∙◌, ◌≤◌, ℕ, Option, None, sym, ap, subst, inl, inr, arith}
 use Rattle.std.specs.Prelude.{Result, Ok, Err, IfErr, IsTrue, option_map}
 use Rattle.failure.specs.Counts.{Rose}
 use Rattle.failure.specs.declared.Fault.{Fault}
 use Rattle.disk_model.specs.Crash.{Looked}
 use Rattle.disk_model.specs.declared.disk.Disk.{Ghosts}
 use Rattle.wt_code.specs.declared.refusals.Refusal.{Refusal}
-use Rattle.row_page.specs.Rows.{Row}
 use Rattle.tree_dir.specs.Leaves.{IsDirectory}
-use Rattle.engine_world.specs.Worlds.{Records, World}
+use Rattle.engine_world.specs.Worlds.{World}
 use Rattle.engine.specs.Waits.{IsAway}
-use Rattle.ckpt_step.specs.Floors.{KeepsNothing}
 use Rattle.ckpt_step.specs.Rooms.{known_in}
 use Rattle.engine_store.specs.declared.store.Store.{Store}
 use Rattle.engine_store.specs.Calls.{Basis, IsBasis, MayTell}
 use Rattle.engine_store.specs.Fetches.{IsReached}
+use Rattle.engine_store.specs.Keeping.{with_kept}
 use Rattle.engine_store.specs.Loads.{IsCause, LacksLeaf, RefusesLeaf, ShelfIsOn}
 use Rattle.engine_store.proofs.Bases.{spoilt_on}
 use Rattle.engine_store.proofs.Shelves.{shelf_on}
@@ -36,11 +35,7 @@ module _ {D : Type 0} (g : Ghosts D) (s : Store) (disk : D) where
   pub shelf_here : (w now : World) (leaf : ℕ) → IsReached g s disk w now → s.engine.hub.fault ≡ None → IsAway s.engine.hub.dir.leaves leaf → known_in s.ground.parts leaf ≡ None → ShelfIsOn (g.seen disk) s.engine.hub.dir now.shelf leaf
   shelf_here w now leaf reached up away none =
       let b = reached.backed up in
-      shelf_on (g.seen disk) (g.may_leave disk) s.engine s.ground now reached.stands b.0 w leaf b.1 b.2 b.3 (ap (λ (x : (ℕ → List Row) × Records). x.0) reached.laid) away none
-
-  -- and the history has nothing of it
-  pub nothing_here : (w now : World) → IsReached g s disk w now → s.engine.hub.fault ≡ None → KeepsNothing now
-  nothing_here w now reached up id key = ap (λ (x : (ℕ → List Row) × Records). x.1 id key) reached.laid ∙ (reached.backed up).2.nothing id key
+      shelf_on (g.seen disk) (g.may_leave disk) s.engine s.ground (with_kept s.ground.kept now) reached.stands b.0 w leaf b.1 b.2 b.3 reached.shelf away none
 
 pub caused : (fault : Type 0) (down : Option Fault) (result : Result (Unit {0}) Refusal) → IfErr result (LacksLeaf fault) → IfErr result (IsCause fault down)
 caused fault down (Ok done) lacks = tt

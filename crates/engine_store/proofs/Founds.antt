@@ -111,10 +111,10 @@ module _ (a : Above) (is_record : IsRecord a.record) (both : List TableEntries) 
         (begun_kept bytes place a of both with recorded e unread was.0 before) was.2.id was.2.entry (whole_or_bare s.engine.hub.tables.tables d now.dir (marks_of a.record) written_now keep now.owned unmarked l there as_it_lies) (under bytes d now.dir t.number p tree has at.1 leads entries fits l there its).leaf)
 
     follows : FollowsFrom (Some old) s.engine.hub.tables.tables [] d.leaves written_now (places_in a.record.tables ps) no_name (first_world (content_of old) on_shelf s.engine)
-    follows = follows_from (Some old) s.engine.hub.tables.tables d.leaves written_now (places_in a.record.tables ps) (first_world (content_of old) on_shelf s.engine) (starts_below (content_of old)) (part_own s.engine.hub.tables.tables d now.dir (marks_of a.record) written_now keep) same (λ id key. refl)
+    follows = follows_from (Some old) s.engine.hub.tables.tables d.leaves written_now (places_in a.record.tables ps) (first_world (content_of old) on_shelf s.engine) (starts_below (content_of old)) (part_own s.engine.hub.tables.tables d now.dir (marks_of a.record) written_now keep) same
 
-    pub found_above : s.ground.place ≡ place → s.ground.floor ≡ no_name → s.ground.lives ≡ [] → a.record.run < last_number → a.record.next_table + TABLES_MAX < 2 ^ 32 + length a.record.tables → IsFound bytes s
-    found_above place_is floor none run numbers = record {
+    pub found_above : s.ground.place ≡ place → s.ground.floor ≡ no_name → s.ground.lives ≡ [] → s.ground.kept ≡ [] → a.record.run < last_number → a.record.next_table + TABLES_MAX < 2 ^ 32 + length a.record.tables → IsFound bytes s
+    found_above place_is floor none kept run numbers = record {
       old = Some old;
       numbers = (run, numbers);
       on = record {
@@ -124,6 +124,7 @@ module _ (a : Above) (is_record : IsRecord a.record) (both : List TableEntries) 
         roots = subst (λ (l : List TreePlace). AreRoots s.engine.hub.tables.tables [] d.leaves written_now l (Some old)) (sym trees_are) (roots_kept s.engine.hub.tables.tables d now.dir (marks_of a.record) written_now keep (places_in a.record.tables ps) old roots);
         written = subst (λ (l : List TreePlace). AreWritten s.engine.hub.tables.tables [] d written_now l) (sym trees_are) (written_kept s.engine.hub.tables.tables d now.dir (marks_of a.record) written_now keep (places_in a.record.tables ps) written);
         none = none;
+        kept = kept;
         floor = floor;
       };
       shelf = on_shelf;
@@ -143,8 +144,8 @@ module _ (a : Above) (is_record : IsRecord a.record) (both : List TableEntries) 
 
 -- ---- without one
 
-pub found_none : (bytes : List ℕ) (s : Store) → KeepsNone bytes s.ground.place → s.ground.number ≡ 0 → s.ground.trees.items ≡ [] → s.ground.parts ≡ [] → s.ground.floor ≡ no_name → s.ground.lives ≡ [] → s.engine.hub.tables.tables ≡ [] → s.engine.hub.dir.leaves ≡ [] → Stands s.engine (first_world nothing no_shelf s.engine) → IsFound bytes s
-found_none bytes s keeps number none parts floor unwritten known bare st = record {
+pub found_none : (bytes : List ℕ) (s : Store) → KeepsNone bytes s.ground.place → s.ground.number ≡ 0 → s.ground.trees.items ≡ [] → s.ground.parts ≡ [] → s.ground.floor ≡ no_name → s.ground.lives ≡ [] → s.ground.kept ≡ [] → s.engine.hub.tables.tables ≡ [] → s.engine.hub.dir.leaves ≡ [] → Stands s.engine (first_world nothing no_shelf s.engine) → IsFound bytes s
+found_none bytes s keeps number none parts floor unwritten kept known bare st = record {
   old = None;
   numbers = tt;
   on = record {
@@ -157,13 +158,14 @@ found_none bytes s keeps number none parts floor unwritten known bare st = recor
       made_since = λ i t l there at among its dead. absurd (none_some (ap (λ (ts : List Table). slice_get ts i) (sym known) ∙ there));
     });
     none = unwritten;
+    kept = kept;
     floor = floor;
   };
   shelf = no_shelf;
   world = st;
   follows = subst (λ (x : List Lone). FollowsFrom None s.engine.hub.tables.tables x s.engine.hub.dir.leaves (known_in s.ground.parts) s.ground.trees.items s.ground.floor (first_world nothing no_shelf s.engine)) (sym unwritten)
       (subst (λ (f : Name). FollowsFrom None s.engine.hub.tables.tables [] s.engine.hub.dir.leaves (known_in s.ground.parts) s.ground.trees.items f (first_world nothing no_shelf s.engine)) (sym floor)
-      (record { respects = starts_below nothing; leaf = λ i t p tree l there stands at among its dead. absurd at; since = λ l there live. absurd (false≢true live); nothing = λ id key. refl }));
+      (record { respects = starts_below nothing; leaf = λ i t p tree l there stands at among its dead. absurd at; since = λ l there live. absurd (false≢true live) }));
   away = λ l there free. let nothing_there : Contains [] l = subst (λ (ls : List Leaf). Contains ls l) bare there in absurd (omega (arith, nothing_there.1));
 }
 
@@ -197,6 +199,7 @@ opened_of bytes images s found = record {
   };
   floor = found.on.floor;
   none = none;
+  kept = found.on.kept;
   shelf = found.shelf;
   world = found.world;
   follows = found.follows;

@@ -5,13 +5,14 @@ use Rattle.wt_code.specs.declared.answers.Answer.{Answer}
 use Rattle.wt_code.specs.declared.answers.Answer.TheVariants as answers
 use Rattle.wt_code.specs.declared.refusals.Refusal.{Refusal}
 use Rattle.kv_model.specs.Calls.{Call}
+use Rattle.row_page.specs.Rows.{Row}
 use Rattle.kv_model.specs.Machine.{Machine, Nothing}
 use Rattle.wt_calls.specs.Calls.{session_call_in, system_call_in}
 use Rattle.wt_calls.specs.declared.call.Call.{Call as AnyCall}
 use Rattle.wt_calls.specs.declared.call.Call.TheVariants as call
 use Rattle.call_steps.specs.declared.reply.Reply.{Reply}
 use Rattle.engine_world.specs.Steps.{BeginsIn, IsKeptOut, Made, MayKeepOut}
-use Rattle.engine_world.specs.Worlds.{Doing, Resting, Asked, Placed, Decided, Ending, World, doing_of}
+use Rattle.engine_world.specs.Worlds.{Doing, Resting, Asked, Placed, Decided, Ending, Records, World, doing_of}
 use Rattle.engine.specs.declared.step.Actor.TheVariants as by
 use Rattle.engine.specs.declared.step.Step.{Step}
 use Rattle.engine.specs.declared.step.Step.TheVariants.{Start, Go}
@@ -28,7 +29,7 @@ use Rattle.engine_store.proofs.MildWorlds.{mild_any, mild_call, mild_step, mild_
 pub record Goes (w next : World) : Type 0 where
   pub keeps : Keeps w next
   pub machine : GoesOn w.machine next.machine
-  pub laid : laid_of next ≡ laid_of w
+  pub shelf : next.shelf ≡ w.shelf
 
 abbrev going : Kept ⊥
 going = record { To = GoesOn; same = goes_same; on = goes_on; by = λ m event quiet. goes_after m event (ordinary_event event quiet) }
@@ -42,7 +43,7 @@ goes_then a b c one two = record {
     ordinary = two.keeps.ordinary;
   };
   machine = goes_on a.machine b.machine c.machine one.machine two.machine;
-  laid = two.laid ∙ one.laid;
+  shelf = two.shelf ∙ one.shelf;
 }
 
 -- ---- the shelf and the history
@@ -68,7 +69,7 @@ laid_step w next (Start (call.System number made)) told may = laid_asks (slice_i
 laid_step w next (Go (by.Session session)) told may = ap laid_of may.leaves
 laid_step w next (Go (by.System number)) told may = laid_makes (slice_index_or w.systems number None) w number told next may
 
-laid_calls : (doing : Doing) (w : World) (session : ℕ) (made : Call) (answer : Answer (List ℕ)) (next : World) → CallsIn doing w session made answer next → laid_of next ≡ laid_of w
+pub laid_calls : (doing : Doing) (w : World) (session : ℕ) (made : Call) (answer : Answer (List ℕ)) (next : World) → CallsIn doing w session made answer next → laid_of next ≡ laid_of w
 laid_calls Resting w session made answer next (answered, is) = ap laid_of is
 laid_calls (Asked other left) w session made answer next (refuses, is) = ap laid_of is
 laid_calls (Placed other table left) w session made answer next (refuses, is) = ap laid_of is
@@ -86,9 +87,25 @@ laid_made : (o : Option Call) (w : World) (made : Call) (answer : Answer (List �
 laid_made None w made answer next (answered, is) = ap laid_of is
 laid_made (Some other) w made answer next (refuses, is) = ap laid_of is
 
-laid_answer : (w next : World) (made : AnyCall) (answer : Answer (List ℕ)) → MayAnswer w made answer next → laid_of next ≡ laid_of w
+pub laid_answer : (w next : World) (made : AnyCall) (answer : Answer (List ℕ)) → MayAnswer w made answer next → laid_of next ≡ laid_of w
 laid_answer w next (call.Session session made) answer may = laid_calls (doing_of w session) w session (session_call_in made) answer next may
 laid_answer w next (call.System number made) answer may = laid_made (slice_index_or w.systems number None) w (system_call_in made) answer next may
+
+-- of these the shelf
+shelf_of : (w next : World) → laid_of next ≡ laid_of w → next.shelf ≡ w.shelf
+shelf_of w next laid = ap (λ (x : (ℕ → List Row) × Records). x.0) laid
+
+-- what is under way is ordinary, whatever the history
+pub ordinary_other : (w : World) (r : Records) → AreOrdinary (record w { records = r }) → AreOrdinary w
+ordinary_other w r are = record { doings = are.doings; systems = are.systems }
+
+-- with another history
+pub goes_other : (w next : World) (q r : Records) → Goes w next → Goes (record w { records = q }) (record next { records = r })
+goes_other w next q r on = record {
+  keeps = record { completed = on.keeps.completed; checkpoint = on.keeps.checkpoint; fault = on.keeps.fault; ordinary = record { doings = on.keeps.ordinary.doings; systems = on.keeps.ordinary.systems } };
+  machine = on.machine;
+  shelf = on.shelf;
+}
 
 -- ---- steps and calls
 
@@ -96,25 +113,25 @@ pub goes_step : (w next : World) (step : Step) (told : Reply) → AreOrdinary w 
 goes_step w next step told are there may = record {
   keeps = steps_keep.0 w next step told are there may;
   machine = (steps ⊥ going w next step told (mild_world w are) (mild_step step there) may).to;
-  laid = laid_step w next step told may;
+  shelf = shelf_of w next (laid_step w next step told may);
 }
 
 pub goes_answer : (w next : World) (made : AnyCall) (answer : Answer (List ℕ)) → AreOrdinary w → IsOrdinaryCall made → MayAnswer w made answer next → Goes w next
 goes_answer w next made answer are there may = record {
   keeps = steps_keep.1 w next made answer are there may;
   machine = (answers_so ⊥ going w next made answer (mild_world w are) (mild_any made there) may).to;
-  laid = laid_answer w next made answer may;
+  shelf = shelf_of w next (laid_answer w next made answer may);
 }
 
 pub goes_kept : (kept : KeptBy) (w next : World) (session : ℕ) (made : Call) (answer : Answer (List ℕ)) → AreOrdinary w → IsOrdinary made → MayCallKept kept w session made answer next → Goes w next
 goes_kept kept w next session made answer are there may = record {
   keeps = kept_keep kept w next session made answer are there may;
   machine = (kept_so ⊥ going kept w next session made answer (mild_world w are) (mild_call made there) may).to;
-  laid = laid_kept kept (doing_of w session) w session made answer next may;
+  shelf = shelf_of w next (laid_kept kept (doing_of w session) w session made answer next may);
 }
 
 pub goes_more : (w : World) → AreOrdinary w → Goes w (with_session_more w)
-goes_more w are = record { keeps = steps_keep.2 w are; machine = (opens_more ⊥ going w (mild_world w are)).to; laid = refl }
+goes_more w are = record { keeps = steps_keep.2 w are; machine = (opens_more ⊥ going w (mild_world w are)).to; shelf = refl }
 
 -- ---- a call whose leaf is kept from it
 
@@ -153,5 +170,5 @@ goes_out w next session r are may =
         });
       };
       machine = subst (λ (x : Machine). GoesOn w.machine x) (sym m) (goes_same w.machine);
-      laid = ap laid_of may.leaves;
+      shelf = ap (λ (x : World). x.shelf) may.leaves;
     }

@@ -18,6 +18,7 @@ use Rattle.engine.specs.declared.step.Actor.{Actor}
 use Rattle.engine.specs.declared.step.Step.{Step}
 use Rattle.ckpt_step.specs.declared.ground.Ground.{Ground}
 use Rattle.ckpt_step.specs.Floors.{AreLivesOn, Follows}
+use Rattle.ckpt_step.specs.Kept.{KeepsThese}
 use Rattle.ckpt_step.specs.Grounds.{StandsOn}
 use Rattle.ckpt_step.specs.Rooms.{known_in}
 use Rattle.ckpt_step.specs.Stays.{GroundsLetGo, let_go}
@@ -26,7 +27,8 @@ use Rattle.engine_store.specs.declared.store.Store.{Store}
 use Rattle.engine_store.specs.Calls.{Basis, CallKeeps, Called, Finished, Holding, IsBasis, Stepped, TellsSo}
 use Rattle.engine_store.specs.Devices.{Installed}
 use Rattle.engine_store.specs.GoneOut.{GoOut, IsWhole, all_out}
-use Rattle.engine_store.specs.Held.{IsHeld}
+use Rattle.engine_store.specs.Held.{IsHeld, IsHeldIn}
+use Rattle.engine_store.specs.Keeping.{with_kept}
 use Rattle.engine_store.specs.Opened.{IsReady}
 use Rattle.engine_store.proofs.AllOut.{out_on}
 use Rattle.engine_store.proofs.KeptLeaves.{named_there}
@@ -103,10 +105,11 @@ module _ {D : Type 0} (g : Ghosts D) where
   -- ---- what holds between two calls
 
   module _ (s s' : Store) (out : GoOut g s s') where
-    pub held_out : (start disk : D) (w : World) (first : Completed) (made : List Installed) → IsHeld g start s disk w first made → IsHeld g start s' disk w first made
-    held_out start disk w first made held = record {
+    held_in_out : (start disk : D) (w : World) (first : Completed) (made : List Installed) → IsHeldIn g start s disk w first made → IsHeldIn g start s' disk w first made
+    held_in_out start disk w first made held = record {
       stands = out.stands w held.stands;
       idle = held.idle;
+      kept = subst (λ (x : Ground). KeepsThese w x.kept) (sym out.ground) held.kept;
       on = λ up.
           let x = held.on up in
           let y = out.on disk x.old x.on in
@@ -117,6 +120,9 @@ module _ {D : Type 0} (g : Ghosts D) where
       stays = held.stays;
       past = held.past;
     }
+
+    pub held_out : (start disk : D) (w : World) (first : Completed) (made : List Installed) → IsHeld g start s disk w first made → IsHeld g start s' disk w first made
+    held_out start disk w first made held = subst (λ (x : Ground). IsHeldIn g start s' disk (with_kept x.kept w) first made) (sym out.ground) (held_in_out start disk (with_kept s.ground.kept w) first made held)
 
     pub ready_out : IsReady s → IsReady s'
     ready_out ready =
@@ -138,7 +144,7 @@ module _ {D : Type 0} (g : Ghosts D) where
       pub keeps_out : CallKeeps g first s before after → CallKeeps g first s' before after
       keeps_out keeps = record {
         ready = λ ready. ready_out (keeps.ready ready);
-        ground = out.ground ∙ keeps.ground;
+        ground = out.ground ∙ (keeps.ground ∙ ap (λ (x : Ground). let ground : Ground = record first.ground { kept = x.kept } in ground) (sym out.ground));
         frames = out.frames ∙ keeps.frames;
         looked = keeps.looked;
         home = keeps.home;

@@ -1,4 +1,6 @@
 pub mod TwoLists
+pub mod OtherRecords
+pub mod AsHeld
 pub mod NoLives
 pub mod LeafBehind
 pub mod BehindKeys

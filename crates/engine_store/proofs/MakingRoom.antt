@@ -12,24 +12,26 @@ use Rattle.row_page.specs.Rows.{Row}
 use Rattle.stored.specs.Stored.{Stored}
 use Rattle.checkpoint_core.specs.Finishes.{IsOld}
 use Rattle.checkpoint_core.specs.Stands.{HasStill}
+use Rattle.reconcile.specs.Moving.{versions_in}
 use Rattle.engine_world.specs.Evicting.{with_rows}
 use Rattle.engine_world.specs.GoingOut.{with_again}
 use Rattle.engine_world.specs.Stands.{Engine, Stands}
 use Rattle.engine_world.specs.Systems.{DownsGo}
-use Rattle.engine_world.specs.Worlds.{World, without_records}
-use Rattle.engine.proofs.BareLeaves.{none-kept}
+use Rattle.engine_world.specs.Worlds.{Records, World, with_records}
 use Rattle.ckpt_step.specs.declared.evicting.Evicted.{Evicted}
-use Rattle.ckpt_step.specs.declared.evicting.Evicted.TheVariants.{Done, Parted, Stays, Unresolved, Moves, Empty}
+use Rattle.ckpt_step.specs.declared.evicting.Evicted.TheVariants.{Done, Parted, Stays, Unresolved, MovesApart, Empty}
 use Rattle.ckpt_step.specs.declared.ground.Ground.{Ground}
-use Rattle.ckpt_step.specs.Evicts.{Evicts, EvictsEngine, LeftFrame, LeftInParts}
+use Rattle.ckpt_step.specs.Evicts.{Evicts, EvictsEngine, HasLeftFrame, KeepsStill, LeftInParts}
 use Rattle.ckpt_step.specs.Floors.{AreLivesOn, Follows}
+use Rattle.ckpt_step.specs.Kept.{KeepsThese}
 use Rattle.ckpt_step.specs.Grounds.{StandsOn}
 use Rattle.ckpt_step.specs.WritesOut.{FallenOut, NotWritten}
 use Rattle.engine_store.specs.declared.store.Store.{Store}
 use Rattle.engine_store.specs.Devices.{Installed, IsLater, KeepsCheckpoint, device_of, may_open_to}
-use Rattle.engine_store.specs.Held.{IsGrounded, IsHeld}
+use Rattle.engine_store.specs.Held.{IsGrounded, IsHeld, IsHeldIn}
 use Rattle.engine_store.specs.Room.{MakesRoom, RoomAlike, RoomDown, RoomMade, RoomOf, RoomUp}
 use Rattle.engine_store.proofs.GoingOut.{held_out, none_out}
+use Rattle.engine_store.proofs.OtherRecords.{held_kept, keeps_at}
 use Rattle.engine_store.proofs.Taking.{kept_held}
 use Rattle.engine_store.proofs.WritingOut.{alike_then, still_later}
 
@@ -121,7 +123,7 @@ or_later false b is = is
 
 module _ {D : Type 0} (g : Ghosts D) (start_disk before after : D)
     (counts : g.moment before ≤ g.moment after → (c : List ℕ) → g.may_leave after c → g.left_since after (g.moment before) c) (only : (c : List ℕ) → g.left_since after (g.moment after) c → g.may_leave after c)
-    (image : g.may_leave before (g.seen before)) (s s' : Store) (frames : s'.frames ≡ s.frames) (w : World) (first : Completed) (made : List Installed) (held : IsHeld g start_disk s before w first made)
+    (image : g.may_leave before (g.seen before)) (s s' : Store) (frames : s'.frames ≡ s.frames) (w : World) (first : Completed) (made : List Installed) (held : IsHeldIn g start_disk s before w first made)
     (disk : SameDisk g before after) (downs : DownsGo) (id : ℕ) where
   abbrev Made : Type 0
   Made = RoomOf g start_disk w first made s s' before after
@@ -138,43 +140,42 @@ module _ {D : Type 0} (g : Ghosts D) (start_disk before after : D)
     keeps : HasStill grounded.old (g.seen after) → KeepsCheckpoint (device_of g before) (device_of g after)
     keeps now = record { capacity = disk.room; checkpoint = still_later (g.seen before) (g.seen after) grounded.old grounded.on.stands.seen_has now }
 
-    -- with this on the shelf, and these calls that may be told so
-    went : (shelf : ℕ → List Row) (again : ℕ → Bool) → ((session : ℕ) → w.again session ≡ true → again session ≡ true) → Kept → Stands s'.engine (record w { shelf = shelf; again = again })
-        → StandsOn (g.seen after) (g.may_leave after) s'.engine.hub s'.ground grounded.old → Follows grounded.old s'.engine.hub s'.ground (record w { shelf = shelf; again = again }) → AreLivesOn (g.seen after) s'.engine.hub s'.ground (record w { shelf = shelf; again = again })
+    -- with this on the shelf and in the history, and these calls that may be told so
+    went : (shelf : ℕ → List Row) (records : Records) (again : ℕ → Bool) → ((session : ℕ) → w.again session ≡ true → again session ≡ true) → Kept → Stands s'.engine (record w { shelf = shelf; records = records; again = again }) → KeepsThese (record w { shelf = shelf; records = records; again = again }) s'.ground.kept
+        → StandsOn (g.seen after) (g.may_leave after) s'.engine.hub s'.ground grounded.old → Follows grounded.old s'.engine.hub s'.ground (record w { shelf = shelf; records = records; again = again }) → AreLivesOn (g.seen after) s'.engine.hub s'.ground (record w { shelf = shelf; records = records; again = again })
         → RoomUp g start_disk w first made s s' before after
-    went shelf again more left stands on follows since = record {
+    went shelf records again more left stands keeps_these on follows since = record {
       room = record {
         shelf = shelf;
         again = again;
         more = more;
         later = is_later left;
         capacity = disk.room;
-        held = kept_held g start_disk before after counts only image s s' w first made held grounded (record w { shelf = shelf; again = again }) stands held.idle refl left (λ up. (on, follows, since));
+        held = held_kept g start_disk after s' (record w { shelf = shelf; records = records; again = again }) first made (kept_held g start_disk before after counts only image s s' w first made held grounded (record w { shelf = shelf; records = records; again = again }) stands keeps_these held.idle refl left (λ up. (on, follows, since)));
       };
       keeps = keeps on.stands.seen_has;
     }
 
     -- it left its frame
-    goes : LeftFrame g grounded.old w s.ground s'.ground s.engine s'.engine id before after → RoomUp g start_disk w first made s s' before after
-    goes x =
-        let v : World = with_rows id x.rows (with_again s.engine x.out.may.framed.frame w) in
-        let same : without_records id v ≡ v = none-kept id v grounded.follows.nothing in
-        went v.shelf v.again (λ session is. or_later _ (w.again session) is) x.left (subst (λ (u : World). Stands s'.engine u) same x.stands) x.on
-        (subst (λ (u : World). Follows grounded.old s'.engine.hub s'.ground u) same x.follows) (subst (λ (u : World). AreLivesOn (g.seen after) s'.engine.hub s'.ground u) same x.since)
+    goes : HasLeftFrame g grounded.old w s.ground s'.ground s.engine s'.engine id before after → RoomUp g start_disk w first made s s' before after
+    goes h =
+        let x = h.left in
+        let v : World = with_records id (λ key. versions_in key h.moved) (with_rows id x.rows (with_again s.engine x.out.may.framed.frame w)) in
+        went v.shelf v.records v.again (λ session is. or_later _ (w.again session) is) x.left x.stands (keeps_at s.ground.kept s'.ground.kept id h.moved w held.kept h.kept) x.on x.follows x.since
 
     -- it parted
-    parts : LeftInParts g grounded.old w s.ground s'.ground s.engine s'.engine id before after → RoomUp g start_disk w first made s s' before after
-    parts x = went x.shelf w.again (λ session is. is) x.left x.stands x.on x.follows x.since
+    parts : LeftInParts g grounded.old w s.ground s'.ground s.engine s'.engine id before after → KeepsThese w s'.ground.kept → RoomUp g start_disk w first made s s' before after
+    parts x keeps_these = went x.shelf w.records w.again (λ session is. is) x.left x.stands keeps_these x.on x.follows x.since
 
     -- it stays
-    stays : NotWritten g grounded.old w s.ground s'.ground s.engine s'.engine id before after → RoomUp g start_disk w first made s s' before after
-    stays n =
-        went w.shelf w.again (λ session is. is) n.left (subst (λ (e : Engine). Stands e w) (sym n.same) held.stands) (subst (λ (e : Engine). StandsOn (g.seen after) (g.may_leave after) e.hub s'.ground grounded.old) (sym n.same) n.on)
+    stays : NotWritten g grounded.old w s.ground s'.ground s.engine s'.engine id before after → KeepsThese w s'.ground.kept → RoomUp g start_disk w first made s s' before after
+    stays n keeps_these =
+        went w.shelf w.records w.again (λ session is. is) n.left (subst (λ (e : Engine). Stands e w) (sym n.same) held.stands) keeps_these (subst (λ (e : Engine). StandsOn (g.seen after) (g.may_leave after) e.hub s'.ground grounded.old) (sym n.same) n.on)
         (subst (λ (e : Engine). Follows grounded.old e.hub s'.ground w) (sym n.same) n.follows) (subst (λ (e : Engine). AreLivesOn (g.seen after) e.hub s'.ground w) (sym n.same) n.since)
 
     -- a write failed
-    fell : (r : Refusal) → FallenOut g grounded.old w s.ground s'.ground s.engine s'.engine id before after r → RoomDown g start_disk w first made s s' before after
-    fell r f =
+    fell : (r : Refusal) → FallenOut g grounded.old w s.ground s'.ground s.engine s'.engine id before after r → KeepsThese w s'.ground.kept → RoomDown g start_disk w first made s s' before after
+    fell r f keeps_these =
         let down : World = record w { machine = after_event w.machine (GoDown f.fault) } in
         record {
           fault = f.fault;
@@ -185,33 +186,33 @@ module _ {D : Type 0} (g : Ghosts D) (start_disk before after : D)
             more = λ session is. is;
             later = is_later f.left;
             capacity = disk.room;
-            held = kept_held g start_disk before after counts only image s s' w first made held grounded down (subst (λ (e : Engine). Stands e down) (sym f.down) (downs s.engine w f.fault held.stands)) held.idle refl f.left (λ up. absurd (not_up f.fault up));
+            held = held_kept g start_disk after s' down first made (kept_held g start_disk before after counts only image s s' w first made held grounded down (subst (λ (e : Engine). Stands e down) (sym f.down) (downs s.engine w f.fault held.stands)) keeps_these held.idle refl f.left (λ up. absurd (not_up f.fault up)));
           };
         }
       where
         not_up : (fault : Fault) → (after_event w.machine (GoDown fault)).fault ≡ None → ⊥
         not_up fault up = let e : Some fault ≡ None = up in cc
 
-    by_result : (result : Result Evicted Refusal) → Evicts g grounded.old w s.ground s'.ground s.engine s'.engine id before after result → Made
-    by_result (Ok Done) x = inl (goes x)
-    by_result (Ok Parted) x = inl (parts x)
-    by_result (Ok (Stays why)) (n, keeps) = inl (stays n)
-    by_result (Ok (Unresolved who)) (n, unended) = inl (stays n)
-    by_result (Ok Moves) (n, moving) = inl (stays n)
-    by_result (Ok Empty) (n, none) = inl (stays n)
-    by_result (Err r) (inl (n, why)) = inl (stays n)
-    by_result (Err r) (inr f) = inr (fell r f)
+    by_result : (result : Result Evicted Refusal) → Evicts g grounded.old w s.ground s'.ground s.engine s'.engine id before after result → KeepsStill w s'.ground.kept result → Made
+    by_result (Ok Done) x still = inl (goes x)
+    by_result (Ok Parted) x still = inl (parts x still)
+    by_result (Ok (Stays why)) (n, keeps) still = inl (stays n still)
+    by_result (Ok (Unresolved who)) (n, unended) still = inl (stays n still)
+    by_result (Ok MovesApart) (n, moving) still = inl (stays n still)
+    by_result (Ok Empty) (n, none) still = inl (stays n still)
+    by_result (Err r) (inl (n, why)) still = inl (stays n still)
+    by_result (Err r) (inr f) still = inr (fell r f still)
 
   -- ---- of either
 
   module _ (result : Result Evicted Refusal)
       (evicts : (old : Option Stored) → StandsOn (g.seen before) (g.may_leave before) s.engine.hub s.ground old → Follows old s.engine.hub s.ground w → AreLivesOn (g.seen before) s.engine.hub s.ground w → Evicts g old w s.ground s'.ground s.engine s'.engine id before after result)
-      (down : (fault : Fault) → s.engine.hub.fault ≡ Some fault → (result ≡ Err (Panic fault)) × (s'.engine ≡ s.engine) × (s'.ground ≡ s.ground) × (after ≡ before)) where
+      (down : (fault : Fault) → s.engine.hub.fault ≡ Some fault → (result ≡ Err (Panic fault)) × (s'.engine ≡ s.engine) × (s'.ground ≡ s.ground) × (after ≡ before)) (still : KeepsStill w s'.ground.kept result) where
     by_fault : (f : Option Fault) → w.machine.fault ≡ f → Made
-    by_fault None up = let on = held.on up in by_result on result (evicts on.old on.on on.follows on.since)
+    by_fault None up = let on = held.on up in by_result on result (evicts on.old on.on on.follows on.since) still
     by_fault (Some fault) fell =
         let t = down fault (held.stands.fault ∙ fell) in
-        subst (λ (d : D). RoomOf g start_disk w first made s s' before d) (sym t.3) (inl (still_up g s s' t.1 t.2 frames start_disk before w first made held))
+        subst (λ (d : D). RoomOf g start_disk w first made s s' before d) (sym t.3) (inl (still_up g s s' t.1 t.2 frames start_disk before w first made (held_kept g start_disk before s w first made held)))
 
     pub leaf_room : Made
     leaf_room = by_fault w.machine.fault refl
@@ -229,7 +230,7 @@ leaf_alike g s s' before after frames number trees disk hub id result evicts = r
     by (Ok Parted) (entries, parted) = ap (λ (e : Engine). e.sessions) parted.way.is
     by (Ok (Stays why)) is = same is
     by (Ok (Unresolved who)) is = same is
-    by (Ok Moves) is = same is
+    by (Ok MovesApart) is = same is
     by (Ok Empty) is = same is
     by (Err r) (inl is) = same is
     by (Err r) (inr (fault, is)) = ap (λ (e : Engine). e.sessions) is

@@ -15,6 +15,7 @@ use Rattle.engine_store.specs.declared.store.Store.{Store}
 use Rattle.engine_store.specs.Calls.{MayOpen}
 use Rattle.engine_store.specs.Devices.{Installed}
 use Rattle.engine_store.specs.Held.{IsHeld}
+use Rattle.engine_store.specs.Keeping.{with_kept}
 use Rattle.engine_store.proofs.Backed.{held_goes}
 use Rattle.engine_store.proofs.Going.{goes_more}
 
@@ -27,9 +28,9 @@ same_store s e is = ap (λ (x : Engine). with_engine s x) is
 
 module _ {D : Type 0} (g : Ghosts D) where
   pub opens : (start disk : D) (s : Store) (e : Engine) (w : World) (first : Completed) (made : List Installed) (result : Result ℕ Refusal) → IsHeld g start s disk w first made → AreBuilt s.engine.systems
-      → IfOk result (λ n. (n ≡ length s.engine.sessions) × Stands e (with_session_more w)) → OnErr result (e ≡ s.engine) → HubGoesOn s.engine.hub e.hub → MayOpen g start w first made s (with_engine s e) disk disk result
+      → IfOk result (λ n. (n ≡ length s.engine.sessions) × Stands e (with_session_more (with_kept s.ground.kept w))) → OnErr result (e ≡ s.engine) → HubGoesOn s.engine.hub e.hub → MayOpen g start w first made s (with_engine s e) disk disk result
   opens start disk s e w first made (Ok number) held built opened kept goes = record {
     number_is = opened.0;
-    held = held_goes g s (with_engine s e) disk disk (looked_none g disk) goes refl start w (with_session_more w) first made opened.1 (goes_more w (engines_are s.engine w held.stands built)) held;
+    held = held_goes g s (with_engine s e) disk disk (looked_none g disk) goes refl start (with_kept s.ground.kept w) (with_session_more (with_kept s.ground.kept w)) first made opened.1 held.kept (goes_more (with_kept s.ground.kept w) (engines_are s.engine (with_kept s.ground.kept w) held.stands built)) held;
   }
   opens start disk s e w first made (Err r) held built opened kept goes = same_store s e kept

@@ -24,7 +24,7 @@ use Rattle.tree_open.specs.declared.place.TreePlace.{TreePlace}
 use Rattle.device_leaf.specs.Leaves.{LeafIs}
 use Rattle.recover_open.proofs.OneLeaf.{one_leaf}
 use Rattle.engine_world.specs.Worlds.{World}
-use Rattle.ckpt_step.specs.Floors.{FollowsFrom, IsAsItLies, KeepsNothing, Respects}
+use Rattle.ckpt_step.specs.Floors.{FollowsFrom, IsAsItLies, Respects}
 use Rattle.ckpt_step.specs.Parts.{AreBelowFloor, has_rows, own_part, part_in, part_leaves, part_of}
 use Rattle.ckpt_step.specs.Rooms.{Written}
 use Rattle.ckpt_step.specs.Trees.{HasTreeAt}
@@ -83,10 +83,9 @@ shelf_same bytes d marks ids shelf was l rows kept id entry all leaf =
 
 -- written: of each leaf what its own entry says
 pub follows_from : (old : Option Stored) (known : List Table) (leaves : List Leaf) (written : Written) (places : List TreePlace) (w : World) → Respects w.machine no_name → ((l : Leaf) → Contains leaves l → part_in written l ≡ own_part l.entry)
-    → ((t : Table) (p : TreePlace) (tree : TableTree) (l : Leaf) → HasTreeAt old t p tree → Contains leaves l → l.table ≡ t.number → IsAsItLies written l → join (part_leaves p tree (part_of written l)) ≡ w.shelf l.id) → KeepsNothing w → FollowsFrom old known [] leaves written places no_name w
-follows_from old known leaves written places w respects own same nothing = record {
+    → ((t : Table) (p : TreePlace) (tree : TableTree) (l : Leaf) → HasTreeAt old t p tree → Contains leaves l → l.table ≡ t.number → IsAsItLies written l → join (part_leaves p tree (part_of written l)) ≡ w.shelf l.id) → FollowsFrom old known [] leaves written places no_name w
+follows_from old known leaves written places w respects own same = record {
   respects = respects;
   leaf = λ i t p tree l known_at stands at there its dead. record { before = λ part is below. absurd (no_part l part (sym (own l there) ∙ is) below); same = λ lies. same t p tree l at there its lies };
   since = λ l there live. absurd (false≢true live);
-  nothing = nothing;
 }

@@ -22,6 +22,7 @@ module _ {D : Type 0} (g : Ghosts D) where
   pub stays : (s : Store) → LetsGo g s s
   stays s = record {
     alike = record { frames = refl; sessions = refl; tables = refl; txns = refl; number = refl; trees = refl };
+    kept = refl;
     relieves = λ disk old w stands idle on follows none newest. record { shelf = w.shelf; stands = stands; on = on; follows = follows; none = none };
   }
 
@@ -36,6 +37,7 @@ module _ {D : Type 0} (g : Ghosts D) where
       number = two.alike.number ∙ one.alike.number;
       trees = two.alike.trees ∙ one.alike.trees;
     };
+    kept = two.kept ∙ one.kept;
     relieves = λ disk old w stands idle on follows none newest.
         let r = one.relieves disk old w stands idle on follows none newest in
         let t = two.relieves disk old (record w { shelf = r.shelf }) r.stands idle r.on r.follows r.none newest in
@@ -60,6 +62,7 @@ module _ {D : Type 0} (g : Ghosts D) where
         number = ap (λ (x : Ground). x.number) forgets.same;
         trees = ap (λ (x : Ground). x.trees) forgets.same;
       };
+      kept = ap (λ (x : Ground). x.kept) forgets.same;
       relieves = λ disk old w st idle on follows none newest.
           let still = law disk s.engine e w s.ground ground old id entries way st dir on follows (none_on (g.seen disk) s.engine.hub s.ground w none) (none_live s.ground.lives s.engine.hub.dir.leaves way.leaf.table none) newest (subst (λ (n : ℕ). MayTakeOver s.engine.hub.dir (known_in s.ground.parts) id n entries) (marks w st) over) forgets in
           record { shelf = still.shelf; stands = stands way w still.shelf st idle still.shelved; on = still.on; follows = still.follows; none = ap (λ (x : Ground). x.lives) forgets.same ∙ none };

@@ -1,5 +1,5 @@
 -- What an opening anew finds, and what it leaves of what holds between two calls.
-use Rattle.std.proofs.Common.{◌≡◌, ℕ, List, [], ◌∷◌, Option, Some, None, refl, sym, subst, inl, inr, arith}
+use Rattle.std.proofs.Common.{◌≡◌, ℕ, List, [], ◌∷◌, Option, Some, None, refl, sym, ap, subst, inl, inr, arith}
 use Rattle.failure.specs.Counts.{Rose}
 use Rattle.disk_model.specs.Crash.{Each, LeavesOnly, Looked}
 use Rattle.disk_model.specs.declared.disk.Disk.{Ghosts}
@@ -19,19 +19,21 @@ use Rattle.engine_world.specs.Systems.{first_world}
 use Rattle.engine_world.specs.Worlds.{World}
 use Rattle.ckpt_step.specs.declared.lives.Lone.{Lone}
 use Rattle.ckpt_step.specs.Floors.{AreLivesOn}
+use Rattle.ckpt_step.specs.Kept.{Lists, records_in}
 use Rattle.ckpt_step.specs.Grounds.{AreRoots}
 use Rattle.ckpt_step.specs.Plain.{IsBareStill, StartsPlain}
 use Rattle.ckpt_step.specs.Rooms.{Written, known_in}
 use Rattle.engine_store.specs.declared.store.Store.{Store}
 use Rattle.engine_store.specs.Answers.{RefusesReopening}
 use Rattle.engine_store.specs.Devices.{Installed, IsUsedUp, IsWide, device_of, may_open_to}
-use Rattle.engine_store.specs.Held.{IsHeld, NotReopened, Reopens}
+use Rattle.engine_store.specs.Held.{IsHeldIn, NotReopened, Reopens}
 use Rattle.engine_store.specs.Images.{OpensToAny, OpensToLast, OpensToOne}
 use Rattle.engine_store.specs.Opened.{IsOpened, LacksNumbers, OpenRefused}
 use Rattle.engine_store.proofs.Backed.{stands_looked}
 use Rattle.engine_store.proofs.Contents.{start_opens, still_reads}
 use Rattle.engine_store.proofs.Installing.{past_later, stays_on}
 use Rattle.engine_store.proofs.NoLives.{none_on}
+use Rattle.engine_store.proofs.OtherRecords.{held_kept}
 use Rattle.engine_store.proofs.Refusing.{spoilt_no_content}
 
 bare_still : (known : List Table) (lives : List Lone) (leaves : List Leaf) (written : Written) (places : List TreePlace) (old : Option Stored) → AreRoots known lives leaves written places old → IsBareStill old
@@ -40,7 +42,7 @@ bare_still known lives leaves written places (Some s) roots = roots.bare
 
 -- ---- a device that was only looked at
 
-module _ {D : Type 0} (g : Ghosts D) (start_disk before after : D) (looked : Looked g before after) (image : g.may_leave before (g.seen before)) (s : Store) (w : World) (first : Completed) (made : List Installed) (held : IsHeld g start_disk s before w first made) where
+module _ {D : Type 0} (g : Ghosts D) (start_disk before after : D) (looked : Looked g before after) (image : g.may_leave before (g.seen before)) (s : Store) (w : World) (first : Completed) (made : List Installed) (held : IsHeldIn g start_disk s before w first made) where
   images_looked : Each (g.may_leave after) (OpensToAny (may_open_to (first ∷ []) made))
   images_looked c left = held.images c (looked.images c left)
 
@@ -52,10 +54,11 @@ module _ {D : Type 0} (g : Ghosts D) (start_disk before after : D) (looked : Loo
   }
 
   -- the same engine goes on
-  held_looked : IsHeld g start_disk s after w first made
+  held_looked : IsHeldIn g start_disk s after w first made
   held_looked = record {
     stands = held.stands;
     idle = held.idle;
+    kept = held.kept;
     on = λ up. let on = held.on up in record {
       old = on.old;
       on = stands_looked (g.seen before) (g.seen after) (g.may_leave before) (g.may_leave after) s.engine.hub s.ground on.old looked.content looked.images on.on;
@@ -99,10 +102,11 @@ module _ {D : Type 0} (g : Ghosts D) (start_disk before after : D) (looked : Loo
         inl (content, ((λ c left. subst (λ (x : Content). Reads c x) same (each.0 c (looked.images c left))), one.2.layered), opens)
     last_reopened (inr (pending, there, each)) = inr (pending, there, images_looked)
 
-    held_reopened : IsHeld g start_disk s' after (first_world content is.shelf s'.engine) first made
+    held_reopened : IsHeldIn g start_disk s' after (first_world content is.shelf s'.engine) first made
     held_reopened = record {
       stands = is.world;
       idle = refl;
+      kept = λ leaf key. sym (ap (λ (l : Lists). records_in l leaf key) is.kept);
       on = λ up. record { old = is.old; on = is.on; follows = is.follows; since = none_on (g.seen after) s'.engine.hub s'.ground (first_world content is.shelf s'.engine) is.none; opens = opens; one = one };
       images = images_looked;
       last = last_reopened held.last;
@@ -120,7 +124,7 @@ module _ {D : Type 0} (g : Ghosts D) (start_disk before after : D) (looked : Loo
       seen = looked.content;
       capacity = looked.capacity;
       shelf = is.shelf;
-      held = held_reopened;
+      held = held_kept g start_disk after s' (first_world content is.shelf s'.engine) first made held_reopened;
       plain = plain (g.seen after) is.old is.on.stands.seen_has (bare_still s'.engine.hub.tables.tables s'.ground.lives s'.engine.hub.dir.leaves (known_in s'.ground.parts) s'.ground.trees.items is.old is.on.roots);
       none = is.none;
     }
@@ -150,6 +154,6 @@ module _ {D : Type 0} (g : Ghosts D) (start_disk before after : D) (looked : Loo
     later = record { faults = looked.count; moment = looked.later };
     seen = looked.content;
     capacity = looked.capacity;
-    held = subst (λ (x : Store). IsHeld g start_disk x after w first made) (sym same) held_looked;
+    held = held_kept g start_disk after s' w first made (subst (λ (x : Store). IsHeldIn g start_disk x after w first made) (sym same) held_looked);
     none = λ none. subst (λ (x : Store). x.ground.lives ≡ []) (sym same) none;
   }

@@ -42,10 +42,11 @@ use Rattle.engine_store.specs.declared.store.Store.{Store}
 use Rattle.engine_store.specs.Answers.{CheckpointTakes, CloseTakes, StartedAs, answer_of}
 use Rattle.engine_store.specs.Closes.{rolled}
 use Rattle.engine_store.specs.Devices.{Device, Installed, IsNumberOf, device_of, last_number, may_open_to}
-use Rattle.engine_store.specs.Held.{CheckpointsOn, IsGrounded, IsHeld, Shuts}
+use Rattle.engine_store.specs.Held.{CheckpointsOn, IsGrounded, IsHeldIn, Shuts}
 use Rattle.engine_store.specs.Images.{OpensToLast}
 use Rattle.engine_store.proofs.Closings.{free_of, up_of}
 use Rattle.engine_store.proofs.Contents.{most_number}
+use Rattle.engine_store.proofs.OtherRecords.{held_kept}
 use Rattle.engine_store.proofs.Taking.{by_takes, number_held}
 
 -- ---- what is decided
@@ -213,7 +214,7 @@ with_rolled s middle = record s { engine = middle }
 
 -- ---- what it leaves
 
-module _ {D : Type 0} (g : Ghosts D) (start_disk before : D) (image : g.may_leave before (g.seen before)) (s : Store) (w : World) (first : Completed) (made : List Installed) (held : IsHeld g start_disk s before w first made) (plain : IsPlain w.machine) where
+module _ {D : Type 0} (g : Ghosts D) (start_disk before : D) (image : g.may_leave before (g.seen before)) (s : Store) (w : World) (first : Completed) (made : List Installed) (held : IsHeldIn g start_disk s before w first made) (plain : IsPlain w.machine) where
   -- refused at once: nothing is changed
   pub shuts_refused : (after : D) (s' : Store) (r : Refusal) → close_told w.machine.fault (busy_in w) ≡ Err r → s' ≡ s → after ≡ before → Shuts g start_disk w first made s s' before after (Err r)
   shuts_refused after s' r why same still =
@@ -225,7 +226,7 @@ module _ {D : Type 0} (g : Ghosts D) (start_disk before : D) (image : g.may_leav
         behind = record { later = record { faults = omega arith; moment = omega arith }; capacity = refl; has = λ up. let on = held.on up in (on.old, on.on.stands.seen_has, on.on.stands.seen_has) };
         takes = let n = number_held g start_disk before image s w first made held in refused_takes s.ground.lives (device_of g before) (device_of g before) w r n.0 n.1 why;
         installs = inl refl;
-        held = held;
+        held = held_kept g start_disk before s w first made held;
         plain = plain;
         none = λ none. none;
       }))
@@ -249,10 +250,11 @@ module _ {D : Type 0} (g : Ghosts D) (start_disk before : D) (image : g.may_leav
     on_rolled : IsGrounded (g.seen before) (g.may_leave before) s1 (rolled w) (may_open_to (first ∷ []) made)
     on_rolled = grounded_rolled (held.on (up_of w may))
 
-    held_rolled : IsHeld g start_disk s1 before (rolled w) first made
+    held_rolled : IsHeldIn g start_disk s1 before (rolled w) first made
     held_rolled = record {
       stands = stands;
       idle = goes.plain.idle;
+      kept = held.kept;
       on = λ up. grounded_rolled (held.on (sym goes.fault ∙ up));
       images = held.images;
       last = subst (λ (k : Completed). OpensToLast (g.may_leave before) first k made) (sym goes.completed) held.last;
@@ -275,5 +277,5 @@ module _ {D : Type 0} (g : Ghosts D) (start_disk before : D) (image : g.may_leav
         none = t.none;
       }
 
-      pub shuts_by : OnErr result (s'.ground.lives ≡ s.ground.lives) → ((old : Option Stored) → StandsOn (g.seen before) (g.may_leave before) middle.hub s.ground old → Follows old middle.hub s.ground (rolled w) → AreLivesOn (g.seen before) middle.hub s.ground (rolled w) → Takes g old (rolled w) s.ground s'.ground middle s'.engine before after result) → Shuts g start_disk w first made s s' before after result
-      shuts_by lives takes = from_checkpoint (by_takes g start_disk before after counts only image s1 s' (rolled w) first made held_rolled on_rolled count room law downs goes.plain result lives (takes on_rolled.old on_rolled.on on_rolled.follows on_rolled.since))
+      pub shuts_by : OnErr result (s'.ground.lives ≡ s.ground.lives) → s'.ground.kept ≡ s.ground.kept → ((old : Option Stored) → StandsOn (g.seen before) (g.may_leave before) middle.hub s.ground old → Follows old middle.hub s.ground (rolled w) → AreLivesOn (g.seen before) middle.hub s.ground (rolled w) → Takes g old (rolled w) s.ground s'.ground middle s'.engine before after result) → Shuts g start_disk w first made s s' before after result
+      shuts_by lives kept takes = from_checkpoint (by_takes g start_disk before after counts only image s1 s' (rolled w) first made held_rolled on_rolled kept count room law downs goes.plain result lives (takes on_rolled.old on_rolled.on on_rolled.follows on_rolled.since))

@@ -17,33 +17,39 @@ use Rattle.engine.specs.Directories.{HubGoesOn}
 use Rattle.engine.specs.Runs.{MayStep, StepFits}
 use Rattle.engine.specs.Sound.{AreBuilt}
 use Rattle.engine.specs.Waits.{awaited_by, waits_in}
+use Rattle.ckpt_step.specs.Kept.{Lists}
 use Rattle.ckpt_step.proofs.Ordinary.{engines_are, fits_are}
 use Rattle.engine_store.specs.declared.store.Store.{Store}
 use Rattle.engine_store.specs.Calls.{CallKeeps, MayStepOn, Stepped}
 use Rattle.engine_store.specs.Devices.{Installed}
 use Rattle.engine_store.specs.Fetches.{CauseSince, ComesOrNot, IsReached, ReadiesOrNot, session_in}
 use Rattle.engine_store.specs.Held.{IsHeld}
+use Rattle.engine_store.specs.Keeping.{IsSameButKept, with_kept}
 use Rattle.engine_store.proofs.Backed.{backed_held, held_goes, reached_first, ready_goes}
-use Rattle.engine_store.proofs.Going.{Goes, goes_out, goes_step}
+use Rattle.engine_store.proofs.Going.{Goes, goes_other, goes_out, goes_step, laid_step, ordinary_other}
+use Rattle.engine_store.proofs.OtherRecords.{other_records, stands_other, step_other}
 
 -- s, s': the store before the step and after it
 pub record StepsOn {D : Type 0} (g : Ghosts D) (s s' : Store) (before after : D) (made : Step) (told : Reply) : Type 0 where
-  pub led : IsTrue (g.honest before) → (w : World) → IsReached g s before w w → (later : World) × MayStepOn (CauseSince g before after w) w made told later × Stands s'.engine later × Goes w later
+  pub led : IsTrue (g.honest before) → (w : World) → IsReached g s before w w → (later : World) × MayStepOn (CauseSince g before after w) w made told later × Stands s'.engine (with_kept s'.ground.kept later) × Goes w later
   pub hub : HubGoesOn s.engine.hub s'.engine.hub
-  pub ground : s'.ground ≡ s.ground
+  pub ground : IsSameButKept s.ground s'.ground
   pub frames : s'.frames ≡ s.frames
   pub looked : Looked g before after
   pub home : g.home after ≡ g.home before
 
 -- ---- the step is made, or the call is kept out
 
-pub led_step : (Caused : Refusal → Type 0) (s : Store) (e : Engine) (w : World) (made : Step) (told : Reply) → Stands s.engine w → AreBuilt s.engine.systems → StepFits s.engine made → (later : World) × MayStep w made told later × Stands e later
-    → (later : World) × MayStepOn Caused w made told later × Stands e later × Goes w later
-led_step Caused s e w made told stands built fits (later, may, now) = (later, inl may, now, goes_step w later made told (engines_are s.engine w stands built) ((fits_are s.engine).0 made fits) may)
+pub led_step : (Caused : Refusal → Type 0) (s : Store) (e : Engine) (was lists : Lists) (w : World) (made : Step) (told : Reply) → Stands s.engine (with_kept was w) → AreBuilt s.engine.systems → StepFits s.engine made → (later : World) × MayStep (with_kept lists w) made told later × Stands e later
+    → (later : World) × MayStepOn Caused w made told later × Stands e (with_kept lists later) × Goes w later
+led_step Caused s e was lists w made told stands built fits (later, may, now) =
+    let then = other_records w.records later in
+    let does = step_other w.records (with_kept lists w) later made told may in
+    (then, inl does, stands_other e lists w later w.records (laid_step (with_kept lists w) later made told may) now, goes_step w then made told (ordinary_other w (with_kept was w).records (engines_are s.engine (with_kept was w) stands built)) ((fits_are s.engine).0 made fits) does)
 
-pub led_out : (Caused : Refusal → Type 0) (s : Store) (e : Engine) (w : World) (made : Step) (r : Refusal) → Stands s.engine w → AreBuilt s.engine.systems
-    → (session : ℕ) × (made ≡ Go (actor.Session session)) × Caused r × (later : World) × MayKeepOut w session r later × Stands e later → (later : World) × MayStepOn Caused w made reply.More later × Stands e later × Goes w later
-led_out Caused s e w made r stands built (session, is, cause, later, out, now) = (later, inr (session, r, is, refl, cause, out), now, goes_out w later session r (engines_are s.engine w stands built) out)
+pub led_out : (Caused : Refusal → Type 0) (s : Store) (e : Engine) (was lists : Lists) (w : World) (made : Step) (r : Refusal) → Stands s.engine (with_kept was w) → AreBuilt s.engine.systems
+    → (session : ℕ) × (made ≡ Go (actor.Session session)) × Caused r × (later : World) × MayKeepOut w session r later × Stands e (with_kept lists later) → (later : World) × MayStepOn Caused w made reply.More later × Stands e (with_kept lists later) × Goes w later
+led_out Caused s e was lists w made r stands built (session, is, cause, later, out, now) = (later, inr (session, r, is, refl, cause, out), now, goes_out w later session r (ordinary_other w (with_kept was w).records (engines_are s.engine (with_kept was w) stands built)) out)
 
 -- ---- the call of a step that waits for its leaf
 
@@ -64,9 +70,9 @@ pub fits_with : (e e' : Engine) (made : Step) (session : ℕ) → session_in mad
 fits_with e e' made session is same fits =
     subst (λ (s : Step). StepFits e' s) (sym (goes_with made session is)) (subst (λ (n : ℕ). session < n) (sym same) (subst (λ (s : Step). StepFits e s) (goes_with made session is) fits))
 
-pub readies : (Caused : Refusal → Type 0) (e : Engine) (now : World) (made : Step) (session : ℕ) (result : Result (Unit {0}) Refusal) → made ≡ Go (actor.Session session) → ComesOrNot Caused e now session result → ReadiesOrNot Caused e now made result
-readies Caused e now made session (Ok done) is stands = stands
-readies Caused e now made session (Err r) is (cause, later, out, stands) = (session, is, cause, later, out, stands)
+pub readies : (Caused : Refusal → Type 0) (e : Engine) (lists : Lists) (now : World) (made : Step) (session : ℕ) (result : Result (Unit {0}) Refusal) → made ≡ Go (actor.Session session) → ComesOrNot Caused e lists now session result → ReadiesOrNot Caused e lists now made result
+readies Caused e lists now made session (Ok done) is stands = stands
+readies Caused e lists now made session (Err r) is (cause, later, out, stands) = (session, is, cause, later, out, stands)
 
 pub on_ok : (result : Result (Unit {0}) Refusal) (P : Type 0) → P → OnOk result P
 on_ok (Ok done) P p = p
@@ -76,7 +82,7 @@ module _ {D : Type 0} (g : Ghosts D) (s s' : Store) (before after : D) (made : S
   pub step_held : IsTrue (g.honest before) → (start : D) (w : World) (first : Completed) (installed : List Installed) → IsHeld g start s before w first installed → Stepped g start w first installed s s' before after made told
   step_held honest start w first installed held =
       let l = x.led honest w (reached_first g s before w held.stands (backed_held g start before s w first installed held)) in
-      record { later = l.0; stepped = l.1; held = held_goes g s s' before after x.looked x.hub x.ground start w l.0 first installed l.2 l.3 held }
+      record { later = l.0; stepped = l.1; held = held_goes g s s' before after x.looked x.hub x.ground start (with_kept s.ground.kept w) (with_kept s'.ground.kept l.0) first installed l.2 (λ leaf key. refl) (goes_other w l.0 (with_kept s.ground.kept w).records (with_kept s'.ground.kept l.0).records l.3) held }
 
   pub step_keeps : CallKeeps g s s' before after
   step_keeps = record {

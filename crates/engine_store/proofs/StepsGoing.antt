@@ -16,9 +16,12 @@ use Rattle.engine.specs.Runs.{StepsMore, StepsOut}
 use Rattle.engine.specs.Whole.{Ends}
 use Rattle.ckpt_step.specs.Keeps.{AreOrdinary}
 use Rattle.ckpt_step.specs.Floors.{laid_of}
+use Rattle.ckpt_step.specs.Kept.{Lists}
 use Rattle.engine_store.specs.Calls.{EndsIn, GoesOrKept}
 use Rattle.engine_store.specs.Fetches.{CauseSince, ComesOrNot, GoesIn, StepsBy}
+use Rattle.engine_store.specs.Keeping.{with_kept}
 use Rattle.engine_store.proofs.Going.{Goes, goes_out, goes_step, goes_then, laid_step}
+use Rattle.engine_store.proofs.OtherRecords.{more_other, other_records, stands_other, steps_other}
 use Rattle.engine_store.proofs.UnderWay.{cause_since}
 
 -- what was done where a leaf came in, or was kept out
@@ -84,22 +87,48 @@ module _ (Caused : Refusal → Type 0) (session : ℕ) where
       let first = goes_one w next are one in
       goes_then w next last first (goes_ends n next last answer first.keeps.ordinary rest)
 
+-- ---- steps of a world in which the history has what is kept
+
+laid_out : (n : ℕ) (w last : World) (session : ℕ) (answer : Answer (List ℕ)) → StepsOut n w (by.Session session) answer last → laid_of last ≡ laid_of w
+laid_out zero w last session answer is = laid_step w last (Go (by.Session session)) (reply.Answer answer) is
+laid_out (suc n) w last session answer (middle, one, rest) = laid_out n middle last session answer rest ∙ laid_step w middle (Go (by.Session session)) reply.More one
+
+laid_more : (n : ℕ) (w last : World) (session : ℕ) → StepsMore n w (by.Session session) last → laid_of last ≡ laid_of w
+laid_more zero w last session is = ap laid_of is
+laid_more (suc n) w last session (middle, one, rest) = laid_more n middle last session rest ∙ laid_step w middle (Go (by.Session session)) reply.More one
+
+ended_by : (w : World) (answer : Answer (List ℕ)) (e : Engine) (lists : Lists) (session : ℕ) → Ends (called.Ended answer) e (with_kept lists w) session → (n : ℕ) × (last : World) × StepsOut n w (by.Session session) answer last × Stands e (with_kept lists last)
+ended_by w answer e lists session (n, last, out, stands) = (
+  n,
+  other_records w.records last,
+  steps_other w.records n (with_kept lists w) last session answer out,
+  stands_other e lists w last w.records (laid_out n (with_kept lists w) last session answer out) stands,
+)
+
+waits_by : (w : World) (leaf : ℕ) (e : Engine) (lists : Lists) (session : ℕ) → Ends (called.Waits leaf) e (with_kept lists w) session → (n : ℕ) × (last : World) × StepsMore n w (by.Session session) last × Stands e (with_kept lists last)
+waits_by w leaf e lists session (n, last, more, stands) = (
+  n,
+  other_records w.records last,
+  more_other w.records n (with_kept lists w) last session more,
+  stands_other e lists w last w.records (laid_more n (with_kept lists w) last session more) stands,
+)
+
 -- ---- what comes of an engine
 
 module _ {D : Type 0} (g : Ghosts D) where
-  pub steps_stand : (first last : D) (called : Called) (e : Engine) (w : World) (session : ℕ) → StepsBy g first last called e w session → (v : World) × Stands e v × (laid_of v ≡ laid_of w)
-  steps_stand first last (called.Ended answer) e w session (n, v, ends, stands) = (v, stands, laid_ends (CauseSince g first last w) session n w v answer ends)
-  steps_stand first last (called.Waits leaf) e w session (n, v, goes, stands) = (v, stands, laid_in (CauseSince g first last w) session n w v goes)
+  pub steps_stand : (first last : D) (called : Called) (e : Engine) (lists : Lists) (w : World) (session : ℕ) → StepsBy g first last called e lists w session → (v : World) × Stands e (with_kept lists v) × (laid_of v ≡ laid_of w)
+  steps_stand first last (called.Ended answer) e lists w session (n, v, ends, stands) = (v, stands, laid_ends (CauseSince g first last w) session n w v answer ends)
+  steps_stand first last (called.Waits leaf) e lists w session (n, v, goes, stands) = (v, stands, laid_in (CauseSince g first last w) session n w v goes)
 
   -- the steps of a call that was finished, or goes on
-  pub steps_by : (disk : D) (called : Called) (e : Engine) (w : World) (session : ℕ) → Ends called e w session → StepsBy g disk disk called e w session
-  steps_by disk (called.Ended answer) e w session (n, last, out, stands) = (n, last, out_in (CauseSince g disk disk w) session n w last answer out, stands)
-  steps_by disk (called.Waits leaf) e w session (n, last, more, stands) = (n, last, more_in (CauseSince g disk disk w) session n w last more, stands)
+  pub steps_by : (disk : D) (called : Called) (e : Engine) (lists : Lists) (w : World) (session : ℕ) → Ends called e (with_kept lists w) session → StepsBy g disk disk called e lists w session
+  steps_by disk (called.Ended answer) e lists w session ends = let x = ended_by w answer e lists session ends in (x.0, x.1, out_in (CauseSince g disk disk w) session x.0 w x.1 answer x.2, x.3)
+  steps_by disk (called.Waits leaf) e lists w session ends = let x = waits_by w leaf e lists session ends in (x.0, x.1, more_in (CauseSince g disk disk w) session x.0 w x.1 x.2, x.3)
 
   -- behind others, and a leaf that came in or was kept out
-  pub steps_go : (first mid last : D) (called : Called) (e : Engine) (w now middle : World) (session n : ℕ) → g.faults first ≤ g.faults mid → ((r : Refusal) → CauseSince g first mid w r → CauseSince g first last w r) → GoesIn (CauseSince g first mid w) n w session now
-      → IsMiddle (CauseSince g mid last w) now session middle → Ends called e middle session → StepsBy g first last called e w session
-  steps_go first mid last made e w now middle session n le later goes how ends = by_called made ends
+  pub steps_go : (first mid last : D) (called : Called) (e : Engine) (lists : Lists) (w now middle : World) (session n : ℕ) → g.faults first ≤ g.faults mid → ((r : Refusal) → CauseSince g first mid w r → CauseSince g first last w r) → GoesIn (CauseSince g first mid w) n w session now
+      → IsMiddle (CauseSince g mid last w) now session middle → Ends called e (with_kept lists middle) session → StepsBy g first last called e lists w session
+  steps_go first mid last made e lists w now middle session n le later goes how ends = by_called made ends
     where
       middle_more : IsMiddle (CauseSince g mid last w) now session middle → IsMiddle (CauseSince g first last w) now session middle
       middle_more (inl same) = inl same
@@ -109,12 +138,12 @@ module _ {D : Type 0} (g : Ghosts D) where
       before = let m = middle_in (CauseSince g first last w) session now middle (middle_more how) in
           in_then (CauseSince g first last w) session n w now m.0 middle (in_more (CauseSince g first mid w) (CauseSince g first last w) later n w session now goes) m.1
 
-      by_called : (c : Called) → Ends c e middle session → StepsBy g first last c e w session
-      by_called (called.Ended answer) (m, end, out, stands) = let k = ends_then (CauseSince g first last w) session before.0 w middle m answer end before.1 (out_in (CauseSince g first last w) session m middle end answer out) in (k.0, end, k.1, stands)
-      by_called (called.Waits leaf) (m, end, more, stands) = let k = in_then (CauseSince g first last w) session before.0 w middle m end before.1 (more_in (CauseSince g first last w) session m middle end more) in (k.0, end, k.1, stands)
+      by_called : (c : Called) → Ends c e (with_kept lists middle) session → StepsBy g first last c e lists w session
+      by_called (called.Ended answer) ends = let x = ended_by middle answer e lists session ends in let k = ends_then (CauseSince g first last w) session before.0 w middle x.0 answer x.1 before.1 (out_in (CauseSince g first last w) session x.0 middle x.1 answer x.2) in (k.0, x.1, k.1, x.3)
+      by_called (called.Waits leaf) ends = let x = waits_by middle leaf e lists session ends in let k = in_then (CauseSince g first last w) session before.0 w middle x.0 x.1 before.1 (more_in (CauseSince g first last w) session x.0 middle x.1 x.2) in (k.0, x.1, k.1, x.3)
 
   -- what a leaf that came in, or was kept out, leaves of steps
-  pub steps_come : (first disk : D) (e e' : Engine) (w now : World) (session : ℕ) (made : Result (Unit {0}) Refusal) (called : Called) → ComesOrNot (CauseSince g first disk w) e now session made → ((x : World) → Stands e x → Ends called e' x session)
-      → (middle : World) × IsMiddle (CauseSince g first disk w) now session middle × Ends called e' middle session
-  steps_come first disk e e' w now session (Ok done) called stands ends = (now, inl refl, ends now stands)
-  steps_come first disk e e' w now session (Err r) called (cause, later, out, stands) ends = (later, inr (r, cause, out), ends later stands)
+  pub steps_come : (first disk : D) (e e' : Engine) (lists : Lists) (w now : World) (session : ℕ) (made : Result (Unit {0}) Refusal) (called : Called) → ComesOrNot (CauseSince g first disk w) e lists now session made → ((x : World) → Stands e x → Ends called e' x session)
+      → (middle : World) × IsMiddle (CauseSince g first disk w) now session middle × Ends called e' (with_kept lists middle) session
+  steps_come first disk e e' lists w now session (Ok done) called stands ends = (now, inl refl, ends (with_kept lists now) stands)
+  steps_come first disk e e' lists w now session (Err r) called (cause, later, out, stands) ends = (later, inr (r, cause, out), ends (with_kept lists later) stands)

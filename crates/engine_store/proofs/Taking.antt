@@ -30,6 +30,7 @@ use Rattle.ckpt_step.specs.declared.ground.Ground.{Ground}
 use Rattle.ckpt_step.specs.Checkpoints.{IsCheckpointOf}
 use Rattle.ckpt_step.specs.Floors.{AreLivesOn, Follows}
 use Rattle.ckpt_step.specs.Giving.{CheckpointsHaveNewest, HasNewest}
+use Rattle.ckpt_step.specs.Kept.{KeepsThese, Lists}
 use Rattle.ckpt_step.specs.Grounds.{AreLedTo, AreRoots, StandsOn, number_of}
 use Rattle.ckpt_step.specs.Laws.{CheckpointsOpen}
 use Rattle.ckpt_step.specs.Plain.{IsPlain}
@@ -39,18 +40,19 @@ use Rattle.engine_store.specs.declared.eviction.Clock.{Clock}
 use Rattle.engine_store.specs.declared.store.Store.{Store}
 use Rattle.engine_store.specs.Answers.{CheckpointTakes}
 use Rattle.engine_store.specs.Devices.{ArePartedOn, Installed, IsLater, IsNumberOf, device_of, may_open_to}
-use Rattle.engine_store.specs.Held.{Checkpoints, CheckpointsOn, IsGrounded, IsHeld}
+use Rattle.engine_store.specs.Held.{Checkpoints, CheckpointsOn, IsGrounded, IsHeldIn}
 use Rattle.engine_store.specs.Images.{OpensToAny, OpensToLast, OpensToOne}
 use Rattle.engine_store.specs.Relieves.{IsRelieved, LetsGo}
 use Rattle.engine_store.proofs.Contents.{number_read, numbered, still_reads}
 use Rattle.engine_store.proofs.NoLives.{none_on}
+use Rattle.engine_store.proofs.OtherRecords.{held_kept}
 use Rattle.engine_store.proofs.Installing.{any_last, any_more, any_one, last_opens, one_last, one_more, past_later, past_more, pending_last, stays_more, stays_on}
 
 -- ---- of an engine that is up
 
 module _ {D : Type 0} (g : Ghosts D) (start_disk before after : D)
     (counts : g.moment before ≤ g.moment after → (c : List ℕ) → g.may_leave after c → g.left_since after (g.moment before) c) (only : (c : List ℕ) → g.left_since after (g.moment after) c → g.may_leave after c)
-    (image : g.may_leave before (g.seen before)) (s s' : Store) (w : World) (first : Completed) (made : List Installed) (held : IsHeld g start_disk s before w first made)
+    (image : g.may_leave before (g.seen before)) (s s' : Store) (w : World) (first : Completed) (made : List Installed) (held : IsHeldIn g start_disk s before w first made)
     (grounded : IsGrounded (g.seen before) (g.may_leave before) s w (may_open_to (first ∷ []) made)) where
   abbrev Old : List ℕ → Type 0
   Old = IsOld (g.may_leave before) grounded.old
@@ -77,11 +79,12 @@ module _ {D : Type 0} (g : Ghosts D) (start_disk before after : D)
   last_on kept (inr (pending, there, each)) = inr (pending, there, λ c left. old_opens c (old_now kept c left))
 
   -- nothing was installed
-  pub kept_held : (next : World) → Stands s'.engine next → next.machine.checkpoint ≡ None → next.machine.completed ≡ w.machine.completed → KeptAll
-      → (next.machine.fault ≡ None → StandsOn (g.seen after) (g.may_leave after) s'.engine.hub s'.ground grounded.old × Follows grounded.old s'.engine.hub s'.ground next × AreLivesOn (g.seen after) s'.engine.hub s'.ground next) → IsHeld g start_disk s' after next first made
-  kept_held next stands idle same kept on = record {
+  pub kept_held : (next : World) → Stands s'.engine next → KeepsThese next s'.ground.kept → next.machine.checkpoint ≡ None → next.machine.completed ≡ w.machine.completed → KeptAll
+      → (next.machine.fault ≡ None → StandsOn (g.seen after) (g.may_leave after) s'.engine.hub s'.ground grounded.old × Follows grounded.old s'.engine.hub s'.ground next × AreLivesOn (g.seen after) s'.engine.hub s'.ground next) → IsHeldIn g start_disk s' after next first made
+  kept_held next stands keeps idle same kept on = record {
     stands = stands;
     idle = idle;
+    kept = keeps;
     on = λ up. record { old = grounded.old; on = (on up).0; follows = (on up).1; since = (on up).2; opens = subst (λ (k : Completed). OpensAs (content_was grounded.old) k) (sym same) grounded.opens; one = grounded.one };
     images = λ c left. old_opens c (old_now kept c left);
     last = subst (λ (k : Completed). OpensToLast (g.may_leave after) first k made) (sym same) (last_on kept held.last);
@@ -110,11 +113,12 @@ module _ {D : Type 0} (g : Ghosts D) (start_disk before after : D)
         left (λ c either. one_of c (either_opens c either))
 
     -- each image has it
-    done_held : (next : World) → Stands s'.engine next → next.machine.checkpoint ≡ None → own.at ≡ g.moment after → next.machine.completed ≡ own.checkpoint → Each (g.may_leave after) (λ c. IsOn c new)
-        → StandsOn (g.seen after) (g.may_leave after) s'.engine.hub s'.ground (Some new) → Follows (Some new) s'.engine.hub s'.ground next → s'.ground.lives ≡ [] → OpensAs (content_of new) own.checkpoint → IsHeld g start_disk s' after next first (made ++ own ∷ [])
-    done_held next stands idle now same each on follows none new_opens = record {
+    done_held : (next : World) → Stands s'.engine next → KeepsThese next s'.ground.kept → next.machine.checkpoint ≡ None → own.at ≡ g.moment after → next.machine.completed ≡ own.checkpoint → Each (g.may_leave after) (λ c. IsOn c new)
+        → StandsOn (g.seen after) (g.may_leave after) s'.engine.hub s'.ground (Some new) → Follows (Some new) s'.engine.hub s'.ground next → s'.ground.lives ≡ [] → OpensAs (content_of new) own.checkpoint → IsHeldIn g start_disk s' after next first (made ++ own ∷ [])
+    done_held next stands keeps idle now same each on follows none new_opens = record {
       stands = stands;
       idle = idle;
+      kept = keeps;
       on = λ up. record {
         old = Some new;
         on = on;
@@ -132,12 +136,13 @@ module _ {D : Type 0} (g : Ghosts D) (start_disk before after : D)
     }
 
     -- a fault at its gate stopped it
-    gate_held : (next : World) → Stands s'.engine next → next.machine.checkpoint ≡ None → own.at ≡ g.moment after → own.refused ≡ Some DiskFault → (next.machine.fault ≡ None → ⊥) → IsHeld g start_disk s' after next first (made ++ own ∷ [])
-    gate_held next stands idle now stopped down =
+    gate_held : (next : World) → Stands s'.engine next → KeepsThese next s'.ground.kept → next.machine.checkpoint ≡ None → own.at ≡ g.moment after → own.refused ≡ Some DiskFault → (next.machine.fault ≡ None → ⊥) → IsHeldIn g start_disk s' after next first (made ++ own ∷ [])
+    gate_held next stands keeps idle now stopped down =
         let images : Each (g.may_leave after) (OpensToAny (may_open_to (first ∷ []) (made ++ own ∷ []))) = λ c image. any_of DiskFault stopped c (either_opens c (left.each c (counts left.later c image))) in
         record {
           stands = stands;
           idle = idle;
+          kept = keeps;
           on = λ up. absurd (down up);
           images = images;
           last = inr (own.checkpoint, pending_last made own stopped, images);
@@ -152,9 +157,13 @@ module _ {D : Type 0} (g : Ghosts D) (start_disk before after : D)
 
   -- ---- by what the checkpoint answers
 
-  module _ (count : g.faults before ≤ g.faults after) (room : g.capacity after ≡ g.capacity before) (law : CheckpointsOpen) (downs : DownsGo) (plain : IsPlain w.machine) where
+  module _ (kept_same : s'.ground.kept ≡ s.ground.kept) (count : g.faults before ≤ g.faults after) (room : g.capacity after ≡ g.capacity before) (law : CheckpointsOpen) (downs : DownsGo) (plain : IsPlain w.machine) where
     abbrev m : Machine
     m = w.machine
+
+    -- what is kept is what it was
+    keeps_still : KeepsThese w s'.ground.kept
+    keeps_still = subst (λ (l : Lists). KeepsThese w l) (sym kept_same) held.kept
 
     abbrev number : ℕ
     number = number_of grounded.old
@@ -215,7 +224,7 @@ module _ {D : Type 0} (g : Ghosts D) (start_disk before after : D)
         behind = record { later = is_later t.leaves.later; capacity = room; has = (t.new, number, t.is, t.on.stands.seen_has) };
         takes = inr (number, Ok tt, counted, t.may, record { storing = StoredWhole; takes = (s.engine.hub.dir.leaves, known_in s.ground.parts, parted, t.had_room); told = refl; leaves = refl });
         installs = refl;
-        held = done_held t.new (installed None) (opens_new t.new t.is) t.leaves (record w { machine = checkpointed m; shelf = r.shelf }) r.stands refl refl refl t.each r.on r.follows r.none (new_opens t.new t.is (g.seen after) t.on.stands.seen_has);
+        held = held_kept g start_disk after s' (record w { machine = checkpointed m; shelf = r.shelf }) first (made ++ installed None ∷ []) (done_held t.new (installed None) (opens_new t.new t.is) t.leaves (record w { machine = checkpointed m; shelf = r.shelf }) r.stands keeps_still refl refl refl t.each r.on r.follows r.none (new_opens t.new t.is (g.seen after) t.on.stands.seen_has));
         plain = record { idle = refl; suffice = λ table key. record { reached = (plain.suffice table key).reached } };
         none = λ was. r.none;
       }
@@ -237,12 +246,12 @@ module _ {D : Type 0} (g : Ghosts D) (start_disk before after : D)
       behind = record { later = is_later n.leaves.later; capacity = room; has = λ up. (grounded.old, grounded.on.stands.seen_has, n.on.stands.seen_has) };
       takes = refused_by r n.why;
       installs = inl refl;
-      held = kept_held w (subst (λ (e : Engine). Stands e w) (sym n.same) held.stands) held.idle refl n.leaves
+      held = held_kept g start_disk after s' w first made (kept_held w (subst (λ (e : Engine). Stands e w) (sym n.same) held.stands) keeps_still held.idle refl n.leaves
           (λ up. (
             subst (λ (e : Engine). StandsOn (g.seen after) (g.may_leave after) e.hub s'.ground grounded.old) (sym n.same) n.on,
             subst (λ (e : Engine). Follows grounded.old e.hub s'.ground w) (sym n.same) n.follows,
             subst (λ (e : Engine). AreLivesOn (g.seen after) e.hub s'.ground w) (sym n.same) n.since,
-          ));
+          )));
       plain = plain;
       none = λ none. lives ∙ none;
     }
@@ -270,7 +279,7 @@ module _ {D : Type 0} (g : Ghosts D) (start_disk before after : D)
         behind = record { later = is_later kept.later; capacity = room; has = λ up. absurd (not_up up) };
         takes = fell_takes;
         installs = inl refl;
-        held = kept_held (record w { machine = down }) fell_stands held.idle refl kept (λ up. absurd (not_up up));
+        held = held_kept g start_disk after s' (record w { machine = down }) first made (kept_held (record w { machine = down }) fell_stands keeps_still held.idle refl kept (λ up. absurd (not_up up)));
         plain = fell_plain;
         none = λ none. lives ∙ none;
       }
@@ -282,7 +291,7 @@ module _ {D : Type 0} (g : Ghosts D) (start_disk before after : D)
         behind = record { later = is_later left.later; capacity = room; has = λ up. absurd (not_up up) };
         takes = fell_takes;
         installs = inr (refl, (fault, refl), refl);
-        held = gate_held new (installed (Some DiskFault)) (opens_new new checkpoint) left (record w { machine = down }) fell_stands held.idle refl refl not_up;
+        held = held_kept g start_disk after s' (record w { machine = down }) first (made ++ installed (Some DiskFault) ∷ []) (gate_held new (installed (Some DiskFault)) (opens_new new checkpoint) left (record w { machine = down }) fell_stands keeps_still held.idle refl refl not_up);
         plain = fell_plain;
         none = λ none. lives ∙ none;
       }
@@ -300,16 +309,17 @@ module _ {D : Type 0} (g : Ghosts D) (start_disk before after : D)
 
 -- ---- of one that is down
 
-module _ {D : Type 0} (g : Ghosts D) (start_disk disk : D) (image : g.may_leave disk (g.seen disk)) (s : Store) (w : World) (first : Completed) (made : List Installed) (held : IsHeld g start_disk s disk w first made) where
+module _ {D : Type 0} (g : Ghosts D) (start_disk disk : D) (image : g.may_leave disk (g.seen disk)) (s : Store) (w : World) (first : Completed) (made : List Installed) (held : IsHeldIn g start_disk s disk w first made) where
   -- the number of the last checkpoint that was done
   pub number_held : (n : ℕ) × IsNumberOf (g.seen disk) n
   number_held = let any = held.images (g.seen disk) image in number_read (g.seen disk) any.2.0 any.2.1
 
   -- how many frames there are, and which leaves go out, says nothing of what is held
-  pub clock_held : (n : ℕ) (k : Clock) → IsHeld g start_disk (record s { frames = n; clock = k }) disk w first made
+  pub clock_held : (n : ℕ) (k : Clock) → IsHeldIn g start_disk (record s { frames = n; clock = k }) disk w first made
   clock_held n k = record {
     stands = held.stands;
     idle = held.idle;
+    kept = held.kept;
     on = λ up. let x = held.on up in record { old = x.old; on = x.on; follows = x.follows; since = x.since; opens = x.opens; one = x.one };
     images = held.images;
     last = held.last;
@@ -325,7 +335,7 @@ module _ {D : Type 0} (g : Ghosts D) (start_disk disk : D) (image : g.may_leave 
     behind = record { later = record { faults = omega arith; moment = omega arith }; capacity = refl; has = λ up. absurd (not_both up) };
     takes = inr (number_held.0, Err (Panic fault), number_held.1, decided-down w.machine 0 (StartCall number_held.0) fault down refl, (refl, refl));
     installs = inl refl;
-    held = clock_held n k;
+    held = held_kept g start_disk disk (record s { frames = n; clock = k }) w first made (clock_held n k);
     plain = plain;
     none = λ none. none;
   }
@@ -351,14 +361,14 @@ same_store s s' engine place =
 
 module _ {D : Type 0} (g : Ghosts D) (start_disk before after : D)
     (counts : g.moment before ≤ g.moment after → (c : List ℕ) → g.may_leave after c → g.left_since after (g.moment before) c) (only : (c : List ℕ) → g.left_since after (g.moment after) c → g.may_leave after c)
-    (image : g.may_leave before (g.seen before)) (s s' : Store) (w : World) (first : Completed) (made : List Installed) (held : IsHeld g start_disk s before w first made)
+    (image : g.may_leave before (g.seen before)) (s s' : Store) (w : World) (first : Completed) (made : List Installed) (held : IsHeldIn g start_disk s before w first made)
     (count : g.faults before ≤ g.faults after) (room : g.capacity after ≡ g.capacity before) (law : CheckpointsOpen) (downs : DownsGo) (plain : IsPlain w.machine) (result : Result (Unit {0}) Refusal)
     (takes : (old : Option Stored) → StandsOn (g.seen before) (g.may_leave before) s.engine.hub s.ground old → Follows old s.engine.hub s.ground w → AreLivesOn (g.seen before) s.engine.hub s.ground w → Takes g old w s.ground s'.ground s.engine s'.engine before after result)
-    (down : (fault : Fault) → s.engine.hub.fault ≡ Some fault → (result ≡ Err (Panic fault)) × (s'.engine ≡ s.engine) × (s'.ground ≡ s.ground) × (after ≡ before)) (lives : OnErr result (s'.ground.lives ≡ s.ground.lives)) where
+    (down : (fault : Fault) → s.engine.hub.fault ≡ Some fault → (result ≡ Err (Panic fault)) × (s'.engine ≡ s.engine) × (s'.ground ≡ s.ground) × (after ≡ before)) (lives : OnErr result (s'.ground.lives ≡ s.ground.lives)) (kept : s'.ground.kept ≡ s.ground.kept) where
   by_fault : (f : Option Fault) → w.machine.fault ≡ f → CheckpointsOn g start_disk w first made s s' before after w.shelf result
   by_fault None up =
       let on = held.on up in
-      by_takes g start_disk before after counts only image s s' w first made held on count room law downs plain result lives (takes on.old on.on on.follows on.since)
+      by_takes g start_disk before after counts only image s s' w first made held on kept count room law downs plain result lives (takes on.old on.on on.follows on.since)
   by_fault (Some fault) is =
       let told = down fault (held.stands.fault ∙ is) in
       by_down g start_disk before image s w first made held s' after result fault is plain told.0 (same_store s s' told.1 told.2) told.3
@@ -375,21 +385,21 @@ newest_taken m s newest t place tree has = let rows = newest t place tree has in
 -- stand, e: the ground and the engine when it was taken
 module _ {D : Type 0} (g : Ghosts D) (start_disk before after : D)
     (counts : g.moment before ≤ g.moment after → (c : List ℕ) → g.may_leave after c → g.left_since after (g.moment before) c) (only : (c : List ℕ) → g.left_since after (g.moment after) c → g.may_leave after c)
-    (image : g.may_leave before (g.seen before)) (s s' : Store) (w : World) (first : Completed) (made : List Installed) (held : IsHeld g start_disk s before w first made)
+    (image : g.may_leave before (g.seen before)) (s s' : Store) (w : World) (first : Completed) (made : List Installed) (held : IsHeldIn g start_disk s before w first made)
     (count : g.faults before ≤ g.faults after) (room : g.capacity after ≡ g.capacity before) (law : CheckpointsOpen) (downs : DownsGo) (plain : IsPlain w.machine) (have : CheckpointsHaveNewest) (stand : Ground) (e : Engine)
     (takes : (old : Option Stored) → StandsOn (g.seen before) (g.may_leave before) s.engine.hub s.ground old → Follows old s.engine.hub s.ground w → AreLivesOn (g.seen before) s.engine.hub s.ground w → Taken g old w s.ground stand s.engine e before after)
-    (up : (fault : Fault) → s.engine.hub.fault ≡ Some fault → ⊥) (n : ℕ) (k : Clock) (goes : LetsGo g (record { engine = e; ground = stand; frames = n; clock = k }) s') where
+    (up : (fault : Fault) → s.engine.hub.fault ≡ Some fault → ⊥) (n : ℕ) (k : Clock) (goes : LetsGo g (record { engine = e; ground = stand; frames = n; clock = k }) s') (kept : stand.kept ≡ s.ground.kept) where
   by_up : (f : Option Fault) → w.machine.fault ≡ f → Checkpoints g start_disk w first made s s' before after (Ok tt)
   by_up (Some fault) is = absurd (up fault (held.stands.fault ∙ is))
   by_up None is =
       let on = held.on is in
       let t = takes on.old on.on on.follows on.since in
       let r = goes.relieves after (Some t.new) (record w { machine = checkpointed w.machine }) t.stands refl
-      (taken_on g start_disk before after counts only image s s' w first made held on count room law downs plain stand e t)
-      (taken_follows g start_disk before after counts only image s s' w first made held on count room law downs plain stand e t)
+      (taken_on g start_disk before after counts only image s s' w first made held on (goes.kept ∙ kept) count room law downs plain stand e t)
+      (taken_follows g start_disk before after counts only image s s' w first made held on (goes.kept ∙ kept) count room law downs plain stand e t)
       t.none
       (newest_taken w.machine t.new (have w.machine (number_of on.old) t.new t.is)) in
-      (r.shelf, taken g start_disk before after counts only image s s' w first made held on count room law downs plain stand e t r)
+      (r.shelf, taken g start_disk before after counts only image s s' w first made held on (goes.kept ∙ kept) count room law downs plain stand e t r)
 
   pub relieved_by : Checkpoints g start_disk w first made s s' before after (Ok tt)
   relieved_by = by_up w.machine.fault refl

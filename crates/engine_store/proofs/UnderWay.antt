@@ -9,6 +9,7 @@ use Rattle.call_steps.specs.declared.stage.Stage.{Stage}
 use Rattle.call_steps.specs.declared.stage.Stage.TheVariants as stage
 use Rattle.engine_world.specs.Doings.{doing_at}
 use Rattle.engine_world.specs.Stands.{Engine, Stands}
+use Rattle.engine_world.specs.Steps.{MayKeepOut}
 use Rattle.engine_world.specs.Whole.{Reached}
 use Rattle.engine_world.specs.Worlds.{Doing, Resting, Asked, Placed, Decided, Ending, World, doing_of}
 use Rattle.engine.specs.declared.called.Called.{Called}
@@ -16,12 +17,18 @@ use Rattle.engine.specs.declared.called.Called.TheVariants as called
 use Rattle.engine.specs.Waits.{WaitsAs, waits_in}
 use Rattle.engine.specs.Whole.{CallsIn, CallsKept, CallsTo, IsUnderWay, KeptBy, ResumesTo}
 use Rattle.engine.proofs.Waited.{filling, held}
-use Rattle.engine_store.specs.Fetches.{CallsBy, CauseSince, CausedSince, ReachesOrNot}
+use Rattle.ckpt_step.specs.Floors.{laid_of}
+use Rattle.ckpt_step.specs.Kept.{Lists}
+use Rattle.engine_store.specs.declared.store.Store.{Store}
+use Rattle.engine_store.specs.Fetches.{CallsBy, CauseSince, CausedSince, ComesOrNot, ReachesOrNot}
+use Rattle.engine_store.specs.Keeping.{with_kept}
 use Rattle.engine_store.proofs.Fetching.{rose_since}
+use Rattle.engine_store.proofs.Going.{laid_calls}
+use Rattle.engine_store.proofs.OtherRecords.{calls_other, other_records, out_other, stands_other, under_other}
 
 -- nothing was kept from a call that waits for a leaf
-pub under_none : (kept : KeptBy) (e : Engine) (w now : World) (session leaf : ℕ) (asked : Call) → IsUnderWay kept w session asked now → Stands e now → waits_in e session ≡ Some leaf → IsUnderWay None w session asked now
-under_none kept e w now session leaf asked under st waits =
+pub under_none : (kept : KeptBy) (e : Engine) (lists : Lists) (w now : World) (session leaf : ℕ) (asked : Call) → IsUnderWay kept w session asked now → Stands e (with_kept lists now) → waits_in e session ≡ Some leaf → IsUnderWay None w session asked now
+under_none kept e lists w now session leaf asked under st waits =
     let h = held e session leaf waits in
     let f = filling h.state.stage h.state leaf h.on in
     let is : doing_of now session ≡ doing_at (stage.Fill f.call f.wanted) e.hub.dir.leaves session h.state = st.doing session h.state h.at ∙ ap (λ (s : Stage). doing_at s e.hub.dir.leaves session h.state) f.stage_is in
@@ -52,32 +59,78 @@ module _ {D : Type 0} (g : Ghosts D) where
   cause_since first mid last w r le (inr (inl (is, rose))) = inr (inl (is, rose_since (g.faults first) (g.faults mid) (g.faults last) le rose))
   cause_since first mid last w r le (inr (inr down)) = inr (inr down)
 
-  pub calls_since : (first mid last : D) (called : Called) (e : Engine) (w : World) (session : ℕ) (asked : Call) → g.faults first ≤ g.faults mid → CallsBy g mid last called e w session asked → CallsBy g first last called e w session asked
-  calls_since first mid last (called.Ended answer) e w session asked le (kept, caused, later, may, stands) = (kept, (λ r is. cause_since first mid last w r le (caused r is)), later, may, stands)
-  calls_since first mid last (called.Waits leaf) e w session asked le waits = waits
+  pub calls_since : (first mid last : D) (called : Called) (e : Engine) (lists : Lists) (w : World) (session : ℕ) (asked : Call) → g.faults first ≤ g.faults mid → CallsBy g mid last called e lists w session asked → CallsBy g first last called e lists w session asked
+  calls_since first mid last (called.Ended answer) e lists w session asked le (kept, caused, later, may, stands) = (kept, (λ r is. cause_since first mid last w r le (caused r is)), later, may, stands)
+  calls_since first mid last (called.Waits leaf) e lists w session asked le waits = waits
 
   -- some world is that of the engine
-  pub calls_stand : (first last : D) (called : Called) (e : Engine) (w : World) (session : ℕ) (asked : Call) → CallsBy g first last called e w session asked → (v : World) × Stands e v
-  calls_stand first last (called.Ended answer) e w session asked (kept, caused, later, may, stands) = (later, stands)
-  calls_stand first last (called.Waits leaf) e w session asked (now, under, stands) = (now, stands)
+  pub calls_stand : (first last : D) (called : Called) (e : Engine) (lists : Lists) (w : World) (session : ℕ) (asked : Call) → CallsBy g first last called e lists w session asked → (v : World) × Stands e (with_kept lists v)
+  calls_stand first last (called.Ended answer) e lists w session asked (kept, caused, later, may, stands) = (later, stands)
+  calls_stand first last (called.Waits leaf) e lists w session asked (now, under, stands) = (now, stands)
 
   -- ---- a call begins
 
-  pub calls_to : (disk : D) (called : Called) (e : Engine) (w : World) (session : ℕ) (asked : Call) → e.hub.fault ≡ w.machine.fault → CallsTo called e w session asked → CallsBy g disk disk called e w session asked
-  calls_to disk (called.Ended answer) e w session asked fault (later, may, stands) = (None, never_kept disk disk w, later, kept_none (doing_of w session) w later session asked answer (sym stands.fault ∙ fault) may, stands)
-  calls_to disk (called.Waits leaf) e w session asked fault waits = waits
+  pub calls_to : (disk : D) (called : Called) (e : Engine) (lists : Lists) (w : World) (session : ℕ) (asked : Call) → e.hub.fault ≡ w.machine.fault → CallsTo called e (with_kept lists w) session asked → CallsBy g disk disk called e lists w session asked
+  calls_to disk (called.Ended answer) e lists w session asked fault (later, may, stands) = (
+    None,
+    never_kept disk disk w,
+    other_records w.records later,
+    kept_none (doing_of w session) w (other_records w.records later) session asked answer (sym stands.fault ∙ fault) (calls_other w.records (doing_of w session) (with_kept lists w) later session asked answer may),
+    stands_other e lists w later w.records (laid_calls (doing_of w session) (with_kept lists w) session asked answer later may) stands,
+  )
+  calls_to disk (called.Waits leaf) e lists w session asked fault (now, under, stands) = (
+    other_records w.records now,
+    under_other w.records None (with_kept lists w) now session asked under,
+    stands_other e lists w now w.records (ap laid_of under.moved_to) stands,
+  )
 
   -- ---- and goes on
 
-  calls_resumed : (first disk : D) (called : Called) (e : Engine) (kept : KeptBy) (w : World) (session : ℕ) (asked : Call) → doing_of w session ≡ Resting → CausedSince g first disk w kept → e.hub.fault ≡ w.machine.fault → WaitsAs called e session → ResumesTo called e kept w session asked
-      → CallsBy g first disk called e w session asked
-  calls_resumed first disk (called.Ended answer) e kept w session asked rests caused fault waits (later, answered, is, stands) =
-      (kept, caused, later, subst (λ (d : Doing). CallsKept kept d w session asked answer later) (sym rests) (answered, sym stands.fault ∙ fault, is), stands)
-  calls_resumed first disk (called.Waits leaf) e kept w session asked rests caused fault waits (now, under, stands) = (now, under_none kept e w now session leaf asked under stands waits.0, stands)
+  calls_resumed : (first disk : D) (called : Called) (e : Engine) (lists : Lists) (kept : KeptBy) (w : World) (session : ℕ) (asked : Call) → doing_of w session ≡ Resting → CausedSince g first disk w kept → e.hub.fault ≡ w.machine.fault → WaitsAs called e session → ResumesTo called e kept (with_kept lists w) session asked
+      → CallsBy g first disk called e lists w session asked
+  calls_resumed first disk (called.Ended answer) e lists kept w session asked rests caused fault waits (later, answered, is, stands) = (
+    kept,
+    caused,
+    other_records w.records later,
+    subst (λ (d : Doing). CallsKept kept d w session asked answer (other_records w.records later)) (sym rests) (answered, sym stands.fault ∙ fault, ap (other_records w.records) is),
+    stands_other e lists w later w.records (ap laid_of is) stands,
+  )
+  calls_resumed first disk (called.Waits leaf) e lists kept w session asked rests caused fault waits (now, under, stands) =
+      let there : Stands e (with_kept lists (other_records w.records now)) = stands_other e lists w now w.records (ap laid_of under.moved_to) stands in
+      (other_records w.records now, under_none kept e lists w (other_records w.records now) session leaf asked (under_other w.records kept (with_kept lists w) now session asked under) there waits.0, there)
 
-  pub calls_go : (first disk : D) (e e' : Engine) (w now : World) (session : ℕ) (asked : Call) (made : Result (Unit {0}) Refusal) (called : Called) → ReachesOrNot (CauseSince g first disk w) e w session asked now made
-      → ((kept : KeptBy) (x : World) → IsUnderWay kept w session asked x → Stands e x → ResumesTo called e' kept w session asked) → IsUnderWay None w session asked now → e'.hub.fault ≡ w.machine.fault → WaitsAs called e' session → CallsBy g first disk called e' w session asked
-  calls_go first disk e e' w now session asked (Ok done) called stands resumes under fault waits =
-      calls_resumed first disk called e' None w session asked under.rests (never_kept first disk w) fault waits (resumes None now under stands)
-  calls_go first disk e e' w now session asked (Err r) called (cause, later, out, stands) resumes under fault waits =
-      calls_resumed first disk called e' (Some r) w session asked under.rests (kept_by first disk w r cause) fault waits (resumes (Some r) later out stands)
+  pub calls_go : (first disk : D) (e e' : Engine) (lists : Lists) (w now : World) (session : ℕ) (asked : Call) (made : Result (Unit {0}) Refusal) (called : Called) → ReachesOrNot (CauseSince g first disk w) e lists w session asked now made
+      → ((kept : KeptBy) (x : World) → IsUnderWay kept (with_kept lists w) session asked x → Stands e x → ResumesTo called e' kept (with_kept lists w) session asked) → IsUnderWay None w session asked now → e'.hub.fault ≡ w.machine.fault → WaitsAs called e' session → CallsBy g first disk called e' lists w session asked
+  calls_go first disk e e' lists w now session asked (Ok done) called stands resumes under fault waits =
+      calls_resumed first disk called e' lists None w session asked under.rests (never_kept first disk w) fault waits
+      (resumes None (with_kept lists now) (under_other (with_kept lists w).records None w now session asked under) stands)
+  calls_go first disk e e' lists w now session asked (Err r) called (cause, later, out, stands) resumes under fault waits =
+      calls_resumed first disk called e' lists (Some r) w session asked under.rests (kept_by first disk w r cause) fault waits
+      (resumes (Some r) (with_kept lists later) (under_other (with_kept lists w).records (Some r) w later session asked out) stands)
+
+-- ---- a leaf is kept from a call
+
+-- the engine and what is kept stayed
+pub still_stands : (s s' : Store) (now : World) → s'.engine ≡ s.engine → s'.ground.kept ≡ s.ground.kept → Stands s.engine (with_kept s.ground.kept now) → Stands s'.engine (with_kept s'.ground.kept now)
+still_stands s s' now engine kept stands =
+    subst (λ (e : Engine). Stands e (with_kept s'.ground.kept now)) (sym engine) (subst (λ (lists : Lists). Stands s.engine (with_kept lists now)) (sym kept) stands)
+
+pub under_kept : (lists : Lists) (w now : World) (session : ℕ) (asked : Call) → IsUnderWay None w session asked now → IsUnderWay None (with_kept lists w) session asked (with_kept lists now)
+under_kept lists w now session asked under = under_other (with_kept lists w).records None w now session asked under
+
+-- a step of the world in which the history has what is kept is one of the world itself
+pub comes_not : (Caused : Refusal → Type 0) (e : Engine) (lists : Lists) (now : World) (session : ℕ) (r : Refusal) → Caused r → (later : World) × MayKeepOut (with_kept lists now) session r later × Stands e later → ComesOrNot Caused e lists now session (Err r)
+comes_not Caused e lists now session r cause (later, out, stands) = (
+  cause,
+  other_records now.records later,
+  out_other now.records (with_kept lists now) later session r out,
+  stands_other e lists now later now.records (ap laid_of out.leaves) stands,
+)
+
+pub reaches_not : (Caused : Refusal → Type 0) (e : Engine) (lists : Lists) (w now : World) (session : ℕ) (asked : Call) (r : Refusal) → Caused r → (later : World) × IsUnderWay (Some r) (with_kept lists w) session asked later × Stands e later → ReachesOrNot Caused e lists w session asked now (Err r)
+reaches_not Caused e lists w now session asked r cause (later, under, stands) = (
+  cause,
+  other_records w.records later,
+  under_other w.records (Some r) (with_kept lists w) later session asked under,
+  stands_other e lists w later w.records (ap laid_of under.moved_to) stands,
+)

@@ -25,17 +25,19 @@ use Rattle.engine_world.specs.Worlds.{World}
 use Rattle.engine_world.proofs.HubMoves.{decided-down}
 use Rattle.engine.specs.Checkpoints.{MayStart, started_as}
 use Rattle.ckpt_step.specs.Floors.{AreLivesOn, Follows}
+use Rattle.ckpt_step.specs.Kept.{KeepsThese, Lists}
 use Rattle.ckpt_step.specs.Grounds.{StandsOn, number_of}
 use Rattle.ckpt_step.specs.Plain.{IsPlain}
 use Rattle.ckpt_step.specs.Trees.{AreLow}
 use Rattle.ckpt_step.specs.WritesOut.{FallenOut, LeavesEngine, NotWritten, WhyNotOut, WritesOut as LeafWritesOut, WrittenOut}
 use Rattle.engine_store.specs.declared.store.Store.{Store}
 use Rattle.engine_store.specs.Devices.{Installed, IsLater, IsNumberOf, KeepsCheckpoint, device_of, may_open_to}
-use Rattle.engine_store.specs.Held.{IsGrounded, IsHeld}
+use Rattle.engine_store.specs.Held.{IsGrounded, IsHeld, IsHeldIn}
 use Rattle.engine_store.specs.Opened.{IsReady}
 use Rattle.engine_store.specs.Relieves.{StaysAlike}
 use Rattle.engine_store.specs.WritesOut.{WhyNoMore, WritesAlike, WritesFrom, WritesOut, WroteDown, WroteOn, WroteUp, is_short}
 use Rattle.engine_store.proofs.Contents.{numbered, one_number}
+use Rattle.engine_store.proofs.OtherRecords.{held_kept}
 use Rattle.engine_store.proofs.Taking.{clock_held, kept_held, same_store}
 
 -- ---- a device has one checkpoint, or none
@@ -71,8 +73,12 @@ plain_down m fault plain = record { idle = plain.idle; suffice = λ table key. r
 
 module _ {D : Type 0} (g : Ghosts D) (start_disk before after : D)
     (counts : g.moment before ≤ g.moment after → (c : List ℕ) → g.may_leave after c → g.left_since after (g.moment before) c) (only : (c : List ℕ) → g.left_since after (g.moment after) c → g.may_leave after c)
-    (image : g.may_leave before (g.seen before)) (s s' : Store) (w : World) (first : Completed) (made : List Installed) (held : IsHeld g start_disk s before w first made)
-    (disk : SameDisk g before after) (downs : DownsGo) (plain : IsPlain w.machine) where
+    (image : g.may_leave before (g.seen before)) (s s' : Store) (w : World) (first : Completed) (made : List Installed) (held : IsHeldIn g start_disk s before w first made)
+    (disk : SameDisk g before after) (downs : DownsGo) (kept : s'.ground.kept ≡ s.ground.kept) (plain : IsPlain w.machine) where
+  -- what is kept is what it was
+  keeps_still : KeepsThese w s'.ground.kept
+  keeps_still = subst (λ (l : Lists). KeepsThese w l) (sym kept) held.kept
+
   abbrev Wrote : Result (Unit {0}) Refusal → Type 0
   Wrote result = WritesOut g start_disk w first made s s' before after result
 
@@ -96,7 +102,7 @@ module _ {D : Type 0} (g : Ghosts D) (start_disk before after : D)
       wrote = record {
         later = is_later left;
         capacity = disk.room;
-        held = kept_held g start_disk before after counts only image s s' w first made held grounded (record w { shelf = shelf }) stands held.idle refl left (λ up. (on, follows, since));
+        held = held_kept g start_disk after s' (record w { shelf = shelf }) first made (kept_held g start_disk before after counts only image s s' w first made held grounded (record w { shelf = shelf }) stands keeps_still held.idle refl left (λ up. (on, follows, since)));
         plain = plain;
       };
       keeps = keeps on.stands.seen_has;
@@ -122,8 +128,8 @@ module _ {D : Type 0} (g : Ghosts D) (start_disk before after : D)
       wrote = record {
         later = is_later f.left;
         capacity = disk.room;
-        held = kept_held g start_disk before after counts only image s s' w first made held grounded (record w { machine = after_event w.machine (GoDown f.fault) })
-            (subst (λ (e : Engine). Stands e (record w { machine = after_event w.machine (GoDown f.fault) })) (sym f.down) (downs s.engine w f.fault held.stands)) held.idle refl f.left (λ up. absurd (not_up f.fault up));
+        held = held_kept g start_disk after s' (record w { machine = after_event w.machine (GoDown f.fault) }) first made (kept_held g start_disk before after counts only image s s' w first made held grounded (record w { machine = after_event w.machine (GoDown f.fault) })
+            (subst (λ (e : Engine). Stands e (record w { machine = after_event w.machine (GoDown f.fault) })) (sym f.down) (downs s.engine w f.fault held.stands)) keeps_still held.idle refl f.left (λ up. absurd (not_up f.fault up)));
         plain = plain_down w.machine f.fault plain;
       };
     }
@@ -161,7 +167,7 @@ module _ {D : Type 0} (g : Ghosts D) (start_disk before after : D)
         (subst (λ (x : Store). WroteUp g start_disk w first made s x before before) (sym (same_store s s' engine ground))
         (record {
           shelf = w.shelf;
-          wrote = record { later = record { faults = omega arith; moment = omega arith }; capacity = refl; held = clock_held g start_disk before image s w first made held s'.frames s'.clock; plain = plain };
+          wrote = record { later = record { faults = omega arith; moment = omega arith }; capacity = refl; held = held_kept g start_disk before (record s { frames = s'.frames; clock = s'.clock }) w first made (clock_held g start_disk before image s w first made held s'.frames s'.clock); plain = plain };
           keeps = record { capacity = refl; checkpoint = λ o has. has };
         }))
 

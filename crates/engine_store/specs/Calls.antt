@@ -30,6 +30,7 @@ use Rattle.engine.specs.Whole.{KeptBy, MayAnswer, MayCallKept, with_session_more
 use Rattle.engine_store.specs.declared.store.Store.{Store}
 use Rattle.engine_store.specs.Devices.{Installed}
 use Rattle.engine_store.specs.Held.{IsHeld}
+use Rattle.engine_store.specs.Keeping.{IsSameButKept}
 use Rattle.engine_store.specs.GoneOut.{all_out}
 use Rattle.engine_store.specs.Opened.{IsReady}
 use Rattle.engine_store.specs.Loads.{IsCause, IsCaused, LeafSpoils}
@@ -61,7 +62,7 @@ abbrev pub MayAnswerOn : (Caused : Refusal → Type 0) → World → AnyCall →
 MayAnswerOn Caused w (call.Session session made) answer later = (kept : KeptBy) × ((r : Refusal) → kept ≡ Some r → Caused r) × MayCallKept kept w session (session_call_in made) answer later
 MayAnswerOn Caused w (call.System number made) answer later = MayAnswer w (call.System number made) answer later
 
--- ---- of a store whose disk it holds, as a run began; first: the checkpoint that the disk had then; made: those that the run installed
+-- ---- of a store whose disk it holds, as a run began; first: the checkpoint that the disk had then; made: those that the run installed.
 
 module _ {D : Type 0} (g : Ghosts D) (start_disk : D) (w : World) (first : Completed) (made : List Installed) (s s' : Store) (before after : D) where
   -- why a leaf is kept from a call here
@@ -154,10 +155,10 @@ TellsSo {D} g s s' before after Told =
     (basis : Option Basis) (start : D) → g.faults start ≤ g.faults before → IsBasis g basis s.engine before → AreToldSo g basis start s.engine before
     → Told basis start × AreToldSo g basis start s'.engine after × IsBasis g basis s'.engine after
 
--- what holds of the store, its ground, and how many frames it has; the disk was looked at alone
+-- what holds of the store, its ground but for what is kept of leaves, and how many frames it has; the disk was looked at alone
 pub record CallKeeps {D : Type 0} (g : Ghosts D) (s s' : Store) (before after : D) : Type 0 where
   pub ready : IsReady s → IsReady s'
-  pub ground : s'.ground ≡ s.ground
+  pub ground : IsSameButKept s.ground s'.ground
   pub frames : s'.frames ≡ s.frames
   pub looked : Looked g before after
   pub home : g.home after ≡ g.home before

@@ -15,32 +15,34 @@ use Rattle.engine.specs.declared.step.Step.{Step}
 use Rattle.engine.specs.declared.step.Step.TheVariants.{Go}
 use Rattle.engine.specs.Waits.{turns_in}
 use Rattle.engine.specs.Whole.{IsUnderWay, KeptBy, MayCallKept}
-use Rattle.ckpt_step.specs.Floors.{AreLivesOn, Follows, laid_of}
+use Rattle.ckpt_step.specs.Floors.{AreLivesOn, Follows}
 use Rattle.ckpt_step.specs.Grounds.{StandsOn}
+use Rattle.ckpt_step.specs.Kept.{Lists}
 use Rattle.engine_store.specs.declared.store.Store.{Store}
 use Rattle.engine_store.specs.Calls.{Basis, EndsIn, GoesOrKept, MayAnswerSo}
+use Rattle.engine_store.specs.Keeping.{with_kept}
 use Rattle.engine_store.specs.Loads.{IsCause, IsCaused}
 
--- While the engine is up, the ground is that of the disk's checkpoint, and follows this world: its shelf has the leaves that are in no frame, and the history nothing of them. Those that were written since are on the disk.
+-- While the engine is up, the ground is that of the disk's checkpoint, and follows this world: its shelf has the leaves that are in no frame. Those that were written since are on the disk.
 abbrev pub IsBacked : {D : Type 0} → Ghosts D → Store → D → World → Type 0
 IsBacked g s disk w = s.engine.hub.fault ≡ None → (old : Option Stored) × StandsOn (g.seen disk) (g.may_leave disk) s.engine.hub s.ground old × Follows old s.engine.hub s.ground w × AreLivesOn (g.seen disk) s.engine.hub s.ground w
 
--- the store stands for a world that came of that one
+-- the store stands for a world that came of that one, in which the history has what the store keeps
 pub record IsReached {D : Type 0} (g : Ghosts D) (s : Store) (disk : D) (w now : World) : Type 0 where
   pub backed : IsBacked g s disk w
-  pub stands : Stands s.engine now
+  pub stands : Stands s.engine (with_kept s.ground.kept now)
   pub fault : now.machine.fault ≡ w.machine.fault
-  pub laid : laid_of now ≡ laid_of w
+  pub shelf : now.shelf ≡ w.shelf
 
--- a leaf comes in, or is kept from the session's call
-abbrev pub ComesOrNot : (Caused : Refusal → Type 0) → Engine → World → ℕ → Result (Unit {0}) Refusal → Type 0
-ComesOrNot Caused e now session (Ok done) = Stands e now
-ComesOrNot Caused e now session (Err r) = Caused r × (later : World) × MayKeepOut now session r later × Stands e later
+-- a leaf comes in, or is kept from the session's call; lists: what the store keeps then
+abbrev pub ComesOrNot : (Caused : Refusal → Type 0) → Engine → Lists → World → ℕ → Result (Unit {0}) Refusal → Type 0
+ComesOrNot Caused e lists now session (Ok done) = Stands e (with_kept lists now)
+ComesOrNot Caused e lists now session (Err r) = Caused r × (later : World) × MayKeepOut now session r later × Stands e (with_kept lists later)
 
 -- of a call that began with nobody between
-abbrev pub ReachesOrNot : (Caused : Refusal → Type 0) → Engine → World → ℕ → Call → World → Result (Unit {0}) Refusal → Type 0
-ReachesOrNot Caused e w session asked now (Ok done) = Stands e now
-ReachesOrNot Caused e w session asked now (Err r) = Caused r × (later : World) × IsUnderWay (Some r) w session asked later × Stands e later
+abbrev pub ReachesOrNot : (Caused : Refusal → Type 0) → Engine → Lists → World → ℕ → Call → World → Result (Unit {0}) Refusal → Type 0
+ReachesOrNot Caused e lists w session asked now (Ok done) = Stands e (with_kept lists now)
+ReachesOrNot Caused e lists w session asked now (Err r) = Caused r × (later : World) × IsUnderWay (Some r) w session asked later × Stands e (with_kept lists later)
 
 -- the session with whose call a step goes on
 abbrev pub session_in : Step → Option ℕ
@@ -48,9 +50,9 @@ session_in (Go (actor.Session session)) = Some session
 session_in _ = None
 
 -- of a step: the leaf that its call waits for, where there is one
-abbrev pub ReadiesOrNot : (Caused : Refusal → Type 0) → Engine → World → Step → Result (Unit {0}) Refusal → Type 0
-ReadiesOrNot Caused e now made (Ok done) = Stands e now
-ReadiesOrNot Caused e now made (Err r) = (session : ℕ) × (made ≡ Go (actor.Session session)) × Caused r × (later : World) × MayKeepOut now session r later × Stands e later
+abbrev pub ReadiesOrNot : (Caused : Refusal → Type 0) → Engine → Lists → World → Step → Result (Unit {0}) Refusal → Type 0
+ReadiesOrNot Caused e lists now made (Ok done) = Stands e (with_kept lists now)
+ReadiesOrNot Caused e lists now made (Err r) = (session : ℕ) × (made ≡ Go (actor.Session session)) × Caused r × (later : World) × MayKeepOut now session r later × Stands e (with_kept lists later)
 
 -- ---- a whole call
 
@@ -61,11 +63,11 @@ CausedSince g first disk w kept = IsCaused (Rose (g.faults first) (g.faults disk
 abbrev pub CauseSince : {D : Type 0} → Ghosts D → D → D → World → Refusal → Type 0
 CauseSince g first disk w r = IsCause (Rose (g.faults first) (g.faults disk)) w.machine.fault r
 
--- it has its answer, or waits for a leaf
-abbrev pub CallsBy : {D : Type 0} → Ghosts D → D → D → Called → Engine → World → ℕ → Call → Type 0
-CallsBy g first disk (called.Ended answer) e w session asked =
-    (kept : KeptBy) × CausedSince g first disk w kept × (later : World) × MayCallKept kept w session asked answer later × Stands e later
-CallsBy g first disk (called.Waits leaf) e w session asked = (now : World) × IsUnderWay None w session asked now × Stands e now
+-- it has its answer, or waits for a leaf; lists: what the store keeps then
+abbrev pub CallsBy : {D : Type 0} → Ghosts D → D → D → Called → Engine → Lists → World → ℕ → Call → Type 0
+CallsBy g first disk (called.Ended answer) e lists w session asked =
+    (kept : KeptBy) × CausedSince g first disk w kept × (later : World) × MayCallKept kept w session asked answer later × Stands e (with_kept lists later)
+CallsBy g first disk (called.Waits leaf) e lists w session asked = (now : World) × IsUnderWay None w session asked now × Stands e (with_kept lists now)
 
 -- ---- the steps of one
 
@@ -74,10 +76,10 @@ abbrev pub GoesIn : (Caused : Refusal → Type 0) → ℕ → World → ℕ → 
 GoesIn Caused zero w session last = last ≡ w
 GoesIn Caused (suc n) w session last = (next : World) × GoesOrKept Caused w session next × GoesIn Caused n next session last
 
--- they have ended it, or it waits for a leaf
-abbrev pub StepsBy : {D : Type 0} → Ghosts D → D → D → Called → Engine → World → ℕ → Type 0
-StepsBy g first disk (called.Ended answer) e w session = (n : ℕ) × (last : World) × EndsIn (CauseSince g first disk w) n w session answer last × Stands e last
-StepsBy g first disk (called.Waits leaf) e w session = (n : ℕ) × (last : World) × GoesIn (CauseSince g first disk w) n w session last × Stands e last
+-- they have ended it, or it waits for a leaf; lists: what the store keeps then
+abbrev pub StepsBy : {D : Type 0} → Ghosts D → D → D → Called → Engine → Lists → World → ℕ → Type 0
+StepsBy g first disk (called.Ended answer) e lists w session = (n : ℕ) × (last : World) × EndsIn (CauseSince g first disk w) n w session answer last × Stands e (with_kept lists last)
+StepsBy g first disk (called.Waits leaf) e lists w session = (n : ℕ) × (last : World) × GoesIn (CauseSince g first disk w) n w session last × Stands e (with_kept lists last)
 
 -- ---- what is told
 

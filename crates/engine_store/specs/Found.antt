@@ -25,7 +25,7 @@ use Rattle.engine_store.specs.Marked.{AreAway}
 use Rattle.engine_store.specs.Loads.{LeafOfSpoils}
 use Rattle.engine_store.specs.Opened.{HasNumbers, LacksNumbers}
 
--- The ground is that of this checkpoint, or of none, on a device that was not synced since; no leaf was written since.
+-- The ground is that of this checkpoint, or of none, on a device that was not synced since; no leaf was written since, and nothing is kept of any.
 pub record IsGroundOf (bytes : List ℕ) (hub : Hub) (g : Ground) (old : Option Stored) : Type 0 where
   pub serves : Serves bytes g.place old
   pub books : Counts (found_in old) g.place.blocks
@@ -33,6 +33,7 @@ pub record IsGroundOf (bytes : List ℕ) (hub : Hub) (g : Ground) (old : Option 
   pub roots : AreRoots hub.tables.tables [] hub.dir.leaves (known_in g.parts) g.trees.items old
   pub written : AreWritten hub.tables.tables [] hub.dir (known_in g.parts) g.trees.items
   pub none : g.lives ≡ []
+  pub kept : g.kept ≡ []
   pub floor : g.floor ≡ no_name
 
 -- the engine begins with what the device holds, and the leaves that are not loaded are as the checkpoint has them

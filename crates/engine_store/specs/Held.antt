@@ -16,10 +16,12 @@ use Rattle.row_page.specs.Rows.{Row}
 use Rattle.engine_world.specs.Worlds.{World}
 use Rattle.ckpt_step.specs.Floors.{AreLivesOn, Follows}
 use Rattle.ckpt_step.specs.Grounds.{StandsOn}
+use Rattle.ckpt_step.specs.Kept.{KeepsThese}
 use Rattle.ckpt_step.specs.Plain.{IsPlain}
 use Rattle.engine_store.specs.declared.store.Store.{Store}
 use Rattle.engine_store.specs.Answers.{CheckpointTakes, CloseTakes, Installs, IsLeft, RefusesReopening, answer_of}
 use Rattle.engine_store.specs.Devices.{Installed, IsLater, device_of, may_open_to}
+use Rattle.engine_store.specs.Keeping.{with_kept}
 use Rattle.engine_store.specs.Images.{OpensToAny, OpensToLast, OpensToOne, Stays}
 
 -- the next checkpoint stands on the one that the device has, of which the leaves that are not loaded, and those that are clean, have the rows that they had; a leaf that was written since has those of its block; it opens as the machine's last one, and is one of those to which the device may open
@@ -33,15 +35,21 @@ pub record IsGrounded (seen : List ℕ) (images : List ℕ → Type 0) (s : Stor
 
 -- start: the disk as the run began; first: the checkpoint that it had then; made: those that the run installed
 module _ {D : Type 0} (g : Ghosts D) (start_disk : D) where
-  pub record IsHeld (s : Store) (disk : D) (w : World) (first : Completed) (made : List Installed) : Type 0 where
+  -- of a world in which the history has what the store keeps
+  pub record IsHeldIn (s : Store) (disk : D) (w : World) (first : Completed) (made : List Installed) : Type 0 where
     pub stands : Stands s.engine w
     pub idle : w.machine.checkpoint ≡ None
+    pub kept : KeepsThese w s.ground.kept
     pub on : w.machine.fault ≡ None → IsGrounded (g.seen disk) (g.may_leave disk) s w (may_open_to (first ∷ []) made)
     pub images : Each (g.may_leave disk) (OpensToAny (may_open_to (first ∷ []) made))
     pub last : OpensToLast (g.may_leave disk) first w.machine.completed made
     pub ever : LeavesOnly g start_disk disk (OpensToOne first made)
     pub stays : Stays (g.left_since disk) made
     pub past : AllByRecursion (λ (i : Installed). i.at ≤ g.moment disk) made
+
+  -- of any world: what its own history has does not matter, since the store keeps that
+  abbrev pub IsHeld : Store → D → World → Completed → List Installed → Type 0
+  IsHeld s disk w first made = IsHeldIn s disk (with_kept s.ground.kept w) first made
 
   module _ (w : World) (first : Completed) (made : List Installed) (s s' : Store) (before after : D) where
     -- a checkpoint in one event, behind which this is on the shelf

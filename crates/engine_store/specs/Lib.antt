@@ -1,3 +1,4 @@
+pub mod Keeping
 pub mod Devices
 pub mod Images
 pub mod Answers

@@ -42,13 +42,14 @@ abbrev pub HasNumbers : Option Stored → Type 0
 HasNumbers None = Unit {0}
 HasNumbers (Some s) = (s.kept.run < last_number) × (s.kept.next_table + TABLES_MAX < 2 ^ 32 + length s.kept.tables)
 
--- the engine stands for the world with which what the device holds begins, without a session; the leaves that are not loaded are as the checkpoint has them, and none was written since
+-- the engine stands for the world with which what the device holds begins, without a session; the leaves that are not loaded are as the checkpoint has them, and none was written since; nothing is kept of any
 pub record IsOpened (seen : List ℕ) (images : List ℕ → Type 0) (s : Store) : Type 0 where
   pub old : Option Stored
   pub numbers : HasNumbers old
   pub on : StandsOn seen images s.engine.hub s.ground old
   pub floor : s.ground.floor ≡ no_name
   pub none : s.ground.lives ≡ []
+  pub kept : s.ground.kept ≡ []
   pub shelf : ℕ → List Row
   pub world : Stands s.engine (first_world (content_was old) shelf s.engine)
   pub follows : Follows old s.engine.hub s.ground (first_world (content_was old) shelf s.engine)

@@ -41,4 +41,5 @@ Relieves seen images s s' = (old : Option Stored) (w : World) → Stands s.engin
 -- whatever the disk
 pub record LetsGo {D : Type 0} (g : Ghosts D) (s s' : Store) : Type 0 where
   pub alike : StaysAlike s s'
+  pub kept : s'.ground.kept ≡ s.ground.kept
   pub relieves : (disk : D) → Relieves (g.seen disk) (g.may_leave disk) s s'

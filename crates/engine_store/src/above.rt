@@ -18,7 +18,7 @@ use crate::places::trees_over;
 use crate::store::Store;
 use crate::tables::with_entries;
 use checkpoint_record::{Record, TableRoot, records_are_recorded};
-use ckpt_step::{Ground, Lives};
+use ckpt_step::{Ground, Kept, Lives};
 use device_leaf::Place;
 use disk_model::Disk;
 use engine_start::start;
@@ -80,6 +80,7 @@ pub(crate) fn store_above<D: Disk>(
                     trees,
                     parts,
                     lives: Lives::new(alloc),
+                    kept: Kept::new(alloc),
                     floor: Name { run: 0, id: 0 },
                 },
                 frames,

@@ -8,7 +8,8 @@
 //! was done, or was being installed since. So do the calls of actors, whose leaves are read from the
 //! device when they need them, and leave memory behind a call that read others, or behind a
 //! checkpoint; those that calls changed go out of it where the caller asks for it, while nobody is at
-//! work (`Store::write_out`) or whoever is (`Store::make_room`). Of a device where a leaf is at fault
+//! work (`Store::write_out`) or whoever is (`Store::make_room`), and come back with what is kept of
+//! them. Of a device where a leaf is at fault
 //! it promises that damage is told of such a leaf alone, where a call needs it. Leaves to the caller to
 //! attach the disk, and to say how many frames there are.
 #![tactic(auto)]

@@ -6,7 +6,11 @@ ghost use Rattle.engine_world.specs.Stands.{Stands};
 ghost use Rattle.engine_world.specs.Worlds.{World};
 ghost use Rattle.engine.specs.Directories.{HubGoesOn};
 ghost use Rattle.engine.specs.Waits.{IsAway, turns_in, waits_in};
-ghost use Rattle.ckpt_step.specs.Floors.{KeepsNothing};
+ghost use Rattle.leaf_capture.specs.Capture.{ChainsFit};
+ghost use Rattle.engine_world.specs.Coming.{ComesFrom};
+ghost use Rattle.evict_step.specs.Backs.{AreNewestFirst};
+ghost use Rattle.ckpt_step.specs.Kept.{list_of, records_in};
+ghost use Rattle.engine_store.specs.Keeping.{with_kept};
 ghost use Rattle.engine_store.specs.Loads.{IsReadAs, LacksLeaf, RefusesLeaf, ShelfIsOn};
 ghost use Rattle.failure.specs.Counts.{Rose};
 ghost use Rattle.row_page.specs.Rows.{Row};
@@ -14,9 +18,11 @@ ghost use Rattle.tree_dir.specs.declared.leaf.Leaf.{Leaf as ALeaf};
 ghost use Rattle.tree_dir.specs.Leaves.{leaf_named};
 ghost use Rattle.ckpt_step.specs.Parts.{has_rows};
 
+use ckpt_step::Kept;
 use device_layout::Link;
 use disk_model::Disk;
 use engine::Local;
+use evict_step::bring_back;
 use failure::NoMemory;
 use leaf_frame::LeafFrame;
 use leaf_load::{load_leaf, one_is_loaded};
@@ -34,35 +40,54 @@ const ALL: Marks = Marks {
     max: u64::MAX,
 };
 
-/// Brings a leaf that is in no frame into one, with all rows of its block. Where the device has no
-/// such leaf, a read fails or memory is short, nothing changes. `O(bytes)` of the leaf, which is read
-/// once, and `O(log n)` in the leaves.
+/// Brings a leaf that is in no frame into one, with all rows of its block, and below them what is kept
+/// of it, which is not kept any more then. Where the device has no such leaf, a read fails or memory is
+/// short, nothing changes. `O(bytes)` of the leaf, which is read once, and of what is kept, which is
+/// copied; and `O(log n)` in the leaves.
 pub(crate) fn bring<D: Disk>(
     alloc: Global,
     disk: &mut D,
+    kept: &mut Kept,
     engine: &mut Local,
     leaf: u64,
 ) -> Result<(), Refusal>
     requires away { IsAway engine.old.hub.dir.leaves leaf }
-    ensures stands { IsTrue (D.honest disk.old) → (w : World) → Stands engine.old w → KeepsNothing w → ShelfIsOn (D.seen disk.old) engine.old.hub.dir w.shelf leaf → OnOk result (Stands engine.new w) }
+    ensures stands { IsTrue (D.honest disk.old) → (w : World) → Stands engine.old (with_kept kept.old w) → ShelfIsOn (D.seen disk.old) engine.old.hub.dir w.shelf leaf → OnOk result (Stands engine.new (with_kept kept.new w)) }
     ensures goes { OnOk result (HubGoesOn engine.old.hub engine.new.hub) }
     ensures ready { (session : ℕ) → waits_in engine.old session ≡ Some leaf → OnOk result (waits_in engine.new session ≡ None) }
     ensures turns { (session : ℕ) → OnOk result (turns_in engine.new session ≡ turns_in engine.old session) }
     ensures sessions { engine.new.sessions ≡ engine.old.sessions }
     ensures kept { OnErr result (engine.new ≡ engine.old) }
+    ensures keeps { OnErr result (kept.new ≡ kept.old) }
     ensures err { IfErr result (RefusesLeaf D.Disk engine.old.hub.dir leaf disk.old disk.new) }
     ensures lacks { IsTrue (D.honest disk.old) → (shelf : ℕ → List Row) → ShelfIsOn (D.seen disk.old) engine.old.hub.dir shelf leaf → IfErr result (LacksLeaf (Rose (D.faults disk.old) (D.faults disk.new))) }
     ensures looked { Looked D.Disk disk.old disk.new }
     ensures home { D.home disk.new ≡ D.home disk.old }
 {
-    let page = match read_whole(alloc, disk, engine.leaves(), leaf) {
-        Ok(page) => page,
+    let read = match read_whole(alloc, disk, engine.leaves(), leaf) {
+        Ok(read) => read,
         Err(refusal) => return Err(refusal),
     };
+    let Ok(page) = with_moved(alloc, kept, leaf, read) else {
+        return Err(Refusal::NoMemory);
+    };
     match engine.fill(leaf, page) {
-        Ok(()) => Ok(()),
+        Ok(()) => {
+            kept.forget(leaf);
+            Ok(())
+        }
         Err(NoMemory) => Err(Refusal::NoMemory),
     }
+}
+
+// A leaf as it was read, with what is kept of it below its rows. The error is want of memory.
+fn with_moved(alloc: Global, kept: &Kept, leaf: u64, read: LeafFrame) -> Result<LeafFrame, NoMemory>
+    requires { read.chains ≡ [] }
+    ensures comes { IfOk result (λ held. AreNewestFirst read.page (list_of kept.now leaf) → ComesFrom held read.page (records_in kept.now leaf)) }
+    ensures fit { IfOk result (λ held. ChainsFit held.chains) }
+{
+    let moved = kept.copy_of(alloc, leaf)?;
+    bring_back(alloc, read, moved)
 }
 
 // The leaf of this id, with all rows of its block. Nothing is read where its link leads to no rows:

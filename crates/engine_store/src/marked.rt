@@ -12,7 +12,7 @@ ghost use Rattle.engine.specs.Waits.{IsAway, in_none};
 ghost use Rattle.tree_dir.specs.declared.leaf.Leaf.{Leaf as ALeaf};
 ghost use Rattle.tree_dir.specs.Leaves.{leaf_named};
 ghost use Rattle.ckpt_step.specs.Rooms.{known_in};
-ghost use Rattle.ckpt_step.specs.Floors.{KeepsNothing};
+ghost use Rattle.engine_store.specs.Keeping.{with_kept};
 ghost use Rattle.engine_store.specs.Marked.{AreMarked, AreMarkedOf, HasAll, IsFramed, IsLeafKept, IsUnmarked, KeepMarked, LeadsOn, framed_part};
 ghost use Rattle.engine_store.specs.Loads.{RefusesLeaf, RefusesSome};
 
@@ -43,7 +43,7 @@ pub(crate) fn bring_marked<D: Disk>(
     ids: &[u64],
 ) -> Result<(), Refusal>
     requires owned { LeavesOwned engine.old.hub.tables.tables engine.old.hub.dir.leaves }
-    ensures stands { IsTrue (D.honest disk.old) → (w : World) → Stands engine.old w → KeepsNothing w → ((l : ALeaf) → Contains engine.old.hub.dir.leaves l → IsLeafKept (D.seen disk.old) engine.old.hub.dir marks ids.now w.shelf l) → OnOk result (Stands engine.new w) }
+    ensures stands { IsTrue (D.honest disk.old) → (w : World) → Stands engine.old (with_kept [] w) → ((l : ALeaf) → Contains engine.old.hub.dir.leaves l → IsLeafKept (D.seen disk.old) engine.old.hub.dir marks ids.now w.shelf l) → OnOk result (Stands engine.new (with_kept [] w)) }
     ensures unmarked { OnOk result ((l : ALeaf) → Contains engine.new.hub.dir.leaves l → l.frame ≡ None → IsUnmarked marks l) }
     ensures leaves { OnOk result (LeavesGoOn engine.old.hub.dir.leaves engine.new.hub.dir.leaves) }
     ensures goes { HubGoesOn engine.old.hub engine.new.hub }
@@ -195,7 +195,7 @@ fn bring_as<D: Disk>(
     ids: &[u64],
 ) -> Result<(), Refusal>
     requires owned { LeavesOwned engine.old.hub.tables.tables engine.old.hub.dir.leaves }
-    ensures stands { IsTrue (D.honest disk.old) → (w : World) → Stands engine.old w → KeepsNothing w → ((l : ALeaf) → Contains engine.old.hub.dir.leaves l → IsLeafKept (D.seen disk.old) engine.old.hub.dir marks ids.now w.shelf l) → OnOk result (Stands engine.new w) }
+    ensures stands { IsTrue (D.honest disk.old) → (w : World) → Stands engine.old (with_kept [] w) → ((l : ALeaf) → Contains engine.old.hub.dir.leaves l → IsLeafKept (D.seen disk.old) engine.old.hub.dir marks ids.now w.shelf l) → OnOk result (Stands engine.new (with_kept [] w)) }
     ensures framed { OnOk result (IsFramed engine.new.hub.dir.leaves leaf) }
     ensures leaves { LeavesGoOn engine.old.hub.dir.leaves engine.new.hub.dir.leaves }
     ensures goes { HubGoesOn engine.old.hub engine.new.hub }

@@ -12,7 +12,7 @@ use crate::above::store_above;
 use crate::eviction::Clock;
 use crate::store::Store;
 use catalog::Catalog;
-use ckpt_step::{Ground, Lives, Parts};
+use ckpt_step::{Ground, Kept, Lives, Parts};
 use device_leaf::Place;
 use disk_model::Disk;
 use engine::Local;
@@ -76,6 +76,7 @@ fn store_on_nothing(alloc: Global, place: Place, frames: u32) -> Result<Store, N
             trees: Vec::new(alloc),
             parts: Parts::new(alloc),
             lives: Lives::new(alloc),
+            kept: Kept::new(alloc),
             floor: Name { run: 0, id: 0 },
         },
         frames,

@@ -22,23 +22,28 @@ use stamp::Version;
 use std::alloc::Global;
 use update_chain::Update;
 
-/// The leaf of these rows, with the versions below them that moved to the history when it was evicted.
-/// Where none moved, it has its rows as its page; else all that it holds is in its chains, since a row
-/// of a page is the oldest version of its key. The error is want of memory. `O(rows + versions)`
-/// installs, and a copy of each row where a version moved.
-pub fn bring_back(alloc: Global, page: Leaf, moved: Vec<Moved>) -> Result<LeafFrame, NoMemory>
-    requires rows { AreFit page }
+/// The leaf that was read from its block, a page under no chains, with the versions below its rows that
+/// moved to the history when it was evicted. Where none moved, it is the leaf as it was read; else all
+/// that it holds is in its chains, since a row of a page is the oldest version of its key. The error is
+/// want of memory. `O(rows + versions)` installs, and a copy of each row where a version moved.
+pub fn bring_back(alloc: Global, read: LeafFrame, moved: Vec<Moved>) -> Result<LeafFrame, NoMemory>
+    requires bare { read.chains ≡ [] }
     requires moved { AllFit moved.items }
-    ensures comes { IfOk result (λ leaf. AreNewestFirst page moved.items → ComesFrom leaf page (λ key. versions_in key moved.items)) }
+    ensures comes { IfOk result (λ leaf. AreNewestFirst read.page moved.items → ComesFrom leaf read.page (λ key. versions_in key moved.items)) }
     ensures fit { IfOk result (λ leaf. ChainsFit leaf.chains) }
 {
     if moved.as_slice().is_empty() {
-        return Ok(LeafFrame::of_page(alloc, page));
+        return Ok(read);
     }
     let mut leaf = LeafFrame::new(alloc);
     put_moved(alloc, &mut leaf, moved)?;
-    put_rows(alloc, &mut leaf, &page)?;
-    Ok(leaf)
+    match read.page() {
+        None => Ok(leaf),
+        Some(page) => {
+            put_rows(alloc, &mut leaf, page)?;
+            Ok(leaf)
+        }
+    }
 }
 
 // Puts versions into the chains of a leaf that holds nothing, the last one first.

@@ -146,7 +146,11 @@ fn back(alloc: Global, made: Made) -> Result<LeafFrame, NoMemory>
     let mut images = made.images;
     match images.pop() {
         None => Err(NoMemory),
-        Some(image) => bring_back(alloc, page(alloc, image.block)?, made.moved),
+        Some(image) => bring_back(
+            alloc,
+            LeafFrame::of_page(alloc, page(alloc, image.block)?),
+            made.moved,
+        ),
     }
 }
 

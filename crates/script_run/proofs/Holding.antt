@@ -27,6 +27,7 @@ use Rattle.engine_store.specs.Opened.{IsReady}
 use Rattle.script_run.specs.Runs.{IsAt, IsOfActor, IsReplied, IsTold, LineMade}
 use Rattle.script_run.specs.Scripts.{IsLater, Script, gives_stamp, listed, refusals_in}
 use Rattle.script_run.proofs.Calming.{CalmLaws, line_calm}
+use Rattle.engine_store.proofs.OtherRecords.{kept_more}
 use Rattle.script_run.proofs.GoneBehind.{behind_actor, gone_behind}
 
 -- ---- a store that keeps what it is held to
@@ -38,7 +39,7 @@ module _ {D : Type 0} (g : Ghosts D) where
   pub keeps_then : (store middle store' : Store) (disk between disk' : D) → CallKeeps g store middle disk between → CallKeeps g middle store' between disk' → CallKeeps g store store' disk disk'
   keeps_then store middle store' disk between disk' a b = record {
     ready = λ ready. b.ready (a.ready ready);
-    ground = b.ground ∙ a.ground;
+    ground = kept_more store.ground middle.ground store'.ground a.ground b.ground;
     frames = b.frames ∙ a.frames;
     looked = looked_then g disk between disk' a.looked b.looked;
     home = b.home ∙ a.home;

@@ -1,6 +1,6 @@
 -- What a command leaves of its device, by what its calls and its close did.
 use Rattle.std.specs.Prelude.{◌≡◌, ℕ, List, [], Option, Some, None, Result, Ok, Err}
-use Rattle.std.proofs.Common.{inl, refl, sym, subst}
+use Rattle.std.proofs.Common.{ap, inl, refl, sym, subst}
 use Rattle.disk_model.specs.declared.disk.Disk.{Ghosts}
 use Rattle.disk_model.proofs.Crash.{started, widened}
 use Rattle.wt_code.specs.declared.refusals.Refusal.{Refusal}
@@ -22,9 +22,11 @@ use Rattle.ckpt_step.specs.Plain.{IsBareStill, IsPlain, StartsPlain}
 use Rattle.ckpt_step.specs.Rooms.{Written}
 use Rattle.engine_store.specs.declared.store.Store.{Store}
 use Rattle.engine_store.specs.Held.{IsHeld}
+use Rattle.ckpt_step.specs.Kept.{Lists, records_in}
 use Rattle.engine_store.specs.Images.{EachReads}
 use Rattle.engine_store.specs.Opened.{IsOpened}
 use Rattle.engine_store.proofs.NoLives.{none_on}
+use Rattle.engine_store.proofs.OtherRecords.{held_kept}
 use Rattle.wt_tool.specs.Led.{Holds, LedBy}
 use Rattle.wt_tool.specs.Loads.{ClosesLoad}
 use Rattle.wt_tool.specs.Parts.{IsLeft, LeavesAt, silent_run}
@@ -51,9 +53,10 @@ module _ {D : Type 0} (g : Ghosts D) (disk : D) (s : Store) (on : IsOpened (g.se
     pub first_held : ((c : List ℕ) → g.left_since disk (g.moment disk) c → g.may_leave disk c) → IsHeld g disk s disk first_of (start content).completed []
     first_held now =
         let opens : OpensAs (content_was on.old) (start content).completed = subst (λ (c : Content). OpensAs c (start content).completed) (sym same) (start_opens content each.1) in
-        record {
+        held_kept g disk disk s first_of (start content).completed [] (record {
           stands = subst (λ (c : Content). Stands s.engine (first_world c on.shelf s.engine)) same on.world;
           idle = refl;
+          kept = λ leaf key. sym (ap (λ (l : Lists). records_in l leaf key) on.kept);
           on = λ up. record {
             old = on.old;
             on = on.on;
@@ -67,7 +70,7 @@ module _ {D : Type 0} (g : Ghosts D) (disk : D) (s : Store) (on : IsOpened (g.se
           ever = widened g disk disk _ _ (started g disk (λ c. Reads c content) (λ c left. each.0 c (now c left))) (λ c reads. inl (content, reads, start_opens content each.1));
           stays = tt;
           past = tt;
-        }
+        })
 
     -- no commit had a stamp
     pub first_plain : StartsPlain → IsPlain (start content)

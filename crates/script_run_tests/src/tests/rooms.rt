@@ -120,6 +120,62 @@ fn rows_in_more_leaves_than_frames_are_written_over(rt: HostRuntime) -> Result<(
     Ok(())
 }
 
+// What is printed as each row is read, of which one has a later value.
+fn push_read_but(
+    alloc: Global,
+    rows: Rows,
+    later: u32,
+    value_of_it: &str,
+    text: &mut String,
+) -> Result<(), NoMemory> {
+    text.push_str("ok\n")?;
+    for step in 0..rows.count {
+        let row = row_at(rows, step);
+        let old = value(alloc, rows, OLD, row)?;
+        let shown = if row == later {
+            value_of_it
+        } else {
+            old.as_str()
+        };
+        let line = format!(in alloc; "ok {shown}\n")?;
+        text.push_str(line.as_str())?;
+    }
+    text.push_str("ok\n")?;
+    Ok(())
+}
+
+// One key gets 300 values while a reader has its snapshot, and then each row is read: the key's leaf goes
+// out of four frames, and comes back. The reader reads its value still, another one the newest.
+#[test]
+fn a_leaf_that_a_reader_wants_goes_out_and_comes_back(rt: HostRuntime) -> Result<(), Fail> {
+    let alloc = rt.alloc();
+    let rows = Rows {
+        count: 3_000,
+        tens: 10,
+    };
+    let mut text = filled(alloc, rows)?;
+    text.push_str("s2 begin\n")?;
+    for number in 0..300u32 {
+        let lines = format!(in alloc; "s1 begin\ns1 put t key5 v{number}\ns1 commit\n")?;
+        text.push_str(lines.as_str())?;
+    }
+    text.push_str(read(alloc, rows)?.as_str())?;
+    text.push_str("s2 get t key5\ns1 begin\ns1 get t key5\n")?;
+    let script = Script {
+        room: 1 << 22,
+        ..plain(text.as_str())
+    };
+    let told = outcome(&rt, alloc, script)?;
+    let mut wanted = String::new(alloc);
+    push_oks(&mut wanted, 3_906)?;
+    push_read_but(alloc, rows, 5, "v299", &mut wanted)?;
+    let old = value(alloc, rows, OLD, 5)?;
+    let end = format!(in alloc; "ok {old}\nok\nok v299\nThrough None")?;
+    wanted.push_str(end.as_str())?;
+    assert!(rt; told.as_str() == wanted.as_str());
+    Ok(())
+}
+
 // How many lines are refused by a fault of the disk, and how many since a write failed.
 #[derive(Clone, Copy)]
 struct Refused {

@@ -5,7 +5,8 @@ use Rattle.reconcile.specs.declared.image.Image.{Image}
 use Rattle.reconcile.specs.declared.image.Moved.{Moved}
 use Rattle.ckpt_step.proofs.LedEnds.{down_led, stayed_led}
 use Rattle.ckpt_step.proofs.OutCuts.{is_none, not_none}
-use Rattle.ckpt_step.proofs.OutEnds.{refused_out, told_engine}
+use Rattle.ckpt_step.specs.Kept.{KeepsThese, Lists}
+use Rattle.ckpt_step.proofs.KeptLists.{still_so}
 use Rattle.ckpt_step.proofs.evicting.evict.Goals as goal
 
 pub returns-in-Some-clause-evicts : goal.returns-in-Some-clause-evicts
@@ -28,6 +29,19 @@ returns-in-Unresolved-clause-evicts g c h w stands idle old on follows device = 
   subst (λ (x : CutOut). IsCutOut c.args.engine.now c.args.leaf x) c.in-Unresolved.is c.in-Ok.ensures w stands,
 )
 
+pub returns-then-is_empty-clause-evicts : goal.returns-then-is_empty-clause-evicts
+returns-then-is_empty-clause-evicts g c h w stands idle old on follows device = (
+  stayed_led g.D.Disk old w c.args.ground.now c.args.engine.now c.args.leaf c.args.disk.now (λ x is. g.met.D.Disk.only_now _ x is) on follows device,
+  record {
+    moved = c.in-Images.made.moved.items;
+    cut = subst (λ (l : List Image). AreCut c.args.engine.now c.args.leaf l c.in-Images.made.moved.items) (is_none c.in-Images.made.images.items c.in-Images.made.images.len (sym c.in-Images.made.images.ok.0) (sym c.is_empty.ensures ∙ c.if-is_empty.true))
+        (subst (λ (x : CutOut). IsCutOut c.args.engine.now c.args.leaf x) c.in-Images.is c.in-Ok.ensures);
+  },
+)
+
+pub evict_whole-requires-clause-cut : goal.evict_whole-requires-clause-cut
+evict_whole-requires-clause-cut g c = subst (λ (x : CutOut). IsCutOut c.args.engine.now c.args.leaf x) c.in-Images.is c.in-Ok.ensures
+
 pub returns-then-not-is_empty-clause-evicts : goal.returns-then-not-is_empty-clause-evicts
 returns-then-not-is_empty-clause-evicts g c h w stands idle old on follows device = (
   stayed_led g.D.Disk old w c.args.ground.now c.args.engine.now c.args.leaf c.args.disk.now (λ x is. g.met.D.Disk.only_now _ x is) on follows device,
@@ -35,44 +49,21 @@ returns-then-not-is_empty-clause-evicts g c h w stands idle old on follows devic
     images = c.in-Images.made.images.items;
     moved = c.in-Images.made.moved.items;
     cut = subst (λ (x : CutOut). IsCutOut c.args.engine.now c.args.leaf x) c.in-Images.is c.in-Ok.ensures;
-    some = not_none c.in-Images.made.moved.items c.in-Images.made.moved.len (sym c.in-Images.made.moved.ok.0) (sym c.is_empty.ensures ∙ c.if-not-is_empty.true);
+    more = (let some = not_none c.in-Images.made.images.items c.in-Images.made.images.len (sym c.in-Images.made.images.ok.0) (sym c.is_empty.ensures ∙ c.if-is_empty.false) in
+        let long = c.in-Images.made.images.ok.0 in let count = c.len.ensures in let more = c.if-len-eq1.false in omega (arith, some, long, count, more));
+    some = not_none c.in-Images.made.moved.items c.in-Images.made.moved.len (sym c.in-Images.made.moved.ok.0) (sym c.is_empty-2.ensures ∙ c.if-not-is_empty.true);
   },
-)
-
-pub returns-then-is_empty-clause-evicts : goal.returns-then-is_empty-clause-evicts
-returns-then-is_empty-clause-evicts g c h w stands idle old on follows device = (
-  stayed_led g.D.Disk old w c.args.ground.now c.args.engine.now c.args.leaf c.args.disk.now (λ x is. g.met.D.Disk.only_now _ x is) on follows device,
-  subst (λ (l : List Image). AreCut c.args.engine.now c.args.leaf l []) (is_none c.in-Images.made.images.items c.in-Images.made.images.len (sym c.in-Images.made.images.ok.0) (sym c.is_empty-2.ensures ∙ c.if-is_empty.true))
-      (subst (λ (m : List Moved). AreCut c.args.engine.now c.args.leaf c.in-Images.made.images.items m) (is_none c.in-Images.made.moved.items c.in-Images.made.moved.len (sym c.in-Images.made.moved.ok.0) (sym c.is_empty.ensures ∙ c.if-not-is_empty.false))
-      (subst (λ (x : CutOut). IsCutOut c.args.engine.now c.args.leaf x) c.in-Images.is c.in-Ok.ensures)),
 )
 
 pub part_out-requires-clause-cut : goal.part_out-requires-clause-cut
 part_out-requires-clause-cut g c =
-    subst (λ (m : List Moved). AreCut c.args.engine.now c.args.leaf c.in-Images.made.images.items m) (is_none c.in-Images.made.moved.items c.in-Images.made.moved.len (sym c.in-Images.made.moved.ok.0) (sym c.is_empty.ensures ∙ c.if-not-is_empty.false))
+    subst (λ (m : List Moved). AreCut c.args.engine.now c.args.leaf c.in-Images.made.images.items m) (is_none c.in-Images.made.moved.items c.in-Images.made.moved.len (sym c.in-Images.made.moved.ok.0) (sym c.is_empty-2.ensures ∙ c.if-not-is_empty.false))
     (subst (λ (x : CutOut). IsCutOut c.args.engine.now c.args.leaf x) c.in-Images.is c.in-Ok.ensures)
 
 pub part_out-requires-clause-more : goal.part_out-requires-clause-more
-part_out-requires-clause-more g c = let long = c.in-Images.made.images.ok.0 in let count = c.len.ensures in let more = c.if-len-gt1.true in omega (arith, long, count, more)
+part_out-requires-clause-more g c =
+    let some = not_none c.in-Images.made.images.items c.in-Images.made.images.len (sym c.in-Images.made.images.ok.0) (sym c.is_empty.ensures ∙ c.if-is_empty.false) in
+    let long = c.in-Images.made.images.ok.0 in let count = c.len.ensures in let more = c.if-len-eq1.false in omega (arith, some, long, count, more)
 
-pub put_back-requires-clause-cut : goal.put_back-requires-clause-cut
-put_back-requires-clause-cut g c =
-    subst (λ (l : List Image). AreCut c.args.engine.now c.args.leaf l []) (sym c.deref.ensures.value)
-    (subst (λ (m : List Moved). AreCut c.args.engine.now c.args.leaf c.in-Images.made.images.items m) (is_none c.in-Images.made.moved.items c.in-Images.made.moved.len (sym c.in-Images.made.moved.ok.0) (sym c.is_empty.ensures ∙ c.if-not-is_empty.false))
-    (subst (λ (x : CutOut). IsCutOut c.args.engine.now c.args.leaf x) c.in-Images.is c.in-Ok.ensures))
-
-pub put_back-requires-clause-one : goal.put_back-requires-clause-one
-put_back-requires-clause-one g c =
-    let some = not_none c.in-Images.made.images.items c.in-Images.made.images.len (sym c.in-Images.made.images.ok.0) (sym c.is_empty-2.ensures ∙ c.if-is_empty.false) in
-    let few = c.if-len-gt1.false in
-    let count = c.len.ensures in
-    let long = c.in-Images.made.images.ok.0 in
-    ap (λ (l : List Image). length l) c.deref.ensures.value ∙ omega (arith, some, few, count, long)
-
-pub returns-clause-evicts : goal.returns-clause-evicts
-returns-clause-evicts g c h w stands idle old on follows device =
-    refused_out g.D.Disk old w c.args.ground.now c.put_back.new.ground c.args.engine.now c.tell.new.engine c.args.leaf c.args.disk.now c.put_back.new.disk c.in-Err.error c.put_back.new.engine c.tell.result
-    (c.in-Err.ensures.puts h w stands idle old on follows device) c.in-Err.ensures.fault c.tell.ensures.tells
-
-pub returns-clause-engine : goal.returns-clause-engine
-returns-clause-engine g c = told_engine c.args.engine.now c.put_back.new.engine c.tell.new.engine c.args.leaf c.in-Err.error c.tell.result c.in-Err.ensures.kept c.tell.ensures.tells
+pub returns-clause-keeps : goal.returns-clause-keeps
+returns-clause-keeps g c w stands keeps = still_so w c.part_out.new.ground.kept c.part_out.result (subst (λ (l : Lists). KeepsThese w l) (sym c.part_out.ensures.history) keeps)

@@ -121,7 +121,7 @@ returns-in-Ok-clause-wrote g c h w stands none sees old on follows device =
           subst (λ (y : List Lone). FollowsFrom (Some new) known y leaves (known_in c.settle.new.ground.parts) c.settle.new.ground.trees.items c.settle.new.ground.floor w) (sym c.settle.ensures.lives)
           (subst (λ (l : List TreePlace). FollowsFrom (Some new) known [] leaves (known_in c.settle.new.ground.parts) l c.settle.new.ground.floor w) (sym settled)
           (subst (λ (x : Written). FollowsFrom (Some new) known [] leaves x places c.settle.new.ground.floor w) (sym (fun_ext parts))
-          (subst (λ (n : Name). FollowsFrom (Some new) known [] leaves (with_parts had more) places n w) (sym c.settle.ensures.floor) (put.follows c.floor_of.result floor follows.nothing))));
+          (subst (λ (n : Name). FollowsFrom (Some new) known [] leaves (with_parts had more) places n w) (sym c.settle.ensures.floor) (put.follows c.floor_of.result floor))));
       none = c.settle.ensures.lives;
       kept =
           subst (λ (l : List TreePlace). KeepsLeaves seen known leaves had new l (known_in c.settle.new.ground.parts)) (sym settled)

@@ -96,14 +96,14 @@ returns-in_ok-parts-in-Ok-clause-found g c = λ honest surveyed content reads.
     let names : c.deref-2.result.now ≡ ids = c.deref-2.ensures.value ∙ c.into_parts-tables.ensures.ids in
     let kept = λ (l : Leaf) (there : Contains e.hub.dir.leaves l). subst (λ (n : Marks). IsLeafKept bytes e.hub.dir n c.deref-2.result.now on_shelf l) (sym c.marks_of-marks.ensures)
     (subst (λ (xs : List ℕ). IsLeafKept bytes e.hub.dir m xs on_shelf l) (sym names) (begun_kept bytes c.args.place a of both with recorded e unread l there)) in
-    let now = c.in-Ok.ensures.stands honest (begun bytes c.args.place a of both with recorded e unread) first (λ id key. refl) kept in
+    let now = c.in-Ok.ensures.stands honest (begun bytes c.args.place a of both with recorded e unread) first kept in
     let unmarked = λ (l : Leaf) (there : Contains c.bring_marked.new.engine.hub.dir.leaves l) (none : l.frame ≡ None). subst (λ (n : Marks). IsUnmarked n l) c.marks_of-marks.ensures (c.in-Ok.ensures.unmarked l there none) in
     let keep = subst (λ (n : Marks). KeepMarked c.bring_marked.new.engine.hub.tables.tables c.bring_marked.new.engine.hub.dir.leaves n (known_in c.in_ok-parts-in-Ok.parts)) c.marks_of-marks.ensures c.in_ok-parts-in-Ok.ensures in
-    let s : Store = record { engine = c.bring_marked.new.engine; ground = record { place = c.args.place; number = c.number_of-number.result; trees = c.in_ok-trees-2.trees; parts = c.in_ok-parts-in-Ok.parts; lives = c.new.result; floor = no_name }; frames = c.args.frames; clock = c.new-in-Ok.result } in
+    let s : Store = record { engine = c.bring_marked.new.engine; ground = record { place = c.args.place; number = c.number_of-number.result; trees = c.in_ok-trees-2.trees; parts = c.in_ok-parts-in-Ok.parts; lives = c.new.result; kept = c.new-in-Ok.result; floor = no_name }; frames = c.args.frames; clock = c.new-in-Ok-2.result } in
     let trees_are : s.ground.trees.items ≡ places_in a.record.tables ps = c.in_ok-trees-2.ensures ∙ ap (λ (l : List TableRoot). places_in l ps) c.tables_of-2.ensures in
     let yes : c.has_numbers.result ≡ true = cc in
     let run : a.record.run < last_number = omega (arith, c.run_of.ensures, c.if-run_of-ge-NUMBER_MAX.false) in
-    found_above a c.requires.is_record both with e unread s c.bring_marked.ensures.goes ps over trees_are c.number_of-number.ensures bytes c.args.place c.requires.bare of recorded first now unmarked keep refl refl c.new.ensures run (c.has_numbers.ensures.yes yes)
+    found_above a c.requires.is_record both with e unread s c.bring_marked.ensures.goes ps over trees_are c.number_of-number.ensures bytes c.args.place c.requires.bare of recorded first now unmarked keep refl refl c.new.ensures c.new-in-Ok.ensures run (c.has_numbers.ensures.yes yes)
 
 pub returns-in_ok-parts-in-Ok-clause-spoils : goal.returns-in_ok-parts-in-Ok-clause-spoils
 returns-in_ok-parts-in-Ok-clause-spoils g c = λ honest surveyed id at want found spoils.
@@ -138,7 +138,7 @@ returns-in_ok-parts-in-Ok-clause-ready g c =
     let over : AreOver ps a.record.tables a.uppers.items = subst (λ (l : List TableRoot). AreOver ps l a.uppers.items) c.tables_of.ensures (subst (λ (l : List Upper). AreOver ps c.tables_of.result.now l) c.deref.ensures.value c.in_ok-trees.ensures) in
     let e = c.in_ok-engine.engine in
     let unread : IsUnread (marks_of a.record) both e = subst (λ (n : Marks). IsUnread n both e) c.marks_of-marks.ensures c.in_ok-engine.ensures.unread in
-    let s : Store = record { engine = c.bring_marked.new.engine; ground = record { place = c.args.place; number = c.number_of-number.result; trees = c.in_ok-trees-2.trees; parts = c.in_ok-parts-in-Ok.parts; lives = c.new.result; floor = no_name }; frames = c.args.frames; clock = c.new-in-Ok.result } in
+    let s : Store = record { engine = c.bring_marked.new.engine; ground = record { place = c.args.place; number = c.number_of-number.result; trees = c.in_ok-trees-2.trees; parts = c.in_ok-parts-in-Ok.parts; lives = c.new.result; kept = c.new-in-Ok.result; floor = no_name }; frames = c.args.frames; clock = c.new-in-Ok-2.result } in
     let trees_are : s.ground.trees.items ≡ places_in a.record.tables ps = c.in_ok-trees-2.ensures ∙ ap (λ (l : List TableRoot). places_in l ps) c.tables_of-2.ensures in
     ready_above a c.requires.is_record both with e unread s c.bring_marked.ensures.goes ps over trees_are c.number_of-number.ensures
 

@@ -1,8 +1,9 @@
-use Rattle.std.proofs.Common.{◌≡◌, false, subst, sym}
+use Rattle.std.proofs.Common.{◌≡◌, [], false, subst, sym}
 use Rattle.tree_dir.specs.Leaves.{Directory}
 use Rattle.engine_world.specs.Stands.{Engine}
 use Rattle.engine.specs.Directories.{LeavesGoOn}
 use Rattle.engine.proofs.BareLeaves.{bare-fits}
+use Rattle.engine_store.specs.Keeping.{with_kept}
 use Rattle.engine_store.specs.Loads.{IsReadAs}
 use Rattle.engine_store.specs.Marked.{IsFramed}
 use Rattle.engine_store.proofs.Bare.{filled_bare}
@@ -32,11 +33,11 @@ pub fill-requires-clause-fit : goal.fill-requires-clause-fit
 fill-requires-clause-fit g c = bare-fits c.in-Ok.page c.in-Ok.ensures.bare
 
 pub returns-in-Ok-fill-clause-stands : goal.returns-in-Ok-fill-clause-stands
-returns-in-Ok-fill-clause-stands g c = λ honest w st nothing kept.
+returns-in-Ok-fill-clause-stands g c = λ honest w st kept.
     let seen = g.D.Disk.seen c.args.disk.now in
     let dir = c.args.engine.now.hub.dir in
     let read : IsReadAs seen dir c.args.leaf c.args.marks c.args.ids.now c.in-Ok.page = subst (λ (d : Directory). IsReadAs seen d c.args.leaf c.args.marks c.args.ids.now c.in-Ok.page) c.leaves-2.ensures.are (c.in-Ok.ensures.ok honest) in
-    filled_bare c.args.leaf c.in-Ok.page _ w nothing c.in-Ok.ensures.bare (c.in-Ok-fill.ensures.stands w st) (page_shelf c.one_is_loaded.ensures seen dir c.args.leaf c.args.marks c.args.ids.now c.in-Ok.page w.shelf read kept)
+    filled_bare c.args.leaf c.in-Ok.page _ w c.in-Ok.ensures.bare (c.in-Ok-fill.ensures.stands (with_kept [] w) st) (page_shelf c.one_is_loaded.ensures seen dir c.args.leaf c.args.marks c.args.ids.now c.in-Ok.page w.shelf read kept)
 
 pub returns-in-Ok-fill-clause-framed : goal.returns-in-Ok-fill-clause-framed
 returns-in-Ok-fill-clause-framed g c = subst (λ (d : Directory). IsFramed d.leaves c.args.leaf) (sym c.in-Ok-fill.ensures.filled.dir) (changed_framed c.args.leaf _ c.args.engine.now.hub.dir.leaves)

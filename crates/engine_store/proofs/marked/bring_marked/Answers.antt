@@ -17,7 +17,7 @@ loop-leaf-init g c = record {
   looked = record { same = refl; content = refl; images = λ image may. may; capacity = refl; count = omega arith; later = omega arith; since = λ t image le left. left };
   home = refl;
   framed = λ k lt. absurd (omega (arith, lt));
-  stands = λ honest w st nothing kept. st;
+  stands = λ honest w st kept. st;
 }
 
 pub bring_as-requires : goal.bring_as-requires
@@ -51,7 +51,7 @@ loop-leaf-preserved g c =
       looked = looked_then D _ _ _ now.looked c.bring_as.ensures.looked;
       home = c.bring_as.ensures.home ∙ now.home;
       framed = framed_more mid.dir.leaves last.dir.leaves c.deref-leaf-items.result.now c.loop-leaf.leaf-index _ now.framed c.bring_as.ensures.leaves c.in-Ok.ensures.framed refl;
-      stands = λ honest w st nothing kept. c.in-Ok.ensures.stands (now.looked.same ∙ honest) w (now.stands honest w st nothing kept) nothing
+      stands = λ honest w st kept. c.in-Ok.ensures.stands (now.looked.same ∙ honest) w (now.stands honest w st kept)
           (λ l there. subst (λ (bytes : List ℕ). IsLeafKept bytes mid.dir c.args.marks c.args.ids.now w.shelf l) (sym now.looked.content) (kept_then (D.seen c.args.disk.now) first.dir mid.dir c.args.marks c.args.ids.now w.shelf now.leaves kept l there));
     }
 

@@ -2,14 +2,14 @@ use Rattle.std.proofs.Common.{◌∙◌, refl, sym}
 use Rattle.std.specs.Prelude.{ℕ, ◌≡◌, IsTrue}
 use Rattle.engine_store.specs.Opened.{IsAtFault}
 use Rattle.wt_code.specs.declared.refusals.Refusal.TheVariants.{Corrupt}
-use Rattle.script_run.proofs.Devices.{close_done, close_refused, refused_as}
+use Rattle.script_run.proofs.Devices.{close_busy, close_done, close_refused, refused_as}
 use Rattle.script_run.specs.Faults.{RepliesFault}
 use Rattle.script_run.proofs.Telling.{refused_faults, same_told, then_faults}
 use Rattle.script_run.proofs.control.close.Goals as goal
 
 pub returns-in-Ok-clause-replies : goal.returns-in-Ok-clause-replies
 returns-in-Ok-clause-replies g c = λ honest first s at same.
-    close_done g.D.Disk first s c.args.store.now c.args.disk.now at (sym (c.has_started.ensures s.world at.held.stands) ∙ c.if-has_started.false) c.close.new.self c.close.new.disk
+    close_done g.D.Disk first s c.args.store.now c.args.disk.now at (sym (c.has_started.ensures _ at.held.stands) ∙ c.if-has_started.false) c.close.new.self c.close.new.disk
     (c.in-Ok.ensures.shuts honest first s.world s.first s.made at.held (at.calm refl).plain) c.reopen.new.store c.reopen.new.disk c.reopen.new.formats c.reopen.result
     (λ stamped t there. c.reopen.ensures.replies (c.close.ensures.disk.same ∙ honest) first stamped t there)
 
@@ -21,8 +21,12 @@ returns-in-Ok-clause-damage g c =
 
 pub returns-in-Err-clause-replies : goal.returns-in-Err-clause-replies
 returns-in-Err-clause-replies g c = λ honest first s at same.
-    close_refused g.D.Disk first s c.args.store.now c.args.disk.now at (sym (c.has_started.ensures s.world at.held.stands) ∙ c.if-has_started.false) c.close.new.self c.close.new.disk c.in-Err.refusal c.args.formats.now c.refused-in-Err.result
+    close_refused g.D.Disk first s c.args.store.now c.args.disk.now at (sym (c.has_started.ensures _ at.held.stands) ∙ c.if-has_started.false) c.close.new.self c.close.new.disk c.in-Err.refusal c.args.formats.now c.refused-in-Err.result
     (c.in-Err.ensures.shuts honest first s.world s.first s.made at.held (at.calm refl).plain) same c.refused-in-Err.ensures.reply c.refused-in-Err.ensures.formats
+
+pub returns-then-has_started-clause-replies : goal.returns-then-has_started-clause-replies
+returns-then-has_started-clause-replies g c = λ honest first s at same.
+    close_busy g.D.Disk first s c.args.store.now c.args.disk.now c.refused.result c.args.formats.now at same (sym (c.has_started.ensures _ at.held.stands) ∙ c.if-has_started.true) c.refused.ensures.reply c.refused.ensures.formats
 
 pub returns-then-has_started-clause-told : goal.returns-then-has_started-clause-told
 returns-then-has_started-clause-told g c =

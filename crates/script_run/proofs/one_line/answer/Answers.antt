@@ -37,7 +37,7 @@ returns-in-Ok g c =
           record {
             later = record s { world = x.next; device = device_of g.D.Disk disk' };
             is = inl (record {
-              formats_are = c.formats_in-formats.ensures w at.held.stands;
+              formats_are = c.formats_in-formats.ensures _ at.held.stands;
               answer = c.answer_to.result;
               next = x.next;
               device = device_of g.D.Disk disk';

@@ -45,7 +45,7 @@ returns-in-Ok g c =
           record {
             later = record s { world = x.later; device = device_of g.D.Disk disk'; formats = kept_after t (caller c.args.call) formats s.formats };
             is = inl (record {
-              formats_are = c.formats_in-formats.ensures w at.held.stands;
+              formats_are = c.formats_in-formats.ensures _ at.held.stands;
               t = t;
               next = x.later;
               device = device_of g.D.Disk disk';

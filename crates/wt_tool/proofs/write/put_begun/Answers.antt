@@ -10,7 +10,7 @@ commit-requires-clause-ready g c = c.in-Ok-call.ensures.went.ready c.requires.re
 pub returns-in-Ok-call-clause-led : goal.returns-in-Ok-call-clause-led
 returns-in-Ok-call-clause-led g c pairs h start first w holds =
     begun_led g.D.Disk start first c.args.name.now (demand_of c.args.overwrite) (c.args.key.now, c.args.value.now) pairs w c.call.new.store c.commit.new.store c.args.disk.now c.call.new.disk c.commit.new.disk (session_call_in c.in-Ok.put) c.commit.result
-    (c.in-Ok.ensures.put w holds.held.stands) (c.in-Ok-call.ensures.led h start first w holds)
+    (c.in-Ok.ensures.put _ holds.held.stands) (c.in-Ok-call.ensures.led h start first w holds)
     (λ v held. c.commit.ensures.led (still_honest g.D.Disk c.args.disk.now c.call.new.disk c.in-Ok-call.ensures.went.looked h) start first v held)
 
 pub returns-in-Ok-call-clause-went : goal.returns-in-Ok-call-clause-went
@@ -19,7 +19,7 @@ returns-in-Ok-call-clause-went g c = went_then g.D.Disk c.args.store.now c.call.
 pub returns-in-Err-call-clause-led : goal.returns-in-Err-call-clause-led
 returns-in-Err-call-clause-led g c pairs h start first w holds =
     begun_refused g.D.Disk start first c.args.name.now (demand_of c.args.overwrite) (c.args.key.now, c.args.value.now) pairs w c.call.new.store c.args.disk.now c.call.new.disk (session_call_in c.in-Ok.put) c.in-Err-call.refusal
-    (c.in-Ok.ensures.put w holds.held.stands) (c.in-Err-call.ensures.led h start first w holds)
+    (c.in-Ok.ensures.put _ holds.held.stands) (c.in-Err-call.ensures.led h start first w holds)
 
 pub returns-in-Err-clause-led : goal.returns-in-Err-clause-led
 returns-in-Err-clause-led g c pairs h start first w holds =

@@ -6,6 +6,8 @@ use Rattle.tree_open.specs.declared.place.TreePlace.{TreePlace}
 use Rattle.txn_table.specs.Tabled.{Table as Txns}
 use Rattle.wt_code.specs.declared.refusals.Refusal.{Refusal}
 use Rattle.wt_code.specs.declared.refusals.Refusal.TheVariants.{Panic}
+use Rattle.engine_store.specs.Keeping.{with_kept}
+use Rattle.engine_store.proofs.AsHeld.{checkpoints_as}
 use Rattle.engine_store.proofs.KeptAnswers.{own_same, own_taken, own_then, told_own}
 use Rattle.engine_store.proofs.Taking.{checkpoints_by, relieved_by}
 use Rattle.engine_store.proofs.store.Store.checkpoint.Goals as goal
@@ -15,9 +17,10 @@ not_down fault result done down = let e : Ok tt ≡ Err (Panic fault) = sym done
 
 pub returns-in-Ok-clause-takes : goal.returns-in-Ok-clause-takes
 returns-in-Ok-clause-takes g c = λ h first_disk w first made held plain.
-    relieved_by g.D.Disk first_disk c.args.disk.now c.checkpoint.new.disk (λ later d left. g.met.D.Disk.counts_now _ _ d later left) (λ d left. g.met.D.Disk.only_now _ d left) (g.met.D.Disk.reads_an_image c.args.disk.now h)
-    c.args.self.now c.relieve.new.self w first made held c.checkpoint.ensures.disk.later c.checkpoint.ensures.disk.room c.checkpoints_open.ensures c.downs_go.ensures plain c.checkpoints_have_newest.ensures c.checkpoint.new.ground c.checkpoint.new.engine
-    (λ old on follows device. c.in-Ok.ensures.takes h w held.stands held.idle old on follows device) (λ fault down. not_down fault c.checkpoint.result c.in-Ok.is (c.checkpoint.ensures.down fault down).0) c.args.self.now.frames c.args.self.now.clock c.relieve.ensures
+    checkpoints_as g.D.Disk first_disk w (with_kept c.args.self.now.ground.kept w).records first made c.args.self.now c.relieve.new.self c.args.disk.now c.checkpoint.new.disk (Ok tt)
+    (relieved_by g.D.Disk first_disk c.args.disk.now c.checkpoint.new.disk (λ later d left. g.met.D.Disk.counts_now _ _ d later left) (λ d left. g.met.D.Disk.only_now _ d left) (g.met.D.Disk.reads_an_image c.args.disk.now h)
+    c.args.self.now c.relieve.new.self (with_kept c.args.self.now.ground.kept w) first made held c.checkpoint.ensures.disk.later c.checkpoint.ensures.disk.room c.checkpoints_open.ensures c.downs_go.ensures plain c.checkpoints_have_newest.ensures c.checkpoint.new.ground c.checkpoint.new.engine
+    (λ old on follows device. c.in-Ok.ensures.takes h (with_kept c.args.self.now.ground.kept w) held.stands held.idle old on follows device) (λ fault down. not_down fault c.checkpoint.result c.in-Ok.is (c.checkpoint.ensures.down fault down).0) c.args.self.now.frames c.args.self.now.clock c.relieve.ensures c.checkpoint.ensures.history)
 
 pub returns-in-Ok-clause-told : goal.returns-in-Ok-clause-told
 returns-in-Ok-clause-told g c = λ start le.
@@ -36,9 +39,10 @@ returns-in-Ok-clause-ready g c =
 
 pub returns-in-Err-clause-takes : goal.returns-in-Err-clause-takes
 returns-in-Err-clause-takes g c = λ h first_disk w first made held plain.
-    checkpoints_by g.D.Disk first_disk c.args.disk.now c.checkpoint.new.disk (λ later d left. g.met.D.Disk.counts_now _ _ d later left) (λ d left. g.met.D.Disk.only_now _ d left) (g.met.D.Disk.reads_an_image c.args.disk.now h)
-    c.args.self.now (record c.args.self.now { engine = c.checkpoint.new.engine; ground = c.checkpoint.new.ground }) w first made held c.checkpoint.ensures.disk.later c.checkpoint.ensures.disk.room c.checkpoints_open.ensures c.downs_go.ensures plain (Err c.in-Err.refusal)
-    (λ old on follows device. c.in-Err.ensures.takes h w held.stands held.idle old on follows device) c.in-Err.ensures.down c.in-Err.ensures.lives
+    checkpoints_as g.D.Disk first_disk w (with_kept c.args.self.now.ground.kept w).records first made c.args.self.now (record c.args.self.now { engine = c.checkpoint.new.engine; ground = c.checkpoint.new.ground }) c.args.disk.now c.checkpoint.new.disk (Err c.in-Err.refusal)
+    (checkpoints_by g.D.Disk first_disk c.args.disk.now c.checkpoint.new.disk (λ later d left. g.met.D.Disk.counts_now _ _ d later left) (λ d left. g.met.D.Disk.only_now _ d left) (g.met.D.Disk.reads_an_image c.args.disk.now h)
+    c.args.self.now (record c.args.self.now { engine = c.checkpoint.new.engine; ground = c.checkpoint.new.ground }) (with_kept c.args.self.now.ground.kept w) first made held c.checkpoint.ensures.disk.later c.checkpoint.ensures.disk.room c.checkpoints_open.ensures c.downs_go.ensures plain (Err c.in-Err.refusal)
+    (λ old on follows device. c.in-Err.ensures.takes h (with_kept c.args.self.now.ground.kept w) held.stands held.idle old on follows device) c.in-Err.ensures.down c.in-Err.ensures.lives c.checkpoint.ensures.history)
 
 pub returns-in-Err-clause-told : goal.returns-in-Err-clause-told
 returns-in-Err-clause-told g c = λ start le.

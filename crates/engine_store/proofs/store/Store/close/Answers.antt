@@ -1,8 +1,10 @@
-use Rattle.std.proofs.Common.{◌∙◌, None, ap, length, sym, refl, arith}
+use Rattle.std.proofs.Common.{◌∙◌, Err, None, ap, length, sym, refl, arith}
 use Rattle.catalog.specs.Known.{Known}
 use Rattle.txn_table.specs.Tabled.{Table as Txns}
 use Rattle.ckpt_step.proofs.Staying.{no_fewer}
 use Rattle.engine_store.specs.Closes.{rolled}
+use Rattle.engine_store.specs.Keeping.{with_kept}
+use Rattle.engine_store.proofs.AsHeld.{shuts_as}
 use Rattle.engine_store.proofs.Closings.{checkpoint_rolled, closes_last, may_roll}
 use Rattle.engine_store.proofs.KeptAnswers.{own_taken, own_then, told_own}
 use Rattle.engine_store.proofs.Shutting.{is_rolled, shuts_by, shuts_refused}
@@ -33,15 +35,17 @@ returns-clause-closes g c = λ h w st free old on follows device.
 pub returns-clause-shuts : goal.returns-clause-shuts
 returns-clause-shuts g c = λ h first_disk w first made held plain.
     let D = g.D.Disk in
+    let there = with_kept c.args.self.now.ground.kept w in
     let before = c.args.self.now in
     let middle = c.roll_back_all.new.self in
-    let may = may_roll before.engine c.may_close.result c.in-Ok.field-0 c.may_close.ensures.told c.in-Ok.is w held.stands held.idle in
-    let stands = c.roll_back_all.ensures.rolled_back w held.stands may in
+    let may = may_roll before.engine c.may_close.result c.in-Ok.field-0 c.may_close.ensures.told c.in-Ok.is there held.stands held.idle in
+    let stands = c.roll_back_all.ensures.rolled_back there held.stands may in
     let goes = c.plain_stays.ensures.rolls_back w.machine held.stands.valid plain in
-    shuts_by D first_disk c.args.disk.now (g.met.D.Disk.reads_an_image c.args.disk.now h) before w first made held plain may goes middle stands c.roll_back_all.ensures.goes
+    shuts_as D first_disk w there.records first made before (record c.args.self.now { engine = c.checkpoint.new.engine; ground = c.checkpoint.new.ground }) c.args.disk.now c.checkpoint.new.disk c.checkpoint.result
+    (shuts_by D first_disk c.args.disk.now (g.met.D.Disk.reads_an_image c.args.disk.now h) before there first made held plain may goes middle stands c.roll_back_all.ensures.goes
     c.checkpoint.new.disk (λ later d left. g.met.D.Disk.counts_now _ _ d later left) (λ d left. g.met.D.Disk.only_now _ d left) c.checkpoint.ensures.disk.later c.checkpoint.ensures.disk.room c.checkpoints_open.ensures c.downs_go.ensures
-    (record c.args.self.now { engine = c.checkpoint.new.engine; ground = c.checkpoint.new.ground }) c.checkpoint.result c.checkpoint.ensures.lives
-    (λ old on follows device. c.checkpoint.ensures.takes h (rolled w) stands (checkpoint_rolled w.machine ∙ held.idle) old on follows device)
+    (record c.args.self.now { engine = c.checkpoint.new.engine; ground = c.checkpoint.new.ground }) c.checkpoint.result c.checkpoint.ensures.lives c.checkpoint.ensures.history
+    (λ old on follows device. c.checkpoint.ensures.takes h (rolled there) stands (checkpoint_rolled w.machine ∙ held.idle) old on follows device))
 
 pub returns-clause-told : goal.returns-clause-told
 returns-clause-told g c = λ start le.
@@ -60,5 +64,6 @@ returns-clause-ready g c = record {
 pub returns-in-Err-clause-shuts : goal.returns-in-Err-clause-shuts
 returns-in-Err-clause-shuts g c = λ h first_disk w first made held plain.
     let before = c.args.self.now in
-    shuts_refused g.D.Disk first_disk c.args.disk.now (g.met.D.Disk.reads_an_image c.args.disk.now h) before w first made held plain c.args.disk.now before c.in-Err.refusal
-    (sym (c.may_close.ensures.told w held.stands held.idle) ∙ c.in-Err.is) refl refl
+    shuts_as g.D.Disk first_disk w (with_kept before.ground.kept w).records first made before before c.args.disk.now c.args.disk.now (Err c.in-Err.refusal)
+    (shuts_refused g.D.Disk first_disk c.args.disk.now (g.met.D.Disk.reads_an_image c.args.disk.now h) before (with_kept before.ground.kept w) first made held plain c.args.disk.now before c.in-Err.refusal
+    (sym (c.may_close.ensures.told (with_kept before.ground.kept w) held.stands held.idle) ∙ c.in-Err.is) refl refl)

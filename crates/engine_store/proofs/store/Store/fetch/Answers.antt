@@ -1,12 +1,12 @@
 use Rattle.std.proofs.Common.{◌∙◌, subst, sym}
 use Rattle.failure.specs.Counts.{Rose}
 use Rattle.tree_dir.specs.Leaves.{IsDirectory}
-use Rattle.engine_store.proofs.Fetching.{caused, none_known, nothing_here, shelf_here, tells_leaf}
+use Rattle.engine_store.proofs.Fetching.{caused, none_known, shelf_here, tells_leaf}
 use Rattle.engine_store.proofs.store.Store.fetch.Goals as goal
 
 pub returns-clause-stands : goal.returns-clause-stands
 returns-clause-stands g c = λ h w now reached.
-    c.bring.ensures.stands h now reached.stands (nothing_here g.D.Disk c.args.self.now c.args.disk.now w now reached (sym c.fault.ensures ∙ c.in_default.is))
+    c.bring.ensures.stands h now reached.stands
     (shelf_here g.D.Disk c.args.self.now c.args.disk.now w now c.args.leaf reached (sym c.fault.ensures ∙ c.in_default.is) c.requires.away (none_known _ c.of.result _ c.of.ensures c.in_default-of.is))
 
 pub returns-clause-cause : goal.returns-clause-cause

@@ -5,9 +5,11 @@ use Rattle.engine.specs.declared.step.Step.TheVariants as step
 use Rattle.call_steps.specs.declared.reply.Reply.TheVariants as reply
 use Rattle.ckpt_step.proofs.Ordinary.{engines_are}
 use Rattle.engine_store.specs.Calls.{Finished}
+use Rattle.engine_store.specs.Keeping.{with_kept}
 use Rattle.engine_store.proofs.Bases.{basis_here}
 use Rattle.engine_store.proofs.Finishing.{EndedLater, finish_held, finish_keeps, finish_told}
-use Rattle.engine_store.proofs.Going.{goes_step}
+use Rattle.engine_store.proofs.Going.{goes_step, laid_step}
+use Rattle.engine_store.proofs.OtherRecords.{other_records, step_other}
 use Rattle.engine_store.proofs.SystemCalls.{event_held, event_keeps}
 use Rattle.engine_store.proofs.Telling.{always_told, keep_told}
 use Rattle.engine_store.proofs.store.Store.finish_through.Given as given
@@ -42,13 +44,14 @@ returns-in-Session-clause-keeps g c = finish_keeps g.D.Disk c.args.self.now c.re
 
 pub returns-in-System-clause-finished : goal.returns-in-System-clause-finished
 returns-in-System-clause-finished g c = λ h start w first made held.
-    let x = c.finish_system.ensures.steps w held.stands in
+    let there = with_kept c.args.self.now.ground.kept w in
+    let x = c.finish_system.ensures.steps there held.stands in
     subst (λ (who : Actor). Finished g.D.Disk start w first made c.args.self.now (record c.args.self.now { engine = c.finish_system.new.self }) c.args.disk.now c.args.disk.now who c.finish_system.result) (sym c.in-System.is)
     (record {
-      later = x.0;
-      ended = x.1;
-      held = event_held g.D.Disk c.args.disk.now c.args.self.now c.finish_system.new.self c.finish_system.ensures.goes start w x.0 first made x.2
-          (goes_step w x.0 (step.Go (by.System c.in-System.number)) (reply.Answer c.finish_system.result) (engines_are c.args.self.now.engine w held.stands c.actors.ensures.built) tt x.1) held;
+      later = other_records w.records x.0;
+      ended = step_other w.records there x.0 (step.Go (by.System c.in-System.number)) (reply.Answer c.finish_system.result) x.1;
+      held = event_held g.D.Disk c.args.disk.now c.args.self.now c.finish_system.new.self c.finish_system.ensures.goes start w x.0 first made x.2 (laid_step there x.0 (step.Go (by.System c.in-System.number)) (reply.Answer c.finish_system.result) x.1)
+          (goes_step there x.0 (step.Go (by.System c.in-System.number)) (reply.Answer c.finish_system.result) (engines_are c.args.self.now.engine there held.stands c.actors.ensures.built) tt x.1) held;
     })
 
 pub returns-in-System-clause-told : goal.returns-in-System-clause-told

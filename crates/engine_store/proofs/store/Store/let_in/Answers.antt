@@ -1,6 +1,7 @@
-use Rattle.std.proofs.Common.{subst, sym}
-use Rattle.engine_world.specs.Stands.{Engine, Stands}
+use Rattle.engine_store.specs.Fetches.{CauseSince}
+use Rattle.engine_store.specs.Keeping.{with_kept}
 use Rattle.engine_store.proofs.Telling.{out_told, told_on}
+use Rattle.engine_store.proofs.UnderWay.{comes_not, reaches_not, still_stands, under_kept}
 use Rattle.engine_store.proofs.store.Store.let_in.Goals as goal
 
 pub returns-in-Ok-clause-reaches : goal.returns-in-Ok-clause-reaches
@@ -12,13 +13,15 @@ returns-in-Ok-clause-told g c = λ basis start le on told.
 
 pub returns-in-Err-clause-steps : goal.returns-in-Err-clause-steps
 returns-in-Err-clause-steps g c = λ h w now reached.
-    let out = c.keep_out.ensures.steps now (subst (λ (e : Engine). Stands e now) (sym c.in-Err.ensures.kept) reached.stands) in
-    (c.in-Err.ensures.cause h w now reached, out.0, out.1, out.2)
+    let s = c.fetch.new.self in
+    comes_not (CauseSince g.D.Disk c.args.disk.now c.fetch.new.disk w) c.keep_out.new.self s.ground.kept now c.args.session c.in-Err.refusal (c.in-Err.ensures.cause h w now reached)
+    (c.keep_out.ensures.steps (with_kept s.ground.kept now) (still_stands c.args.self.now s now c.in-Err.ensures.kept c.in-Err.ensures.keeps reached.stands))
 
 pub returns-in-Err-clause-reaches : goal.returns-in-Err-clause-reaches
 returns-in-Err-clause-reaches g c = λ h w now asked there reached under.
-    let out = c.keep_out.ensures.reaches w now asked there under (subst (λ (e : Engine). Stands e now) (sym c.in-Err.ensures.kept) reached.stands) in
-    (c.in-Err.ensures.cause h w now reached, out.0, out.1, out.2)
+    let s = c.fetch.new.self in
+    reaches_not (CauseSince g.D.Disk c.args.disk.now c.fetch.new.disk w) c.keep_out.new.self s.ground.kept w now c.args.session asked c.in-Err.refusal (c.in-Err.ensures.cause h w now reached)
+    (c.keep_out.ensures.reaches (with_kept s.ground.kept w) (with_kept s.ground.kept now) asked there (under_kept s.ground.kept w now c.args.session asked under) (still_stands c.args.self.now s now c.in-Err.ensures.kept c.in-Err.ensures.keeps reached.stands))
 
 pub returns-in-Err-clause-told : goal.returns-in-Err-clause-told
 returns-in-Err-clause-told g c = λ basis start le on told.

@@ -1,7 +1,9 @@
-use Rattle.std.proofs.Common.{IsTrue, None, refl, subst, sym, List, ℕ}
+use Rattle.std.proofs.Common.{IsTrue, None, Ok, Err, refl, subst, sym, List, ℕ}
 use Rattle.failure.specs.Counts.{Rose}
 use Rattle.disk_model.proofs.Crash.{looked_same}
 use Rattle.engine_store.specs.Opened.{IsAtFault}
+use Rattle.engine_store.specs.Keeping.{with_kept}
+use Rattle.engine_store.proofs.AsHeld.{reopens_as}
 use Rattle.engine_store.proofs.KeptAnswers.{told_own}
 use Rattle.engine_store.proofs.RefusalsTold.{damage_of, fault_of}
 use Rattle.engine_store.proofs.Reopening.{not_reopened, reopened}
@@ -12,14 +14,16 @@ pub returns-in-Ok-clause-opens : goal.returns-in-Ok-clause-opens
 returns-in-Ok-clause-opens g c = λ h first_disk w first made held.
     let image = g.met.D.Disk.reads_an_image c.args.disk.now h in
     let any = held.images (g.D.Disk.seen c.args.disk.now) image in
-    reopened g.D.Disk first_disk c.args.disk.now c.open_on.new.disk c.open_on.ensures.looked image c.args.self.now w first made held c.in-Ok.opened (c.in-Ok.ensures.ok h any.2.0 any.2.1) c.plain_stays.ensures.starts
+    reopens_as g.D.Disk first_disk w (with_kept c.args.self.now.ground.kept w).records first made c.args.self.now c.in-Ok.opened c.args.disk.now c.open_on.new.disk (Ok tt)
+    (reopened g.D.Disk first_disk c.args.disk.now c.open_on.new.disk c.open_on.ensures.looked image c.args.self.now (with_kept c.args.self.now.ground.kept w) first made held c.in-Ok.opened (c.in-Ok.ensures.ok h any.2.0 any.2.1) c.plain_stays.ensures.starts)
 
 pub returns-in-Ok-clause-told : goal.returns-in-Ok-clause-told
 returns-in-Ok-clause-told g c = λ start le told. none_told g.D.Disk None start c.open_on.new.disk c.in-Ok.opened.engine c.in-Ok.ensures.sessions
 
 pub returns-in-Err-clause-opens : goal.returns-in-Err-clause-opens
 returns-in-Err-clause-opens g c = λ h first_disk w first made held.
-    not_reopened g.D.Disk first_disk c.args.disk.now c.open_on.new.disk c.open_on.ensures.looked (g.met.D.Disk.reads_an_image c.args.disk.now h) c.args.self.now w first made held (IsTrue (g.D.Disk.honest c.args.disk.now)) h c.args.self.now refl c.in-Err.refusal c.in-Err.ensures.err
+    reopens_as g.D.Disk first_disk w (with_kept c.args.self.now.ground.kept w).records first made c.args.self.now c.args.self.now c.args.disk.now c.open_on.new.disk (Err c.in-Err.refusal)
+    (not_reopened g.D.Disk first_disk c.args.disk.now c.open_on.new.disk c.open_on.ensures.looked (g.met.D.Disk.reads_an_image c.args.disk.now h) c.args.self.now (with_kept c.args.self.now.ground.kept w) first made held (IsTrue (g.D.Disk.honest c.args.disk.now)) h c.args.self.now refl c.in-Err.refusal c.in-Err.ensures.err)
 
 pub returns-in-Err-clause-told : goal.returns-in-Err-clause-told
 returns-in-Err-clause-told g c = λ start le told.
