@@ -9,7 +9,7 @@ use Rattle.call_steps.specs.declared.hub.Hub.{Hub}
 use Rattle.engine_world.specs.Stands.{Engine}
 use Rattle.engine_world.specs.Worlds.{Records, World}
 use Rattle.ckpt_step.specs.declared.ground.Ground.{Ground}
-use Rattle.ckpt_step.specs.Evicts.{LeftFrame}
+use Rattle.ckpt_step.specs.Evicts.{LeftFrame, LeftInParts}
 use Rattle.ckpt_step.specs.Floors.{Follows}
 use Rattle.ckpt_step.specs.Grounds.{StandsOn}
 use Rattle.ckpt_step.specs.Kept.{Lists}
@@ -57,6 +57,25 @@ module _ {D : Type 0} (g : Ghosts D) (old : Option Stored) (w : World) (stand st
     left = left.left;
     stands = left.stands;
     on = left.on;
+    follows = left.follows;
+    since = left.since;
+    live = left.live;
+    freed = left.freed;
+    forgets = left.forgets;
+  }
+
+  -- of what each of the leaves keeps that took its place
+  pub parts_kept : (moved : List Moved) → LeftInParts g old w stand stand' e e' id before after moved → LeftInParts g old w stand (record stand' { kept = now }) e e' id before after moved
+  parts_kept moved left = record {
+    grown = left.grown;
+    entries = left.entries;
+    parted = left.parted;
+    left = left.left;
+    shelf = left.shelf;
+    to = left.to;
+    own = left.own;
+    stands = left.stands;
+    on = stands_kept (g.seen after) (g.may_leave after) e'.hub stand' old now left.on;
     follows = left.follows;
     since = left.since;
     live = left.live;

@@ -14,10 +14,10 @@ use Rattle.call_turns.proofs.Walks.{named-is}
 use Rattle.engine.proofs.LeavesCome.{named-there}
 use Rattle.engine.specs.Evictions.{MayBeEvicted}
 use Rattle.engine_world.specs.Stands.{Engine, Stands}
-use Rattle.engine_world.specs.Worlds.{World}
+use Rattle.engine_world.specs.Worlds.{World, with_records}
 use Rattle.wt_code.specs.declared.refusals.Refusal.{Refusal}
 use Rattle.ckpt_step.specs.declared.evicting.Evicted.{Evicted}
-use Rattle.ckpt_step.specs.declared.evicting.Evicted.TheVariants.{Done, Parted, Stays, Unresolved, MovesApart, Empty}
+use Rattle.ckpt_step.specs.declared.evicting.Evicted.TheVariants.{Done, Parted, Emptied, Stays, Unresolved, Empty}
 use Rattle.ckpt_step.specs.Evicts.{KeepsStill}
 use Rattle.ckpt_step.specs.Kept.{AllListsFit, KeepsAt, KeepsThese, Lists, list_of, lists_in, records_in}
 use Rattle.ckpt_step.proofs.KnownRooms.{same_test}
@@ -74,6 +74,13 @@ none_framed e w id stands may key = elim (stands.leaves may.leaf (named-there id
   | inr device ↦ absurd (none_some (sym device.none ∙ may.placed))
 ]
 
+-- where it has left its frame and nothing moved, what is kept is still so
+pub keeps_none : (e : Engine) (w : World) (id : ℕ) (lists : Lists) → Stands e w → MayBeEvicted e id → KeepsThese w lists → KeepsThese (with_records id (λ key. []) w) lists
+keeps_none e w id lists stands may keeps leaf key = elim (cases_eq leaf id) [
+  | inl same ↦ (let at : (leaf == id) ≡ true = eq-eqb leaf id same in rw at (sym (none_framed e w id stands may key) ∙ (ap (λ (n : ℕ). w.records n key) (sym same) ∙ keeps leaf key)))
+  | inr other ↦ (let at : (leaf == id) ≡ false = ne_eqb leaf id other in rw at (keeps leaf key))
+]
+
 -- what was kept of it goes again
 pub kept_back : (e : Engine) (w : World) (id : ℕ) (before mid lists : Lists) (moved : List Moved) → Stands e w → MayBeEvicted e id → KeepsAt before mid id moved → KeepsAt mid lists id [] → KeepsThese w before → KeepsThese w lists
 kept_back e w id before mid lists moved stands may one two keeps leaf key = elim (cases_eq leaf id) [
@@ -91,9 +98,9 @@ kept_back e w id before mid lists moved stands may one two keeps leaf key = elim
 -- whatever the answer
 pub still_so : (w : World) (lists : Lists) (result : Result Evicted Refusal) → KeepsThese w lists → KeepsStill w lists result
 still_so w lists (Ok Done) keeps = tt
-still_so w lists (Ok Parted) keeps = keeps
+still_so w lists (Ok Parted) keeps = tt
+still_so w lists (Ok Emptied) keeps = keeps
 still_so w lists (Ok (Stays why)) keeps = keeps
 still_so w lists (Ok (Unresolved by)) keeps = keeps
-still_so w lists (Ok MovesApart) keeps = keeps
 still_so w lists (Ok Empty) keeps = keeps
 still_so w lists (Err r) keeps = keeps

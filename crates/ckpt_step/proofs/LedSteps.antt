@@ -78,7 +78,7 @@ sole_entry (x ∷ []) e link one is same = ap (λ (y : Entry). y ∷ []) (sym is
 
 -- ---- the leaf is one
 
-may_same : (e : Engine) (id : ℕ) (a b : MayBeEvicted e id) → a.framed ≡ b.framed
+pub may_same : (e : Engine) (id : ℕ) (a b : MayBeEvicted e id) → a.framed ≡ b.framed
 may_same e id a b = some_same (sym a.placed ∙ (ap (λ (l : Leaf). l.frame) (some_same (sym a.there ∙ b.there)) ∙ b.placed))
 
 -- with a block that is new

@@ -35,11 +35,11 @@ use Rattle.ckpt_step.proofs.WithParts.{in_alike, own_some}
 
 -- ---- a leaf, once the one of an id is in no frame
 
-abbrev out : ℕ → Leaf → Leaf
+abbrev pub out : ℕ → Leaf → Leaf
 out id x = if x.id == id then in_frame None x else x
 
 -- it goes on to what it was
-out_back : (id : ℕ) (x : Leaf) → LeafGoesOn (out id x) x
+pub out_back : (id : ℕ) (x : Leaf) → LeafGoesOn (out id x) x
 out_back id x = by (x.id == id)
   where
     by : (b : Bool) → LeafGoesOn (if b then in_frame None x else x) x
@@ -47,7 +47,7 @@ out_back id x = by (x.id == id)
     by false = record { id = refl; table = refl; entry = refl; stays = λ none. none }
 
 -- any other is as it was
-out_other : (id : ℕ) (x : Leaf) → (x.id ≡ id → ⊥) → out id x ≡ x
+pub out_other : (id : ℕ) (x : Leaf) → (x.id ≡ id → ⊥) → out id x ≡ x
 out_other id x other = let isnt : (x.id == id) ≡ false = ne_eqb x.id id other in rw isnt refl
 
 out_mild : (id : ℕ) → IsMild (out id)
@@ -56,7 +56,7 @@ out_mild id = record { id = λ x. sym (out_back id x).id; table = λ x. sym (out
 -- ---- leaves
 
 -- those of a table go on to what they were
-out_of : (id table : ℕ) (leaves : List Leaf) → LeavesGoOn (leaves_of table (changed id (in_frame None) leaves)) (leaves_of table leaves)
+pub out_of : (id table : ℕ) (leaves : List Leaf) → LeavesGoOn (leaves_of table (changed id (in_frame None) leaves)) (leaves_of table leaves)
 out_of id table [] = tt
 out_of id table (x ∷ leaves) =
     subst (λ (n : ℕ). LeavesGoOn (if n == table then out id x ∷ leaves_of table (changed id (in_frame None) leaves) else leaves_of table (changed id (in_frame None) leaves)) (leaves_of table (x ∷ leaves))) (out_back id x).table (by (x.table == table) (out_of id table leaves))
@@ -67,36 +67,36 @@ out_of id table (x ∷ leaves) =
     by false rest = rest
 
 module _ (hub : Hub) (l : Leaf) (dir : IsDirectory hub.dir) (named : leaf_named l.id hub.dir.leaves ≡ Some l) where
-  abbrev leaves : List Leaf
+  abbrev pub leaves : List Leaf
   leaves = hub.dir.leaves
 
-  abbrev after : List Leaf
+  abbrev pub after : List Leaf
   after = changed l.id (in_frame None) leaves
 
   -- what a leaf was
-  record Was (n : Leaf) : Type 0 where
-    leaf : Leaf
-    there : Contains leaves leaf
-    is : n ≡ out l.id leaf
-    back : LeafGoesOn n leaf
+  pub record Was (n : Leaf) : Type 0 where
+    pub leaf : Leaf
+    pub there : Contains leaves leaf
+    pub is : n ≡ out l.id leaf
+    pub back : LeafGoesOn n leaf
 
-  was : (n : Leaf) → Contains after n → Was n
+  pub was : (n : Leaf) → Contains after n → Was n
   was n there =
       let one = contains-source (out l.id) leaves n there in
       record { leaf = one.0; there = one.1; is = sym one.2; back = subst (λ (x : Leaf). LeafGoesOn x one.0) one.2 (out_back l.id one.0) }
 
   -- it is the one that goes
-  it : (x : Leaf) → Contains leaves x → x.id ≡ l.id → x ≡ l
+  pub it : (x : Leaf) → Contains leaves x → x.id ≡ l.id → x ≡ l
   it x there same = same-id hub.dir x l dir there (named-there l.id leaves l named) same
 
   -- any other is in the frame that it was in
-  frame_of : (n : Leaf) (b : Was n) → (b.leaf.id ≡ l.id → ⊥) → b.leaf.frame ≡ n.frame
+  pub frame_of : (n : Leaf) (b : Was n) → (b.leaf.id ≡ l.id → ⊥) → b.leaf.frame ≡ n.frame
   frame_of n b other = ap (λ (x : Leaf). x.frame) (sym (b.is ∙ out_other l.id b.leaf other))
 
   under_now : (table : ℕ) (key : List ℕ) (n : Leaf) (b : Was n) → leaf_under table key leaves ≡ Some b.leaf → leaf_under table key after ≡ Some n
   under_now table key n b found = under-to hub.dir dir (out l.id) (out_mild l.id) table key b.leaf found ∙ ap (λ (x : Leaf). Some x) (sym b.is)
 
-  under_then : (table : ℕ) (key : List ℕ) (n : Leaf) (b : Was n) → leaf_under table key after ≡ Some n → leaf_under table key leaves ≡ Some b.leaf
+  pub under_then : (table : ℕ) (key : List ℕ) (n : Leaf) (b : Was n) → leaf_under table key after ≡ Some n → leaf_under table key leaves ≡ Some b.leaf
   under_then table key n b found = under-from hub.dir dir (out l.id) (out_mild l.id) table key b.leaf b.there (found ∙ ap (λ (x : Leaf). Some x) b.is)
 
   -- ---- trees by parts
@@ -105,7 +105,7 @@ module _ (hub : Hub) (l : Leaf) (dir : IsDirectory hub.dir) (named : leaf_named 
   lie_now table n b [] lie = tt
   lie_now table n b (r ∷ rows) lie = (under_now table r.0 n b lie.0, lie_now table n b rows lie.1)
 
-  part_now : (table : ℕ) (n : Leaf) (b : Was n) (part : List Entry) (images : List (List Row)) → IsPart leaves table b.leaf part images → IsPart after table n part images
+  pub part_now : (table : ℕ) (n : Leaf) (b : Was n) (part : List Entry) (images : List (List Row)) → IsPart leaves table b.leaf part images → IsPart after table n part images
   part_now table n b part images is = record {
     fit = is.fit;
     climbs = is.climbs;
@@ -117,10 +117,10 @@ module _ (hub : Hub) (l : Leaf) (dir : IsDirectory hub.dir) (named : leaf_named 
     lie = lie_now table n b (join images) is.lie;
   }
 
-  dead_then : (lives : List Lone) (n : Leaf) (b : Was n) → is_live lives n ≡ false → is_live lives b.leaf ≡ false
+  pub dead_then : (lives : List Lone) (n : Leaf) (b : Was n) → is_live lives n ≡ false → is_live lives b.leaf ≡ false
   dead_then lives n b dead = live_on lives n b.leaf b.back ∙ dead
 
-  live_then : (lives : List Lone) (n : Leaf) (b : Was n) → is_live lives n ≡ true → is_live lives b.leaf ≡ true
+  pub live_then : (lives : List Lone) (n : Leaf) (b : Was n) → is_live lives n ≡ true → is_live lives b.leaf ≡ true
   live_then lives n b live = live_on lives n b.leaf b.back ∙ live
 
   parted_now : (lives : List Lone) (written : Written) (table : ℕ) (place : TreePlace) (tree : TableTree) → IsParted lives leaves table written place tree → IsParted lives after table written place tree
@@ -161,7 +161,7 @@ module _ (hub : Hub) (l : Leaf) (dir : IsDirectory hub.dir) (named : leaf_named 
         (subst (λ (es : List Entry). LeadApart (links_in es)) (parts_same written (leaves_of b.leaf.table after) (leaves_of b.leaf.table leaves) (out_of l.id b.leaf.table leaves)) (since.apart b.leaf b.there (live_then lives n b live)));
   }
 
-  led_now : (known : List Table) (lives : List Lone) → AreLedTo known lives leaves → AreLedTo known lives after
+  pub led_now : (known : List Table) (lives : List Lone) → AreLedTo known lives leaves → AreLedTo known lives after
   led_now known lives led x mine =
       let one = led x mine in
       let back = out_back l.id one.leaf in

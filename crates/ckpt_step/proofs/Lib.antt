@@ -57,6 +57,8 @@ pub mod Behind
 pub mod KnownRooms
 pub mod KeptLists
 pub mod KeptGround
+pub mod FreshLists
+pub mod MovedApart
 mod LonesIn
 pub mod Unwritten
 pub mod NewParts
@@ -126,3 +128,6 @@ mod LedLives
 mod LedWay
 mod LedSteps
 mod LedEnds
+mod EmptyLeaves
+mod LedEmpty
+mod PlacedTables

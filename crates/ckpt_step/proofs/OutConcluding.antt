@@ -6,12 +6,13 @@ use Rattle.std.proofs.Common.{sym, ◌∙◌, ap, subst, arith}
 use Rattle.disk_model.specs.declared.disk.Disk.{Ghosts}
 use Rattle.engine.specs.Evictions.{MayBeEvicted}
 use Rattle.engine.specs.Partings.{HasParted, MayPart}
+use Rattle.engine.proofs.LeavesCome.{named-there}
 use Rattle.engine.proofs.PartedLeaves.{part-found}
 use Rattle.engine_world.specs.Evicting.{IsEvictedTo, held_of}
 use Rattle.engine_world.specs.GivingWay.{IsShelved}
 use Rattle.engine_world.specs.Parting.{IsPartedTo}
 use Rattle.engine_world.specs.Stands.{Engine, Stands}
-use Rattle.engine_world.specs.Worlds.{World}
+use Rattle.engine_world.specs.Worlds.{Records, World}
 use Rattle.evict_step.specs.Cuts.{AreCut}
 use Rattle.item.specs.declared.Change.{Change}
 use Rattle.kv_model.specs.AgreementLaws.{head_of}
@@ -22,21 +23,26 @@ use Rattle.kv_model.specs.Machine.{Machine}
 use Rattle.kv_model.specs.Ordered.{Older}
 use Rattle.kv_model.specs.Reconciling.{each_one}
 use Rattle.reconcile.specs.declared.image.Image.{Image}
+use Rattle.reconcile.specs.declared.image.Moved.{Moved}
+use Rattle.reconcile.specs.Moving.{versions_in}
 use Rattle.row_page.specs.Rows.{Row}
 use Rattle.rows_shown.specs.Shows.{shown_at}
 use Rattle.stamp.specs.declared.Version.{Version}
 use Rattle.stored.specs.Stored.{Stored}
 use Rattle.call_steps.specs.declared.frame.Frame.{Frame}
 use Rattle.tree_dir.specs.declared.leaf.Leaf.{Leaf}
-use Rattle.tree_dir.specs.Leaves.{Directory, leaf_named, leaf_under, leaves_with}
+use Rattle.tree_dir.specs.Leaves.{Directory, IsDirectory, leaf_named, leaf_under, leaves_with}
 use Rattle.ckpt_step.specs.declared.ground.Ground.{Ground}
 use Rattle.ckpt_step.specs.declared.moving_in.When.TheVariants.{Idle, AtWork}
 use Rattle.ckpt_step.specs.CutOuts.{AreShelved, HasPut}
 use Rattle.ckpt_step.specs.Evicts.{IsGrown, LeftInParts}
 use Rattle.ckpt_step.specs.Floors.{AreNewestIn}
+use Rattle.ckpt_step.specs.Kept.{with_moved}
 use Rattle.ckpt_step.specs.WritesOut.{AreRowsIn, WrittenOut}
+use Rattle.ckpt_step.proofs.KeptGround.{follows_records}
 use Rattle.ckpt_step.proofs.LedNewest.{evicted_rows}
 use Rattle.ckpt_step.proofs.Members.{some_same}
+use Rattle.ckpt_step.proofs.MovedApart.{moved_bare, moved_kept, moved_own, moved_unused}
 use Rattle.ckpt_step.proofs.PartStamps.{RowsDurable, shown_durable}
 
 -- ---- the shelf
@@ -72,29 +78,36 @@ module _ (old next : Directory) (l : Leaf) (rows : List Row) (made : List Leaf) 
     durable = durable_own m.oldest durable;
   }
 
-  -- as where the leaf is evicted to these rows, with nothing that moves to the history
-  module _ (w : World) (unmade : (id : ℕ) → old.next ≤ id → (key : List ℕ) → w.records id key ≡ []) where
-    pub none_kept : (n : Leaf) → Contains made n → (key : List ℕ) → w.records n.id key ≡ []
-    none_kept n c key = unmade n.id (s.stand.later n c) key
+  -- as where the leaf is evicted to these rows, and these versions move to the history
+  module _ (w : World) (was : IsDirectory old) (now : IsDirectory next) (there : Contains old.leaves l) (unmade : (id : ℕ) → old.next ≤ id → (key : List ℕ) → w.records id key ≡ []) (moved : List Moved) where
+    abbrev after : Records
+    after = with_moved next.leaves l.table moved w.records
 
-    pub parted_to : (f : Frame) → before ≡ w.shelf → IsEvictedTo w.machine old.leaves l f rows (λ key. []) → IsPartedTo w old next l f made shelf w.records
-    parted_to f was to = record {
-      past = to.past;
-      covers = to.covers;
-      ended = to.ended;
-      made_of = λ n c key under.
-          let own = under_own n c key under in
-          subst (λ (more : List (Version Change)). ReconciledLists Older each_one to.past (held_of f key) (shown_at key (shelf n.id)) more) (sym (none_kept n c key))
-          (subst (λ (row : Option (Version Change)). ReconciledLists Older each_one to.past (held_of f key) row []) (sym (s.shown n c key own)) (to.made key (s.within n c key own)));
-      ordered = λ n c key under.
-          let own = under_own n c key under in
-          subst (λ (more : List (Version Change)). Descends Older (option_to_list (shown_at key (shelf n.id)) ++ more)) (sym (none_kept n c key))
-          (subst (λ (row : Option (Version Change)). Descends Older (option_to_list row ++ [])) (sym (s.shown n c key own)) (to.ordered key (s.within n c key own)));
-      bare = λ n c key away. (bare_own n c key away, none_kept n c key);
-      others = λ id less. s.others id less ∙ ap (λ (shelf : ℕ → List Row). shelf id) was;
-      kept = λ id less key. refl;
-      unused = λ id late key. unmade id (let ids = s.stand.ids in omega (arith, late, ids)) key;
-    }
+    module _ (f : Frame) (to : IsEvictedTo w.machine old.leaves l f rows (λ key. versions_in key moved)) where
+      none_away : (key : List ℕ) → leaf_under l.table key old.leaves ≢ Some l → versions_in key moved ≡ []
+      none_away key away = (to.bare key away).1
+
+      pub own_moved : (n : Leaf) → Contains made n → (key : List ℕ) → leaf_under n.table key next.leaves ≡ Some n → after n.id key ≡ versions_in key moved
+      own_moved = moved_own old next l made s.stand was now there w.records unmade moved none_away
+
+      pub parted_to : before ≡ w.shelf → IsPartedTo w old next l f made shelf after
+      parted_to same = record {
+        past = to.past;
+        covers = to.covers;
+        ended = to.ended;
+        made_of = λ n c key under.
+            let own = under_own n c key under in
+            subst (λ (more : List (Version Change)). ReconciledLists Older each_one to.past (held_of f key) (shown_at key (shelf n.id)) more) (sym (own_moved n c key under))
+            (subst (λ (row : Option (Version Change)). ReconciledLists Older each_one to.past (held_of f key) row (versions_in key moved)) (sym (s.shown n c key own)) (to.made key (s.within n c key own)));
+        ordered = λ n c key under.
+            let own = under_own n c key under in
+            subst (λ (more : List (Version Change)). Descends Older (option_to_list (shown_at key (shelf n.id)) ++ more)) (sym (own_moved n c key under))
+            (subst (λ (row : Option (Version Change)). Descends Older (option_to_list row ++ versions_in key moved)) (sym (s.shown n c key own)) (to.ordered key (s.within n c key own)));
+        bare = λ n c key away. (bare_own n c key away, moved_bare old next l made s.stand was now there w.records unmade moved none_away n c key away);
+        others = λ id less. s.others id less ∙ ap (λ (shelf : ℕ → List Row). shelf id) same;
+        kept = moved_kept old next l made s.stand was now there w.records unmade moved none_away;
+        unused = moved_unused old next l made s.stand was now there w.records unmade moved none_away;
+      }
 
 -- ---- what is left
 
@@ -115,15 +128,26 @@ module _ {D : Type 0} (g : Ghosts D) (old : Option Stored) (w : World) (stand st
       shelved = shelved_newest e.hub.dir e'.hub.dir put.way.leaf rows (leaves_with put.way.leaf.table put.way.ids put.entries) w.shelf put.shelf put.shelved w.machine
           (subst (λ (l : Leaf). AreNewestIn w.machine e.hub.dir.leaves l.table l rows) (some_same (sym there ∙ put.way.there)) are.newest) durable
 
-  module _ (put : HasPut g old w stand stand' e e' id before after AtWork rows) (part : MayPart e id) (may : MayBeEvicted e id) (to : IsEvictedTo w.machine e.hub.dir.leaves may.leaf may.frame rows (λ key. [])) where
+  module _ (moved : List Moved) (put : HasPut g old w stand stand' e e' id before after AtWork rows) (part : MayPart e id) (may : MayBeEvicted e id) (to : IsEvictedTo w.machine e.hub.dir.leaves may.leaf may.frame rows (λ key. versions_in key moved)) where
     abbrev parted : HasParted e e' id put.entries
     parted = record { may = part-found e id part may; way = put.way }
 
-    is : IsPartedTo w e.hub.dir e'.hub.dir put.way.leaf may.frame (leaves_with put.way.leaf.table put.way.ids put.entries) put.shelf w.records
-    is = parted_to e.hub.dir e'.hub.dir put.way.leaf rows (leaves_with put.way.leaf.table put.way.ids put.entries) w.shelf put.shelf put.shelved w stands.unused may.frame refl
-        (subst (λ (l : Leaf). IsEvictedTo w.machine e.hub.dir.leaves l may.frame rows (λ key. [])) (some_same (sym may.there ∙ put.way.there)) to)
+    abbrev news : List Leaf
+    news = leaves_with put.way.leaf.table put.way.ids put.entries
 
-    pub parted_work : IsGrown e id → LeftInParts g old w stand stand' e e' id before after
+    abbrev then_records : Records
+    then_records = with_moved e'.hub.dir.leaves put.way.leaf.table moved w.records
+
+    there_was : Contains e.hub.dir.leaves put.way.leaf
+    there_was = named-there id e.hub.dir.leaves put.way.leaf put.way.there
+
+    to_it : IsEvictedTo w.machine e.hub.dir.leaves put.way.leaf may.frame rows (λ key. versions_in key moved)
+    to_it = subst (λ (l : Leaf). IsEvictedTo w.machine e.hub.dir.leaves l may.frame rows (λ key. versions_in key moved)) (some_same (sym may.there ∙ put.way.there)) to
+
+    is : IsPartedTo w e.hub.dir e'.hub.dir put.way.leaf may.frame news put.shelf then_records
+    is = parted_to e.hub.dir e'.hub.dir put.way.leaf rows news w.shelf put.shelf put.shelved w stands.dir put.now there_was stands.unused moved may.frame to_it refl
+
+    pub parted_work : IsGrown e id moved → LeftInParts g old w stand stand' e e' id before after moved
     parted_work grown = record {
       grown = grown;
       entries = put.entries;
@@ -131,10 +155,10 @@ module _ {D : Type 0} (g : Ghosts D) (old : Option Stored) (w : World) (stand st
       left = put.left;
       shelf = put.shelf;
       to = is;
-      bare = none_kept e.hub.dir e'.hub.dir put.way.leaf rows (leaves_with put.way.leaf.table put.way.ids put.entries) w.shelf put.shelf put.shelved w stands.unused;
-      stands = put.stands parted w put.shelf w.records stands is;
+      own = own_moved e.hub.dir e'.hub.dir put.way.leaf rows news w.shelf put.shelf put.shelved w stands.dir put.now there_was stands.unused moved may.frame to_it;
+      stands = put.stands parted w put.shelf then_records stands is;
       on = put.on;
-      follows = put.follows;
+      follows = follows_records old e'.hub stand' (record w { shelf = put.shelf }) then_records put.follows;
       since = put.since;
       live = put.live;
       freed = put.freed;
@@ -144,6 +168,6 @@ module _ {D : Type 0} (g : Ghosts D) (old : Option Stored) (w : World) (stand st
 -- ---- its rows
 
 -- what a leaf is cut into where it is evicted has the newest of its keys
-pub parted_rows : (e : Engine) (w : World) (id : ℕ) (images : List Image) (cut : AreCut e id images []) (leaf : Leaf) → leaf_named id e.hub.dir.leaves ≡ Some leaf → Stands e w → w.machine.checkpoint ≡ None → AreRowsIn w.machine e.hub.dir.leaves leaf cut.rows
-parted_rows e w id images cut leaf there stands idle =
-    subst (λ (l : Leaf). AreRowsIn w.machine e.hub.dir.leaves l cut.rows) (some_same (sym cut.may.there ∙ there)) (evicted_rows e w stands id cut.may cut.rows cut.fit (λ key. []) (cut.evicted w stands idle))
+pub parted_rows : (e : Engine) (w : World) (id : ℕ) (images : List Image) (moved : List Moved) (cut : AreCut e id images moved) (leaf : Leaf) → leaf_named id e.hub.dir.leaves ≡ Some leaf → Stands e w → w.machine.checkpoint ≡ None → AreRowsIn w.machine e.hub.dir.leaves leaf cut.rows
+parted_rows e w id images moved cut leaf there stands idle =
+    subst (λ (l : Leaf). AreRowsIn w.machine e.hub.dir.leaves l cut.rows) (some_same (sym cut.may.there ∙ there)) (evicted_rows e w stands id cut.may cut.rows cut.fit (λ key. versions_in key moved) (cut.evicted w stands idle))

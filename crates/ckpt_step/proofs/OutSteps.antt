@@ -302,6 +302,7 @@ module _ {D : Type 0} (g : Ghosts D) (before start : D) (looked : Looked g befor
           entries = es;
           way = moved.way;
           stands = moved.stands;
+          now = moved.now;
           left = all_left after wrote.left;
           shelf = then_shelf;
           shelved = subst (λ (x : List Row). AreShelved d n l x (leaves_with l.table moved.way.ids es) w.shelf then_shelf) (own_images e id cut all is).whole (shelved_ground (g.seen start) (g.seen after) (g.may_leave start) (g.may_leave after) e n w stand g' old l es moved.way.ids next stands stood follows device_start out first.0 first.1 rows images_out books wrote.added wrote.may wrote.keeps within held lives_are let_go alike);

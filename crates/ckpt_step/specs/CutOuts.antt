@@ -165,6 +165,7 @@ module _ {D : Type 0} (g : Ghosts D) (old : Option Stored) (w : World) (stand st
     pub entries : List Entry
     pub way : HasGivenWay e e' id entries
     pub stands : StandsThen e e' id entries when
+    pub now : IsDirectory e'.hub.dir
     pub left : LeavesOnly g before after (IsOld (g.may_leave before) old)
     pub shelf : ℕ → List Row
     pub shelved : AreShelved e.hub.dir e'.hub.dir way.leaf rows (leaves_with way.leaf.table way.ids entries) w.shelf shelf

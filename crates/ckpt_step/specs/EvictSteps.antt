@@ -1,5 +1,5 @@
 -- The steps of the eviction of a leaf.
-use Rattle.std.specs.Prelude.{◌≡◌, ◌≢◌, ℕ, ◌≤◌, false, List, [], ◌∷◌, length, Option, None, Some, Result, Ok, Err}
+use Rattle.std.specs.Prelude.{◌≡◌, ◌≢◌, ℕ, ◌≤◌, false, List, [], ◌∷◌, length, Option, None, Some, Result, Ok, Err, slice_get}
 use Rattle.device_layout.specs.declared.addr.Addr.{Addr}
 use Rattle.device_layout.specs.declared.link.Link.{Link}
 use Rattle.disk_model.specs.declared.disk.Disk.{Ghosts}
@@ -15,6 +15,8 @@ use Rattle.stored.specs.Stored.{Stored}
 use Rattle.tree_dir.specs.declared.leaf.Leaf.{Leaf}
 use Rattle.tree_dir.specs.Leaves.{leaf_named}
 use Rattle.tree_write.specs.Drafts.{AreFrom}
+use Rattle.call_steps.specs.declared.hub.Hub.{Hub}
+use Rattle.kv_model.specs.History.{Table}
 use Rattle.engine_world.specs.Evicting.{IsEvictedTo, with_rows}
 use Rattle.engine_world.specs.GoingOut.{with_again}
 use Rattle.engine_world.specs.Stands.{Engine, Stands}
@@ -24,7 +26,8 @@ use Rattle.ckpt_step.specs.declared.ground.Ground.{Ground}
 use Rattle.ckpt_step.specs.CutOuts.{IsSameBut, LetGo, NotPut}
 use Rattle.ckpt_step.specs.Evicts.{LeftFrame}
 use Rattle.ckpt_step.specs.Holding.{addrs_if, gone_if, own_of, put_lone}
-use Rattle.ckpt_step.specs.Lives.{has_at}
+use Rattle.ckpt_step.specs.Lives.{has_at, is_live}
+use Rattle.ckpt_step.specs.Parts.{has_rows, part_of}
 use Rattle.ckpt_step.specs.Rooms.{known_in}
 
 -- the leaf's low key, not too long, from which the rows of these images stand
@@ -70,3 +73,23 @@ module _ {D : Type 0} (g : Ghosts D) (old : Option Stored) (w : World) (stand st
   abbrev pub PutsBack : List Moved → Result (Unit {0}) StoreError → Type 0
   PutsBack moved (Ok done) = LeftFrame g old w stand stand' e e' id before after moved
   PutsBack moved (Err x) = NotPut g old w stand stand' e e' id before after x
+
+-- ---- it has no keys, and leaves its frame without a block
+
+-- No block of the live tree is its own, it leads to no rows, the checkpoint before has none of it, and that has its table.
+pub record IsRowless (g : Ground) (hub : Hub) (l : Leaf) : Type 0 where
+  pub dead : is_live g.lives l ≡ false
+  pub link : has_rows l.entry.link ≡ false
+  pub part : part_of (known_in g.parts) l ≡ []
+  pub placed : (i : ℕ) (t : Table) → slice_get hub.tables.tables i ≡ Some t → l.table ≡ t.number → slice_get g.trees.items i ≢ None
+
+-- it did, leads where it led, and nothing is kept of what checkpoints wrote of it
+pub record HasLeftEmpty (e e' : Engine) (g g' : Ground) (id : ℕ) : Type 0 where
+  pub link : Link
+  pub out : HasBeenEvicted e e' id link
+  pub led : link ≡ out.may.leaf.entry.link
+  pub rowless : IsRowless g e.hub out.may.leaf
+  pub stands : StandsEvicted e e' id
+  pub gone : known_in g'.parts id ≡ None
+  pub others : (other : ℕ) → other ≢ id → known_in g'.parts other ≡ known_in g.parts other
+  pub same : g' ≡ record g { parts = g'.parts }

@@ -1,5 +1,5 @@
 -- What the eviction of a leaf answers, and what it leaves.
-use Rattle.std.specs.Prelude.{◌≡◌, ◌⊎◌, ℕ, ◌≤◌, true, false, List, [], length, Option, None, Result, Ok, Err}
+use Rattle.std.specs.Prelude.{◌≡◌, ◌⊎◌, ℕ, ◌≤◌, true, false, List, [], length, Option, None, Some, Result, Ok, Err}
 use Rattle.std.specs.List.{Contains}
 use Rattle.failure.specs.declared.Fault.{Fault}
 use Rattle.device_layout.specs.declared.link.Link.{Link}
@@ -10,11 +10,10 @@ use Rattle.reconcile.specs.declared.image.Image.{Image}
 use Rattle.reconcile.specs.declared.image.Moved.{Moved}
 use Rattle.reconcile.specs.Moving.{versions_in}
 use Rattle.row_page.specs.Rows.{Row}
-use Rattle.snapshot.specs.Matters.{IsUnended}
 use Rattle.stored.specs.Stored.{Stored}
 use Rattle.stored.specs.TableTree.{Entry}
 use Rattle.tree_dir.specs.declared.leaf.Leaf.{Leaf}
-use Rattle.tree_dir.specs.Leaves.{leaves_with}
+use Rattle.tree_dir.specs.Leaves.{leaf_under, leaves_with}
 use Rattle.checkpoint_core.specs.Finishes.{IsOld}
 use Rattle.engine_world.specs.Evicting.{led_out, with_rows}
 use Rattle.engine_world.specs.GoingOut.{with_again}
@@ -25,36 +24,29 @@ use Rattle.engine_world.specs.Worlds.{World, with_records}
 use Rattle.engine.specs.declared.evicting.Stays.{Stays as Why}
 use Rattle.engine.specs.Evictions.{HasBeenEvicted, KeepsLeaf}
 use Rattle.engine.specs.Partings.{HasParted, KeepsWhole}
-use Rattle.evict_step.specs.Cuts.{AreCut}
+use Rattle.evict_step.specs.Cuts.{AreCut, IsLeastUnended}
 use Rattle.ckpt_step.specs.declared.evicting.Evicted.{Evicted}
-use Rattle.ckpt_step.specs.declared.evicting.Evicted.TheVariants.{Done, Parted, Stays, Unresolved, MovesApart, Empty}
+use Rattle.ckpt_step.specs.declared.evicting.Evicted.TheVariants.{Done, Parted, Emptied, Stays, Unresolved, Empty}
 use Rattle.ckpt_step.specs.declared.ground.Ground.{Ground}
 use Rattle.ckpt_step.specs.Floors.{AreLivesOn, Follows}
 use Rattle.ckpt_step.specs.Grounds.{StandsOn}
-use Rattle.ckpt_step.specs.Kept.{KeepsAt, KeepsThese, Lists}
+use Rattle.ckpt_step.specs.Kept.{KeepsAt, KeepsMore, KeepsThese, Lists, lying_in, with_moved}
 use Rattle.ckpt_step.specs.Lives.{has_at, is_live}
+use Rattle.ckpt_step.specs.Parts.{has_rows}
 use Rattle.ckpt_step.specs.Rooms.{known_in}
 use Rattle.ckpt_step.specs.WritesOut.{NotWritten, RefusesOut}
 
 -- ---- a leaf that stays
 
--- where it may be evicted, its rows need more than one block, and versions of its keys would move to the history
-pub record HasMoving (e : Engine) (id : ℕ) : Type 0 where
+-- where it may be evicted, its rows need more than one block, and these versions of its keys move to the history
+pub record IsGrown (e : Engine) (id : ℕ) (moved : List Moved) : Type 0 where
   pub images : List Image
-  pub moved : List Moved
   pub cut : AreCut e id images moved
-  pub more : 2 ≤ length images
-  pub some : 1 ≤ length moved
-
--- where it may be evicted, its rows need more than one block
-pub record IsGrown (e : Engine) (id : ℕ) : Type 0 where
-  pub images : List Image
-  pub cut : AreCut e id images []
   pub more : 2 ≤ length images
 
 -- why it stays at this moment: it may not be evicted, or its rows need more than one block, and it may not part
 abbrev pub WhyNotNow : Engine → ℕ → Why → Type 0
-WhyNotNow e id why = KeepsLeaf e id why ⊎ (IsGrown e id × KeepsWhole e id why)
+WhyNotNow e id why = KeepsLeaf e id why ⊎ ((moved : List Moved) × IsGrown e id moved × KeepsWhole e id why)
 
 -- where it may be evicted, none of its keys has a version
 pub record HoldsNone (e : Engine) (id : ℕ) : Type 0 where
@@ -66,6 +58,7 @@ pub record HoldsNone (e : Engine) (id : ℕ) : Type 0 where
 abbrev pub EvictsEngine : Engine → Engine → ℕ → Result Evicted Refusal → Type 0
 EvictsEngine e e' id (Ok Done) = (link : Link) × HasBeenEvicted e e' id link
 EvictsEngine e e' id (Ok Parted) = (entries : List Entry) × HasParted e e' id entries
+EvictsEngine e e' id (Ok Emptied) = (link : Link) × HasBeenEvicted e e' id link
 EvictsEngine e e' id (Ok stayed) = e' ≡ e
 EvictsEngine e e' id (Err r) = (e' ≡ e) ⊎ ((fault : Fault) × (e' ≡ with_fault e fault))
 
@@ -74,6 +67,7 @@ EvictsEngine e e' id (Err r) = (e' ≡ e) ⊎ ((fault : Fault) × (e' ≡ with_f
 -- what was, but where the leaf left its frame
 abbrev pub KeepsStill : World → Lists → Result Evicted Refusal → Type 0
 KeepsStill w lists (Ok Done) = Unit {0}
+KeepsStill w lists (Ok Parted) = Unit {0}
 KeepsStill w lists result = KeepsThese w lists
 
 -- ---- what is left
@@ -93,21 +87,36 @@ module _ {D : Type 0} (g : Ghosts D) (old : Option Stored) (w : World) (stand st
     pub freed : is_live stand.lives out.may.leaf ≡ true → has_at stand'.lives out.may.leaf.entry.link.addr.offset ≡ false
     pub forgets : known_in stand'.parts id ≡ None
 
-  -- The leaf, whose rows need more than one block, parted into others, each in a block that the live tree alone has, in the world in which their blocks have its rows, and the history nothing of them. forgets: nothing is kept of what checkpoints wrote of it; freed: nor its former block, where it was written since the one before.
-  pub record LeftInParts : Type 0 where
-    pub grown : IsGrown e id
+  -- The leaf, whose rows need more than one block, parted into others, each in a block that the live tree alone has, in the world in which their blocks have its rows, and the history has of each what moved of the keys that lie in it. forgets: nothing is kept of what checkpoints wrote of it; freed: nor its former block, where it was written since the one before.
+  pub record LeftInParts (moved : List Moved) : Type 0 where
+    pub grown : IsGrown e id moved
     pub entries : List Entry
     pub parted : HasParted e e' id entries
     pub left : LeavesOnly g before after (IsOld (g.may_leave before) old)
     pub shelf : ℕ → List Row
-    pub to : IsPartedTo w e.hub.dir e'.hub.dir parted.way.leaf parted.may.may.frame (leaves_with parted.way.leaf.table parted.way.ids entries) shelf w.records
-    pub bare : (n : Leaf) → Contains (leaves_with parted.way.leaf.table parted.way.ids entries) n → (key : List ℕ) → w.records n.id key ≡ []
-    pub stands : Stands e' (record w { shelf = shelf })
+    pub to : IsPartedTo w e.hub.dir e'.hub.dir parted.way.leaf parted.may.may.frame (leaves_with parted.way.leaf.table parted.way.ids entries) shelf (with_moved e'.hub.dir.leaves parted.way.leaf.table moved w.records)
+    pub own : (n : Leaf) → Contains (leaves_with parted.way.leaf.table parted.way.ids entries) n → (key : List ℕ) → leaf_under n.table key e'.hub.dir.leaves ≡ Some n → with_moved e'.hub.dir.leaves parted.way.leaf.table moved w.records n.id key ≡ versions_in key moved
+    pub stands : Stands e' (record w { shelf = shelf; records = with_moved e'.hub.dir.leaves parted.way.leaf.table moved w.records })
     pub on : StandsOn (g.seen after) (g.may_leave after) e'.hub stand' old
-    pub follows : Follows old e'.hub stand' (record w { shelf = shelf })
-    pub since : AreLivesOn (g.seen after) e'.hub stand' (record w { shelf = shelf })
+    pub follows : Follows old e'.hub stand' (record w { shelf = shelf; records = with_moved e'.hub.dir.leaves parted.way.leaf.table moved w.records })
+    pub since : AreLivesOn (g.seen after) e'.hub stand' (record w { shelf = shelf; records = with_moved e'.hub.dir.leaves parted.way.leaf.table moved w.records })
     pub live : (n : Leaf) → Contains (leaves_with parted.way.leaf.table parted.way.ids entries) n → is_live stand'.lives n ≡ true
     pub freed : is_live stand.lives parted.way.leaf ≡ true → has_at stand'.lives parted.way.leaf.entry.link.addr.offset ≡ false
+    pub forgets : known_in stand'.parts id ≡ None
+
+  -- The leaf, of which no key has a version, left its frame and leads where it led, to no rows, in the world in which the calls that had found it may be told so, and in which its block has no rows and the history nothing of it. Nothing was written. forgets: nothing is kept of what checkpoints wrote of it.
+  pub record LeftEmpty : Type 0 where
+    pub none : HoldsNone e id
+    pub link : Link
+    pub out : HasBeenEvicted e e' id link
+    pub led : link ≡ out.may.leaf.entry.link
+    pub rowless : has_rows link ≡ false
+    pub left : LeavesOnly g before after (IsOld (g.may_leave before) old)
+    pub stands : Stands e' (with_records id (λ key. []) (with_rows id [] (with_again e out.may.framed.frame w)))
+    pub on : StandsOn (g.seen after) (g.may_leave after) e'.hub stand' old
+    pub follows : Follows old e'.hub stand' (with_records id (λ key. []) (with_rows id [] (with_again e out.may.framed.frame w)))
+    pub since : AreLivesOn (g.seen after) e'.hub stand' (with_records id (λ key. []) (with_rows id [] (with_again e out.may.framed.frame w)))
+    pub kept : stand'.kept ≡ stand.kept
     pub forgets : known_in stand'.parts id ≡ None
 
   -- it did, and what moved is kept of it
@@ -116,11 +125,17 @@ module _ {D : Type 0} (g : Ghosts D) (old : Option Stored) (w : World) (stand st
     pub left : LeftFrame moved
     pub kept : KeepsAt stand.kept stand'.kept id moved
 
+  -- it parted, and of what moved each new leaf keeps what is of its keys
+  pub record HasLeftInParts : Type 0 where
+    pub moved : List Moved
+    pub left : LeftInParts moved
+    pub kept : KeepsMore stand.kept stand'.kept (lying_in e'.hub.dir.leaves left.parted.way.leaf.table moved)
+
   abbrev pub Evicts : Result Evicted Refusal → Type 0
   Evicts (Ok Done) = HasLeftFrame
-  Evicts (Ok Parted) = LeftInParts
+  Evicts (Ok Parted) = HasLeftInParts
+  Evicts (Ok Emptied) = LeftEmpty
   Evicts (Ok (Stays why)) = NotWritten g old w stand stand' e e' id before after × WhyNotNow e id why
-  Evicts (Ok (Unresolved by)) = NotWritten g old w stand stand' e e' id before after × IsUnended w.machine by
-  Evicts (Ok MovesApart) = NotWritten g old w stand stand' e e' id before after × HasMoving e id
+  Evicts (Ok (Unresolved by)) = NotWritten g old w stand stand' e e' id before after × IsLeastUnended e w.machine id by
   Evicts (Ok Empty) = NotWritten g old w stand stand' e e' id before after × HoldsNone e id
   Evicts (Err r) = RefusesOut g old w stand stand' e e' id before after r

@@ -18,6 +18,7 @@ ghost use Rattle.ckpt_step.specs.Grounds.{StandsOn};
 ghost use Rattle.ckpt_step.specs.Kept.{KeepsThese};
 ghost use Rattle.ckpt_step.specs.Takes.{IsOfCheckpoint};
 
+use crate::emptying::leave_empty;
 use crate::ground::Ground;
 use crate::leaves::{may_begin_behind, stand_from};
 use crate::moving_out::move_out;
@@ -41,26 +42,30 @@ pub enum Evicted {
     Done,
     /// Its rows need more than one block: leaves of these have its place, and are in no frame.
     Parted,
+    /// It holds no key, and is in no frame: it is read again as a leaf without rows.
+    Emptied,
     /// It may not be evicted at this moment, or its rows need more than one block and it may not part.
     Stays(Stays),
-    /// It holds a version of the transaction of this id, which has not ended.
+    /// It holds a version of the transaction of this id, which has not ended: the least such that has
+    /// an update in it.
     Unresolved(u64),
-    /// Its rows need more than one block, and it holds an older version of a key that may still be
-    /// wanted: such a leaf does not part.
-    MovesApart,
-    /// It holds no key, so that there is no block to read it from.
+    /// It holds no key, and there is no block to read it from: its table was made since the last
+    /// checkpoint, or its entry leads to rows of which nothing is left.
     Empty,
 }
 
 /// Evicts a leaf to a block of its own, whoever is at work: the newest version of each of its keys is
 /// written as one block that the live tree alone has, and the leaf leaves its frame and leads to it.
 /// Older versions that somebody may still want are kept in memory (`ground.kept`) until the leaf comes
-/// back (`bring_back` of `evict_step`); no checkpoint has them. Where the leaf needs more than one block,
-/// and has no such versions, it parts: leaves of these blocks take its place, and are in no frame. The next
-/// checkpoint keeps the blocks as they stand. Where the leaf was written since the last one before, its
+/// back (`bring_back` of `evict_step`); no checkpoint has them. Where the leaf needs more than one block
+/// it parts: leaves of these blocks take its place, and are in no frame, and of each are kept the older
+/// versions of the keys that lie in it. The next checkpoint keeps the blocks as they stand. Where the leaf was written since the last one before, its
 /// former block is free again.
 ///
-/// But for `Done` and `Parted` it stays where it is, and nothing changed. Refused where the engine is
+/// Where the leaf holds no key it leaves its frame without a block, if the last checkpoint has its table
+/// and no rows of it.
+///
+/// But for `Done`, `Parted` and `Emptied` it stays where it is, and nothing changed. Refused where the engine is
 /// down; `28 no space` where the device has no room for the blocks, one behind the other; `12 no memory`
 /// also where it has become shorter than its blocks. What was written is free again then, and nothing
 /// changed. A failed read leaves the engine up; a failed write takes it down, and the device has the last
@@ -101,15 +106,16 @@ pub fn evict<D: Disk>(
         CutOut::Images(made) => made,
     };
     if made.images.is_empty() {
-        return Ok(Evicted::Empty);
+        match leave_empty(ground, engine, leaf) {
+            Ok(true) => return Ok(Evicted::Emptied),
+            Ok(false) => return Ok(Evicted::Empty),
+            Err(_) => return Err(Refusal::NoMemory),
+        }
     }
     if made.images.len() == 1 {
         return evict_whole(alloc, disk, ground, engine, leaf, made);
     }
-    if !made.moved.is_empty() {
-        return Ok(Evicted::MovesApart);
-    }
-    part_out(alloc, disk, ground, engine, leaf, made.images)
+    part_out(alloc, disk, ground, engine, leaf, made.images, made.moved)
 }
 
 // Evicts a leaf that needs one block. What moves is kept before the device is touched, so that want of
@@ -136,7 +142,7 @@ fn evict_whole<D: Disk>(
     ensures keeps { (w : World) → Stands engine.old w → KeepsThese w ground.old.kept → KeepsStill w ground.new.kept result }
     ensures disk { SameDisk D.Disk disk.old disk.new }
 {
-    let Ok(()) = ground.kept.keep(leaf, made.moved) else {
+    let Ok(()) = ground.kept.keep(alloc, leaf, made.moved) else {
         return Err(Refusal::NoMemory);
     };
     match put_back(alloc, disk, ground, engine, leaf, &made.images) {

@@ -1,14 +1,15 @@
 // A leaf that parts into leaves of several blocks while others are at work.
-ghost use Rattle.std.specs.Prelude.{◌≡◌, ◌≤◌, [], Option, None, length, IfErr, IsTrue};
+ghost use Rattle.std.specs.Prelude.{◌≡◌, ◌≤◌, Option, None, length, IfErr, IsTrue};
 ghost use Rattle.failure.specs.Counts.{Rose};
 ghost use Rattle.disk_model.specs.Crash.{SameDisk};
 ghost use Rattle.stored.specs.Stored.{Stored};
 ghost use Rattle.engine_world.specs.Stands.{Stands};
 ghost use Rattle.engine_world.specs.Worlds.{World};
 ghost use Rattle.evict_step.specs.Cuts.{AreCut};
-ghost use Rattle.ckpt_step.specs.Evicts.{EvictsEngine, Evicts};
+ghost use Rattle.ckpt_step.specs.Evicts.{EvictsEngine, Evicts, KeepsStill};
 ghost use Rattle.ckpt_step.specs.Floors.{AreLivesOn, Follows};
 ghost use Rattle.ckpt_step.specs.Grounds.{StandsOn};
+ghost use Rattle.ckpt_step.specs.Kept.{KeepsThese};
 ghost use Rattle.ckpt_step.specs.Takes.{IsOfCheckpoint};
 
 use crate::cutting_out::in_place;
@@ -18,12 +19,13 @@ use crate::moving_in::When;
 use crate::writing_out::{put_out, tell};
 use disk_model::Disk;
 use engine::Local;
-use reconcile::Image;
+use reconcile::{Image, Moved};
 use std::alloc::Global;
 use wt_code::Refusal;
 
 // Writes the images of a leaf that needs more than one block, and leaves of these take its place, where
-// it may part at this moment.
+// it may part at this moment. Which leaves keep what moves is known only then, so room is made for it
+// before the device is touched.
 pub(crate) fn part_out<D: Disk>(
     alloc: Global,
     disk: &mut D,
@@ -31,8 +33,9 @@ pub(crate) fn part_out<D: Disk>(
     engine: &mut Local,
     leaf: u64,
     images: Vec<Image>,
+    moved: Vec<Moved>,
 ) -> Result<Evicted, Refusal>
-    requires cut { AreCut engine.old leaf images.items [] }
+    requires cut { AreCut engine.old leaf images.items moved.items }
     requires more { 2 ≤ length images.items }
     ensures evicts { IsTrue (D.honest disk.old) → (w : World) → Stands engine.old w → w.machine.checkpoint ≡ None → (old : Option Stored) → StandsOn (D.seen disk.old) (D.may_leave disk.old) engine.old.hub ground.old old
         → Follows old engine.old.hub ground.old w → AreLivesOn (D.seen disk.old) engine.old.hub ground.old w → Evicts D.Disk old w ground.old ground.new engine.old engine.new leaf disk.old disk.new result }
@@ -43,17 +46,24 @@ pub(crate) fn part_out<D: Disk>(
     ensures sessions { length engine.new.sessions ≡ length engine.old.sessions }
     ensures hub { (engine.new.hub.tables ≡ engine.old.hub.tables) × (engine.new.hub.txns ≡ engine.old.hub.txns) }
     ensures engine { EvictsEngine engine.old engine.new leaf result }
-    ensures history { ground.new.kept ≡ ground.old.kept }
+    ensures keeps { (w : World) → Stands engine.old w → KeepsThese w ground.old.kept → KeepsStill w ground.new.kept result }
     ensures disk { SameDisk D.Disk disk.old disk.new }
 {
     if let Some(why) = engine.why_it_does_not_part(leaf) {
         return Ok(Evicted::Stays(why));
     }
+    let Ok(room) = ground.kept.room_for(alloc, moved.len()) else {
+        return Err(Refusal::NoMemory);
+    };
     let Ok(cut) = in_place(engine, leaf, images) else {
         return Err(Refusal::NoMemory);
     };
     match put_out(alloc, disk, ground, engine, leaf, &cut, When::AtWork) {
-        Ok(()) => Ok(Evicted::Parted),
+        Ok(()) => {
+            let leaves = engine.leaves();
+            ground.kept.take_in(alloc, room, moved, leaves, cut.table);
+            Ok(Evicted::Parted)
+        }
         Err(error) => Err(tell(engine, error)),
     }
 }

@@ -15,7 +15,7 @@ use row_page::CellChange;
 use stamp::Name;
 use std::alloc::Global;
 use std::process::Abort;
-use tree_dir::Dir;
+use tree_dir::{Dir, Leaf};
 use tree_open::TreePlace;
 use wt_calls::{Demand, SessionCall, SystemCall};
 use wt_code::{Answer, Refusal};
@@ -568,6 +568,51 @@ fn what_a_reader_may_want_of_an_evicted_leaf_is_kept(rt: HostRuntime) {
         .copy_of(alloc, 0)
         .expect(&rt, "there is memory");
     assert!(rt; none.is_empty());
+}
+
+// How many versions are kept of a leaf, each of a key that lies in it.
+fn kept_of(rt: &impl Abort, alloc: Global, bench: &Bench, leaf: Option<&Leaf>) -> usize {
+    let leaf = leaf.expect(rt, "a leaf");
+    let kept = bench.ground.kept.copy_of(alloc, leaf.id);
+    let kept = kept.expect(rt, "there is memory");
+    for one in &kept {
+        let leaves = bench.engine.leaves();
+        assert!(rt; leaves.leaf_for(leaf.table, one.key.as_bytes()) == Some(leaf.id));
+    }
+    kept.len()
+}
+
+// A reader may still want the first value of each row of a leaf that parts into three. Each of these
+// keeps the first values of its own rows.
+#[test]
+fn what_a_reader_may_want_of_a_leaf_that_parts_is_kept_by_leaf(rt: HostRuntime) {
+    let alloc = rt.alloc();
+    let mut bench = new_bench(&rt, alloc, ROOM, &[], &[b"a"]);
+    put_rows(&rt, alloc, &mut bench, 100);
+    assert!(rt; bench.engine.open_session(alloc).is_ok());
+    assert!(rt; bench.engine.sessions() > 1);
+    let begun = bench.engine.call(alloc, 1, SessionCall::Begin(None));
+    assert!(rt; begun == Called::Ended(Answer::Done));
+    put_rows(&rt, alloc, &mut bench, 200);
+    assert!(rt; let_out(alloc, &mut bench) == Ok(Evicted::Parted));
+    let table = bench.engine.tables().table(0).expect(&rt, "a table").number;
+    let mut leaves = bench.engine.leaves().leaves_of(table);
+    for want in [135usize, 135, 30] {
+        assert_eq!(rt; kept_of(&rt, alloc, &bench, leaves.next_leaf()), want);
+    }
+    assert!(rt; leaves.next_leaf().is_none());
+}
+
+// A leaf without keys stays where no checkpoint has its table, and leaves its frame where one has.
+#[test]
+fn a_leaf_without_keys_leaves_its_frame_behind_a_checkpoint(rt: HostRuntime) {
+    let alloc = rt.alloc();
+    let mut bench = new_bench(&rt, alloc, ROOM, &[], &[b"a"]);
+    assert!(rt; let_out(alloc, &mut bench) == Ok(Evicted::Empty));
+    assert!(rt; take(&rt, alloc, &mut bench) == Ok(()));
+    assert!(rt; let_out(alloc, &mut bench) == Ok(Evicted::Emptied));
+    assert!(rt; let_out(alloc, &mut bench) == Ok(Evicted::Stays(Stays::Away)));
+    assert!(rt; take(&rt, alloc, &mut bench) == Ok(()));
 }
 
 // A transaction that removes the key `k` of a table.

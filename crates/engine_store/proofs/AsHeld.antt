@@ -9,7 +9,7 @@ use Rattle.engine_world.specs.Worlds.{Records, World}
 use Rattle.engine_store.specs.declared.store.Store.{Store}
 use Rattle.engine_store.specs.Devices.{Installed}
 use Rattle.engine_store.specs.Held.{Checkpoints, MayReopen, Shuts}
-use Rattle.engine_store.specs.Room.{RoomMade, RoomOf}
+use Rattle.engine_store.specs.Room.{RoomDown, RoomMade, RoomOf, RoomUp}
 use Rattle.engine_store.specs.WritesOut.{WritesOut, WroteOn, WroteUp}
 use Rattle.engine_store.proofs.OtherRecords.{other_records}
 
@@ -32,9 +32,15 @@ module _ {D : Type 0} (g : Ghosts D) (start_disk : D) (w : World) (r : Records) 
   made_as : (next : Machine) → RoomMade g start_disk a first made s s' before after next → RoomMade g start_disk w first made s s' before after next
   made_as next x = record { shelf = x.shelf; again = x.again; more = x.more; later = x.later; capacity = x.capacity; held = x.held }
 
+  pub room_up_as : RoomUp g start_disk a first made s s' before after → RoomUp g start_disk w first made s s' before after
+  room_up_as x = record { room = made_as w.machine x.room; keeps = x.keeps }
+
+  pub room_down_as : RoomDown g start_disk a first made s s' before after → RoomDown g start_disk w first made s s' before after
+  room_down_as x = record { fault = x.fault; rose = x.rose; room = made_as _ x.room }
+
   pub room_as : RoomOf g start_disk a first made s s' before after → RoomOf g start_disk w first made s s' before after
-  room_as (inl x) = inl (record { room = made_as w.machine x.room; keeps = x.keeps })
-  room_as (inr x) = inr (record { fault = x.fault; rose = x.rose; room = made_as _ x.room })
+  room_as (inl x) = inl (room_up_as x)
+  room_as (inr x) = inr (room_down_as x)
 
   -- ---- leaves that are written out
 

@@ -55,3 +55,4 @@ pub mod SystemCalls
 pub mod Stepping
 pub mod KeptAnswers
 pub mod MakingRoom
+pub mod EvictingKeys

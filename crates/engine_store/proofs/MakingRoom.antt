@@ -1,12 +1,12 @@
 -- What the eviction of leaves leaves of what holds between two calls.
-use Rattle.std.proofs.Common.{◌≡◌, ◌≤◌, ◌∙◌, ℕ, List, [], ◌∷◌, Option, Some, None, Result, Ok, Err, refl, sym, ap, subst, inl, inr, arith}
+use Rattle.std.proofs.Common.{◌≡◌, ◌⊎◌, ◌≤◌, ◌∙◌, ℕ, List, [], ◌∷◌, Option, Some, None, Result, Ok, Err, refl, sym, ap, subst, inl, inr, arith}
 use Rattle.std.specs.Prelude.{Bool, true, false, ◌||◌}
 use Rattle.failure.specs.Counts.{Rose}
 use Rattle.failure.specs.declared.Fault.{Fault}
 use Rattle.disk_model.specs.Crash.{LeavesOnly, SameDisk}
 use Rattle.disk_model.specs.declared.disk.Disk.{Ghosts}
 use Rattle.wt_code.specs.declared.refusals.Refusal.{Refusal}
-use Rattle.wt_code.specs.declared.refusals.Refusal.TheVariants.{Panic}
+use Rattle.wt_code.specs.declared.refusals.Refusal.TheVariants.{DiskFault, Panic}
 use Rattle.kv_model.specs.Machine.{Completed, GoDown, Machine, after as after_event}
 use Rattle.row_page.specs.Rows.{Row}
 use Rattle.stored.specs.Stored.{Stored}
@@ -18,18 +18,23 @@ use Rattle.engine_world.specs.GoingOut.{with_again}
 use Rattle.engine_world.specs.Stands.{Engine, Stands}
 use Rattle.engine_world.specs.Systems.{DownsGo}
 use Rattle.engine_world.specs.Worlds.{Records, World, with_records}
+use Rattle.engine.specs.Evictions.{MayBeEvicted}
+use Rattle.evict_step.specs.Cuts.{IsLeastUnended}
 use Rattle.ckpt_step.specs.declared.evicting.Evicted.{Evicted}
-use Rattle.ckpt_step.specs.declared.evicting.Evicted.TheVariants.{Done, Parted, Stays, Unresolved, MovesApart, Empty}
+use Rattle.ckpt_step.specs.declared.evicting.Evicted.TheVariants.{Done, Parted, Emptied, Stays, Unresolved, Empty}
 use Rattle.ckpt_step.specs.declared.ground.Ground.{Ground}
-use Rattle.ckpt_step.specs.Evicts.{Evicts, EvictsEngine, HasLeftFrame, KeepsStill, LeftInParts}
+use Rattle.ckpt_step.specs.Evicts.{Evicts, EvictsEngine, HasLeftFrame, HasLeftInParts, KeepsStill, LeftEmpty, WhyNotNow}
 use Rattle.ckpt_step.specs.Floors.{AreLivesOn, Follows}
-use Rattle.ckpt_step.specs.Kept.{KeepsThese}
-use Rattle.ckpt_step.specs.Grounds.{StandsOn}
-use Rattle.ckpt_step.specs.WritesOut.{FallenOut, NotWritten}
+use Rattle.ckpt_step.specs.Kept.{KeepsThese, with_moved}
+use Rattle.ckpt_step.specs.Grounds.{StandsOn, number_of}
+use Rattle.ckpt_step.specs.WritesOut.{FallenOut, NotWritten, WhyNotOut}
+use Rattle.ckpt_step.proofs.KeptLists.{keeps_none}
+use Rattle.ckpt_step.proofs.MovedApart.{keeps_more}
 use Rattle.engine_store.specs.declared.store.Store.{Store}
-use Rattle.engine_store.specs.Devices.{Installed, IsLater, KeepsCheckpoint, device_of, may_open_to}
+use Rattle.engine_store.specs.Devices.{Installed, IsLater, IsNumberOf, KeepsCheckpoint, device_of, may_open_to}
 use Rattle.engine_store.specs.Held.{IsGrounded, IsHeld, IsHeldIn}
 use Rattle.engine_store.specs.Room.{MakesRoom, RoomAlike, RoomDown, RoomMade, RoomOf, RoomUp}
+use Rattle.engine_store.proofs.Contents.{numbered}
 use Rattle.engine_store.proofs.GoingOut.{held_out, none_out}
 use Rattle.engine_store.proofs.OtherRecords.{held_kept, keeps_at}
 use Rattle.engine_store.proofs.Taking.{kept_held}
@@ -38,7 +43,7 @@ use Rattle.engine_store.proofs.WritingOut.{alike_then, still_later}
 -- ---- none is, but that the hand went on
 
 module _ {D : Type 0} (g : Ghosts D) where
-  still_up : (s s' : Store) → s'.engine ≡ s.engine → s'.ground ≡ s.ground → s'.frames ≡ s.frames → (start disk : D) (w : World) (first : Completed) (made : List Installed) → IsHeld g start s disk w first made → RoomUp g start w first made s s' disk disk
+  pub still_up : (s s' : Store) → s'.engine ≡ s.engine → s'.ground ≡ s.ground → s'.frames ≡ s.frames → (start disk : D) (w : World) (first : Completed) (made : List Installed) → IsHeld g start s disk w first made → RoomUp g start w first made s s' disk disk
   still_up s s' engine ground frames start disk w first made held = record {
     room = record {
       shelf = w.shelf;
@@ -117,6 +122,24 @@ module _ {D : Type 0} (g : Ghosts D) (a b c : Store) (before mid after : D) wher
 
 -- ---- a leaf
 
+module _ {D : Type 0} (g : Ghosts D) (start_disk : D) (w : World) (first : Completed) (made : List Installed) (s s' : Store) (before after : D) (id : ℕ) where
+  -- it might leave its frame; or why it stays, with the engine as it was
+  abbrev pub WhyEvicted : Evicted → Type 0
+  WhyEvicted Done = MayBeEvicted s.engine id
+  WhyEvicted Parted = MayBeEvicted s.engine id
+  WhyEvicted Emptied = MayBeEvicted s.engine id
+  WhyEvicted (Stays why) = (s'.engine ≡ s.engine) × WhyNotNow s.engine id why
+  WhyEvicted (Unresolved by) = (s'.engine ≡ s.engine) × IsLeastUnended s.engine w.machine id by
+  WhyEvicted _ = s'.engine ≡ s.engine
+
+  -- what is left, and why it is told
+  abbrev pub LeafTold : Result Evicted Refusal → Type 0
+  LeafTold (Ok evicted) = RoomUp g start_disk w first made s s' before after × WhyEvicted evicted
+  LeafTold (Err r) =
+      (RoomUp g start_disk w first made s s' before after
+      × ((number : ℕ) × IsNumberOf (g.seen before) number × WhyNotOut (Rose (g.faults before) (g.faults after)) (g.seen before) (g.capacity before) s.ground.lives w.machine s.engine.hub.dir.leaves number id r))
+      ⊎ (RoomDown g start_disk w first made s s' before after × ((r ≡ DiskFault) × ((number : ℕ) × IsNumberOf (g.seen before) number)))
+
 or_later : (a b : Bool) → b ≡ true → a || b ≡ true
 or_later true b is = refl
 or_later false b is = is
@@ -164,8 +187,18 @@ module _ {D : Type 0} (g : Ghosts D) (start_disk before after : D)
         went v.shelf v.records v.again (λ session is. or_later _ (w.again session) is) x.left x.stands (keeps_at s.ground.kept s'.ground.kept id h.moved w held.kept h.kept) x.on x.follows x.since
 
     -- it parted
-    parts : LeftInParts g grounded.old w s.ground s'.ground s.engine s'.engine id before after → KeepsThese w s'.ground.kept → RoomUp g start_disk w first made s s' before after
-    parts x keeps_these = went x.shelf w.records w.again (λ session is. is) x.left x.stands keeps_these x.on x.follows x.since
+    parts : HasLeftInParts g grounded.old w s.ground s'.ground s.engine s'.engine id before after → RoomUp g start_disk w first made s s' before after
+    parts h =
+        let x = h.left in
+        let leaves = s'.engine.hub.dir.leaves in
+        let table = x.parted.way.leaf.table in
+        went x.shelf (with_moved leaves table h.moved w.records) w.again (λ session is. is) x.left x.stands (keeps_more w s.ground.kept s'.ground.kept leaves table h.moved x.shelf held.kept h.kept) x.on x.follows x.since
+
+    -- it has no keys, and left its frame without a block
+    empties : LeftEmpty g grounded.old w s.ground s'.ground s.engine s'.engine id before after → KeepsThese w s'.ground.kept → RoomUp g start_disk w first made s s' before after
+    empties x keeps_these =
+        let v : World = with_records id (λ key. []) (with_rows id [] (with_again s.engine x.out.may.framed.frame w)) in
+        went v.shelf v.records v.again (λ session is. or_later _ (w.again session) is) x.left x.stands (keeps_none s.engine w id s'.ground.kept held.stands x.out.may keeps_these) x.on x.follows x.since
 
     -- it stays
     stays : NotWritten g grounded.old w s.ground s'.ground s.engine s'.engine id before after → KeepsThese w s'.ground.kept → RoomUp g start_disk w first made s s' before after
@@ -195,13 +228,25 @@ module _ {D : Type 0} (g : Ghosts D) (start_disk before after : D)
 
     by_result : (result : Result Evicted Refusal) → Evicts g grounded.old w s.ground s'.ground s.engine s'.engine id before after result → KeepsStill w s'.ground.kept result → Made
     by_result (Ok Done) x still = inl (goes x)
-    by_result (Ok Parted) x still = inl (parts x still)
+    by_result (Ok Parted) x still = inl (parts x)
+    by_result (Ok Emptied) x still = inl (empties x still)
     by_result (Ok (Stays why)) (n, keeps) still = inl (stays n still)
     by_result (Ok (Unresolved who)) (n, unended) still = inl (stays n still)
-    by_result (Ok MovesApart) (n, moving) still = inl (stays n still)
     by_result (Ok Empty) (n, none) still = inl (stays n still)
     by_result (Err r) (inl (n, why)) still = inl (stays n still)
     by_result (Err r) (inr f) still = inr (fell r f still)
+
+    -- ---- and what is told of it
+
+    told_by : (result : Result Evicted Refusal) → Evicts g grounded.old w s.ground s'.ground s.engine s'.engine id before after result → KeepsStill w s'.ground.kept result → LeafTold g start_disk w first made s s' before after id result
+    told_by (Ok Done) x still = (goes x, x.left.out.may)
+    told_by (Ok Parted) x still = (parts x, x.left.parted.may.may)
+    told_by (Ok Emptied) x still = (empties x still, x.out.may)
+    told_by (Ok (Stays why)) (n, keeps) still = (stays n still, (n.same, keeps))
+    told_by (Ok (Unresolved who)) (n, least) still = (stays n still, (n.same, least))
+    told_by (Ok Empty) (n, none) still = (stays n still, n.same)
+    told_by (Err r) (inl (n, why)) still = inl (stays n still, (number_of grounded.old, numbered (g.seen before) grounded.old grounded.on.stands.seen_has, why))
+    told_by (Err r) (inr f) still = inr (fell r f still, (f.is, (number_of grounded.old, numbered (g.seen before) grounded.old grounded.on.stands.seen_has)))
 
   -- ---- of either
 
@@ -217,6 +262,10 @@ module _ {D : Type 0} (g : Ghosts D) (start_disk before after : D)
     pub leaf_room : Made
     leaf_room = by_fault w.machine.fault refl
 
+    -- of an engine that is up
+    pub leaf_told : w.machine.fault ≡ None → LeafTold g start_disk w first made s s' before after id result
+    leaf_told up = let on = held.on up in told_by on result (evicts on.old on.on on.follows on.since) still
+
 -- whatever the disk
 pub leaf_alike : {D : Type 0} (g : Ghosts D) (s s' : Store) (before after : D) → s'.frames ≡ s.frames → s'.ground.number ≡ s.ground.number → s'.ground.trees ≡ s.ground.trees → SameDisk g before after
     → (s'.engine.hub.tables ≡ s.engine.hub.tables) × (s'.engine.hub.txns ≡ s.engine.hub.txns) → (id : ℕ) (result : Result Evicted Refusal) → EvictsEngine s.engine s'.engine id result → RoomAlike g s s' before after
@@ -228,9 +277,9 @@ leaf_alike g s s' before after frames number trees disk hub id result evicts = r
     by : (r : Result Evicted Refusal) → EvictsEngine s.engine s'.engine id r → s'.engine.sessions ≡ s.engine.sessions
     by (Ok Done) (link, out) = ap (λ (e : Engine). e.sessions) out.is
     by (Ok Parted) (entries, parted) = ap (λ (e : Engine). e.sessions) parted.way.is
+    by (Ok Emptied) (link, out) = ap (λ (e : Engine). e.sessions) out.is
     by (Ok (Stays why)) is = same is
     by (Ok (Unresolved who)) is = same is
-    by (Ok MovesApart) is = same is
     by (Ok Empty) is = same is
     by (Err r) (inl is) = same is
     by (Err r) (inr (fault, is)) = ap (λ (e : Engine). e.sessions) is

@@ -17,3 +17,4 @@ pub mod Held
 pub mod Relieves
 pub mod WritesOut
 pub mod Room
+pub mod EvictCalls

@@ -4,19 +4,20 @@
 //! opening of a device that reads makes an engine that stands for the machine which what the device
 //! holds begins with, and that a close rolls back each transaction and takes a checkpoint
 //! (`ckpt_step`). Where no commit had a stamp, a checkpoint, a close and an opening anew keep what
-//! holds between two calls (`IsHeld`): at each moment a crash leaves what opens to a checkpoint that
-//! was done, or was being installed since. So do the calls of actors, whose leaves are read from the
-//! device when they need them, and leave memory behind a call that read others, or behind a
-//! checkpoint; those that calls changed go out of it where the caller asks for it, while nobody is at
-//! work (`Store::write_out`) or whoever is (`Store::make_room`), and come back with what is kept of
-//! them. Of a device where a leaf is at fault
-//! it promises that damage is told of such a leaf alone, where a call needs it. Leaves to the caller to
-//! attach the disk, and to say how many frames there are.
+//! holds between two calls (`IsHeld`): at each moment a crash leaves what opens to a checkpoint
+//! that was done, or was being installed since. So do the calls of actors, whose leaves are read
+//! from the device when they need them, and leave memory behind a call that read others, or behind
+//! a checkpoint; those that calls changed go out of it where the caller asks for it, while nobody
+//! is at work (`Store::write_out`) or whoever is (`Store::make_room`, and of one key
+//! `Store::evict`), and come back with what is kept of them. Of a device where a leaf is at fault
+//! it promises that damage is told of such a leaf alone, where a call needs it. Leaves to the
+//! caller to attach the disk, and to say how many frames there are.
 #![tactic(auto)]
 
 mod above;
 mod by_place;
 mod calls;
+mod evict_call;
 mod eviction;
 mod loading;
 mod marked;

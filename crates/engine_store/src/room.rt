@@ -18,8 +18,8 @@ impl Store {
     /// Behind a call, whoever is at work: some leaves are evicted (`ckpt_step::evict`), so that the
     /// newest version of each of their keys stands in a block that the live tree alone has, and they are
     /// in no frame. Older versions that somebody may still want stay in memory, and come back with their
-    /// leaf. One that has grown past one block, and has none such, parts: leaves of several such blocks, in no frame
-    /// either, have its place. Calls read them when they need them, the next checkpoint keeps them as they
+    /// leaf. One that has grown past one block parts: leaves of several such blocks, in no frame either,
+    /// have its place, and each has the older versions of its keys. Calls read them when they need them, the next checkpoint keeps them as they
     /// stand, and an opening knows nothing of them.
     ///
     /// While more than `self.frames` frames have leaves, these are the next ones of which keys were

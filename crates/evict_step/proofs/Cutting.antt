@@ -41,9 +41,10 @@ use Rattle.engine.proofs.Evictions.{may-at}
 use Rattle.engine.proofs.LeavesCome.{named-there}
 use Rattle.evict_step.specs.declared.cut.CutOut.{CutOut}
 use Rattle.evict_step.specs.declared.cut.CutOut.TheVariants.{Stays, Unresolved, Images}
-use Rattle.evict_step.specs.Cuts.{HoldsUnseen, IsCutFrom, IsCutOf, IsCutOut, held_in}
-use Rattle.evict_step.proofs.HeldEnded.{held-cases, held-ended, held-ordered}
+use Rattle.evict_step.specs.Cuts.{IsCutFrom, IsCutOf, IsCutOut, held_in}
+use Rattle.evict_step.proofs.HeldEnded.{held-ended, held-ordered}
 use Rattle.evict_step.proofs.MovesInOrder.{newest-descends}
+use Rattle.evict_step.proofs.Unended.{keys-stand, none-held, sits-may, tells}
 
 -- ---- the leaf in its frame
 
@@ -59,26 +60,18 @@ module _ (e : Engine) (id : ℕ) (may : MayBeEvicted e id) (w : World) (st : Sta
   abbrev f : Frame
   f = may.frame
 
-  abbrev in_frame : LeafInFrame w.machine w.shelf w.records e.hub.dir.leaves e.pieces e.states l
-  in_frame = mine e w l may.framed st (named-there id e.hub.dir.leaves l may.there) may.placed
+  stand : (key : List ℕ) → leaf_under l.table key e.hub.dir.leaves ≡ Some l → StandsFor w.machine l.table key (chain_at key f.leaf.chains) (shown_at key f.leaf.page) []
+  stand key under = keys-stand e id (sits-may e id may) w st key under
 
-  is : in_frame.laid.frame ≡ f
-  is = same_Some in_frame.laid.frame f (sym in_frame.laid.there ∙ (ap (λ (g : Framed). frame_in e.pieces g.frame) (mine-at e w l may.framed st (named-there id e.hub.dir.leaves l may.there) may.placed) ∙ may.filled))
-
-  pub keys-stand : (key : List ℕ) → leaf_under l.table key e.hub.dir.leaves ≡ Some l → StandsFor w.machine l.table key (chain_at key f.leaf.chains) (shown_at key f.leaf.page) []
-  keys-stand key under = subst (λ (x : Frame). StandsFor w.machine l.table key (chain_at key x.leaf.chains) (shown_at key x.leaf.page) []) is (in_frame.keys key under)
-
-  -- of other keys nothing is held
-  pub none-held : (key : List ℕ) → leaf_under l.table key e.hub.dir.leaves ≢ Some l → held_at key f.leaf.page f.leaf.chains ≡ []
-  none-held key outside = subst (λ (x : Frame). held_at key x.leaf.page x.leaf.chains ≡ []) is (let bare = in_frame.bare key outside in
-      ap (λ (c : List Update). versions c ++ option_to_list (shown_at key in_frame.laid.frame.leaf.page)) bare.0 ∙ ap (λ (o : Option (Version Change)). [] ++ option_to_list o) bare.1)
+  bare-of : (key : List ℕ) → leaf_under l.table key e.hub.dir.leaves ≢ Some l → held_at key f.leaf.page f.leaf.chains ≡ []
+  bare-of key outside = none-held e id (sits-may e id may) w st key outside
 
   pub cut-evicts : KeysAreReconciled → (images : List Image) (moved : List Moved) → (c : IsCutFrom e f.leaf images moved) → w.machine.checkpoint ≡ None → IsEvictedTo w.machine e.hub.dir.leaves l f c.rows (λ key. versions_in key moved)
   cut-evicts law images moved c none = record {
     past = is_past c.pin c.floor;
     covers = λ key under v there is. let p = and_parts (nat_le v.window.durable c.pin) (is_below v.window.name c.floor) is in
         (c.past w st none l.table key).cover v there (leb-true v.window.durable c.pin p.0) p.1;
-    ended = λ key under v there each. held-ended w.machine l.table key (chain_at key f.leaf.chains) (shown_at key f.leaf.page) st.valid (keys-stand key under) v there
+    ended = λ key under v there each. held-ended w.machine l.table key (chain_at key f.leaf.chains) (shown_at key f.leaf.page) st.valid (stand key under) v there
         (λ live. both_ways (is_seen c.sight v.window.name) ((c.living w st).unseen v.window.name live) (c.seen key v there));
     made = λ key under. subst (λ (o : Option (Version Change)). ReconciledLists Older (is_live All) (is_past c.pin c.floor) (held_at key f.leaf.page f.leaf.chains) o (versions_in key moved)) (sym (c.reconciled.shows key))
         (subst (λ (vs : List (Version Change)). ReconciledLists Older (is_live All) (is_past c.pin c.floor) (held_at key f.leaf.page f.leaf.chains) (find (is_live All) (held_at key f.leaf.page f.leaf.chains)) vs) (sym (c.moves key))
@@ -87,35 +80,18 @@ module _ (e : Engine) (id : ℕ) (may : MayBeEvicted e id) (w : World) (st : Sta
         (subst (λ (vs : List (Version Change)). Descends Older (option_to_list (find (is_live All) (held_at key f.leaf.page f.leaf.chains)) ++ vs)) (sym (c.moves key))
         (newest-descends (is_past c.pin c.floor) (held_at key f.leaf.page f.leaf.chains) (held-newest-first key under)));
     bare = λ key outside. (
-      c.reconciled.shows key ∙ ap (find (is_live All)) (none-held key outside),
-      c.moves key ∙ ap (moved_of (is_live All) (is_past c.pin c.floor)) (none-held key outside),
+      c.reconciled.shows key ∙ ap (find (is_live All)) (bare-of key outside),
+      c.moves key ∙ ap (moved_of (is_live All) (is_past c.pin c.floor)) (bare-of key outside),
     );
   } where
     held-newest-first : (key : List ℕ) → leaf_under l.table key e.hub.dir.leaves ≡ Some l → Descends Older (held_at key f.leaf.page f.leaf.chains)
-    held-newest-first key under = held-ordered w.machine l.table key (chain_at key f.leaf.chains) (shown_at key f.leaf.page) st.valid (keys-stand key under)
-
-  -- a version that is not seen is of a transaction that has not ended
-  pub unseen-unended : (s : Sight) → EndedIsSeen w.machine s → AreUnended w.machine s.list → (by : ℕ) → HoldsUnseen s f.leaf by → IsUnended w.machine by
-  unseen-unended s ended ids by h = elim (lies-or-not e.hub.dir l h.key st.dir (named-there id e.hub.dir.leaves l may.there)) [
-    | inl under ↦ elim (held-cases w.machine l.table h.key (chain_at h.key f.leaf.chains) (shown_at h.key f.leaf.page) st.valid (keys-stand h.key under) h.version h.there) [
-      | inl stands ↦ elim (cases_Bool (is_listed s.list by)) [
-        | inl listed ↦ ids.each by listed
-        | inr unlisted ↦ absurd (both_ways (is_seen s h.version.window.name) h.unseen (ended.ended h.version.window.name (line-committed w.machine.history l.table h.key h.version stands)
-            (λ run u. both_ways (is_listed s.list by) unlisted (ids.all by (subst (λ n. IsUnended w.machine n) h.is u)))))
-      ]
-      | inr live ↦ record { session = live.session; transaction = live.transaction; there = live.there; drawn = subst (λ n. 0 < n) (id-is live) live.drawn; same = id-is live }
-    ]
-    | inr outside ↦ absurd (subst (Member h.version) (none-held h.key outside) h.there)
-  ] where
-    id-is : (live : IsLive w.machine h.version.window.name) → live.transaction.id ≡ by
-    id-is live = sym (ap (λ (n : Name). n.id) live.name) ∙ h.is
+    held-newest-first key under = held-ordered w.machine l.table key (chain_at key f.leaf.chains) (shown_at key f.leaf.page) st.valid (stand key under)
 
 -- ---- what is told
 
 cut-out : KeysAreReconciled → (e : Engine) (id : ℕ) (may : MayBeEvicted e id) (held : HeldLeaf) → held_in e id ≡ Some held → (out : CutOut) → IsCutOf e held out → IsCutOut e id out
 cut-out law e id may held there (Stays why) of = absurd of
-cut-out law e id may held there (Unresolved by) of = λ w st. let is = of.2 w st in
-    unseen-unended e id may w st of.0 is.0 is.1 by (subst (λ (x : HeldLeaf). HoldsUnseen of.0 x by) (same_Some held may.frame.leaf (sym there ∙ held-may e id may)) of.1)
+cut-out law e id may held there (Unresolved by) of = tells e id held there (Some by) of
 cut-out law e id may held there (Images made) of = record {
   may = may;
   rows = cut.rows;

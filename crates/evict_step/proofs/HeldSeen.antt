@@ -2,7 +2,7 @@
 use Rattle.std.proofs.Common.{◌≡◌, ℕ, suc, refl, ap, sym, ◌∙◌, true, false, List, [], ◌∷◌, inl, inr, subst}
 use Rattle.std.specs.Prelude.{Option, Some, None, IfSome, bytes_eq, option_map, slice_get}
 use Rattle.std.specs.Option.{option_to_list}
-use Rattle.std.proofs.lemmas.Bool.{cases_Bool}
+use Rattle.std.proofs.lemmas.Bool.{both_ways, cases_Bool}
 use Rattle.std.proofs.lemmas.Option.{same_Some}
 use Rattle.item.specs.declared.Change.{Change}
 use Rattle.stamp.specs.declared.Version.{Version}
@@ -21,7 +21,7 @@ use Rattle.reconcile.specs.Held.{versions}
 use Rattle.leaf_frame.specs.Leaf.{HeldLeaf}
 use Rattle.leaf_frame.specs.Updates.{AllSeen, IsLeastUnseen}
 use Rattle.leaf_frame.proofs.Pages.{shows_row}
-use Rattle.evict_step.specs.Cuts.{AllHeldSeen, HoldsUnseen}
+use Rattle.evict_step.specs.Cuts.{AllHeldSeen, HoldsLeastUnseen, HoldsUnseen}
 
 -- ---- updates
 
@@ -30,7 +30,7 @@ version-from [] v there = absurd there
 version-from (u ∷ chain) v (inl same) = (u, inl refl, sym same)
 version-from (u ∷ chain) v (inr later) = let s = version-from chain v later in (s.0, inr s.1, s.2)
 
-version-to : (chain : List Update) (u : Update) → Member u chain → Member u.version (versions chain)
+pub version-to : (chain : List Update) (u : Update) → Member u chain → Member u.version (versions chain)
 version-to [] u there = absurd there
 version-to (x ∷ chain) u (inl same) = inl (ap (λ (y : Update). y.version) same)
 version-to (x ∷ chain) u (inr later) = inr (version-to chain u later)
@@ -64,7 +64,7 @@ all-seen s held updates rows key v there = elim (member-append v (versions (chai
 ]
 
 -- an update that is not seen
-pub update-unseen : (s : Sight) (held : HeldLeaf) (id : ℕ) → IsLeastUnseen s held.chains id → HoldsUnseen s held id
+update-unseen : (s : Sight) (held : HeldLeaf) (id : ℕ) → IsLeastUnseen s held.chains id → HoldsUnseen s held id
 update-unseen s held id least = record {
   key = least.there.0;
   version = least.update.version;
@@ -72,6 +72,10 @@ update-unseen s held id least = record {
   unseen = least.unseen;
   is = least.is;
 }
+
+-- it is the least
+pub updates-unseen : (s : Sight) (held : HeldLeaf) (id : ℕ) → IsLeastUnseen s held.chains id → HoldsLeastUnseen s held id
+updates-unseen s held id least = record { holds = update-unseen s held id least; least = least.least }
 
 -- a row that is not
 pub row-unseen : (s : Sight) (held : HeldLeaf) (id : ℕ) → AreFit held.page → ((i : ℕ) × (r : Row) × (slice_get held.page i ≡ Some r) × (is_seen s r.1.window.name ≡ false) × (r.1.window.name.id ≡ id)) → HoldsUnseen s held id
@@ -83,8 +87,11 @@ row-unseen s held id fit row = record {
   is = row.4;
 }
 
--- where one is told
-pub rows-unseen : (s : Sight) (held : HeldLeaf) (page : List Row) (told : Option ℕ) → page ≡ held.page → AreFit held.page
-    → IfSome told (λ id. (i : ℕ) × (r : Row) × (slice_get page i ≡ Some r) × (is_seen s r.1.window.name ≡ false) × (r.1.window.name.id ≡ id)) → IfSome told (λ id. HoldsUnseen s held id)
-rows-unseen s held page None is fit row = tt
-rows-unseen s held page (Some id) is fit row = row-unseen s held id fit (row.0, row.1, subst (λ (rows : List Row). slice_get rows row.0 ≡ Some row.1) is row.2, row.3, row.4)
+-- where one is told, and each update is seen
+pub rows-unseen : (s : Sight) (held : HeldLeaf) (page : List Row) (told : Option ℕ) → page ≡ held.page → AreFit held.page → AllSeen s held.chains
+    → IfSome told (λ id. (i : ℕ) × (r : Row) × (slice_get page i ≡ Some r) × (is_seen s r.1.window.name ≡ false) × (r.1.window.name.id ≡ id)) → IfSome told (λ id. HoldsLeastUnseen s held id)
+rows-unseen s held page None is fit all row = tt
+rows-unseen s held page (Some id) is fit all row = record {
+  holds = row-unseen s held id fit (row.0, row.1, subst (λ (rows : List Row). slice_get rows row.0 ≡ Some row.1) is row.2, row.3, row.4);
+  least = λ u has unseen. absurd (both_ways (is_seen s u.version.window.name) unseen (all u has));
+}

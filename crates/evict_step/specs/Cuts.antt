@@ -1,9 +1,10 @@
 -- What a leaf is cut into, by which it may be evicted.
-use Rattle.std.specs.Prelude.{◌≡◌, ℕ, true, false, List, Option, None, option_and_then, option_map}
+use Rattle.std.specs.Prelude.{◌≡◌, ◌≤◌, ℕ, true, false, List, Option, None, Some, option_and_then, option_map}
 use Rattle.item.specs.declared.Change.{Change}
 use Rattle.stamp.specs.declared.Name.{Name}
 use Rattle.stamp.specs.declared.Version.{Version}
 use Rattle.kv_model.specs.Holds.{Member}
+use Rattle.kv_model.specs.Machine.{Machine}
 use Rattle.row_page.specs.Rows.{Row}
 use Rattle.leaf_rows.specs.Rows.{AreFit}
 use Rattle.snapshot.specs.Matters.{AreUnended, IsUnended, SeesNoneLiving}
@@ -17,6 +18,8 @@ use Rattle.reconcile.specs.Held.{IsReconciled, held_at, is_live, is_past, moved_
 use Rattle.reconcile.specs.Images.{AreImages}
 use Rattle.reconcile.specs.Moving.{InKeyOrder, versions_in}
 use Rattle.leaf_frame.specs.Leaf.{HeldLeaf}
+use Rattle.leaf_frame.specs.Updates.{HasUpdate, IsUnseen}
+use Rattle.update_chain.specs.declared.update.Update.{Update}
 use Rattle.tree_dir.specs.declared.leaf.Framed.{Framed}
 use Rattle.call_steps.specs.declared.frame.Frame.{Frame}
 use Rattle.engine_world.specs.Evicting.{IsEvictedTo}
@@ -45,6 +48,21 @@ pub record AreCut (e : Engine) (id : ℕ) (images : List Image) (moved : List Mo
   pub moved_fit : AllFit moved
   pub evicted : (w : World) → Stands e w → w.machine.checkpoint ≡ None → IsEvictedTo w.machine e.hub.dir.leaves may.leaf may.frame rows (λ key. versions_in key moved)
 
+-- The leaf of this id holds a version of the transaction of this id, which has not ended.
+pub record HoldsUnended (e : Engine) (m : Machine) (id by : ℕ) : Type 0 where
+  pub held : HeldLeaf
+  pub there : held_in e id ≡ Some held
+  pub key : List ℕ
+  pub version : Version Change
+  pub has : Member version (held_at key held.page held.chains)
+  pub name : version.window.name ≡ record { run = m.run; id = by }
+  pub unended : IsUnended m by
+
+-- and the id is the least of those that have an update in it
+pub record IsLeastUnended (e : Engine) (m : Machine) (id by : ℕ) : Type 0 where
+  pub holds : HoldsUnended e m id by
+  pub least : (u : Update) (other : ℕ) → HasUpdate u holds.held.chains → u.version.window.name ≡ record { run = m.run; id = other } → IsUnended m other → by ≤ other
+
 -- a version that is held is of a transaction of this id, which the snapshot does not see
 pub record HoldsUnseen (s : Sight) (held : HeldLeaf) (id : ℕ) : Type 0 where
   pub key : List ℕ
@@ -53,10 +71,20 @@ pub record HoldsUnseen (s : Sight) (held : HeldLeaf) (id : ℕ) : Type 0 where
   pub unseen : is_seen s version.window.name ≡ false
   pub is : version.window.name.id ≡ id
 
+-- and of no update that it does not see the id is less
+pub record HoldsLeastUnseen (s : Sight) (held : HeldLeaf) (id : ℕ) : Type 0 where
+  pub holds : HoldsUnseen s held id
+  pub least : (u : Update) → HasUpdate u held.chains → IsUnseen s u → id ≤ u.version.window.name.id
+
 abbrev pub IsCutOut : Engine → ℕ → CutOut → Type 0
 IsCutOut e id (Stays why) = KeepsLeaf e id why
-IsCutOut e id (Unresolved by) = (w : World) → Stands e w → IsUnended w.machine by
+IsCutOut e id (Unresolved by) = (w : World) → Stands e w → IsLeastUnended e w.machine id by
 IsCutOut e id (Images made) = AreCut e id made.images.items made.moved.items
+
+-- the least id that is unended in the leaf, if there is one
+abbrev pub TellsUnended : Engine → ℕ → Option ℕ → Type 0
+TellsUnended e id None = (w : World) → Stands e w → (by : ℕ) → HoldsUnended e w.machine id by → ⊥
+TellsUnended e id (Some by) = (w : World) → Stands e w → IsLeastUnended e w.machine id by
 
 -- ---- of what a frame holds
 
@@ -79,7 +107,19 @@ pub record IsCutFrom (e : Engine) (held : HeldLeaf) (images : List Image) (moved
   pub seen : AllHeldSeen sight held
   pub living : (w : World) → Stands e w → SeesNoneLiving w.machine sight
 
+-- what a snapshot does not see is of transactions that have not ended, and this is the least id of those that have an update
+pub record IsOfUnended (e : Engine) (held : HeldLeaf) (by : ℕ) : Type 0 where
+  pub sight : Sight
+  pub unseen : HoldsLeastUnseen sight held by
+  pub ended : (w : World) → Stands e w → EndedIsSeen w.machine sight × AreUnended w.machine sight.list
+
+-- of all that is held a snapshot sees that it is of transactions that have ended
+pub record AllOfEnded (e : Engine) (held : HeldLeaf) : Type 0 where
+  pub sight : Sight
+  pub seen : AllHeldSeen sight held
+  pub living : (w : World) → Stands e w → SeesNoneLiving w.machine sight
+
 abbrev pub IsCutOf : Engine → HeldLeaf → CutOut → Type 0
 IsCutOf e held (Stays why) = ⊥
-IsCutOf e held (Unresolved by) = (s : Sight) × HoldsUnseen s held by × ((w : World) → Stands e w → EndedIsSeen w.machine s × AreUnended w.machine s.list)
+IsCutOf e held (Unresolved by) = IsOfUnended e held by
 IsCutOf e held (Images made) = IsCutFrom e held made.images.items made.moved.items

@@ -1,8 +1,8 @@
 //! What a leaf is cut into.
 
-ghost use Rattle.std.specs.Prelude.{◌≡◌, None, option_map, IfOk, IfSome};
+ghost use Rattle.std.specs.Prelude.{◌≡◌, None, MatchOption, option_map, IfOk, IfSome};
 ghost use Rattle.leaf_capture.specs.Capture.{ChainsFit};
-ghost use Rattle.evict_step.specs.Cuts.{IsCutOf, IsCutOut, held_in};
+ghost use Rattle.evict_step.specs.Cuts.{AllOfEnded, IsCutOf, IsCutOut, IsOfUnended, TellsUnended, held_in};
 
 use crate::held::unresolved_in;
 use engine::{Local, Stays};
@@ -17,7 +17,8 @@ use txn_table::ended_are_seen;
 pub enum CutOut {
     /// It may not be evicted at this moment.
     Stays(Stays),
-    /// It holds a version of the transaction of this id, which has not ended.
+    /// It holds a version of the transaction of this id, which has not ended: the least such that has
+    /// an update in it.
     Unresolved(u64),
     /// The images of its rows, in the order of their keys, none where no key is held; and the older
     /// versions that may still be wanted, which move to the history.
@@ -38,6 +39,27 @@ pub fn cut_out(alloc: Global, engine: &Local, leaf: u64) -> Result<CutOut, NoMem
         None => Ok(CutOut::Stays(Stays::Away)),
         Some(frame) => cut(alloc, engine, frame),
     }
+}
+
+/// The least id of a transaction that has not ended and has an update in the leaf of this id, which is in
+/// a frame; where none has, one that has a row there; else none. The error is want of memory.
+/// `O(rows + updates)`, and `O(n log n)` in the sessions.
+pub fn unended_in(alloc: Global, engine: &Local, leaf: u64) -> Result<Option<u64>, NoMemory>
+    ensures { IfOk result (λ told. TellsUnended engine.now leaf told) }
+{
+    match frame_of(engine, leaf) {
+        None => Ok(None),
+        Some(frame) => unended_at(alloc, engine, frame),
+    }
+}
+
+// The same of a leaf in a frame.
+fn unended_at(alloc: Global, engine: &Local, leaf: &LeafFrame) -> Result<Option<u64>, NoMemory>
+    ensures { IfOk result (λ told. MatchOption told (AllOfEnded engine.now leaf.now) (IsOfUnended engine.now leaf.now)) }
+{
+    ended_are_seen();
+    let live = engine.checkpoint_snapshot(alloc)?;
+    Ok(unresolved_in(leaf, &live))
 }
 
 // The leaf of this id in its frame.

@@ -3,17 +3,17 @@
 ghost use Rattle.std.specs.Prelude.{◌≡◌, ℕ, Some, None, true, false, IfSome, slice_get};
 ghost use Rattle.row_page.specs.Rows.{Row as ARow};
 ghost use Rattle.snapshot.specs.Sight.{is_seen};
-ghost use Rattle.evict_step.specs.Cuts.{AllHeldSeen, HoldsUnseen};
+ghost use Rattle.evict_step.specs.Cuts.{AllHeldSeen, HoldsLeastUnseen};
 
 use leaf_frame::LeafFrame;
 use row_page::Leaf;
 use snapshot::Snapshot;
 
-// The id of a version's transaction that the snapshot does not see, of updates or of rows. `O(n + k +
-// r)` with n keys in the chains, k updates and r rows.
+// The least id of an update's transaction that the snapshot does not see; where it sees each of these,
+// that of a row. `O(n + k + r)` with n keys in the chains, k updates and r rows.
 pub(crate) fn unresolved_in(leaf: &LeafFrame, live: &Snapshot) -> Option<u64>
     ensures none { result ≡ None → AllHeldSeen live.now.sight leaf.now }
-    ensures some { IfSome result (λ id. HoldsUnseen live.now.sight leaf.now id) }
+    ensures some { IfSome result (λ id. HoldsLeastUnseen live.now.sight leaf.now id) }
 {
     if let Some(id) = leaf.unresolved(live) {
         return Some(id);

@@ -53,6 +53,18 @@ unstamped formats (call.System number (system.Create table its)) is now = tt
 unstamped formats (call.System number (system.SetStamps oldest stable)) is now = tt
 unstamped formats (call.System number _) is now = absurd (now (λ none. none))
 
+-- one that evicts is none that may be started
+later_stored : (formats : Formats) (made : Call) (number : ℕ) (table key : List ℕ) → stored_call formats made ≡ call.System number (system.Evict table key) → IsLaterCall made
+later_stored formats (call.Session session made) number table key is = absurd cc
+later_stored formats (call.System n (system.Create name its)) number table key is = absurd cc
+later_stored formats (call.System n (system.SetStamps oldest stable)) number table key is = absurd cc
+later_stored formats (call.System n (system.Evict name other)) number table key is = λ none. none
+later_stored formats (call.System n system.RollbackToStable) number table key is = λ none. none
+later_stored formats (call.System n system.StartCheckpoint) number table key is = λ none. none
+later_stored formats (call.System n system.StepCheckpoint) number table key is = λ none. none
+later_stored formats (call.System n system.FinishCheckpoint) number table key is = λ none. none
+later_stored formats (call.System n system.Close) number table key is = λ none. none
+
 by_leaves : (later next : Script) → later ≡ next → IsCalm next.world → IsCalm later.world
 by_leaves later next is calm = subst (λ (x : Script). IsCalm x.world) (sym is) calm
 
@@ -100,7 +112,8 @@ module _ (laws : CalmLaws) where
     start_calm made w is now calm (inr refuses) = refused_calm NoMemory w calm refuses
 
     pub line_calm : (asked : Line) → gives_stamp asked ≡ false → IsOfActor asked → IsCalm s.world → Replies asked s formats reply later → IsCalm later.world
-    line_calm (Whole made) is now calm replies =
+    line_calm (Whole made) is now calm (inr x) = absurd (now (later_stored formats made x.number x.table x.key x.is))
+    line_calm (Whole made) is now calm (inl replies) =
         opens_calm (caller made) s.world later.world (λ w. Answers made s formats reply later w ⊎ Refuses NoMemory s w reply later) (λ r w. Refuses r s w reply later) calm
         (λ v c there. whole_calm made v is now c there) (λ r v c refuses. refused_calm r v c refuses) replies
     line_calm (Start made) is now calm replies =

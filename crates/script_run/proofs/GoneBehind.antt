@@ -21,7 +21,7 @@ use Rattle.script_run.specs.Scripts.{Behind, GoneBehind, LeavesGone, Script}
 -- ---- calm worlds
 
 -- the calls that are under way are the same
-calm_as : (w : World) (m : Machine) (shelf : ℕ → List Row) (again : ℕ → Bool) → IsCalm w → IsPlain m → IsCalm (record w { machine = m; shelf = shelf; again = again })
+pub calm_as : (w : World) (m : Machine) (shelf : ℕ → List Row) (again : ℕ → Bool) → IsCalm w → IsPlain m → IsCalm (record w { machine = m; shelf = shelf; again = again })
 calm_as w m shelf again calm plain = record { plain = plain; doings = calm.doings; systems = calm.systems }
 
 -- ---- a line of an actor
@@ -45,10 +45,10 @@ module _ {D : Type 0} (g : Ghosts D) (first : D) (s : Script) (store store' : St
     pub calm : IsCalm s.world → IsCalm later.world
 
   module _ (next : Machine) (x : RoomMade g first s.world s.first s.made store store' disk disk' next) where
-    abbrev now : Script
+    abbrev pub now : Script
     now = record s { world = record s.world { machine = next; shelf = x.shelf; again = x.again }; device = device_of g disk' }
 
-    gone : LeavesGone s next (device_of g disk') now
+    pub gone : LeavesGone s next (device_of g disk') now
     gone = record {
       shelf = x.shelf;
       again = x.again;

@@ -9,6 +9,7 @@ use Rattle.item.specs.declared.formats.Formats.{Formats}
 use Rattle.wt_code.specs.declared.answers.Answer.TheVariants.{Refused}
 use Rattle.wt_code.specs.declared.refusals.Refusal.{Refusal}
 use Rattle.wt_code.specs.declared.refusals.Refusal.TheVariants.{DiskFault}
+use Rattle.wt_calls.specs.declared.call.Call.{Call}
 use Rattle.script_text.specs.declared.line.Control.{Control as ControlAsked}
 use Rattle.script_text.specs.declared.line.Line.{Line}
 use Rattle.script_text.specs.declared.line.Line.TheVariants.{Whole, Start, Step, Finish, Control}
@@ -58,13 +59,13 @@ or_second : (a b : Bool) → a || b ≡ false → b ≡ false
 or_second false b is = is
 or_second true b is = absurd (false≢true (sym is))
 
--- a line that is none of the device
-pub of_actor : (asked : Line) (stamped : Bool) → (IsLater stamped asked → ⊥) → ((x : ControlAsked) → asked ≡ Control x → ⊥) → IsOfActor asked
-of_actor (Whole made) stamped now other = now
-of_actor (Start made) stamped now other = now
-of_actor (Step who) stamped now other = tt
-of_actor (Finish who) stamped now other = tt
-of_actor (Control asked) stamped now other = absurd (other asked refl)
+-- a line that is none of the device, and no whole call
+pub of_actor : (asked : Line) (stamped : Bool) → (IsLater stamped asked → ⊥) → ((x : ControlAsked) → asked ≡ Control x → ⊥) → ((x : Call) → asked ≡ Whole x → ⊥) → IsOfActor asked
+of_actor (Whole made) stamped now other whole = absurd (whole made refl)
+of_actor (Start made) stamped now other whole = now
+of_actor (Step who) stamped now other whole = tt
+of_actor (Finish who) stamped now other whole = tt
+of_actor (Control asked) stamped now other whole = absurd (other asked refl)
 
 -- behind the line leaves may have left their frames
 pub actor_told : {D : Type 0} (g : Ghosts D) (first : D) (store middle store' : Store) (disk between disk' : D) (asked : Line) (laws : CalmLaws) (stamped : Bool) (s : Script) (told : LineTold) (kept : List Formats) → IsOfActor asked → IsAt g first stamped store disk s

@@ -6,6 +6,7 @@ pub mod Replying
 pub mod Telling
 pub mod Calming
 pub mod GoneBehind
+pub mod EvictingLines
 pub mod Holding
 pub mod Devices
 pub mod Scripting

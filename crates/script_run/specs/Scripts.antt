@@ -24,6 +24,8 @@ use Rattle.stored.specs.Stored.{Reads}
 use Rattle.wt_calls.specs.declared.call.Call.{Call}
 use Rattle.wt_calls.specs.declared.call.Call.TheVariants as call
 use Rattle.wt_calls.specs.declared.session_call.SessionCall.TheVariants as session_call
+use Rattle.wt_calls.specs.declared.system_call.SystemCall.{SystemCall}
+use Rattle.wt_calls.specs.declared.system_call.SystemCall.TheVariants as system
 use Rattle.call_steps.specs.declared.reply.Reply.{Reply as Told}
 use Rattle.call_steps.specs.declared.reply.Reply.TheVariants as told
 use Rattle.script_text.specs.declared.line.Actor.{Actor}
@@ -38,7 +40,8 @@ use Rattle.script_text.specs.Grammar.{IsLine}
 use Rattle.script_text.specs.Replies.{line_of_reply}
 use Rattle.script_text.specs.Stored.{table_of_items, stored_call}
 use Rattle.row_page.specs.Rows.{Row}
-use Rattle.engine_world.specs.Worlds.{World}
+use Rattle.engine_world.specs.Stands.{Engine, Stands}
+use Rattle.engine_world.specs.Worlds.{Records, World}
 use Rattle.engine_world.specs.Systems.{checkpointed}
 use Rattle.engine.specs.declared.step.Actor.{Actor as EngineActor}
 use Rattle.engine.specs.declared.step.Actor.TheVariants as by
@@ -49,6 +52,7 @@ use Rattle.ckpt_step.specs.declared.lives.Lone.{Lone}
 use Rattle.engine_store.specs.Answers.{CheckpointTakes, CloseTakes, Installs, IsLeft, RefusesReopening}
 use Rattle.engine_store.specs.Calls.{EndsBy, MayAnswerOn, MayStepOn}
 use Rattle.engine_store.specs.Devices.{Device, Installed, IsLater as IsLaterDevice, IsRead, KeepsCheckpoint, may_open_to}
+use Rattle.engine_store.specs.EvictCalls.{EvictAnswers, evict_around}
 use Rattle.engine_store.specs.Loads.{IsCause}
 use Rattle.script_run.specs.declared.script.End.{End}
 use Rattle.script_run.specs.declared.script.End.TheVariants.{Through, Stopped, InputFailed, OutputFailed}
@@ -72,10 +76,21 @@ plain = record { key = U; value = U }
 abbrev pub formats_in : Machine → Call → Formats
 formats_in m made = of_some plain (λ name. of_some plain (λ t. t.formats) (named name (tables m.history))) (table_of_items made)
 
--- a call, and a line, of a later stage
+-- a call that is started, of a later stage
 abbrev pub IsLaterCall : Call → Type 0
 IsLaterCall (call.Session session made) = ⊥
 IsLaterCall (call.System number made) = IsBuilt made → ⊥
+
+-- a whole call of the system that is made: those that may be started, and an eviction
+abbrev pub IsMade : SystemCall → Type 0
+IsMade (system.Create table formats) = Unit {0}
+IsMade (system.SetStamps oldest stable) = Unit {0}
+IsMade (system.Evict table key) = Unit {0}
+IsMade _ = ⊥
+
+abbrev pub IsLaterWhole : Call → Type 0
+IsLaterWhole (call.Session session made) = ⊥
+IsLaterWhole (call.System number made) = IsMade made → ⊥
 
 -- a checkpoint and a close are once the text has committed with a stamp
 abbrev pub IsLaterControl : Bool → Control → Type 0
@@ -85,7 +100,7 @@ IsLaterControl stamped Crash = ⊥
 IsLaterControl stamped (Frames count) = ⊥
 
 abbrev pub IsLater : Bool → Line → Type 0
-IsLater stamped (Whole made) = IsLaterCall made
+IsLater stamped (Whole made) = IsLaterWhole made
 IsLater stamped (Start made) = IsLaterCall made
 IsLater stamped (Step who) = ⊥
 IsLater stamped (Finish who) = ⊥
@@ -204,6 +219,37 @@ pub record Ends (who : EngineActor) (s : Script) (formats : Formats) (reply : Re
   pub told : reply ≡ Answered answer
   pub leaves : later ≡ record s { world = next; device = device }
 
+-- ---- leaves that leave their frames
+
+-- Leaves may have left their frames, and the machine is this one then: nobody sees it, but that calls which had found such a leaf may be told so.
+pub record LeavesGone (s : Script) (next : Machine) (device : Device) (later : Script) : Type 0 where
+  pub shelf : ℕ → List Row
+  pub again : ℕ → Bool
+  pub more : (session : ℕ) → s.world.again session ≡ true → again session ≡ true
+  pub after : IsLaterDevice s.device device
+  pub capacity : device.capacity ≡ s.device.capacity
+  pub leaves : later ≡ record s { world = record s.world { machine = next; shelf = shelf; again = again }; device = device }
+
+-- The leaf of a key is evicted, in a whole call. engine: one that stands for the world with some history, by which it is told what keeps a leaf; lives: the leaves that were written since the last checkpoint. While the engine is up the device has the checkpoint that it had.
+pub record Evicts (made : Call) (s : Script) (formats : Formats) (reply : Reply) (later : Script) : Type 0 where
+  pub number : ℕ
+  pub table : List ℕ
+  pub key : List ℕ
+  pub formats_are : formats ≡ formats_in s.world.machine made
+  -- with its key as the table stores it
+  pub is : stored_call formats made ≡ call.System number (system.Evict table key)
+  pub answer : Answer (List ℕ)
+  pub next : Machine
+  pub device : Device
+  pub engine : Engine
+  pub records : Records
+  pub stands : Stands engine (record s.world { records = records })
+  pub lives : List Lone
+  pub answered : EvictAnswers (slice_index_or s.world.systems number None) (evict_around engine lives s.device device s.world.machine table key) s.world.machine table key answer next
+  pub keeps : next.fault ≡ None → KeepsCheckpoint s.device device
+  pub told : reply ≡ Answered answer
+  pub gone : LeavesGone s next device later
+
 -- ---- lines that are asked of the device
 
 -- the world of an engine as an opening makes it, with these rows in leaves that are in no frame: no session, nothing started, and nothing in the history
@@ -283,6 +329,7 @@ StopsBy _ s r later = ⊥
 abbrev pub Replies : Line → Script → Formats → Reply → Script → Type 0
 Replies (Whole made) s formats reply later =
     Opens (caller made) s.world (λ w. Answers made s formats reply later w ⊎ Refuses refusal.NoMemory s w reply later) (λ r w. Refuses r s w reply later)
+    ⊎ Evicts made s formats reply later
 Replies (Start made) s formats reply later =
     Opens (caller made) s.world (λ w. Begins made s formats reply later w ⊎ Refuses refusal.NoMemory s w reply later) (λ r w. Refuses r s w reply later)
 Replies (Step who) s formats reply later = Opens (actor_in who) s.world (λ w. Goes (actor_in who) s formats reply later w) (λ r w. Refuses r s w reply later)
@@ -290,15 +337,6 @@ Replies (Finish who) s formats reply later = Opens (actor_in who) s.world (λ w.
 Replies (OfAll asked) s formats reply later = (formats ≡ plain) × ControlReplies asked s reply later
 
 -- ---- what goes behind a line
-
--- Leaves may have left their frames, and the machine is this one then: nobody sees it, but that calls which had found such a leaf may be told so.
-pub record LeavesGone (s : Script) (next : Machine) (device : Device) (later : Script) : Type 0 where
-  pub shelf : ℕ → List Row
-  pub again : ℕ → Bool
-  pub more : (session : ℕ) → s.world.again session ≡ true → again session ≡ true
-  pub after : IsLaterDevice s.device device
-  pub capacity : device.capacity ≡ s.device.capacity
-  pub leaves : later ≡ record s { world = record s.world { machine = next; shelf = shelf; again = again }; device = device }
 
 -- the machine is the same, and the device has the checkpoint that it had
 pub record GoneUp (s later : Script) : Type 0 where

@@ -2,19 +2,22 @@
 //! something that is asked of the device, and for each the line of text that tells its reply.
 //!
 //! It stands for `specs/Lines`, which says how an input is cut into lines, and for `specs/Scripts`,
-//! which says what a line replies, what it leaves, and how a script ends. Promises that `run_script`
-//! runs the lines of its input in order, each as it says, and prints of each what tells its reply;
-//! that a call whose leaf is read from the device and cannot be had is refused, and tells a fault of
-//! the disk only where one rose; that behind a line of an actor leaves may leave memory, which no reply
-//! tells, but that the engine is down where a write failed then; that a refusal which a line replies does
-//! not end the script, and that bytes which are no line, or one of a later stage, change nothing and
-//! stop it with the number of their line; and that it ends else only where the device is not opened
-//! anew, for want of memory, at a stream that fails, or at the end of the input. What the device opens
-//! to then is told by the checkpoints that lines installed. Leaves to the caller where the store comes
-//! from, and what is told of how a script ended.
+//! which says what a line replies, what it leaves, and how a script ends. Promises that
+//! `run_script` runs the lines of its input in order, each as it says, and prints of each what
+//! tells its reply; that a call whose leaf is read from the device and cannot be had is refused,
+//! and tells a fault of the disk only where one rose; that a whole call which evicts the leaf of a
+//! key writes to the device, and tells who keeps it; that behind any other line of an actor leaves
+//! may leave memory, which no reply tells, but that the engine is down where a write failed then;
+//! that a refusal which a line replies does not end the script, and that bytes which are no line,
+//! or one of a later stage, change nothing and stop it with the number of their line; and that it
+//! ends else only where the device is not opened anew, for want of memory, at a stream that fails,
+//! or at the end of the input. What the device opens to then is told by the checkpoints that lines
+//! installed. Leaves to the caller where the store comes from, and what is told of how a script
+//! ended.
 #![tactic(auto)]
 
 mod control;
+mod evicting;
 mod lines;
 mod one_line;
 mod script;

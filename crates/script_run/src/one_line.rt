@@ -1,5 +1,5 @@
 // One line of a script: what it asks for is made, and the line that tells its reply.
-ghost use Rattle.std.specs.Prelude.{◌≡◌, ◌⊎◌, ◌↔◌, ◌<◌, ◌||◌, ◌++◌, ◌∷◌, [], ℕ, Bool, List, false, length, IsTrue, IfOk, IfErr, OnErr};
+ghost use Rattle.std.specs.Prelude.{◌≡◌, ◌⊎◌, ◌↔◌, ◌<◌, ◌||◌, ◌++◌, ◌∷◌, [], ℕ, Bool, List, Ok, false, length, IsTrue, IfOk, IfErr, OnErr};
 ghost use Rattle.disk_model.specs.Crash.{SameDisk};
 ghost use Rattle.engine_store.specs.Opened.{IsAtFault, IsReady};
 ghost use Rattle.wt_code.specs.declared.refusals.Refusal.TheVariants.{Corrupt};
@@ -10,10 +10,11 @@ ghost use Rattle.engine_world.specs.Worlds.{World};
 ghost use Rattle.engine.specs.Runs.{IsBuilt};
 ghost use Rattle.engine_store.specs.Calls.{CallKeeps, MayAnswerSo, StaysTold, TellsSo};
 ghost use Rattle.script_run.specs.Faults.{RepliesFault, TellsFaults};
-ghost use Rattle.script_run.specs.Runs.{IsAnswerTo, IsAnswered, IsAt, IsBegun, IsEnded, IsGone, IsKnown, IsNoSession, IsOfActor, IsOfKnown, IsReplied, IsTaken, IsThere, LineMade, OpensAs, PrintsFault, RepliedAs, RepliesSo, Standing, StandingIn, StandsAt, StopsDamaged};
-ghost use Rattle.script_run.specs.Scripts.{Script, IsLater, IsLaterCall, IsLaterControl, actor_in, call_stamps, caller, formats_in, gives_stamp, in_script, kept_after, kept_formats, kept_more, listed, refusals_in};
+ghost use Rattle.script_run.specs.Runs.{IsAnswerTo, IsAnswered, IsAt, IsBegun, IsEnded, IsGone, IsKnown, IsNoSession, IsOfActor, IsOfKnown, IsReplied, IsTaken, IsThere, IsTold, LineMade, OpensAs, PrintsFault, RepliedAs, RepliesSo, Standing, StandingIn, StandsAt, StopsDamaged};
+ghost use Rattle.script_run.specs.Scripts.{Script, IsLater, IsLaterCall, IsLaterControl, IsLaterWhole, IsMade, actor_in, call_stamps, caller, formats_in, gives_stamp, in_script, kept_after, kept_formats, kept_more, listed, refusals_in};
 
 use crate::control::control;
+use crate::evicting::evict;
 use crate::told::{PLAIN, Told, refused};
 use ckpt_step::calm_stays;
 use disk_model::Disk;
@@ -128,6 +129,27 @@ fn is_built(call: &SystemCall) -> bool
     }
 }
 
+// Whether the store makes a whole call of the system.
+fn is_made(call: &SystemCall) -> bool
+    ensures { IsTrue result ↔ IsMade call.now }
+{
+    match call {
+        SystemCall::Create { .. } => true,
+        SystemCall::SetStamps { .. } => true,
+        SystemCall::Evict { .. } => true,
+        _ => false,
+    }
+}
+
+fn is_later_whole(call: &Call) -> bool
+    ensures { IsTrue result ↔ IsLaterWhole call.now }
+{
+    match call {
+        Call::Session(_, _) => false,
+        Call::System(_, call) => !is_made(call),
+    }
+}
+
 fn is_later_call(call: &Call) -> bool
     ensures { IsTrue result ↔ IsLaterCall call.now }
 {
@@ -151,7 +173,7 @@ fn is_later(line: &Line, stamped: bool) -> bool
     ensures { IsTrue result ↔ IsLater stamped line.now }
 {
     match line {
-        Line::Whole(call) => is_later_call(call),
+        Line::Whole(call) => is_later_whole(call),
         Line::Start(call) => is_later_call(call),
         Line::Step(_) => false,
         Line::Finish(_) => false,
@@ -201,13 +223,56 @@ fn reply_to<D: Disk>(
 {
     match line {
         Line::Control(asked) => control(alloc, store, disk, formats, asked),
-        line => {
-            calm_stays();
-            let told = reply_of(alloc, store, disk, formats.as_mut_slice(), line);
-            store.make_room(alloc, disk);
-            Ok(told)
-        }
+        Line::Whole(call) => Ok(reply_to_whole(alloc, store, disk, formats, call)),
+        line => Ok(reply_to_actor(alloc, store, disk, formats, line)),
     }
+}
+
+// The reply to a whole call. An eviction writes to the device, and no leaf leaves memory behind it.
+fn reply_to_whole<D: Disk>(
+    alloc: Global,
+    store: &mut Store,
+    disk: &mut D,
+    formats: &mut [Formats; SESSIONS_MAX],
+    call: Call,
+) -> Told
+    requires now { IsLaterWhole call → ⊥ }
+    requires actor { IsKnown (caller call) }
+    requires ready { IsReady store.old }
+    ensures replies { IsTrue (D.honest disk.old) → (first_disk : D) → (stamped : Bool) → (s : Script) → IsAt D.Disk first_disk stamped store.old disk.old s → s.formats ≡ formats.old
+        → IsTold D.Disk first_disk (stamped || call_stamps call) (WholeLine call) s store.new disk.new formats.new result }
+    ensures told { TellsFaults D.Disk store.old store.new disk.old disk.new (λ rose. RepliesFault (Ok result) → rose) }
+    ensures ready { IsReady store.new }
+    ensures disk { SameDisk D.Disk disk.old disk.new }
+{
+    if is_later_call(&call) {
+        evict(alloc, store, disk, call)
+    } else {
+        reply_to_actor(alloc, store, disk, formats, Line::Whole(call))
+    }
+}
+
+// The reply to a line of an actor, behind which leaves may leave memory.
+fn reply_to_actor<D: Disk>(
+    alloc: Global,
+    store: &mut Store,
+    disk: &mut D,
+    formats: &mut [Formats; SESSIONS_MAX],
+    line: Line,
+) -> Told
+    requires now { IsOfActor line }
+    requires actor { IsOfKnown line }
+    requires ready { IsReady store.old }
+    ensures replies { IsTrue (D.honest disk.old) → (first_disk : D) → (stamped : Bool) → (s : Script) → IsAt D.Disk first_disk stamped store.old disk.old s → s.formats ≡ formats.old
+        → IsTold D.Disk first_disk (stamped || gives_stamp line) line s store.new disk.new formats.new result }
+    ensures told { TellsFaults D.Disk store.old store.new disk.old disk.new (λ rose. RepliesFault (Ok result) → rose) }
+    ensures ready { IsReady store.new }
+    ensures disk { SameDisk D.Disk disk.old disk.new }
+{
+    calm_stays();
+    let told = reply_of(alloc, store, disk, formats.as_mut_slice(), line);
+    store.make_room(alloc, disk);
+    told
 }
 
 // The reply to a line of an actor, for which the device is read at most.
@@ -283,7 +348,7 @@ fn open_up_to<D: Disk>(alloc: Global, store: &mut Store, session: u32) -> Result
 }
 
 // The formats of the items of a call, and of its answer.
-fn formats_in(local: &Local, call: &Call) -> Formats
+pub(crate) fn formats_in(local: &Local, call: &Call) -> Formats
     ensures { (w : World) → Stands local.now w → result ≡ formats_in w.machine call.now }
 {
     match table_of_items(call) {

@@ -1,6 +1,7 @@
 // Scripts, with what each prints and how it ends, on a device on which nothing was done.
 mod bad_lines;
 mod devices;
+mod evictions;
 mod rooms;
 mod steps;
 mod stories;
@@ -9,6 +10,7 @@ use bad_lines::NO_LINES;
 use devices::{DEVICES, FAILING, STAMPED};
 use disk_model::MemDisk;
 use engine_store::{FRAMES, open_on};
+use evictions::EVICTIONS;
 use failure::NoMemory;
 use plain_disk::PlainDisk;
 use script_run::{Lines, NoLine, ScriptRun, run_script};
@@ -107,7 +109,8 @@ fn stories_come_out_as_written(rt: HostRuntime) -> Result<(), Fail> {
     all_come_out(&rt, alloc, SINGLE)?;
     all_come_out(&rt, alloc, COMMITS)?;
     all_come_out(&rt, alloc, ROLLBACKS)?;
-    all_come_out(&rt, alloc, DEVICES)
+    all_come_out(&rt, alloc, DEVICES)?;
+    all_come_out(&rt, alloc, EVICTIONS)
 }
 
 // A line that puts a value of so many letters, behind two other lines.

@@ -237,6 +237,30 @@ fn leaves_come_back_with_versions_that_are_wanted(rt: HostRuntime) {
     assert!(rt; have(&rt, alloc, &mut bench, 100));
 }
 
+// A leaf has room for two rows, and grows by two, while a transaction may ask for the older versions of
+// the first two. It parts, and the leaves in its place come back with them.
+#[test]
+fn leaves_part_and_come_back_with_versions_that_are_wanted(rt: HostRuntime) {
+    let alloc = rt.alloc();
+    let content = content_of_rows(&rt, alloc);
+    let bench = open_with(&rt, alloc, content.as_slice(), &[]);
+    let mut bench = bench.expect(&rt, "it opens");
+    begin(&rt, alloc, &mut bench, 1);
+    for step in 0..ROWS {
+        let row = row_at(step);
+        assert!(rt; write_over(&rt, alloc, &mut bench, row) == Ok(()));
+        let told = write(&rt, alloc, &mut bench, &[row, 0], row);
+        assert!(rt; told == Ok(()));
+        assert!(rt; framed(&bench) <= KEPT as usize + 1);
+    }
+    for row in 0..ROWS {
+        assert!(rt; gives(&rt, alloc, &mut bench, 1, &[row], row));
+        assert!(rt; !gives(&rt, alloc, &mut bench, 1, &[row, 0], row));
+    }
+    commit(&rt, alloc, &mut bench, 1);
+    assert!(rt; have(&rt, alloc, &mut bench, 100));
+}
+
 // Whether each row, and one more behind it, has its value.
 fn have_both(rt: &impl Abort, alloc: Global, bench: &mut Bench) -> bool {
     begin(rt, alloc, bench, 0);

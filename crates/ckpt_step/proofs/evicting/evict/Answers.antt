@@ -3,6 +3,7 @@ use Rattle.evict_step.specs.declared.cut.CutOut.{CutOut}
 use Rattle.evict_step.specs.Cuts.{AreCut, IsCutOut}
 use Rattle.reconcile.specs.declared.image.Image.{Image}
 use Rattle.reconcile.specs.declared.image.Moved.{Moved}
+use Rattle.ckpt_step.proofs.LedEmpty.{left_empty, stayed_same}
 use Rattle.ckpt_step.proofs.LedEnds.{down_led, stayed_led}
 use Rattle.ckpt_step.proofs.OutCuts.{is_none, not_none}
 use Rattle.ckpt_step.specs.Kept.{KeepsThese, Lists}
@@ -29,41 +30,77 @@ returns-in-Unresolved-clause-evicts g c h w stands idle old on follows device = 
   subst (λ (x : CutOut). IsCutOut c.args.engine.now c.args.leaf x) c.in-Unresolved.is c.in-Ok.ensures w stands,
 )
 
-pub returns-then-is_empty-clause-evicts : goal.returns-then-is_empty-clause-evicts
-returns-then-is_empty-clause-evicts g c h w stands idle old on follows device = (
-  stayed_led g.D.Disk old w c.args.ground.now c.args.engine.now c.args.leaf c.args.disk.now (λ x is. g.met.D.Disk.only_now _ x is) on follows device,
-  record {
-    moved = c.in-Images.made.moved.items;
-    cut = subst (λ (l : List Image). AreCut c.args.engine.now c.args.leaf l c.in-Images.made.moved.items) (is_none c.in-Images.made.images.items c.in-Images.made.images.len (sym c.in-Images.made.images.ok.0) (sym c.is_empty.ensures ∙ c.if-is_empty.true))
-        (subst (λ (x : CutOut). IsCutOut c.args.engine.now c.args.leaf x) c.in-Images.is c.in-Ok.ensures);
-  },
-)
+-- ---- it has no keys
+
+pub leave_empty-requires : goal.leave_empty-requires
+leave_empty-requires g c = record {
+  cut = (
+    c.in-Images.made.moved.items,
+    subst (λ (l : List Image). AreCut c.args.engine.now c.args.leaf l c.in-Images.made.moved.items) (is_none c.in-Images.made.images.items c.in-Images.made.images.len (sym c.in-Images.made.images.ok.0) (sym c.is_empty.ensures ∙ c.if-is_empty.true))
+        (subst (λ (x : CutOut). IsCutOut c.args.engine.now c.args.leaf x) c.in-Images.is c.in-Ok.ensures),
+  );
+}
+
+pub returns-in-Ok-true-clause-evicts : goal.returns-in-Ok-true-clause-evicts
+returns-in-Ok-true-clause-evicts g c h w stands idle old on follows device =
+    let D = g.D.Disk in
+    let moved = c.in-Images.made.moved.items in
+    let cut = subst (λ (l : List Image). AreCut c.args.engine.now c.args.leaf l moved) (is_none c.in-Images.made.images.items c.in-Images.made.images.len (sym c.in-Images.made.images.ok.0) (sym c.is_empty.ensures ∙ c.if-is_empty.true))
+    (subst (λ (x : CutOut). IsCutOut c.args.engine.now c.args.leaf x) c.in-Images.is c.in-Ok.ensures) in
+    left_empty D old w c.args.engine.now c.leave_empty.new.engine c.args.ground.now c.leave_empty.new.ground c.args.leaf c.args.disk.now stands idle
+    (stayed_led D old w c.args.ground.now c.args.engine.now c.args.leaf c.args.disk.now (λ x is. g.met.D.Disk.only_now _ x is) on follows device) moved cut (c.in-Ok-true.ensures.left c.in-Ok-true.field-0-test)
+
+pub returns-in-Ok-true-clause-engine : goal.returns-in-Ok-true-clause-engine
+returns-in-Ok-true-clause-engine g c = let x = c.in-Ok-true.ensures.left c.in-Ok-true.field-0-test in (x.link, x.out)
+
+pub returns-in-Ok-true-clause-keeps : goal.returns-in-Ok-true-clause-keeps
+returns-in-Ok-true-clause-keeps g c w stands keeps = subst (λ (l : Lists). KeepsThese w l) (sym c.leave_empty.ensures.history) keeps
+
+pub returns-in-Ok-false-clause-evicts : goal.returns-in-Ok-false-clause-evicts
+returns-in-Ok-false-clause-evicts g c h w stands idle old on follows device =
+    let D = g.D.Disk in
+    let moved = c.in-Images.made.moved.items in
+    let same = c.in-Ok-false.ensures.not c.in-Ok-false.field-0-test in (
+      stayed_same D old w c.args.engine.now c.leave_empty.new.engine c.args.ground.now c.leave_empty.new.ground c.args.leaf c.args.disk.now same.0 same.1
+          (stayed_led D old w c.args.ground.now c.args.engine.now c.args.leaf c.args.disk.now (λ x is. g.met.D.Disk.only_now _ x is) on follows device),
+      record {
+        moved = moved;
+        cut = subst (λ (l : List Image). AreCut c.args.engine.now c.args.leaf l moved) (is_none c.in-Images.made.images.items c.in-Images.made.images.len (sym c.in-Images.made.images.ok.0) (sym c.is_empty.ensures ∙ c.if-is_empty.true))
+            (subst (λ (x : CutOut). IsCutOut c.args.engine.now c.args.leaf x) c.in-Images.is c.in-Ok.ensures);
+      },
+    )
+
+pub returns-in-Ok-false-clause-engine : goal.returns-in-Ok-false-clause-engine
+returns-in-Ok-false-clause-engine g c = (c.in-Ok-false.ensures.not c.in-Ok-false.field-0-test).0
+
+pub returns-in-Ok-false-clause-keeps : goal.returns-in-Ok-false-clause-keeps
+returns-in-Ok-false-clause-keeps g c w stands keeps = subst (λ (l : Lists). KeepsThese w l) (sym c.leave_empty.ensures.history) keeps
+
+pub returns-in-Err-clause-evicts : goal.returns-in-Err-clause-evicts
+returns-in-Err-clause-evicts g c h w stands idle old on follows device =
+    let D = g.D.Disk in
+    let same = c.in-Err.ensures.kept in
+    inl (
+      stayed_same D old w c.args.engine.now c.leave_empty.new.engine c.args.ground.now c.leave_empty.new.ground c.args.leaf c.args.disk.now same.0 same.1
+          (stayed_led D old w c.args.ground.now c.args.engine.now c.args.leaf c.args.disk.now (λ x is. g.met.D.Disk.only_now _ x is) on follows device),
+      inr (inl refl),
+    )
+
+pub returns-in-Err-clause-engine : goal.returns-in-Err-clause-engine
+returns-in-Err-clause-engine g c = inl c.in-Err.ensures.kept.0
+
+pub returns-in-Err-clause-keeps : goal.returns-in-Err-clause-keeps
+returns-in-Err-clause-keeps g c w stands keeps = subst (λ (l : Lists). KeepsThese w l) (sym c.leave_empty.ensures.history) keeps
+
+-- ---- it has some
 
 pub evict_whole-requires-clause-cut : goal.evict_whole-requires-clause-cut
 evict_whole-requires-clause-cut g c = subst (λ (x : CutOut). IsCutOut c.args.engine.now c.args.leaf x) c.in-Images.is c.in-Ok.ensures
 
-pub returns-then-not-is_empty-clause-evicts : goal.returns-then-not-is_empty-clause-evicts
-returns-then-not-is_empty-clause-evicts g c h w stands idle old on follows device = (
-  stayed_led g.D.Disk old w c.args.ground.now c.args.engine.now c.args.leaf c.args.disk.now (λ x is. g.met.D.Disk.only_now _ x is) on follows device,
-  record {
-    images = c.in-Images.made.images.items;
-    moved = c.in-Images.made.moved.items;
-    cut = subst (λ (x : CutOut). IsCutOut c.args.engine.now c.args.leaf x) c.in-Images.is c.in-Ok.ensures;
-    more = (let some = not_none c.in-Images.made.images.items c.in-Images.made.images.len (sym c.in-Images.made.images.ok.0) (sym c.is_empty.ensures ∙ c.if-is_empty.false) in
-        let long = c.in-Images.made.images.ok.0 in let count = c.len.ensures in let more = c.if-len-eq1.false in omega (arith, some, long, count, more));
-    some = not_none c.in-Images.made.moved.items c.in-Images.made.moved.len (sym c.in-Images.made.moved.ok.0) (sym c.is_empty-2.ensures ∙ c.if-not-is_empty.true);
-  },
-)
-
 pub part_out-requires-clause-cut : goal.part_out-requires-clause-cut
-part_out-requires-clause-cut g c =
-    subst (λ (m : List Moved). AreCut c.args.engine.now c.args.leaf c.in-Images.made.images.items m) (is_none c.in-Images.made.moved.items c.in-Images.made.moved.len (sym c.in-Images.made.moved.ok.0) (sym c.is_empty-2.ensures ∙ c.if-not-is_empty.false))
-    (subst (λ (x : CutOut). IsCutOut c.args.engine.now c.args.leaf x) c.in-Images.is c.in-Ok.ensures)
+part_out-requires-clause-cut g c = subst (λ (x : CutOut). IsCutOut c.args.engine.now c.args.leaf x) c.in-Images.is c.in-Ok.ensures
 
 pub part_out-requires-clause-more : goal.part_out-requires-clause-more
 part_out-requires-clause-more g c =
     let some = not_none c.in-Images.made.images.items c.in-Images.made.images.len (sym c.in-Images.made.images.ok.0) (sym c.is_empty.ensures ∙ c.if-is_empty.false) in
     let long = c.in-Images.made.images.ok.0 in let count = c.len.ensures in let more = c.if-len-eq1.false in omega (arith, some, long, count, more)
-
-pub returns-clause-keeps : goal.returns-clause-keeps
-returns-clause-keeps g c w stands keeps = still_so w c.part_out.new.ground.kept c.part_out.result (subst (λ (l : Lists). KeepsThese w l) (sym c.part_out.ensures.history) keeps)

@@ -1,18 +1,20 @@
-use Rattle.std.proofs.Common.{sym, subst, ◌∙◌}
+use Rattle.std.proofs.Common.{sym, subst}
 use Rattle.std.specs.Prelude.{Ok, false, ◌||◌}
-use Rattle.disk_model.proofs.Crash.{looked_same, same_disk_then}
 use Rattle.script_text.specs.declared.line.Line.{Line}
-use Rattle.script_run.specs.Faults.{RepliesFault}
-use Rattle.script_run.specs.Runs.{RepliedAs}
+use Rattle.script_run.specs.Runs.{IsOfKnown, RepliedAs}
 use Rattle.script_run.specs.Scripts.{IsLater, gives_stamp}
-use Rattle.script_run.proofs.Calming.{CalmLaws}
 use Rattle.script_run.proofs.Devices.{gives_none}
-use Rattle.script_run.proofs.Holding.{actor_told, of_actor, ready_kept}
-use Rattle.script_run.proofs.Telling.{later_faults}
+use Rattle.script_run.proofs.Holding.{of_actor}
 use Rattle.script_run.proofs.one_line.reply_to.Goals as goal
 
-pub reply_of-told-requires-clause-now : goal.reply_of-told-requires-clause-now
-reply_of-told-requires-clause-now g c = of_actor c.args.line false c.requires.now c.in_default.not-Control
+pub reply_to_whole-requires-clause-now : goal.reply_to_whole-requires-clause-now
+reply_to_whole-requires-clause-now g c = subst (λ (asked : Line). IsLater false asked → ⊥) c.in-Whole.is c.requires.now
+
+pub reply_to_whole-requires-clause-actor : goal.reply_to_whole-requires-clause-actor
+reply_to_whole-requires-clause-actor g c = subst IsOfKnown c.in-Whole.is c.requires.actor
+
+pub reply_to_actor-requires-clause-now : goal.reply_to_actor-requires-clause-now
+reply_to_actor-requires-clause-now g c = of_actor c.args.line false c.requires.now c.in_default.not-Control c.in_default.not-Whole
 
 pub returns-in-Control-clause-replies : goal.returns-in-Control-clause-replies
 returns-in-Control-clause-replies g c = λ honest first stamped s now at same.
@@ -20,26 +22,7 @@ returns-in-Control-clause-replies g c = λ honest first stamped s now at same.
     (gives_none g.D.Disk first stamped c.in-Control.asked s c.control.new.store c.control.new.disk c.control.new.formats c.control.result
     (c.control.ensures.replies honest first stamped s (subst (λ (asked : Line). IsLater stamped asked → ⊥) c.in-Control.is now) at same))
 
-pub returns-in_default : goal.returns-in_default
-returns-in_default g c =
-    let now = of_actor c.args.line false c.requires.now c.in_default.not-Control in
-    let law = c.calm_stays.ensures in
-    let laws : CalmLaws = record { steps = law.steps; answers = law.answers; kept = law.kept; kept_out = law.kept_out; opens = law.opens } in
-    let store = c.args.store.now in
-    let disk = c.args.disk.now in
-    let middle = c.reply_of-told.new.store in
-    let between = c.reply_of-told.new.disk in
-    let store' = c.make_room.new.self in
-    let disk' = c.make_room.new.disk in
-    let told = c.reply_of-told.result in
-    let keeps = c.reply_of-told.ensures.keeps in
-    let looked = looked_same g.D.Disk disk between keeps.looked keeps.home in
-    record {
-      replies = λ honest first stamped s later at same.
-          let r = c.reply_of-told.ensures.replied honest first s (record { held = at.held; device = at.device }) (same ∙ sym c.as_mut_slice.ensures.value) in
-          actor_told g.D.Disk first store middle store' disk between disk' c.args.line laws stamped s told c.reply_of-told.new.formats now at r (c.make_room.ensures.room (looked.same ∙ honest) first r.later.world r.later.first r.later.made r.held);
-      told = later_faults g.D.Disk store middle store' disk between disk' (RepliesFault (Ok told)) looked.later c.make_room.ensures.disk.later c.reply_of-told.ensures.told c.make_room.ensures.told;
-      damage = tt;
-      ready = c.make_room.ensures.ready (ready_kept g.D.Disk store middle disk between keeps c.requires.ready);
-      disk = same_disk_then g.D.Disk disk between disk' looked c.make_room.ensures.disk;
-    }
+pub returns-in-Whole-clause-replies : goal.returns-in-Whole-clause-replies
+returns-in-Whole-clause-replies g c = λ honest first stamped s now at same.
+    subst (λ (asked : Line). RepliedAs g.D.Disk first (stamped || gives_stamp asked) asked s c.reply_to_whole.new.store c.reply_to_whole.new.disk c.reply_to_whole.new.formats (Ok c.reply_to_whole.result)) (sym c.in-Whole.is)
+    (c.reply_to_whole.ensures.replies honest first stamped s at same)

@@ -1,15 +1,22 @@
 use Rattle.std.proofs.Common.{◌∙◌, [], ap}
 use Rattle.std.specs.Prelude.{◌==◌, if◌then◌else◌}
-use Rattle.ckpt_step.specs.Kept.{Lists, list_of, lists_in}
+use Rattle.ckpt_step.specs.Kept.{Lists, list_of, lists_in, with_fresh}
+use Rattle.ckpt_step.proofs.FreshLists.{put_with}
 use Rattle.ckpt_step.proofs.KeptLists.{all_fit, list_gone}
 use Rattle.ckpt_step.proofs.kept.Kept.forget.Goals as goal
 
 pub returns : goal.returns
-returns c = λ id.
-    list_gone c.self.inside.by_leaf.entries c.remove.new.self.entries c.args.leaf c.remove.ensures.updates.0 id
+returns c =
+    let es = c.self.inside.by_leaf.entries in
+    let next = c.remove.new.self.entries in
+    λ id.
+    put_with c.self.inside.fresh.items c.drop_of.new.fresh.items es next c.args.leaf [] c.drop_of.ensures (list_gone es next c.args.leaf c.remove.ensures.updates.0) id
     ∙ ap (λ (l : Lists). if id == c.args.leaf then [] else list_of l id) c.self.view_is
 
 pub invariant_of-self : goal.invariant_of-self
 invariant_of-self c =
-    all_fit (lists_in c.self.inside.by_leaf.entries) (lists_in c.remove.new.self.entries) c.args.leaf [] c.self.invariant tt
-    (list_gone c.self.inside.by_leaf.entries c.remove.new.self.entries c.args.leaf c.remove.ensures.updates.0)
+    let fresh = c.self.inside.fresh.items in
+    let es = c.self.inside.by_leaf.entries in
+    let next = c.remove.new.self.entries in
+    all_fit (with_fresh fresh (lists_in es)) (with_fresh c.drop_of.new.fresh.items (lists_in next)) c.args.leaf [] c.self.invariant tt
+    (put_with fresh c.drop_of.new.fresh.items es next c.args.leaf [] c.drop_of.ensures (list_gone es next c.args.leaf c.remove.ensures.updates.0))
