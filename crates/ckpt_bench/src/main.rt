@@ -11,7 +11,7 @@ ghost use Rattle.ckpt_step.specs.Trees.{AreLow};
 mod counted;
 
 use counted::Counted;
-use engine_store::{FRAMES, Store, open_on};
+use engine_store::{FRAMES, Frames, Store, open_on};
 use failure::NoMemory;
 use item::{Format, Formats, Item};
 use std::alloc::{AllocError, Global};
@@ -184,7 +184,7 @@ fn main(rt: HostRuntime) -> anyhow::Result<()> {
         writes: 0,
         syncs: 0,
     };
-    let Ok(mut store) = open_on(alloc, &mut disk, FRAMES) else {
+    let Ok(mut store) = open_on(alloc, &mut disk, Frames::Soft(FRAMES)) else {
         println!(rt; "not opened")?;
         return Ok(());
     };

@@ -33,7 +33,7 @@ use Rattle.engine_store.proofs.UnderWay.{calls_stand, calls_to}
 
 -- what the ends of a call leave. s: the store before the call; e: its engine once the call had come as far as it does by itself; s': at the end
 pub record Ended {D : Type 0} (g : Ghosts D) (s : Store) (e : Engine) (s' : Store) (made : Called) (before after : D) (session : ℕ) (asked : Call) (answer : Answer (List ℕ)) : Type 0 where
-  pub calls : IsTrue (g.honest before) → (w : World) → session < length w.sessions → e.hub.fault ≡ w.machine.fault → IsBacked g (with_engine s e) before w → CallsBy g before before made e s.ground.kept w session asked → CallsBy g before after (called.Ended answer) s'.engine s'.ground.kept w session asked
+  pub calls : IsTrue (g.honest before) → (w : World) → session < length w.sessions → e.hub.fault ≡ w.machine.fault → IsBacked g (with_engine s e) before w → CallsBy g before before s.frames made e s.ground.kept w session asked → CallsBy g before after s.frames (called.Ended answer) s'.engine s'.ground.kept w session asked
   pub begun : (w : World) → Stands s.engine w → CallsTo made e w session asked
   pub goes : HubGoesOn s.engine.hub e.hub
   pub on : (h : Hub) → HubGoesOn h e.hub → HubGoesOn h s'.engine.hub
@@ -55,7 +55,7 @@ module _ {D : Type 0} (g : Ghosts D) (s : Store) (e : Engine) (s' : Store) (made
   -- in any world for which the engine stood
   record Led (w : World) : Type 0 where
     kept : KeptBy
-    caused : CausedSince g before after w kept
+    caused : CausedSince g before after s.frames w session asked kept
     later : World
     may : MayCallKept kept w session asked answer later
     stands : Stands s'.engine (with_kept s'.ground.kept later)
@@ -63,8 +63,8 @@ module _ {D : Type 0} (g : Ghosts D) (s : Store) (e : Engine) (s' : Store) (made
 
   led : IsTrue (g.honest before) → (w : World) → Stands s.engine (with_kept s.ground.kept w) → IsBacked g s before w → Led w
   led honest w stands backed =
-      let by = calls_to g before made e s.ground.kept w session asked (x.goes.fault ∙ stands.fault) (x.begun (with_kept s.ground.kept w) stands) in
-      let stood = calls_stand g before before made e s.ground.kept w session asked by in
+      let by = calls_to g s.frames before made e s.ground.kept w session asked (x.goes.fault ∙ stands.fault) (x.begun (with_kept s.ground.kept w) stands) in
+      let stood = calls_stand g s.frames before before made e s.ground.kept w session asked by in
       let end = x.calls honest w (omega (arith, x.there, stands.doings)) (x.goes.fault ∙ stands.fault)
       (backed_goes g s (with_engine s e) before before (looked_none g before) x.goes refl w stands.dir stood.1.dir stood.1.catalog backed) by in
       record {

@@ -37,10 +37,10 @@ module _ {D : Type 0} (g : Ghosts D) (s : Store) (disk : D) where
       let b = reached.backed up in
       shelf_on (g.seen disk) (g.may_leave disk) s.engine s.ground (with_kept s.ground.kept now) reached.stands b.0 w leaf b.1 b.2 b.3 reached.shelf away none
 
-pub caused : (fault : Type 0) (down : Option Fault) (result : Result (Unit {0}) Refusal) → IfErr result (LacksLeaf fault) → IfErr result (IsCause fault down)
-caused fault down (Ok done) lacks = tt
-caused fault down (Err r) (inl none) = inl none
-caused fault down (Err r) (inr rose) = inr (inl rose)
+pub caused : (fault full : Type 0) (down : Option Fault) (result : Result (Unit {0}) Refusal) → IfErr result (LacksLeaf fault) → IfErr result (IsCause fault full down)
+caused fault full down (Ok done) lacks = tt
+caused fault full down (Err r) (inl none) = inl none
+caused fault full down (Err r) (inr rose) = inr (inl rose)
 
 -- ---- what is told
 

@@ -32,7 +32,7 @@ use Rattle.engine_store.proofs.Telling.{called_told, keep_told}
 
 -- e: the engine of the store once the call had come as far as it does by itself; s': the store at the end
 pub record EndedLater {D : Type 0} (g : Ghosts D) (s : Store) (e : Engine) (s' : Store) (made : Called) (before after : D) (session : ℕ) (answer : Answer (List ℕ)) : Type 0 where
-  pub steps : IsTrue (g.honest before) → (w : World) → e.hub.fault ≡ w.machine.fault → IsBacked g (with_engine s e) before w → StepsBy g before before made e s.ground.kept w session → StepsBy g before after (called.Ended answer) s'.engine s'.ground.kept w session
+  pub steps : IsTrue (g.honest before) → (w : World) → e.hub.fault ≡ w.machine.fault → IsBacked g (with_engine s e) before w → StepsBy g before before s.frames made e s.ground.kept w session → StepsBy g before after s.frames (called.Ended answer) s'.engine s'.ground.kept w session
   pub ends : (w : World) → Stands s.engine w → Ends made e w session
   pub goes : HubGoesOn s.engine.hub e.hub
   pub on : (h : Hub) → HubGoesOn h e.hub → HubGoesOn h s'.engine.hub
@@ -50,18 +50,18 @@ module _ {D : Type 0} (g : Ghosts D) (s : Store) (e : Engine) (s' : Store) (made
   hub = x.on s.engine.hub x.goes
 
   -- how far the call had come, of a world for which the engine stood
-  begun : (w : World) → Stands s.engine (with_kept s.ground.kept w) → StepsBy g before before made e s.ground.kept w session
-  begun w stands = steps_by g before made e s.ground.kept w session (x.ends (with_kept s.ground.kept w) stands)
+  begun : (w : World) → Stands s.engine (with_kept s.ground.kept w) → StepsBy g before before s.frames made e s.ground.kept w session
+  begun w stands = steps_by g s.frames before made e s.ground.kept w session (x.ends (with_kept s.ground.kept w) stands)
 
   backed_then : (w : World) → Stands s.engine (with_kept s.ground.kept w) → IsBacked g s before w → IsBacked g (with_engine s e) before w
   backed_then w stands backed =
-      let stood = steps_stand g before before made e s.ground.kept w session (begun w stands) in
+      let stood = steps_stand g s.frames before before made e s.ground.kept w session (begun w stands) in
       backed_goes g s (with_engine s e) before before (looked_none g before) x.goes refl w stands.dir stood.1.dir stood.1.catalog backed
 
   record Led (w : World) : Type 0 where
     count : ℕ
     later : World
-    ends : EndsIn (CauseSince g before after w) count w session answer later
+    ends : EndsIn (CauseSince g before after s.frames w) count w session answer later
     stands : Stands s'.engine (with_kept s'.ground.kept later)
     goes : Goes w later
 
@@ -73,7 +73,7 @@ module _ {D : Type 0} (g : Ghosts D) (s : Store) (e : Engine) (s' : Store) (made
         later = end.1;
         ends = end.2;
         stands = end.3;
-        goes = goes_ends (CauseSince g before after w) session end.0 w end.1 answer (ordinary_other w (with_kept s.ground.kept w).records (engines_are s.engine (with_kept s.ground.kept w) stands x.built)) end.2;
+        goes = goes_ends (CauseSince g before after s.frames w) session end.0 w end.1 answer (ordinary_other w (with_kept s.ground.kept w).records (engines_are s.engine (with_kept s.ground.kept w) stands x.built)) end.2;
       }
 
   pub finish_held : IsTrue (g.honest before) → (start : D) (w : World) (first : Completed) (installed : List Installed) → IsHeld g start s before w first installed → Finished g start w first installed s s' before after (by.Session session) answer

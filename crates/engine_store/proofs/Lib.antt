@@ -43,6 +43,7 @@ pub mod LowKeys
 pub mod Shelves
 pub mod MoreSessions
 pub mod WholeLeaves
+pub mod KeptFrames
 pub mod Fetching
 pub mod Telling
 pub mod GoingOut

@@ -1,5 +1,5 @@
 -- A call goes on, leaf after leaf.
-use Rattle.std.proofs.Common.{◌≡◌, ◌∙◌, ◌≤◌, ◌<◌, ℕ, List, length, Option, None, refl, sym, ap, inl, inr, arith}
+use Rattle.std.proofs.Common.{◌≡◌, ◌∙◌, ◌≤◌, ◌<◌, ℕ, List, length, Option, None, refl, sym, ap, subst, inl, inr, arith}
 use Rattle.std.specs.Prelude.{IsTrue}
 use Rattle.disk_model.specs.Crash.{Looked}
 use Rattle.disk_model.specs.declared.disk.Disk.{Ghosts}
@@ -18,6 +18,7 @@ use Rattle.engine.specs.Waits.{WaitsAs}
 use Rattle.engine.specs.Whole.{Ends, IsUnderWay}
 use Rattle.engine.proofs.Directories.{goes-then}
 use Rattle.ckpt_step.specs.Floors.{laid_of}
+use Rattle.engine_store.specs.declared.frames.Frames.{Frames}
 use Rattle.engine_store.specs.declared.store.Store.{Store}
 use Rattle.engine_store.specs.Calls.{AreToldSo, Basis, IsBasis}
 use Rattle.engine_store.specs.Fetches.{CalledSo, CallsBy, CauseSince, IsBacked, IsReached, StepsBy}
@@ -31,9 +32,9 @@ use Rattle.engine_store.proofs.UnderWay.{calls_since, calls_stand}
 
 -- first, s, made: the disk, the store and how far the call had come; disk, s', now: as they are
 pub record GoneOn {D : Type 0} (g : Ghosts D) (first disk : D) (s s' : Store) (made now : Called) (session : ℕ) : Type 0 where
-  pub calls : IsTrue (g.honest first) → (w : World) (asked : Call) → session < length w.sessions → s.engine.hub.fault ≡ w.machine.fault → IsBacked g s first w → CallsBy g first first made s.engine s.ground.kept w session asked
-      → CallsBy g first disk now s'.engine s'.ground.kept w session asked × IsBacked g s' disk w
-  pub steps : IsTrue (g.honest first) → (w : World) → s.engine.hub.fault ≡ w.machine.fault → IsBacked g s first w → StepsBy g first first made s.engine s.ground.kept w session → StepsBy g first disk now s'.engine s'.ground.kept w session × IsBacked g s' disk w
+  pub calls : IsTrue (g.honest first) → (w : World) (asked : Call) → session < length w.sessions → s.engine.hub.fault ≡ w.machine.fault → IsBacked g s first w → CallsBy g first first s.frames made s.engine s.ground.kept w session asked
+      → CallsBy g first disk s.frames now s'.engine s'.ground.kept w session asked × IsBacked g s' disk w
+  pub steps : IsTrue (g.honest first) → (w : World) → s.engine.hub.fault ≡ w.machine.fault → IsBacked g s first w → StepsBy g first first s.frames made s.engine s.ground.kept w session → StepsBy g first disk s.frames now s'.engine s'.ground.kept w session × IsBacked g s' disk w
   pub told : (basis : Option Basis) (start : D) → g.faults start ≤ g.faults first → IsBasis g basis s.engine first → CalledSo g basis start first made → AreToldSo g basis start s.engine first → CalledSo g basis start disk now × AreToldSo g basis start s'.engine disk
   pub waits : WaitsAs now s'.engine session
   pub goes : (h : Hub) → HubGoesOn h s.engine.hub → HubGoesOn h s'.engine.hub
@@ -61,8 +62,8 @@ gone_none g disk s made session waits = record {
 
 -- what one round leaves
 pub record OneRound {D : Type 0} (g : Ghosts D) (disk disk' : D) (s s' : Store) (now : Called) (session : ℕ) : Type 0 where
-  pub calls : IsTrue (g.honest disk) → (w x : World) (asked : Call) → session < length w.sessions → IsReached g s disk w x → IsUnderWay None w session asked x → CallsBy g disk disk' now s'.engine s'.ground.kept w session asked
-  pub steps : IsTrue (g.honest disk) → (w x : World) → IsReached g s disk w x → (middle : World) × IsMiddle (CauseSince g disk disk' w) x session middle × Ends now s'.engine (with_kept s'.ground.kept middle) session
+  pub calls : IsTrue (g.honest disk) → (w x : World) (asked : Call) → session < length w.sessions → IsReached g s disk w x → IsUnderWay None w session asked x → CallsBy g disk disk' s.frames now s'.engine s'.ground.kept w session asked
+  pub steps : IsTrue (g.honest disk) → (w x : World) → IsReached g s disk w x → (middle : World) × IsMiddle (CauseSince g disk disk' s.frames w x) x session middle × Ends now s'.engine (with_kept s'.ground.kept middle) session
   pub told : (basis : Option Basis) (start : D) → g.faults start ≤ g.faults disk → IsBasis g basis s.engine disk → AreToldSo g basis start s.engine disk → CalledSo g basis start disk' now × AreToldSo g basis start s'.engine disk'
   pub waits : WaitsAs now s'.engine session
   pub goes : HubGoesOn s.engine.hub s'.engine.hub
@@ -83,28 +84,29 @@ module _ {D : Type 0} (g : Ghosts D) (first disk disk' : D) (s s' s'' : Store) (
   backed_then : (w x v : World) → IsBacked g s' disk w → Stands s'.engine (with_kept s'.ground.kept x) → Stands s''.engine (with_kept s''.ground.kept v) → IsBacked g s'' disk' w
   backed_then w x v backed stands after = backed_goes g s' s'' disk disk' one.looked one.goes one.ground w stands.dir after.dir after.catalog backed
 
-  calls_then : IsTrue (g.honest first) → (w : World) (asked : Call) → session < length w.sessions → s.engine.hub.fault ≡ w.machine.fault → IsBacked g s first w → CallsBy g first first made s.engine s.ground.kept w session asked → CallsBy g first disk' now s''.engine s''.ground.kept w session asked × IsBacked g s'' disk' w
+  calls_then : IsTrue (g.honest first) → (w : World) (asked : Call) → session < length w.sessions → s.engine.hub.fault ≡ w.machine.fault → IsBacked g s first w → CallsBy g first first s.frames made s.engine s.ground.kept w session asked → CallsBy g first disk' s.frames now s''.engine s''.ground.kept w session asked × IsBacked g s'' disk' w
   calls_then honest w asked there fault backed by =
       let x = gone.calls honest w asked there fault backed by in
       let at = x.0 in
       let reached = reach w at.0 fault x.1 at.2 (ap laid_of at.1.moved_to) in
-      let next = one.calls (here honest) w at.0 asked there reached at.1 in
-      let stood = calls_stand g disk disk' now s''.engine s''.ground.kept w session asked next in
-      (calls_since g first disk disk' now s''.engine s''.ground.kept w session asked gone.looked.count next, backed_then w at.0 stood.0 x.1 at.2 stood.1)
+      let next : CallsBy g disk disk' s.frames now s''.engine s''.ground.kept w session asked = subst (λ (f : Frames). CallsBy g disk disk' f now s''.engine s''.ground.kept w session asked) gone.frames (one.calls (here honest) w at.0 asked there reached at.1) in
+      let stood = calls_stand g s.frames disk disk' now s''.engine s''.ground.kept w session asked next in
+      (calls_since g s.frames first disk disk' now s''.engine s''.ground.kept w session asked gone.looked.count next, backed_then w at.0 stood.0 x.1 at.2 stood.1)
 
-  later_cause : (w : World) (r : Refusal) → CauseSince g first disk w r → CauseSince g first disk' w r
-  later_cause w r (inl none) = inl none
-  later_cause w r (inr (inl (is, rose))) = inr (inl (is, rose_later (g.faults first) (g.faults disk) (g.faults disk') one.looked.count rose))
-  later_cause w r (inr (inr down)) = inr (inr down)
+  later_cause : (w v : World) (r : Refusal) → CauseSince g first disk s.frames w v r → CauseSince g first disk' s.frames w v r
+  later_cause w v r (inl none) = inl none
+  later_cause w v r (inr (inl (is, rose))) = inr (inl (is, rose_later (g.faults first) (g.faults disk) (g.faults disk') one.looked.count rose))
+  later_cause w v r (inr (inr other)) = inr (inr other)
 
-  steps_then : IsTrue (g.honest first) → (w : World) → s.engine.hub.fault ≡ w.machine.fault → IsBacked g s first w → StepsBy g first first made s.engine s.ground.kept w session → StepsBy g first disk' now s''.engine s''.ground.kept w session × IsBacked g s'' disk' w
+  steps_then : IsTrue (g.honest first) → (w : World) → s.engine.hub.fault ≡ w.machine.fault → IsBacked g s first w → StepsBy g first first s.frames made s.engine s.ground.kept w session → StepsBy g first disk' s.frames now s''.engine s''.ground.kept w session × IsBacked g s'' disk' w
   steps_then honest w fault backed by =
       let x = gone.steps honest w fault backed by in
       let at = x.0 in
-      let reached = reach w at.1 fault x.1 at.3 (laid_in (CauseSince g first disk w) session at.0 w at.1 at.2) in
+      let reached = reach w at.1 fault x.1 at.3 (laid_in (CauseSince g first disk s.frames w) session at.0 w at.1 at.2) in
       let next = one.steps (here honest) w at.1 reached in
-      let steps = steps_go g first disk disk' now s''.engine s''.ground.kept w at.1 next.0 session at.0 gone.looked.count (later_cause w) at.2 next.1 next.2 in
-      let stood = steps_stand g first disk' now s''.engine s''.ground.kept w session steps in
+      let middle : IsMiddle (CauseSince g disk disk' s.frames w at.1) at.1 session next.0 = subst (λ (f : Frames). IsMiddle (CauseSince g disk disk' f w at.1) at.1 session next.0) gone.frames next.1 in
+      let steps = steps_go g s.frames first disk disk' now s''.engine s''.ground.kept w at.1 next.0 session at.0 gone.looked.count (later_cause w) at.2 middle next.2 in
+      let stood = steps_stand g s.frames first disk' now s''.engine s''.ground.kept w session steps in
       (steps, backed_then w at.1 stood.0 x.1 at.3 stood.1)
 
   pub gone_more : GoneOn g first disk' s s'' made now session

@@ -31,7 +31,7 @@ use Rattle.engine_store.proofs.OtherRecords.{other_records, stands_other, step_o
 
 -- s, s': the store before the step and after it
 pub record StepsOn {D : Type 0} (g : Ghosts D) (s s' : Store) (before after : D) (made : Step) (told : Reply) : Type 0 where
-  pub led : IsTrue (g.honest before) → (w : World) → IsReached g s before w w → (later : World) × MayStepOn (CauseSince g before after w) w made told later × Stands s'.engine (with_kept s'.ground.kept later) × Goes w later
+  pub led : IsTrue (g.honest before) → (w : World) → IsReached g s before w w → (later : World) × MayStepOn (CauseSince g before after s.frames w) w made told later × Stands s'.engine (with_kept s'.ground.kept later) × Goes w later
   pub hub : HubGoesOn s.engine.hub s'.engine.hub
   pub ground : IsSameButKept s.ground s'.ground
   pub frames : s'.frames ≡ s.frames
@@ -40,15 +40,15 @@ pub record StepsOn {D : Type 0} (g : Ghosts D) (s s' : Store) (before after : D)
 
 -- ---- the step is made, or the call is kept out
 
-pub led_step : (Caused : Refusal → Type 0) (s : Store) (e : Engine) (was lists : Lists) (w : World) (made : Step) (told : Reply) → Stands s.engine (with_kept was w) → AreBuilt s.engine.systems → StepFits s.engine made → (later : World) × MayStep (with_kept lists w) made told later × Stands e later
+pub led_step : (Caused : World → Refusal → Type 0) (s : Store) (e : Engine) (was lists : Lists) (w : World) (made : Step) (told : Reply) → Stands s.engine (with_kept was w) → AreBuilt s.engine.systems → StepFits s.engine made → (later : World) × MayStep (with_kept lists w) made told later × Stands e later
     → (later : World) × MayStepOn Caused w made told later × Stands e (with_kept lists later) × Goes w later
 led_step Caused s e was lists w made told stands built fits (later, may, now) =
     let then = other_records w.records later in
     let does = step_other w.records (with_kept lists w) later made told may in
     (then, inl does, stands_other e lists w later w.records (laid_step (with_kept lists w) later made told may) now, goes_step w then made told (ordinary_other w (with_kept was w).records (engines_are s.engine (with_kept was w) stands built)) ((fits_are s.engine).0 made fits) does)
 
-pub led_out : (Caused : Refusal → Type 0) (s : Store) (e : Engine) (was lists : Lists) (w : World) (made : Step) (r : Refusal) → Stands s.engine (with_kept was w) → AreBuilt s.engine.systems
-    → (session : ℕ) × (made ≡ Go (actor.Session session)) × Caused r × (later : World) × MayKeepOut w session r later × Stands e (with_kept lists later) → (later : World) × MayStepOn Caused w made reply.More later × Stands e (with_kept lists later) × Goes w later
+pub led_out : (Caused : World → Refusal → Type 0) (s : Store) (e : Engine) (was lists : Lists) (w : World) (made : Step) (r : Refusal) → Stands s.engine (with_kept was w) → AreBuilt s.engine.systems
+    → (session : ℕ) × (made ≡ Go (actor.Session session)) × Caused w r × (later : World) × MayKeepOut w session r later × Stands e (with_kept lists later) → (later : World) × MayStepOn Caused w made reply.More later × Stands e (with_kept lists later) × Goes w later
 led_out Caused s e was lists w made r stands built (session, is, cause, later, out, now) = (later, inr (session, r, is, refl, cause, out), now, goes_out w later session r (ordinary_other w (with_kept was w).records (engines_are s.engine (with_kept was w) stands built)) out)
 
 -- ---- the call of a step that waits for its leaf

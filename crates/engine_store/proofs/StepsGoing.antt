@@ -17,6 +17,7 @@ use Rattle.engine.specs.Whole.{Ends}
 use Rattle.ckpt_step.specs.Keeps.{AreOrdinary}
 use Rattle.ckpt_step.specs.Floors.{laid_of}
 use Rattle.ckpt_step.specs.Kept.{Lists}
+use Rattle.engine_store.specs.declared.frames.Frames.{Frames}
 use Rattle.engine_store.specs.Calls.{EndsIn, GoesOrKept}
 use Rattle.engine_store.specs.Fetches.{CauseSince, ComesOrNot, GoesIn, StepsBy}
 use Rattle.engine_store.specs.Keeping.{with_kept}
@@ -30,17 +31,17 @@ IsMiddle Caused now session middle = (middle ≡ now) ⊎ ((r : Refusal) × Caus
 
 -- ---- for other causes
 
-or_more : (P Q : Refusal → Type 0) → ((r : Refusal) → P r → Q r) → (w : World) (session : ℕ) (next : World) → GoesOrKept P w session next → GoesOrKept Q w session next
+or_more : (P Q : World → Refusal → Type 0) → ((v : World) (r : Refusal) → P v r → Q v r) → (w : World) (session : ℕ) (next : World) → GoesOrKept P w session next → GoesOrKept Q w session next
 or_more P Q more w session next (inl goes) = inl goes
-or_more P Q more w session next (inr (r, cause, out)) = inr (r, more r cause, out)
+or_more P Q more w session next (inr (r, cause, out)) = inr (r, more w r cause, out)
 
-in_more : (P Q : Refusal → Type 0) → ((r : Refusal) → P r → Q r) → (n : ℕ) (w : World) (session : ℕ) (last : World) → GoesIn P n w session last → GoesIn Q n w session last
+in_more : (P Q : World → Refusal → Type 0) → ((v : World) (r : Refusal) → P v r → Q v r) → (n : ℕ) (w : World) (session : ℕ) (last : World) → GoesIn P n w session last → GoesIn Q n w session last
 in_more P Q more zero w session last is = is
 in_more P Q more (suc n) w session last (next, one, rest) = (next, or_more P Q more w session next one, in_more P Q more n next session last rest)
 
 -- ---- one after the other
 
-module _ (Caused : Refusal → Type 0) (session : ℕ) where
+module _ (Caused : World → Refusal → Type 0) (session : ℕ) where
   more_in : (n : ℕ) (w last : World) → StepsMore n w (by.Session session) last → GoesIn Caused n w session last
   more_in zero w last is = is
   more_in (suc n) w last (middle, one, rest) = (middle, inl one, more_in n middle last rest)
@@ -57,7 +58,7 @@ module _ (Caused : Refusal → Type 0) (session : ℕ) where
   ends_then zero w middle m answer last is rest = (m, subst (λ (x : World). EndsIn Caused m x session answer last) is rest)
   ends_then (suc n) w middle m answer last (next, one, first) rest = let k = ends_then n next middle m answer last first rest in (suc k.0, (next, one, k.1))
 
-  middle_in : (now middle : World) → IsMiddle Caused now session middle → (n : ℕ) × GoesIn Caused n now session middle
+  middle_in : (now middle : World) → IsMiddle (Caused now) now session middle → (n : ℕ) × GoesIn Caused n now session middle
   middle_in now middle (inl same) = (zero, same)
   middle_in now middle (inr kept) = (suc zero, (middle, inr kept, refl))
 
@@ -115,35 +116,35 @@ waits_by w leaf e lists session (n, last, more, stands) = (
 
 -- ---- what comes of an engine
 
-module _ {D : Type 0} (g : Ghosts D) where
-  pub steps_stand : (first last : D) (called : Called) (e : Engine) (lists : Lists) (w : World) (session : ℕ) → StepsBy g first last called e lists w session → (v : World) × Stands e (with_kept lists v) × (laid_of v ≡ laid_of w)
-  steps_stand first last (called.Ended answer) e lists w session (n, v, ends, stands) = (v, stands, laid_ends (CauseSince g first last w) session n w v answer ends)
-  steps_stand first last (called.Waits leaf) e lists w session (n, v, goes, stands) = (v, stands, laid_in (CauseSince g first last w) session n w v goes)
+module _ {D : Type 0} (g : Ghosts D) (frames : Frames) where
+  pub steps_stand : (first last : D) (called : Called) (e : Engine) (lists : Lists) (w : World) (session : ℕ) → StepsBy g first last frames called e lists w session → (v : World) × Stands e (with_kept lists v) × (laid_of v ≡ laid_of w)
+  steps_stand first last (called.Ended answer) e lists w session (n, v, ends, stands) = (v, stands, laid_ends (CauseSince g first last frames w) session n w v answer ends)
+  steps_stand first last (called.Waits leaf) e lists w session (n, v, goes, stands) = (v, stands, laid_in (CauseSince g first last frames w) session n w v goes)
 
   -- the steps of a call that was finished, or goes on
-  pub steps_by : (disk : D) (called : Called) (e : Engine) (lists : Lists) (w : World) (session : ℕ) → Ends called e (with_kept lists w) session → StepsBy g disk disk called e lists w session
-  steps_by disk (called.Ended answer) e lists w session ends = let x = ended_by w answer e lists session ends in (x.0, x.1, out_in (CauseSince g disk disk w) session x.0 w x.1 answer x.2, x.3)
-  steps_by disk (called.Waits leaf) e lists w session ends = let x = waits_by w leaf e lists session ends in (x.0, x.1, more_in (CauseSince g disk disk w) session x.0 w x.1 x.2, x.3)
+  pub steps_by : (disk : D) (called : Called) (e : Engine) (lists : Lists) (w : World) (session : ℕ) → Ends called e (with_kept lists w) session → StepsBy g disk disk frames called e lists w session
+  steps_by disk (called.Ended answer) e lists w session ends = let x = ended_by w answer e lists session ends in (x.0, x.1, out_in (CauseSince g disk disk frames w) session x.0 w x.1 answer x.2, x.3)
+  steps_by disk (called.Waits leaf) e lists w session ends = let x = waits_by w leaf e lists session ends in (x.0, x.1, more_in (CauseSince g disk disk frames w) session x.0 w x.1 x.2, x.3)
 
   -- behind others, and a leaf that came in or was kept out
-  pub steps_go : (first mid last : D) (called : Called) (e : Engine) (lists : Lists) (w now middle : World) (session n : ℕ) → g.faults first ≤ g.faults mid → ((r : Refusal) → CauseSince g first mid w r → CauseSince g first last w r) → GoesIn (CauseSince g first mid w) n w session now
-      → IsMiddle (CauseSince g mid last w) now session middle → Ends called e (with_kept lists middle) session → StepsBy g first last called e lists w session
+  pub steps_go : (first mid last : D) (called : Called) (e : Engine) (lists : Lists) (w now middle : World) (session n : ℕ) → g.faults first ≤ g.faults mid → ((v : World) (r : Refusal) → CauseSince g first mid frames w v r → CauseSince g first last frames w v r) → GoesIn (CauseSince g first mid frames w) n w session now
+      → IsMiddle (CauseSince g mid last frames w now) now session middle → Ends called e (with_kept lists middle) session → StepsBy g first last frames called e lists w session
   steps_go first mid last made e lists w now middle session n le later goes how ends = by_called made ends
     where
-      middle_more : IsMiddle (CauseSince g mid last w) now session middle → IsMiddle (CauseSince g first last w) now session middle
+      middle_more : IsMiddle (CauseSince g mid last frames w now) now session middle → IsMiddle (CauseSince g first last frames w now) now session middle
       middle_more (inl same) = inl same
-      middle_more (inr (r, cause, out)) = inr (r, cause_since g first mid last w r le cause, out)
+      middle_more (inr (r, cause, out)) = inr (r, cause_since g frames first mid last w now r le cause, out)
 
-      before : (k : ℕ) × GoesIn (CauseSince g first last w) k w session middle
-      before = let m = middle_in (CauseSince g first last w) session now middle (middle_more how) in
-          in_then (CauseSince g first last w) session n w now m.0 middle (in_more (CauseSince g first mid w) (CauseSince g first last w) later n w session now goes) m.1
+      before : (k : ℕ) × GoesIn (CauseSince g first last frames w) k w session middle
+      before = let m = middle_in (CauseSince g first last frames w) session now middle (middle_more how) in
+          in_then (CauseSince g first last frames w) session n w now m.0 middle (in_more (CauseSince g first mid frames w) (CauseSince g first last frames w) later n w session now goes) m.1
 
-      by_called : (c : Called) → Ends c e (with_kept lists middle) session → StepsBy g first last c e lists w session
-      by_called (called.Ended answer) ends = let x = ended_by middle answer e lists session ends in let k = ends_then (CauseSince g first last w) session before.0 w middle x.0 answer x.1 before.1 (out_in (CauseSince g first last w) session x.0 middle x.1 answer x.2) in (k.0, x.1, k.1, x.3)
-      by_called (called.Waits leaf) ends = let x = waits_by middle leaf e lists session ends in let k = in_then (CauseSince g first last w) session before.0 w middle x.0 x.1 before.1 (more_in (CauseSince g first last w) session x.0 middle x.1 x.2) in (k.0, x.1, k.1, x.3)
+      by_called : (c : Called) → Ends c e (with_kept lists middle) session → StepsBy g first last frames c e lists w session
+      by_called (called.Ended answer) ends = let x = ended_by middle answer e lists session ends in let k = ends_then (CauseSince g first last frames w) session before.0 w middle x.0 answer x.1 before.1 (out_in (CauseSince g first last frames w) session x.0 middle x.1 answer x.2) in (k.0, x.1, k.1, x.3)
+      by_called (called.Waits leaf) ends = let x = waits_by middle leaf e lists session ends in let k = in_then (CauseSince g first last frames w) session before.0 w middle x.0 x.1 before.1 (more_in (CauseSince g first last frames w) session x.0 middle x.1 x.2) in (k.0, x.1, k.1, x.3)
 
   -- what a leaf that came in, or was kept out, leaves of steps
-  pub steps_come : (first disk : D) (e e' : Engine) (lists : Lists) (w now : World) (session : ℕ) (made : Result (Unit {0}) Refusal) (called : Called) → ComesOrNot (CauseSince g first disk w) e lists now session made → ((x : World) → Stands e x → Ends called e' x session)
-      → (middle : World) × IsMiddle (CauseSince g first disk w) now session middle × Ends called e' (with_kept lists middle) session
+  pub steps_come : (first disk : D) (e e' : Engine) (lists : Lists) (w now : World) (session : ℕ) (made : Result (Unit {0}) Refusal) (called : Called) → ComesOrNot (CauseSince g first disk frames w now) e lists now session made → ((x : World) → Stands e x → Ends called e' x session)
+      → (middle : World) × IsMiddle (CauseSince g first disk frames w now) now session middle × Ends called e' (with_kept lists middle) session
   steps_come first disk e e' lists w now session (Ok done) called stands ends = (now, inl refl, ends (with_kept lists now) stands)
   steps_come first disk e e' lists w now session (Err r) called (cause, later, out, stands) ends = (later, inr (r, cause, out), ends (with_kept lists later) stands)

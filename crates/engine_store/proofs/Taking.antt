@@ -37,6 +37,7 @@ use Rattle.ckpt_step.specs.Plain.{IsPlain}
 use Rattle.ckpt_step.specs.Rooms.{known_in}
 use Rattle.ckpt_step.specs.Takes.{Fallen, NotTaken, Taken, Takes, WhyNot}
 use Rattle.engine_store.specs.declared.eviction.Clock.{Clock}
+use Rattle.engine_store.specs.declared.frames.Frames.{Frames}
 use Rattle.engine_store.specs.declared.store.Store.{Store}
 use Rattle.engine_store.specs.Answers.{CheckpointTakes}
 use Rattle.engine_store.specs.Devices.{ArePartedOn, Installed, IsLater, IsNumberOf, device_of, may_open_to}
@@ -315,7 +316,7 @@ module _ {D : Type 0} (g : Ghosts D) (start_disk disk : D) (image : g.may_leave 
   number_held = let any = held.images (g.seen disk) image in number_read (g.seen disk) any.2.0 any.2.1
 
   -- how many frames there are, and which leaves go out, says nothing of what is held
-  pub clock_held : (n : ℕ) (k : Clock) → IsHeldIn g start_disk (record s { frames = n; clock = k }) disk w first made
+  pub clock_held : (n : Frames) (k : Clock) → IsHeldIn g start_disk (record s { frames = n; clock = k }) disk w first made
   clock_held n k = record {
     stands = held.stands;
     idle = held.idle;
@@ -328,7 +329,7 @@ module _ {D : Type 0} (g : Ghosts D) (start_disk disk : D) (image : g.may_leave 
     past = held.past;
   }
 
-  refused_down : (n : ℕ) (k : Clock) (fault : Fault) → w.machine.fault ≡ Some fault → IsPlain w.machine → CheckpointsOn g start_disk w first made s (record s { frames = n; clock = k }) disk disk w.shelf (Err (Panic fault))
+  refused_down : (n : Frames) (k : Clock) (fault : Fault) → w.machine.fault ≡ Some fault → IsPlain w.machine → CheckpointsOn g start_disk w first made s (record s { frames = n; clock = k }) disk disk w.shelf (Err (Panic fault))
   refused_down n k fault down plain = record {
     next = w.machine;
     now = made;
@@ -388,7 +389,7 @@ module _ {D : Type 0} (g : Ghosts D) (start_disk before after : D)
     (image : g.may_leave before (g.seen before)) (s s' : Store) (w : World) (first : Completed) (made : List Installed) (held : IsHeldIn g start_disk s before w first made)
     (count : g.faults before ≤ g.faults after) (room : g.capacity after ≡ g.capacity before) (law : CheckpointsOpen) (downs : DownsGo) (plain : IsPlain w.machine) (have : CheckpointsHaveNewest) (stand : Ground) (e : Engine)
     (takes : (old : Option Stored) → StandsOn (g.seen before) (g.may_leave before) s.engine.hub s.ground old → Follows old s.engine.hub s.ground w → AreLivesOn (g.seen before) s.engine.hub s.ground w → Taken g old w s.ground stand s.engine e before after)
-    (up : (fault : Fault) → s.engine.hub.fault ≡ Some fault → ⊥) (n : ℕ) (k : Clock) (goes : LetsGo g (record { engine = e; ground = stand; frames = n; clock = k }) s') (kept : stand.kept ≡ s.ground.kept) where
+    (up : (fault : Fault) → s.engine.hub.fault ≡ Some fault → ⊥) (n : Frames) (k : Clock) (goes : LetsGo g (record { engine = e; ground = stand; frames = n; clock = k }) s') (kept : stand.kept ≡ s.ground.kept) where
   by_up : (f : Option Fault) → w.machine.fault ≡ f → Checkpoints g start_disk w first made s s' before after (Ok tt)
   by_up (Some fault) is = absurd (up fault (held.stands.fault ∙ is))
   by_up None is =

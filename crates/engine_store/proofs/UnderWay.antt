@@ -19,6 +19,7 @@ use Rattle.engine.specs.Whole.{CallsIn, CallsKept, CallsTo, IsUnderWay, KeptBy, 
 use Rattle.engine.proofs.Waited.{filling, held}
 use Rattle.ckpt_step.specs.Floors.{laid_of}
 use Rattle.ckpt_step.specs.Kept.{Lists}
+use Rattle.engine_store.specs.declared.frames.Frames.{Frames}
 use Rattle.engine_store.specs.declared.store.Store.{Store}
 use Rattle.engine_store.specs.Fetches.{CallsBy, CauseSince, CausedSince, ComesOrNot, ReachesOrNot}
 use Rattle.engine_store.specs.Keeping.{with_kept}
@@ -46,34 +47,34 @@ kept_none (Placed other table left) w later session asked answer fault refused =
 kept_none (Decided other event left) w later session asked answer fault refused = refused
 kept_none (Ending other left) w later session asked answer fault refused = refused
 
-module _ {D : Type 0} (g : Ghosts D) where
-  pub never_kept : (first disk : D) (w : World) → CausedSince g first disk w None
-  never_kept first disk w r is = absurd (cc)
+module _ {D : Type 0} (g : Ghosts D) (frames : Frames) where
+  pub never_kept : (first disk : D) (w : World) (session : ℕ) (asked : Call) → CausedSince g first disk frames w session asked None
+  never_kept first disk w session asked r is = absurd (cc)
 
-  pub kept_by : (first disk : D) (w : World) (r : Refusal) → CauseSince g first disk w r → CausedSince g first disk w (Some r)
-  kept_by first disk w r cause other is = let same : r ≡ other = cc in subst (CauseSince g first disk w) same cause
+  pub kept_by : (first disk : D) (w now : World) (session : ℕ) (asked : Call) (r : Refusal) → IsUnderWay None w session asked now → CauseSince g first disk frames w now r → CausedSince g first disk frames w session asked (Some r)
+  kept_by first disk w now session asked r under cause other is = let same : r ≡ other = cc in (now, under, subst (CauseSince g first disk frames w now) same cause)
 
   -- by reads since an earlier disk
-  pub cause_since : (first mid last : D) (w : World) (r : Refusal) → g.faults first ≤ g.faults mid → CauseSince g mid last w r → CauseSince g first last w r
-  cause_since first mid last w r le (inl none) = inl none
-  cause_since first mid last w r le (inr (inl (is, rose))) = inr (inl (is, rose_since (g.faults first) (g.faults mid) (g.faults last) le rose))
-  cause_since first mid last w r le (inr (inr down)) = inr (inr down)
+  pub cause_since : (first mid last : D) (w now : World) (r : Refusal) → g.faults first ≤ g.faults mid → CauseSince g mid last frames w now r → CauseSince g first last frames w now r
+  cause_since first mid last w now r le (inl none) = inl none
+  cause_since first mid last w now r le (inr (inl (is, rose))) = inr (inl (is, rose_since (g.faults first) (g.faults mid) (g.faults last) le rose))
+  cause_since first mid last w now r le (inr (inr other)) = inr (inr other)
 
-  pub calls_since : (first mid last : D) (called : Called) (e : Engine) (lists : Lists) (w : World) (session : ℕ) (asked : Call) → g.faults first ≤ g.faults mid → CallsBy g mid last called e lists w session asked → CallsBy g first last called e lists w session asked
-  calls_since first mid last (called.Ended answer) e lists w session asked le (kept, caused, later, may, stands) = (kept, (λ r is. cause_since first mid last w r le (caused r is)), later, may, stands)
+  pub calls_since : (first mid last : D) (called : Called) (e : Engine) (lists : Lists) (w : World) (session : ℕ) (asked : Call) → g.faults first ≤ g.faults mid → CallsBy g mid last frames called e lists w session asked → CallsBy g first last frames called e lists w session asked
+  calls_since first mid last (called.Ended answer) e lists w session asked le (kept, caused, later, may, stands) = (kept, (λ r is. let c = caused r is in (c.0, c.1, cause_since first mid last w c.0 r le c.2)), later, may, stands)
   calls_since first mid last (called.Waits leaf) e lists w session asked le waits = waits
 
   -- some world is that of the engine
-  pub calls_stand : (first last : D) (called : Called) (e : Engine) (lists : Lists) (w : World) (session : ℕ) (asked : Call) → CallsBy g first last called e lists w session asked → (v : World) × Stands e (with_kept lists v)
+  pub calls_stand : (first last : D) (called : Called) (e : Engine) (lists : Lists) (w : World) (session : ℕ) (asked : Call) → CallsBy g first last frames called e lists w session asked → (v : World) × Stands e (with_kept lists v)
   calls_stand first last (called.Ended answer) e lists w session asked (kept, caused, later, may, stands) = (later, stands)
   calls_stand first last (called.Waits leaf) e lists w session asked (now, under, stands) = (now, stands)
 
   -- ---- a call begins
 
-  pub calls_to : (disk : D) (called : Called) (e : Engine) (lists : Lists) (w : World) (session : ℕ) (asked : Call) → e.hub.fault ≡ w.machine.fault → CallsTo called e (with_kept lists w) session asked → CallsBy g disk disk called e lists w session asked
+  pub calls_to : (disk : D) (called : Called) (e : Engine) (lists : Lists) (w : World) (session : ℕ) (asked : Call) → e.hub.fault ≡ w.machine.fault → CallsTo called e (with_kept lists w) session asked → CallsBy g disk disk frames called e lists w session asked
   calls_to disk (called.Ended answer) e lists w session asked fault (later, may, stands) = (
     None,
-    never_kept disk disk w,
+    never_kept disk disk w session asked,
     other_records w.records later,
     kept_none (doing_of w session) w (other_records w.records later) session asked answer (sym stands.fault ∙ fault) (calls_other w.records (doing_of w session) (with_kept lists w) later session asked answer may),
     stands_other e lists w later w.records (laid_calls (doing_of w session) (with_kept lists w) session asked answer later may) stands,
@@ -86,8 +87,8 @@ module _ {D : Type 0} (g : Ghosts D) where
 
   -- ---- and goes on
 
-  calls_resumed : (first disk : D) (called : Called) (e : Engine) (lists : Lists) (kept : KeptBy) (w : World) (session : ℕ) (asked : Call) → doing_of w session ≡ Resting → CausedSince g first disk w kept → e.hub.fault ≡ w.machine.fault → WaitsAs called e session → ResumesTo called e kept (with_kept lists w) session asked
-      → CallsBy g first disk called e lists w session asked
+  calls_resumed : (first disk : D) (called : Called) (e : Engine) (lists : Lists) (kept : KeptBy) (w : World) (session : ℕ) (asked : Call) → doing_of w session ≡ Resting → CausedSince g first disk frames w session asked kept → e.hub.fault ≡ w.machine.fault → WaitsAs called e session → ResumesTo called e kept (with_kept lists w) session asked
+      → CallsBy g first disk frames called e lists w session asked
   calls_resumed first disk (called.Ended answer) e lists kept w session asked rests caused fault waits (later, answered, is, stands) = (
     kept,
     caused,
@@ -99,13 +100,13 @@ module _ {D : Type 0} (g : Ghosts D) where
       let there : Stands e (with_kept lists (other_records w.records now)) = stands_other e lists w now w.records (ap laid_of under.moved_to) stands in
       (other_records w.records now, under_none kept e lists w (other_records w.records now) session leaf asked (under_other w.records kept (with_kept lists w) now session asked under) there waits.0, there)
 
-  pub calls_go : (first disk : D) (e e' : Engine) (lists : Lists) (w now : World) (session : ℕ) (asked : Call) (made : Result (Unit {0}) Refusal) (called : Called) → ReachesOrNot (CauseSince g first disk w) e lists w session asked now made
-      → ((kept : KeptBy) (x : World) → IsUnderWay kept (with_kept lists w) session asked x → Stands e x → ResumesTo called e' kept (with_kept lists w) session asked) → IsUnderWay None w session asked now → e'.hub.fault ≡ w.machine.fault → WaitsAs called e' session → CallsBy g first disk called e' lists w session asked
+  pub calls_go : (first disk : D) (e e' : Engine) (lists : Lists) (w now : World) (session : ℕ) (asked : Call) (made : Result (Unit {0}) Refusal) (called : Called) → ReachesOrNot (CauseSince g first disk frames w now) e lists w session asked now made
+      → ((kept : KeptBy) (x : World) → IsUnderWay kept (with_kept lists w) session asked x → Stands e x → ResumesTo called e' kept (with_kept lists w) session asked) → IsUnderWay None w session asked now → e'.hub.fault ≡ w.machine.fault → WaitsAs called e' session → CallsBy g first disk frames called e' lists w session asked
   calls_go first disk e e' lists w now session asked (Ok done) called stands resumes under fault waits =
-      calls_resumed first disk called e' lists None w session asked under.rests (never_kept first disk w) fault waits
+      calls_resumed first disk called e' lists None w session asked under.rests (never_kept first disk w session asked) fault waits
       (resumes None (with_kept lists now) (under_other (with_kept lists w).records None w now session asked under) stands)
   calls_go first disk e e' lists w now session asked (Err r) called (cause, later, out, stands) resumes under fault waits =
-      calls_resumed first disk called e' lists (Some r) w session asked under.rests (kept_by first disk w r cause) fault waits
+      calls_resumed first disk called e' lists (Some r) w session asked under.rests (kept_by first disk w now session asked r under cause) fault waits
       (resumes (Some r) (with_kept lists later) (under_other (with_kept lists w).records (Some r) w later session asked out) stands)
 
 -- ---- a leaf is kept from a call

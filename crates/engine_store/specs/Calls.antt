@@ -31,48 +31,49 @@ use Rattle.engine_store.specs.declared.store.Store.{Store}
 use Rattle.engine_store.specs.Devices.{Installed}
 use Rattle.engine_store.specs.Held.{IsHeld}
 use Rattle.engine_store.specs.Keeping.{IsSameButKept}
+use Rattle.engine_store.specs.Full.{MayBeFull}
 use Rattle.engine_store.specs.GoneOut.{all_out}
 use Rattle.engine_store.specs.Opened.{IsReady}
 use Rattle.engine_store.specs.Loads.{IsCause, IsCaused, LeafSpoils}
 
 -- ---- steps, among which leaves are kept from calls
 
--- a session's call goes on, or its leaf is kept from it for such a cause
-abbrev pub GoesOrKept : (Caused : Refusal → Type 0) → World → ℕ → World → Type 0
-GoesOrKept Caused w session next = MayGo w session reply.More next ⊎ ((r : Refusal) × Caused r × MayKeepOut w session r next)
+-- a session's call goes on, or its leaf is kept from it for such a cause, which is one in that world
+abbrev pub GoesOrKept : (Caused : World → Refusal → Type 0) → World → ℕ → World → Type 0
+GoesOrKept Caused w session next = MayGo w session reply.More next ⊎ ((r : Refusal) × Caused w r × MayKeepOut w session r next)
 
 -- a step of an actor
-abbrev pub MayStepOn : (Caused : Refusal → Type 0) → World → Step → Reply → World → Type 0
+abbrev pub MayStepOn : (Caused : World → Refusal → Type 0) → World → Step → Reply → World → Type 0
 MayStepOn Caused w made told next =
     MayStep w made told next
-    ⊎ ((session : ℕ) × (r : Refusal) × (made ≡ step.Go (actor.Session session)) × (told ≡ reply.More) × Caused r × MayKeepOut w session r next)
+    ⊎ ((session : ℕ) × (r : Refusal) × (made ≡ step.Go (actor.Session session)) × (told ≡ reply.More) × Caused w r × MayKeepOut w session r next)
 
 -- so many steps of a session's call, and one more, which answers it
-abbrev pub EndsIn : (Caused : Refusal → Type 0) → ℕ → World → ℕ → Answer (List ℕ) → World → Type 0
+abbrev pub EndsIn : (Caused : World → Refusal → Type 0) → ℕ → World → ℕ → Answer (List ℕ) → World → Type 0
 EndsIn Caused zero w session answer last = MayGo w session (reply.Answer answer) last
 EndsIn Caused (suc n) w session answer last = (next : World) × GoesOrKept Caused w session next × EndsIn Caused n next session answer last
 
 -- all that is left of a call
-abbrev pub EndsBy : (Caused : Refusal → Type 0) → World → Actor → Answer (List ℕ) → World → Type 0
+abbrev pub EndsBy : (Caused : World → Refusal → Type 0) → World → Actor → Answer (List ℕ) → World → Type 0
 EndsBy Caused w (actor.Session session) answer last = (n : ℕ) × EndsIn Caused n w session answer last
 EndsBy Caused w (actor.System number) answer last = StepsOut 0 w (actor.System number) answer last
 
 -- a whole call: of a session, whose leaf may be kept from it for such a cause, or of the system
-abbrev pub MayAnswerOn : (Caused : Refusal → Type 0) → World → AnyCall → Answer (List ℕ) → World → Type 0
-MayAnswerOn Caused w (call.Session session made) answer later = (kept : KeptBy) × ((r : Refusal) → kept ≡ Some r → Caused r) × MayCallKept kept w session (session_call_in made) answer later
+abbrev pub MayAnswerOn : (Caused : World → Refusal → Type 0) → World → AnyCall → Answer (List ℕ) → World → Type 0
+MayAnswerOn Caused w (call.Session session made) answer later = (kept : KeptBy) × IsCaused Caused w session (session_call_in made) kept × MayCallKept kept w session (session_call_in made) answer later
 MayAnswerOn Caused w (call.System number made) answer later = MayAnswer w (call.System number made) answer later
 
 -- ---- of a store whose disk it holds, as a run began; first: the checkpoint that the disk had then; made: those that the run installed.
 
 module _ {D : Type 0} (g : Ghosts D) (start_disk : D) (w : World) (first : Completed) (made : List Installed) (s s' : Store) (before after : D) where
-  -- why a leaf is kept from a call here
-  abbrev pub CauseHere : Refusal → Type 0
-  CauseHere r = IsCause (Rose (g.faults before) (g.faults after)) w.machine.fault r
+  -- why a leaf is kept from a call here, in a world that the call has reached
+  abbrev pub CauseHere : World → Refusal → Type 0
+  CauseHere now r = IsCause (Rose (g.faults before) (g.faults after)) (MayBeFull s.frames now) w.machine.fault r
 
   -- a whole call of a session
   pub record Called (session : ℕ) (asked : Call) (answer : Answer (List ℕ)) : Type 0 where
     pub kept : KeptBy
-    pub caused : IsCaused (Rose (g.faults before) (g.faults after)) w.machine.fault kept
+    pub caused : IsCaused CauseHere w session asked kept
     pub later : World
     pub called : MayCallKept kept w session asked answer later
     pub held : IsHeld g start_disk s' after later first made

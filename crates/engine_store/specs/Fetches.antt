@@ -18,8 +18,10 @@ use Rattle.engine.specs.Whole.{IsUnderWay, KeptBy, MayCallKept}
 use Rattle.ckpt_step.specs.Floors.{AreLivesOn, Follows}
 use Rattle.ckpt_step.specs.Grounds.{StandsOn}
 use Rattle.ckpt_step.specs.Kept.{Lists}
+use Rattle.engine_store.specs.declared.frames.Frames.{Frames}
 use Rattle.engine_store.specs.declared.store.Store.{Store}
 use Rattle.engine_store.specs.Calls.{Basis, EndsIn, GoesOrKept, MayAnswerSo}
+use Rattle.engine_store.specs.Full.{MayBeFull}
 use Rattle.engine_store.specs.Keeping.{with_kept}
 use Rattle.engine_store.specs.Loads.{IsCause, IsCaused}
 
@@ -56,30 +58,31 @@ ReadiesOrNot Caused e lists now made (Err r) = (session : ℕ) × (made ≡ Go (
 
 -- ---- a whole call
 
--- why a leaf was kept from it, where one was: of the reads since an earlier disk
-abbrev pub CausedSince : {D : Type 0} → Ghosts D → D → D → World → KeptBy → Type 0
-CausedSince g first disk w kept = IsCaused (Rose (g.faults first) (g.faults disk)) w.machine.fault kept
+-- why a leaf is kept from a call that began in this world and has reached that one: of the reads since an earlier disk, with so many frames
+abbrev pub CauseSince : {D : Type 0} → Ghosts D → D → D → Frames → World → World → Refusal → Type 0
+CauseSince g first disk frames w now r = IsCause (Rose (g.faults first) (g.faults disk)) (MayBeFull frames now) w.machine.fault r
 
-abbrev pub CauseSince : {D : Type 0} → Ghosts D → D → D → World → Refusal → Type 0
-CauseSince g first disk w r = IsCause (Rose (g.faults first) (g.faults disk)) w.machine.fault r
+-- why one was kept from it, where one was
+abbrev pub CausedSince : {D : Type 0} → Ghosts D → D → D → Frames → World → ℕ → Call → KeptBy → Type 0
+CausedSince g first disk frames w session asked kept = IsCaused (CauseSince g first disk frames w) w session asked kept
 
 -- it has its answer, or waits for a leaf; lists: what the store keeps then
-abbrev pub CallsBy : {D : Type 0} → Ghosts D → D → D → Called → Engine → Lists → World → ℕ → Call → Type 0
-CallsBy g first disk (called.Ended answer) e lists w session asked =
-    (kept : KeptBy) × CausedSince g first disk w kept × (later : World) × MayCallKept kept w session asked answer later × Stands e (with_kept lists later)
-CallsBy g first disk (called.Waits leaf) e lists w session asked = (now : World) × IsUnderWay None w session asked now × Stands e (with_kept lists now)
+abbrev pub CallsBy : {D : Type 0} → Ghosts D → D → D → Frames → Called → Engine → Lists → World → ℕ → Call → Type 0
+CallsBy g first disk frames (called.Ended answer) e lists w session asked =
+    (kept : KeptBy) × CausedSince g first disk frames w session asked kept × (later : World) × MayCallKept kept w session asked answer later × Stands e (with_kept lists later)
+CallsBy g first disk frames (called.Waits leaf) e lists w session asked = (now : World) × IsUnderWay None w session asked now × Stands e (with_kept lists now)
 
 -- ---- the steps of one
 
 -- so many steps after which it goes on
-abbrev pub GoesIn : (Caused : Refusal → Type 0) → ℕ → World → ℕ → World → Type 0
+abbrev pub GoesIn : (Caused : World → Refusal → Type 0) → ℕ → World → ℕ → World → Type 0
 GoesIn Caused zero w session last = last ≡ w
 GoesIn Caused (suc n) w session last = (next : World) × GoesOrKept Caused w session next × GoesIn Caused n next session last
 
 -- they have ended it, or it waits for a leaf; lists: what the store keeps then
-abbrev pub StepsBy : {D : Type 0} → Ghosts D → D → D → Called → Engine → Lists → World → ℕ → Type 0
-StepsBy g first disk (called.Ended answer) e lists w session = (n : ℕ) × (last : World) × EndsIn (CauseSince g first disk w) n w session answer last × Stands e (with_kept lists last)
-StepsBy g first disk (called.Waits leaf) e lists w session = (n : ℕ) × (last : World) × GoesIn (CauseSince g first disk w) n w session last × Stands e (with_kept lists last)
+abbrev pub StepsBy : {D : Type 0} → Ghosts D → D → D → Frames → Called → Engine → Lists → World → ℕ → Type 0
+StepsBy g first disk frames (called.Ended answer) e lists w session = (n : ℕ) × (last : World) × EndsIn (CauseSince g first disk frames w) n w session answer last × Stands e (with_kept lists last)
+StepsBy g first disk frames (called.Waits leaf) e lists w session = (n : ℕ) × (last : World) × GoesIn (CauseSince g first disk frames w) n w session last × Stands e (with_kept lists last)
 
 -- ---- what is told
 

@@ -1,4 +1,5 @@
 pub mod Keeping
+pub mod Full
 pub mod Devices
 pub mod Images
 pub mod Answers

@@ -1,10 +1,11 @@
 -- What a leaf of the directory is on a device, and why it is not read.
-use Rattle.std.specs.Prelude.{◌≡◌, ◌⊎◌, ◌++◌, ◌∷◌, ℕ, true, false, IsTrue, List, [], Option, Some, option_map}
+use Rattle.std.specs.Prelude.{◌≡◌, ◌⊎◌, ◌++◌, ◌∷◌, ℕ, true, false, IsTrue, List, [], Option, None, Some, option_map}
 use Rattle.failure.specs.Counts.{Rose}
 use Rattle.failure.specs.declared.Fault.{Fault}
 use Rattle.disk_model.specs.declared.disk.Disk.{Ghosts}
 use Rattle.wt_code.specs.declared.refusals.Refusal.{Refusal}
-use Rattle.wt_code.specs.declared.refusals.Refusal.TheVariants.{DiskFault, NoMemory, Panic}
+use Rattle.wt_code.specs.declared.refusals.Refusal.TheVariants.{CacheFull, DiskFault, NoMemory, Panic}
+use Rattle.kv_model.specs.Calls.{Call}
 use Rattle.kv_model.specs.Holds.{Member}
 use Rattle.row_page.specs.Rows.{Row}
 use Rattle.stored.specs.TableTree.{Entry, first_key}
@@ -17,7 +18,8 @@ use Rattle.recover_open.specs.Leaves.{IsUnder}
 use Rattle.tree_dir.specs.declared.leaf.Leaf.{Leaf}
 use Rattle.tree_dir.specs.Leaves.{Directory, leaf_behind, leaf_named}
 use Rattle.leaf_load.specs.Loads.{IsLoaded}
-use Rattle.engine.specs.Whole.{KeptBy}
+use Rattle.engine_world.specs.Worlds.{World}
+use Rattle.engine.specs.Whole.{IsUnderWay, KeptBy}
 use Rattle.ckpt_step.specs.Parts.{has_rows}
 
 -- the low key of the leaf behind the one of this id, where its table has one
@@ -63,12 +65,13 @@ LacksLeaf fault r = (r ≡ NoMemory) ⊎ ((r ≡ DiskFault) × fault)
 
 -- ---- of a call
 
--- why a leaf was kept from a call: memory was short, a read failed, or the engine is down
-abbrev pub IsCause : (fault : Type 0) → Option Fault → Refusal → Type 0
-IsCause fault down r = (r ≡ NoMemory) ⊎ (((r ≡ DiskFault) × fault) ⊎ ((f : Fault) × (r ≡ Panic f) × (down ≡ Some f)))
+-- why a leaf was kept from a call: memory was short, a read failed, the engine is down, or each frame has a leaf that may not go
+abbrev pub IsCause : (fault full : Type 0) → Option Fault → Refusal → Type 0
+IsCause fault full down r = (r ≡ NoMemory) ⊎ (((r ≡ DiskFault) × fault) ⊎ (((f : Fault) × (r ≡ Panic f) × (down ≡ Some f)) ⊎ ((r ≡ CacheFull) × full)))
 
-abbrev pub IsCaused : (fault : Type 0) → Option Fault → KeptBy → Type 0
-IsCaused fault down kept = (r : Refusal) → kept ≡ Some r → IsCause fault down r
+-- where one was kept from a whole call, it was so in a world in which that was under way
+abbrev pub IsCaused : (Caused : World → Refusal → Type 0) → World → ℕ → Call → KeptBy → Type 0
+IsCaused Caused w session asked kept = (r : Refusal) → kept ≡ Some r → (now : World) × IsUnderWay None w session asked now × Caused now r
 
 -- ---- of an opening
 

@@ -13,6 +13,7 @@ ghost use Rattle.engine_store.specs.Opened.{IsOutset, IsReady, LacksNumbers, Spo
 
 use crate::by_place::trees_by_place;
 use crate::eviction::Clock;
+use crate::frames::Frames;
 use crate::marked::{bring_marked, keep_marked};
 use crate::places::trees_over;
 use crate::store::Store;
@@ -38,7 +39,7 @@ pub(crate) fn store_above<D: Disk>(
     disk: &mut D,
     place: Place,
     above: Above,
-    frames: u32,
+    frames: Frames,
 ) -> Result<Store, Refusal>
     requires { AboveInForm above }
     ensures found { IsTrue (D.honest disk.old) → Surveys (D.seen disk.old) place above → (content : Content) → Reads (D.seen disk.old) content → IfOk result (IsFound (D.seen disk.old)) }

@@ -15,6 +15,7 @@ ghost use Rattle.engine.specs.Waits.{IsAway, WaitsAs, awaited_by, turns_in, wait
 ghost use Rattle.engine.specs.Whole.{Ends, IsUnderWay};
 ghost use Rattle.engine.specs.declared.called.Called.TheVariants as reached;
 ghost use Rattle.engine_store.specs.Calls.{AreToldSo, Basis as ABasis, CallKeeps, Called as CalledAs, Finished, Holding, IsBasis, Made, MayAnswerSo, MayOpen, MayReplySo, MayTell, Stepped, TellsSo};
+ghost use Rattle.engine_store.specs.Full.{IsFullOf};
 ghost use Rattle.engine_store.specs.Keeping.{IsSameButKept, with_kept};
 ghost use Rattle.engine_store.specs.Fetches.{CalledSo, CallsBy, CauseSince, ComesOrNot, IsBacked, IsReached, ReachesOrNot, ReadiesOrNot, StepsBy, rounds_left, session_in};
 
@@ -66,8 +67,9 @@ impl Store {
     }
 
     /// A whole call of a session. A leaf that it needs and that is in no frame is read from the device,
-    /// once: where that fails, or memory is short, that is the answer, and nothing but an id that was
-    /// drawn is changed. The cost of the call (`engine::Local::call`), and of a read for such a leaf.
+    /// once: where that fails, memory is short, or the frames are firm and each has a leaf that may not go,
+    /// that is the answer, and nothing but an id that was drawn is changed. The cost of the call
+    /// (`engine::Local::call`), and of a read for such a leaf.
     #[inline(always)]
     pub fn call<D: Disk>(
         &mut self,
@@ -272,9 +274,9 @@ impl Store {
         requires there { session < length self.old.engine.sessions }
         requires waits { WaitsAs called self.old.engine session }
         ensures calls { IsTrue (D.honest disk.old) → (w : World) (asked : Asked) → session < length w.sessions → self.old.engine.hub.fault ≡ w.machine.fault → IsBacked D.Disk self.old disk.old w
-            → CallsBy D.Disk disk.old disk.old called self.old.engine self.old.ground.kept w session asked → CallsBy D.Disk disk.old disk.new (reached.Ended result) self.new.engine self.new.ground.kept w session asked }
+            → CallsBy D.Disk disk.old disk.old self.old.frames called self.old.engine self.old.ground.kept w session asked → CallsBy D.Disk disk.old disk.new self.old.frames (reached.Ended result) self.new.engine self.new.ground.kept w session asked }
         ensures steps { IsTrue (D.honest disk.old) → (w : World) → self.old.engine.hub.fault ≡ w.machine.fault → IsBacked D.Disk self.old disk.old w
-            → StepsBy D.Disk disk.old disk.old called self.old.engine self.old.ground.kept w session → StepsBy D.Disk disk.old disk.new (reached.Ended result) self.new.engine self.new.ground.kept w session }
+            → StepsBy D.Disk disk.old disk.old self.old.frames called self.old.engine self.old.ground.kept w session → StepsBy D.Disk disk.old disk.new self.old.frames (reached.Ended result) self.new.engine self.new.ground.kept w session }
         ensures told { (basis : Option ABasis) (start : D) → D.faults start ≤ D.faults disk.old → IsBasis D.Disk basis self.old.engine disk.old → CalledSo D.Disk basis start disk.old called → AreToldSo D.Disk basis start self.old.engine disk.old
             → MayAnswerSo D.Disk basis start disk.new result × AreToldSo D.Disk basis start self.new.engine disk.new }
         ensures goes { (h : AHub) → HubGoesOn h self.old.engine.hub → HubGoesOn h self.new.engine.hub }
@@ -300,9 +302,9 @@ impl Store {
         requires there { session < length self.old.engine.sessions }
         requires waits { waits_in self.old.engine session ≡ Some leaf }
         ensures calls { IsTrue (D.honest disk.old) → (w now : World) (asked : Asked) → session < length w.sessions → IsReached D.Disk self.old disk.old w now → IsUnderWay None w session asked now
-            → CallsBy D.Disk disk.old disk.new result self.new.engine self.new.ground.kept w session asked }
+            → CallsBy D.Disk disk.old disk.new self.old.frames result self.new.engine self.new.ground.kept w session asked }
         ensures steps { IsTrue (D.honest disk.old) → (w now : World) → IsReached D.Disk self.old disk.old w now
-            → (middle : World) × ((middle ≡ now) ⊎ ((r : Refusal) × CauseSince D.Disk disk.old disk.new w r × MayKeepOut now session r middle)) × Ends result self.new.engine (with_kept self.new.ground.kept middle) session }
+            → (middle : World) × ((middle ≡ now) ⊎ ((r : Refusal) × CauseSince D.Disk disk.old disk.new self.old.frames w now r × MayKeepOut now session r middle)) × Ends result self.new.engine (with_kept self.new.ground.kept middle) session }
         ensures told { (basis : Option ABasis) (start : D) → D.faults start ≤ D.faults disk.old → IsBasis D.Disk basis self.old.engine disk.old → AreToldSo D.Disk basis start self.old.engine disk.old
             → CalledSo D.Disk basis start disk.new result × AreToldSo D.Disk basis start self.new.engine disk.new }
         ensures waits { WaitsAs result self.new.engine session }
@@ -327,7 +329,7 @@ impl Store {
         step: &Step,
     ) -> Result<(), Refusal>
         requires fits { StepFits self.old.engine step.now }
-        ensures steps { IsTrue (D.honest disk.old) → (w now : World) → IsReached D.Disk self.old disk.old w now → ReadiesOrNot (CauseSince D.Disk disk.old disk.new w) self.new.engine self.new.ground.kept now step.now result }
+        ensures steps { IsTrue (D.honest disk.old) → (w now : World) → IsReached D.Disk self.old disk.old w now → ReadiesOrNot (CauseSince D.Disk disk.old disk.new self.old.frames w now) self.new.engine self.new.ground.kept now step.now result }
         ensures told { (basis : Option ABasis) (start : D) → D.faults start ≤ D.faults disk.old → IsBasis D.Disk basis self.old.engine disk.old → AreToldSo D.Disk basis start self.old.engine disk.old → AreToldSo D.Disk basis start self.new.engine disk.new }
         ensures ready { OnOk result (awaited_by self.new.engine step.now ≡ None) }
         ensures fits { StepFits self.new.engine step.now }
@@ -358,9 +360,9 @@ impl Store {
         leaf: u64,
     ) -> Result<(), Refusal>
         requires waits { waits_in self.old.engine session ≡ Some leaf }
-        ensures steps { IsTrue (D.honest disk.old) → (w now : World) → IsReached D.Disk self.old disk.old w now → ComesOrNot (CauseSince D.Disk disk.old disk.new w) self.new.engine self.new.ground.kept now session result }
+        ensures steps { IsTrue (D.honest disk.old) → (w now : World) → IsReached D.Disk self.old disk.old w now → ComesOrNot (CauseSince D.Disk disk.old disk.new self.old.frames w now) self.new.engine self.new.ground.kept now session result }
         ensures reaches { IsTrue (D.honest disk.old) → (w now : World) (asked : Asked) → session < length w.sessions → IsReached D.Disk self.old disk.old w now → IsUnderWay None w session asked now
-            → ReachesOrNot (CauseSince D.Disk disk.old disk.new w) self.new.engine self.new.ground.kept w session asked now result }
+            → ReachesOrNot (CauseSince D.Disk disk.old disk.new self.old.frames w now) self.new.engine self.new.ground.kept w session asked now result }
         ensures told { (basis : Option ABasis) (start : D) → D.faults start ≤ D.faults disk.old → IsBasis D.Disk basis self.old.engine disk.old → AreToldSo D.Disk basis start self.old.engine disk.old → AreToldSo D.Disk basis start self.new.engine disk.new }
         ensures ready { waits_in self.new.engine session ≡ None }
         ensures turns { turns_in self.new.engine session ≤ turns_in self.old.engine session }
@@ -380,17 +382,18 @@ impl Store {
         }
     }
 
-    // A leaf that is in no frame comes into one, while the engine is up.
+    // A leaf that is in no frame comes into one, while the engine is up, and not each frame is kept by a leaf.
     fn fetch<D: Disk>(&mut self, alloc: Global, disk: &mut D, leaf: u64) -> Result<(), Refusal>
         requires away { IsAway self.old.engine.hub.dir.leaves leaf }
         ensures stands { IsTrue (D.honest disk.old) → (w now : World) → IsReached D.Disk self.old disk.old w now → OnOk result (Stands self.new.engine (with_kept self.new.ground.kept now)) }
-        ensures cause { IsTrue (D.honest disk.old) → (w now : World) → IsReached D.Disk self.old disk.old w now → IfErr result (CauseSince D.Disk disk.old disk.new w) }
+        ensures cause { IsTrue (D.honest disk.old) → (w now : World) → IsReached D.Disk self.old disk.old w now → IfErr result (CauseSince D.Disk disk.old disk.new self.old.frames w now) }
         ensures told { (basis : Option ABasis) (start : D) → D.faults start ≤ D.faults disk.old → IsBasis D.Disk basis self.old.engine disk.old → IfErr result (MayTell D.Disk basis start disk.new) }
         ensures found { IfErr result (λ r. r ≢ Refusal.NotFound) }
         ensures ready { (session : ℕ) → waits_in self.old.engine session ≡ Some leaf → OnOk result (waits_in self.new.engine session ≡ None) }
         ensures turns { (session : ℕ) → OnOk result (turns_in self.new.engine session ≡ turns_in self.old.engine session) }
         ensures kept { OnErr result (self.new.engine ≡ self.old.engine) }
         ensures keeps { OnErr result (self.new.ground.kept ≡ self.old.ground.kept) }
+        ensures firm { OnOk result (IsFullOf self.old.frames self.old.engine → ⊥) }
         ensures goes { OnOk result (HubGoesOn self.old.engine.hub self.new.engine.hub) }
         ensures ground { IsSameButKept self.old.ground self.new.ground }
         ensures frames { self.new.frames ≡ self.old.frames }
@@ -406,6 +409,9 @@ impl Store {
         // No checkpoint of this engine wrote a leaf that is in no frame.
         if let Some(_) = self.ground.parts.of(leaf) {
             return Err(Refusal::NoMemory);
+        }
+        if self.is_full() {
+            return Err(Refusal::CacheFull);
         }
         self.clock.tick();
         bring(alloc, disk, &mut self.ground.kept, &mut self.engine, leaf)

@@ -3,6 +3,7 @@
 ghost use Rattle.std.specs.Prelude.{◌≡◌, IsTrue};
 ghost use Rattle.engine_store.specs.GoneOut.{GoOut, IsWhole, LeadsToRows};
 
+use crate::frames::Frames;
 use crate::store::Store;
 use ckpt_step::grounds_let_go;
 use disk_model::Disk;
@@ -11,7 +12,8 @@ use tree_dir::Dir;
 /// So many frames an engine has where nobody says how many.
 pub const FRAMES: u32 = 64;
 
-// At most so many frames are looked at for a leaf that goes out, each time that one came in.
+// At most so many frames are looked at for a leaf that goes out, each time that one came in, where the
+// frames are soft.
 pub(crate) const TRIES: usize = 4;
 
 // So many calls are passed over between two looks for leaves of which many keys were written.
@@ -78,10 +80,11 @@ impl Clock {
 }
 
 impl Store {
-    /// Behind a call for which leaves were read: while more than `self.frames` frames have leaves, some go
-    /// out of theirs that no call has in hand and no cursor stands on, whose keys were never written
-    /// since they were read, and which no checkpoint of this engine wrote. They are read again when a
-    /// call needs them. `O(1)` where no leaf was read, else `O(n)` in the frames and sessions.
+    /// Behind a call for which leaves were read: while more frames have leaves than there are to be, some
+    /// go out of theirs, or each where the frames are firm, that no call has in hand and no cursor stands
+    /// on, whose keys were never written since they were read, and which no checkpoint of this engine
+    /// wrote. They are read again when a call needs them. `O(1)` where no leaf was read, else `O(n)` in
+    /// the frames and sessions.
     #[inline(always)]
     pub(crate) fn make_way<D: Disk>(&mut self)
         ensures { GoOut D.Disk self.old self.new }
@@ -97,12 +100,39 @@ impl Store {
         ensures { GoOut D.Disk self.old self.new }
     {
         self.clock.is_due = false;
-        let over = self.filled().saturating_sub(self.frames as usize);
+        let mut over = self.over();
         self.clock.note_over(over > 0);
-        for _ in 0..over.min(TRIES) {
-            let frame = self.clock.next(self.engine.frames());
-            self.let_out::<D>(frame);
+        for _ in 0..self.looks(over) {
+            if over == 0 {
+                return;
+            }
+            if self.next_out::<D>() {
+                over = over.wrapping_sub(1);
+            }
         }
+    }
+
+    // How many frames are looked at, where so many are over: each of them where they are firm.
+    fn looks(&self, over: usize) -> usize {
+        match self.frames {
+            Frames::Soft(_) => over.min(TRIES),
+            Frames::Firm(_) => self.engine.frames(),
+        }
+    }
+
+    // How many more frames have leaves than there are to be.
+    pub(crate) fn over(&self) -> usize {
+        self.filled().saturating_sub(self.frames.count() as usize)
+    }
+
+    // The leaf in the next frame goes out of it, if it may. Whether it went.
+    fn next_out<D: Disk>(&mut self) -> bool
+        ensures { GoOut D.Disk self.old self.new }
+    {
+        let frame = self.clock.next(self.engine.frames());
+        let had_leaf = self.has_leaf(frame as usize);
+        self.let_out::<D>(frame);
+        had_leaf && !self.has_leaf(frame as usize)
     }
 
     // How many frames have leaves.
@@ -116,7 +146,7 @@ impl Store {
         filled
     }
 
-    fn has_leaf(&self, frame: usize) -> bool {
+    pub(crate) fn has_leaf(&self, frame: usize) -> bool {
         match u32::try_from(frame) {
             Ok(number) => self.engine.id_in(number).is_some(),
             Err(_) => false,

@@ -19,6 +19,7 @@ mod by_place;
 mod calls;
 mod evict_call;
 mod eviction;
+mod frames;
 mod loading;
 mod marked;
 mod opening;
@@ -30,6 +31,7 @@ mod tables;
 mod writing_out;
 
 pub use eviction::FRAMES;
+pub use frames::Frames;
 pub use opening::open_on;
 pub use store::Store;
 pub use writing_out::CHANGED_LEAST;

@@ -10,6 +10,7 @@ ghost use Rattle.engine_store.specs.Opened.{IsOpened, IsOutset, IsReady, IsSurve
 
 use crate::above::store_above;
 use crate::eviction::Clock;
+use crate::frames::Frames;
 use crate::store::Store;
 use catalog::Catalog;
 use ckpt_step::{Ground, Kept, Lives, Parts};
@@ -24,14 +25,14 @@ use tree_dir::Dir;
 use wt_code::Refusal;
 
 /// An engine with so many frames on what a device holds, without a session. The record and the inner
-/// pages are read, and of the leaves those alone of which an opening may take something out: any other is read when a call
-/// needs it, and damage of it told then. Nothing is written.
+/// pages are read, and of the leaves those alone of which an opening may take something out: any other is
+/// read when a call needs it, and damage of it told then. Nothing is written.
 ///
 /// Refused as `recover_open::survey` says, since such a leaf is at fault, as `75 limit checkpoints`
 /// where no run may follow that of the record, and as `75 limit tables` where its next number leaves
 /// none for as many tables as an engine may have. `O(bytes)` of what is read, `O(n)` in the leaves and
 /// blocks, and `O(n^2)` in the tables at most.
-pub fn open_on<D: Disk>(alloc: Global, disk: &mut D, frames: u32) -> Result<Store, Refusal>
+pub fn open_on<D: Disk>(alloc: Global, disk: &mut D, frames: Frames) -> Result<Store, Refusal>
     ensures ok { IsTrue (D.honest disk.old) → (content : Content) → Reads (D.seen disk.old) content → IfOk result (IsOpened (D.seen disk.new) (D.may_leave disk.new)) }
     ensures surveyed { IsTrue (D.honest disk.old) → OnOk result (IsSurveyable (D.seen disk.old)) }
     ensures spoils { IsTrue (D.honest disk.old) → IfOk result (SpoilsAreThere (D.seen disk.old)) }
@@ -57,7 +58,7 @@ pub fn open_on<D: Disk>(alloc: Global, disk: &mut D, frames: u32) -> Result<Stor
 }
 
 // An engine on a device on which no checkpoint was completed.
-fn store_on_nothing(alloc: Global, place: Place, frames: u32) -> Result<Store, NoMemory>
+fn store_on_nothing(alloc: Global, place: Place, frames: Frames) -> Result<Store, NoMemory>
     ensures found { (bytes : List ℕ) → KeepsNone bytes place → IfOk result (IsFound bytes) }
     ensures bare { IfOk result (λ s. s.engine.hub.dir.leaves ≡ []) }
     ensures outset { IfOk result (λ s. IsOutset s.engine.hub) }

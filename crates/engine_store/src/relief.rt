@@ -4,6 +4,7 @@ ghost use Rattle.std.specs.Prelude.{◌≡◌, false, true, IfSome, IsTrue};
 ghost use Rattle.engine.specs.Frames.{IsFramed};
 ghost use Rattle.engine_world.specs.GivingWay.{IsIdle};
 ghost use Rattle.ckpt_step.specs.Rooms.{known_in};
+ghost use Rattle.engine_store.specs.Full.{count_of};
 ghost use Rattle.engine_store.specs.Relieves.{LetsGo, has_to_go};
 
 use crate::store::Store;
@@ -13,12 +14,12 @@ use std::alloc::Global;
 use tree_dir::Dir;
 
 impl Store {
-    /// While no session has a call, a transaction or a cursor on a leaf, leaves give way to what the
-    /// last completed checkpoint has of them: each one that is in a frame behind the first
-    /// `self.frames`, and each of which it has several images, so that a leaf which grew is parted. A leaf stays of
-    /// which it has no rows, whose frame is at its last generation, or where memory is short. They are read
-    /// again when a call needs them.
-    /// `O(n)` in the frames and sessions, and `O(log n)` in the leaves for each image of those.
+    /// While no session has a call, a transaction or a cursor on a leaf, leaves give way to what the last
+    /// completed checkpoint has of them: each one that is in a frame behind the first ones, as many as
+    /// there are frames, and each of which it has several images, so that a leaf which grew is parted. A
+    /// leaf stays of which it has no rows, whose frame is at its last generation, or where memory is
+    /// short. They are read again when a call needs them. `O(n)` in the frames and sessions, and
+    /// `O(log n)` in the leaves for each image of those.
     pub(crate) fn relieve<D: Disk>(&mut self, alloc: Global)
         ensures { LetsGo D.Disk self.old self.new }
     {
@@ -34,7 +35,7 @@ impl Store {
 
     // The leaf in a frame, where it is one that gives way.
     fn leaf_to_go(&self, frame: usize) -> Option<u64>
-        ensures { IfSome result (λ leaf. has_to_go self.now.frames frame (known_in self.now.ground.parts leaf) ≡ true) }
+        ensures { IfSome result (λ leaf. has_to_go (count_of self.now.frames) frame (known_in self.now.ground.parts leaf) ≡ true) }
     {
         let number = u32::try_from(frame).ok()?;
         let leaf = self.engine.id_in(number)?;
@@ -47,11 +48,12 @@ impl Store {
 
     // Whether a leaf in this frame is one that gives way.
     fn has_to_go(&self, frame: usize, leaf: u64) -> bool
-        ensures { result ≡ has_to_go self.now.frames frame (known_in self.now.ground.parts leaf) }
+        ensures { result ≡ has_to_go (count_of self.now.frames) frame (known_in self.now.ground.parts leaf) }
     {
+        let most = self.frames.count() as usize;
         match self.ground.parts.of(leaf) {
-            None => frame >= self.frames as usize,
-            Some(entries) => frame >= self.frames as usize || entries.len() > 1,
+            None => frame >= most,
+            Some(entries) => frame >= most || entries.len() > 1,
         }
     }
 

@@ -7,6 +7,7 @@ ghost use Rattle.engine_store.specs.Opened.{IsReady};
 ghost use Rattle.engine_store.specs.Room.{MakesRoom, RoomAlike};
 
 use crate::eviction::TRIES;
+use crate::frames::Frames;
 use crate::store::Store;
 use crate::writing_out::{CHANGED_LEAST, is_short};
 use ckpt_step::evict;
@@ -19,12 +20,13 @@ impl Store {
     /// newest version of each of their keys stands in a block that the live tree alone has, and they are
     /// in no frame. Older versions that somebody may still want stay in memory, and come back with their
     /// leaf. One that has grown past one block parts: leaves of several such blocks, in no frame either,
-    /// have its place, and each has the older versions of its keys. Calls read them when they need them, the next checkpoint keeps them as they
-    /// stand, and an opening knows nothing of them.
+    /// have its place, and each has the older versions of its keys. Calls read them when they need them,
+    /// the next checkpoint keeps them as they stand, and an opening knows nothing of them.
     ///
-    /// While more than `self.frames` frames have leaves, these are the next ones of which keys were
+    /// While more frames have leaves than there are to be, these are the next ones of which keys were
     /// written since they were read. Every 1,000 calls it is each of which `CHANGED_LEAST` keys or more
-    /// were. At most four are tried. A leaf stays in its frame that may not go, and for which memory or
+    /// were. At most four are tried; where the frames are firm, each is, until no more have leaves than
+    /// there are to be. A leaf stays in its frame that may not go, and for which memory or
     /// the device has no room. A failed write takes the engine down; a failed read does not. Either ends
     /// it.
     ///
@@ -64,14 +66,22 @@ impl Store {
         ensures alike { RoomAlike D.Disk self.old self.new disk.old disk.new }
     {
         let filled = self.filled();
-        let over = filled.saturating_sub(self.frames as usize);
-        self.evict_some(alloc, disk, over.min(TRIES), 1);
+        let over = self.over();
+        self.evict_some(alloc, disk, self.at_once(over), 1);
         let has_fewer = self.filled() < filled;
         self.clock.note_over(over > TRIES && has_fewer);
     }
 
+    // How many of so many are evicted behind one call.
+    fn at_once(&self, over: usize) -> usize {
+        match self.frames {
+            Frames::Soft(_) => over.min(TRIES),
+            Frames::Firm(_) => over,
+        }
+    }
+
     // At most so many of the leaves in frames of each of which so many keys or more were written since it
-    // was read, by the hand of the clock.
+    // was read, by the hand of the clock. Where the frames are firm, those that stay are not counted.
     #[inline(never)]
     fn evict_some<D: Disk>(&mut self, alloc: Global, disk: &mut D, tries: usize, least: usize)
         ensures room { MakesRoom D.Disk self.old self.new disk.old disk.new }
@@ -84,11 +94,19 @@ impl Store {
             }
             let frame = self.clock.next(self.engine.frames());
             if let Some(leaf) = self.changed_by(frame, least) {
-                left = left.wrapping_sub(1);
                 if !self.evict_leaf(alloc, disk, leaf) {
                     return;
                 }
+                left = left.wrapping_sub(self.counted(frame));
             }
+        }
+    }
+
+    // What the leaf of a frame counts that was tried.
+    fn counted(&self, frame: u32) -> usize {
+        match self.frames {
+            Frames::Soft(_) => 1,
+            Frames::Firm(_) => { if self.has_leaf(frame as usize) { 0 } else { 1 } }
         }
     }
 

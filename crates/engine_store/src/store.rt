@@ -18,6 +18,7 @@ ghost use Rattle.engine_store.specs.Held.{Checkpoints, IsHeld, MayReopen, Shuts}
 ghost use Rattle.engine_store.specs.Opened.{IsAtFault, IsReady};
 
 use crate::eviction::Clock;
+use crate::frames::Frames;
 use crate::opening::open_on;
 use ckpt_step::{Ground, checkpoint, checkpoints_have_newest, checkpoints_open, plain_stays};
 use disk_model::Disk;
@@ -35,8 +36,9 @@ pub struct Store {
     pub ground: Ground,
     /// How many frames it has: so many leaves stay in memory that were only read, while calls need
     /// others. A leaf whose keys were written stays beside them up to the next checkpoint, or until
-    /// `make_room` finds it.
-    pub frames: u32,
+    /// `make_room` finds it. Where they are firm, a call whose leaf needs one while each has a leaf that
+    /// may not go is refused.
+    pub frames: Frames,
     // Which leaves go out of their frames.
     pub(crate) clock: Clock,
 }
@@ -104,7 +106,7 @@ impl Store {
         &mut self,
         alloc: Global,
         disk: &mut D,
-        frames: u32,
+        frames: Frames,
     ) -> Result<(), Refusal>
         requires ready { IsReady self.old }
         ensures opens { IsTrue (D.honest disk.old) → (first_disk : D) → (w : World) → (first : Completed) → (made : List Installed) → IsHeld D.Disk first_disk self.old disk.old w first made

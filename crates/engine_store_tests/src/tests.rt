@@ -2,6 +2,7 @@
 ghost use Rattle.std.specs.Prelude.{◌≡◌, IsTrue};
 ghost use Rattle.ckpt_step.specs.Trees.{AreLow};
 
+mod bench;
 mod checkpoints;
 mod closings;
 mod leaves;
@@ -9,15 +10,16 @@ mod room;
 mod spoilt;
 mod written_out;
 
+use bench::Row;
 use block_sum::sum;
 use disk_model::MemDisk;
-use engine_store::{FRAMES, Store, open_on};
+use engine_store::{FRAMES, Frames, Store, open_on};
 use item::Item;
 use std::alloc::Global;
 use std::process::Abort;
 use tree_open::TreePlace;
 use wt_calls::SessionCall;
-use wt_code::{Answer, Invalid, Refusal};
+use wt_code::{Answer, Refusal};
 
 // Sequence 3 by run 2, whose ids below 9 had ended but 5; the record's sum stands at 32.
 const SLOT: [u8; 36] = [
@@ -82,16 +84,33 @@ fn put_sum(rt: &impl Abort, content: &mut [u8], block: usize, at: usize) {
     put(rt, content, at, &sum.to_le_bytes());
 }
 
+// What is written at each offset.
+const PIECES: [(usize, &[u8]); 4] = [
+    (0, &SLOT),
+    (8_192, &RECORD),
+    (12_288, &FIRST),
+    (16_384, &SECOND),
+];
+
+// Where the sum of each block stands.
+const SUMS: [(usize, usize); 3] = [(12_288, 8_331), (16_384, 8_380), (8_192, 32)];
+
+fn put_pieces(rt: &impl Abort, content: &mut [u8]) {
+    for (at, bytes) in PIECES {
+        put(rt, content, at, bytes);
+    }
+}
+
+fn put_sums(rt: &impl Abort, content: &mut [u8]) {
+    for (block, at) in SUMS {
+        put_sum(rt, content, block, at);
+    }
+}
+
 fn content(rt: &impl Abort, alloc: Global) -> Vec<u8> {
-    let mut content = Vec::new(alloc);
-    content.resize(20_480, 0).expect(rt, "there is memory");
-    put(rt, &mut content, 0, &SLOT);
-    put(rt, &mut content, 8_192, &RECORD);
-    put(rt, &mut content, 12_288, &FIRST);
-    put(rt, &mut content, 16_384, &SECOND);
-    put_sum(rt, &mut content, 12_288, 8_331);
-    put_sum(rt, &mut content, 16_384, 8_380);
-    put_sum(rt, &mut content, 8_192, 32);
+    let mut content = bench::bytes_of(rt, alloc, 20_480, 0);
+    put_pieces(rt, &mut content);
+    put_sums(rt, &mut content);
     content
 }
 
@@ -106,11 +125,40 @@ fn item(rt: &impl Abort, alloc: Global, bytes: &[u8]) -> Item
     Item::new(Vec::from_slice(alloc, bytes).expect(rt, "there is memory"))
 }
 
-fn ask(alloc: Global, store: &mut Store, disk: &mut MemDisk, call: SessionCall) -> Answer<Item> {
-    if store.engine.sessions() == 0 {
-        return Answer::Refused(Refusal::Invalid(Invalid::NoCall));
-    }
+// A store with a session.
+fn open(rt: &impl Abort, alloc: Global, disk: &mut MemDisk) -> Store {
+    let mut store = open_on(alloc, disk, Frames::Soft(FRAMES)).expect(rt, "it opens");
+    assert!(rt; store.open_session::<MemDisk>(alloc).is_ok());
+    store
+}
+
+fn ask(
+    rt: &impl Abort,
+    alloc: Global,
+    store: &mut Store,
+    disk: &mut MemDisk,
+    call: SessionCall,
+) -> Answer<Item> {
+    assert!(rt; store.engine.sessions() > 0);
     store.call(alloc, disk, 0, call)
+}
+
+fn begin(rt: &impl Abort, alloc: Global, store: &mut Store, disk: &mut MemDisk) {
+    let _begun = ask(rt, alloc, store, disk, SessionCall::Begin(None));
+}
+
+fn get(
+    rt: &impl Abort,
+    alloc: Global,
+    store: &mut Store,
+    disk: &mut MemDisk,
+    (table, key): (&[u8], &[u8]),
+) -> Answer<Item> {
+    let call = SessionCall::Get {
+        table: item(rt, alloc, table),
+        key: item(rt, alloc, key),
+    };
+    ask(rt, alloc, store, disk, call)
 }
 
 // A value, or in words what is not one.
@@ -120,6 +168,18 @@ fn told(answer: &Answer<Item>) -> &[u8] {
         Answer::Refused(Refusal::NotFound) => b"not found",
         _ => b"else",
     }
+}
+
+// Whether this is read at the key of a table.
+fn reads(
+    rt: &impl Abort,
+    alloc: Global,
+    store: &mut Store,
+    disk: &mut MemDisk,
+    (table, key, wanted): Row<'_>,
+) -> bool {
+    let answer = get(rt, alloc, store, disk, (table, key));
+    told(&answer) == wanted
 }
 
 // Whether no tree has more levels than a record tells.
@@ -141,30 +201,31 @@ fn offset_at(trees: &[TreePlace], place: usize) -> u64 {
     }
 }
 
+// What is read at each key of each table.
+const READS: [Row<'static>; 4] = [
+    (b"a", b"a\0", b"1\0"),
+    (b"a", b"b\0", b"not found"),
+    (b"b", b"a\0", b"not found"),
+    (b"b", b"b\0", b"2\0"),
+];
+
+fn check_offsets(rt: &impl Abort, trees: &[TreePlace]) {
+    assert_eq!(rt; offset_at(trees, 0), 16_384);
+    assert_eq!(rt; offset_at(trees, 1), 12_288);
+}
+
+fn check_reads(rt: &impl Abort, alloc: Global, store: &mut Store, disk: &mut MemDisk) {
+    begin(rt, alloc, store, disk);
+    for read in READS {
+        assert!(rt; reads(rt, alloc, store, disk, read));
+    }
+}
+
 #[test]
 fn each_table_has_its_own_rows(rt: HostRuntime) {
     let alloc = rt.alloc();
     let mut disk = device(&rt, alloc, content(&rt, alloc));
-    let mut store = open_on(alloc, &mut disk, FRAMES).expect(&rt, "there is memory");
-    assert_eq!(rt; offset_at(&store.ground.trees, 0), 16_384);
-    assert_eq!(rt; offset_at(&store.ground.trees, 1), 12_288);
-    assert!(&rt; store.open_session::<MemDisk>(alloc).is_ok());
-    let _begun = ask(alloc, &mut store, &mut disk, SessionCall::Begin(None));
-    let reads = [
-        (b"a", b"a\0", b"1\0".as_slice()),
-        (b"a", b"b\0", b"not found".as_slice()),
-        (b"b", b"a\0", b"not found".as_slice()),
-        (b"b", b"b\0", b"2\0".as_slice()),
-    ];
-    for (table, key, wanted) in reads {
-        let table = item(&rt, alloc, table);
-        let key = item(&rt, alloc, key);
-        let answer = ask(
-            alloc,
-            &mut store,
-            &mut disk,
-            SessionCall::Get { table, key },
-        );
-        assert!(&rt; told(&answer) == wanted);
-    }
+    let mut store = open(&rt, alloc, &mut disk);
+    check_offsets(&rt, &store.ground.trees);
+    check_reads(&rt, alloc, &mut store, &mut disk);
 }

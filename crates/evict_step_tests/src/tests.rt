@@ -1,5 +1,4 @@
 // A leaf that is evicted and comes back from its image and what moved, and what keeps a leaf from it.
-ghost use Rattle.std.specs.Prelude.{IfOk};
 ghost use Rattle.leaf_rows.specs.Rows.{AreFit};
 ghost use Rattle.leaf_capture.specs.Capture.{ChainsFit};
 ghost use Rattle.evict_step.specs.Backs.{AllFit};
@@ -8,7 +7,6 @@ use catalog::Catalog;
 use device_layout::{Addr, Link};
 use engine::{Called, Local};
 use evict_step::{CutOut, Made, Stays, bring_back, cut_out};
-use failure::NoMemory;
 use item::{Format, Formats, Item};
 use leaf_frame::LeafFrame;
 use row_page::Leaf;
@@ -24,6 +22,11 @@ const BYTES: Formats = Formats {
     value: Format::U,
 };
 
+const COMMIT: SessionCall = SessionCall::Commit {
+    commit: None,
+    durable: None,
+};
+
 // What leads to the block of the leaf.
 const LINK: Link = Link {
     addr: Addr {
@@ -35,200 +38,223 @@ const LINK: Link = Link {
     durable: 0,
 };
 
-fn item(alloc: Global, bytes: &[u8]) -> Result<Item, NoMemory> {
-    Ok(Item::new(Vec::from_slice(alloc, bytes)?))
+fn item(rt: &impl Abort, alloc: Global, bytes: &[u8]) -> Item {
+    Item::new(Vec::from_slice(alloc, bytes).expect(rt, "there is memory"))
 }
 
-// An engine on nothing, with the table `t`, which is empty, and two sessions.
 #[tactic(auto, using(crate::proofs::Bases::none_owned, crate::proofs::Bases::unset_fit))]
-fn engine(alloc: Global) -> Result<Local, NoMemory> {
+fn engine_on_nothing(rt: &impl Abort, alloc: Global) -> Local {
     let tables = Catalog::new(alloc);
-    let mut engine = Local::open(alloc, 1, 0, 0, tables, Dir::new(alloc))?;
+    let opened = Local::open(alloc, 1, 0, 0, tables, Dir::new(alloc));
+    opened.expect(rt, "there is memory")
+}
+
+// Makes the table `t`.
+fn create(rt: &impl Abort, alloc: Global, engine: &mut Local) {
     let create = SystemCall::Create {
-        table: item(alloc, b"t")?,
+        table: item(rt, alloc, b"t"),
         formats: BYTES,
     };
     // That there is an actor of the system.
     let _actors = engine.actors();
     let _made = engine.call_system(alloc, 0, create);
-    for _ in 0..2u32 {
-        if engine.open_session(alloc).is_err() {
-            return Err(NoMemory);
-        }
-    }
-    Ok(engine)
 }
 
-// Whether a whole call of a session that is open ends, and not with a refusal.
-fn is_done(alloc: Global, engine: &mut Local, session: u32, call: SessionCall) -> bool {
-    if session >= engine.sessions() {
-        return false;
+// An engine on nothing, with the table `t`, which is empty, and two sessions.
+fn engine(rt: &impl Abort, alloc: Global) -> Local {
+    let mut engine = engine_on_nothing(rt, alloc);
+    create(rt, alloc, &mut engine);
+    for _ in 0..2u32 {
+        assert!(rt; engine.open_session(alloc).is_ok());
     }
-    match engine.call(alloc, session, call) {
+    engine
+}
+
+// Whether a call has ended, and not with a refusal.
+fn is_done(called: &Called) -> bool {
+    match called {
         Called::Ended(Answer::Refused(_)) | Called::Waits(_) => false,
         Called::Ended(_) => true,
     }
 }
 
-// Whether session 0 begins, and puts this value of `k`.
-fn begins_put(alloc: Global, engine: &mut Local, value: &[u8]) -> Result<bool, NoMemory> {
-    let put = SessionCall::Put {
-        table: item(alloc, b"t")?,
-        key: item(alloc, b"k")?,
-        value: item(alloc, value)?,
+// A whole call of a session that is open.
+fn ask(rt: &impl Abort, alloc: Global, engine: &mut Local, session: u32, call: SessionCall) {
+    assert!(rt; session < engine.sessions());
+    assert!(rt; is_done(&engine.call(alloc, session, call)));
+}
+
+// Session 1 begins.
+fn begin_reader(rt: &impl Abort, alloc: Global, engine: &mut Local) {
+    ask(rt, alloc, engine, 1, SessionCall::Begin(None));
+}
+
+fn put_call(rt: &impl Abort, alloc: Global, value: &[u8]) -> SessionCall {
+    SessionCall::Put {
+        table: item(rt, alloc, b"t"),
+        key: item(rt, alloc, b"k"),
+        value: item(rt, alloc, value),
         demand: Demand::Anything,
-    };
-    Ok(is_done(alloc, engine, 0, SessionCall::Begin(None)) && is_done(alloc, engine, 0, put))
+    }
 }
 
-fn commits(alloc: Global, engine: &mut Local) -> bool {
-    let commit = SessionCall::Commit {
-        commit: None,
-        durable: None,
-    };
-    is_done(alloc, engine, 0, commit)
+// Session 0 begins, and puts this value of `k`.
+fn begin_put(rt: &impl Abort, alloc: Global, engine: &mut Local, value: &[u8]) {
+    ask(rt, alloc, engine, 0, SessionCall::Begin(None));
+    ask(rt, alloc, engine, 0, put_call(rt, alloc, value));
 }
 
-// Whether cursor 0 of session 1 comes to `k`.
-fn seeks(alloc: Global, engine: &mut Local) -> Result<bool, NoMemory> {
+fn commit(rt: &impl Abort, alloc: Global, engine: &mut Local) {
+    ask(rt, alloc, engine, 0, COMMIT);
+}
+
+// The same in a transaction that is committed.
+fn put(rt: &impl Abort, alloc: Global, engine: &mut Local, value: &[u8]) {
+    begin_put(rt, alloc, engine, value);
+    commit(rt, alloc, engine);
+}
+
+// Cursor 0 of session 1 comes to `k`.
+fn seek(rt: &impl Abort, alloc: Global, engine: &mut Local) {
     let seek = SessionCall::Seek {
         cursor: 0,
-        table: item(alloc, b"t")?,
-        key: item(alloc, b"k")?,
+        table: item(rt, alloc, b"t"),
+        key: item(rt, alloc, b"k"),
     };
-    Ok(is_done(alloc, engine, 1, seek))
+    ask(rt, alloc, engine, 1, seek);
 }
 
-// What the leaf in the first frame is cut into.
-fn cut_first(alloc: Global, engine: &Local) -> Result<Option<CutOut>, NoMemory> {
-    match engine.id_in(0) {
-        None => Ok(None),
-        Some(leaf) => Ok(Some(cut_out(alloc, engine, leaf)?)),
+// Why the leaf in the first frame stays, if it does.
+fn stays(rt: &impl Abort, alloc: Global, engine: &Local) -> Option<Stays> {
+    let leaf = engine.id_in(0).expect(rt, "a leaf");
+    match cut_out(alloc, engine, leaf) {
+        Ok(CutOut::Stays(why)) => Some(why),
+        _ => None,
     }
 }
 
-// Why it stays.
-fn stays(alloc: Global, engine: &Local) -> Result<Option<Stays>, NoMemory> {
-    match cut_first(alloc, engine)? {
-        Some(CutOut::Stays(why)) => Ok(Some(why)),
-        _ => Ok(None),
-    }
-}
-
-// Its images, and what moves to the history.
-fn cut(alloc: Global, engine: &Local) -> Result<Made, NoMemory>
-    ensures { IfOk result (λ made. AllFit made.moved.items) }
+// What it is cut into: its images, and what moves to the history.
+fn cut(rt: &impl Abort, alloc: Global, engine: &Local) -> Made
+    ensures { AllFit result.moved.items }
 {
-    match engine.id_in(0) {
-        None => Err(NoMemory),
-        Some(leaf) => match cut_out(alloc, engine, leaf)? {
-            CutOut::Images(made) => Ok(made),
-            _ => Err(NoMemory),
-        },
+    let leaf = engine.id_in(0).expect(rt, "a leaf");
+    match cut_out(alloc, engine, leaf) {
+        Ok(CutOut::Images(made)) => made,
+        _ => panic!(rt; "it is not cut"),
     }
 }
 
 // The leaf of this block.
-fn page(alloc: Global, block: Vec<u8>) -> Result<Leaf, NoMemory>
-    ensures { IfOk result AreFit }
+fn page(rt: &impl Abort, alloc: Global, block: Vec<u8>) -> Leaf
+    ensures { AreFit result }
 {
-    match Leaf::of_block(alloc, block)? {
-        None => Err(NoMemory),
-        Some(leaf) => Ok(leaf),
+    match Leaf::of_block(alloc, block) {
+        Ok(Some(leaf)) => leaf,
+        _ => panic!(rt; "no leaf"),
     }
 }
 
 // The leaf that comes back of what it was cut into.
-fn back(alloc: Global, made: Made) -> Result<LeafFrame, NoMemory>
+fn back(rt: &impl Abort, alloc: Global, made: Made) -> LeafFrame
     requires { AllFit made.moved.items }
-    ensures { IfOk result (λ leaf. ChainsFit leaf.chains) }
+    ensures { ChainsFit result.chains }
 {
     let mut images = made.images;
-    match images.pop() {
-        None => Err(NoMemory),
-        Some(image) => bring_back(
-            alloc,
-            LeafFrame::of_page(alloc, page(alloc, image.block)?),
-            made.moved,
-        ),
+    let image = images.pop().expect(rt, "an image");
+    let read = LeafFrame::of_page(alloc, page(rt, alloc, image.block));
+    match bring_back(alloc, read, made.moved) {
+        Ok(leaf) => leaf,
+        Err(_) => panic!(rt; "there is memory"),
     }
 }
 
-// What session 1 reads of `k`, whose leaf comes into a frame so where it waits for it.
-fn reads_from(
-    alloc: Global,
-    engine: &mut Local,
-    leaf: LeafFrame,
-) -> Result<Option<Answer<Item>>, NoMemory>
+// Session 1 reads `k`, whose leaf comes into a frame so where it waits for it.
+fn read_from(rt: &impl Abort, alloc: Global, engine: &mut Local, leaf: LeafFrame) -> Called
     requires { ChainsFit leaf.chains }
 {
-    if engine.sessions() < 2 {
-        return Ok(None);
-    }
+    assert!(rt; engine.sessions() > 1);
     match engine.get(alloc, 1, b"t", b"k") {
-        Called::Ended(_) => Ok(None),
+        Called::Ended(_) => panic!(rt; "it waits for no leaf"),
         Called::Waits(id) => {
-            engine.fill(id, leaf)?;
-            match engine.resume(alloc, 1) {
-                Called::Ended(answer) => Ok(Some(answer)),
-                Called::Waits(_) => Ok(None),
-            }
+            engine.fill(id, leaf).expect(rt, "there is memory");
+            engine.resume(alloc, 1)
         }
     }
 }
 
+// Whether a call gave this value.
+fn is_value(called: &Called, wanted: &[u8]) -> bool {
+    match called {
+        Called::Ended(Answer::Value(value)) => value.as_bytes() == wanted,
+        _ => false,
+    }
+}
+
 // Whether the leaf in the first frame is evicted.
-fn evicts(engine: &mut Local) -> Result<bool, NoMemory> {
+fn evicts(rt: &impl Abort, engine: &mut Local) -> bool {
     match engine.id_in(0) {
-        None => Ok(false),
-        Some(leaf) => engine.evict(leaf, LINK),
+        None => false,
+        Some(leaf) => engine.evict(leaf, LINK).expect(rt, "there is memory"),
     }
 }
 
 #[test]
-fn an_evicted_leaf_is_read_from_its_image(rt: HostRuntime) -> Result<(), NoMemory> {
+fn an_evicted_leaf_is_read_from_its_image(rt: HostRuntime) {
     let alloc = rt.alloc();
-    let mut engine = engine(alloc)?;
-    assert!(rt; begins_put(alloc, &mut engine, b"new")? && commits(alloc, &mut engine));
-    let made = cut(alloc, &engine)?;
-    assert!(rt; evicts(&mut engine)?);
-    assert!(rt; !evicts(&mut engine)?);
-    assert!(rt; is_done(alloc, &mut engine, 1, SessionCall::Begin(None)));
-    let value = Some(Answer::Value(item(alloc, b"new")?));
-    let leaf = back(alloc, made)?;
-    assert!(rt; reads_from(alloc, &mut engine, leaf)? == value);
-    Ok(())
+    let mut engine = engine(&rt, alloc);
+    put(&rt, alloc, &mut engine, b"new");
+    let leaf = back(&rt, alloc, cut(&rt, alloc, &engine));
+    assert!(rt; evicts(&rt, &mut engine));
+    assert!(rt; !evicts(&rt, &mut engine));
+    begin_reader(&rt, alloc, &mut engine);
+    let read = read_from(&rt, alloc, &mut engine, leaf);
+    assert!(rt; is_value(&read, b"new"));
+}
+
+// What session 0 has written keeps the leaf until it is committed.
+fn check_written(rt: &impl Abort, alloc: Global, engine: &mut Local) {
+    begin_put(rt, alloc, engine, b"old");
+    assert!(rt; stays(rt, alloc, engine) == Some(Stays::Written(0)));
+    commit(rt, alloc, engine);
+}
+
+// A cursor of session 1 keeps it until its transaction ends.
+fn check_pinned(rt: &impl Abort, alloc: Global, engine: &mut Local) {
+    seek(rt, alloc, engine);
+    assert!(rt; matches!(stays(rt, alloc, engine), Some(Stays::Pinned(5..10))));
+    assert!(rt; !evicts(rt, engine));
+    ask(rt, alloc, engine, 1, SessionCall::Rollback);
 }
 
 #[test]
-fn a_leaf_stays_while_it_is_wanted(rt: HostRuntime) -> Result<(), NoMemory> {
+fn a_leaf_stays_while_it_is_wanted(rt: HostRuntime) {
     let alloc = rt.alloc();
-    let mut engine = engine(alloc)?;
-    assert!(rt; begins_put(alloc, &mut engine, b"old")?);
-    assert!(rt; stays(alloc, &engine)? == Some(Stays::Written(0)));
-    assert!(rt; commits(alloc, &mut engine));
-    assert!(rt; is_done(alloc, &mut engine, 1, SessionCall::Begin(None)));
-    assert!(rt; begins_put(alloc, &mut engine, b"new")? && commits(alloc, &mut engine));
-    assert!(rt; seeks(alloc, &mut engine)?);
-    assert!(rt; matches!(stays(alloc, &engine)?, Some(Stays::Pinned(5..10))));
-    assert!(rt; !evicts(&mut engine)?);
-    assert!(rt; is_done(alloc, &mut engine, 1, SessionCall::Rollback));
-    assert!(rt; evicts(&mut engine)?);
-    Ok(())
+    let mut engine = engine(&rt, alloc);
+    check_written(&rt, alloc, &mut engine);
+    begin_reader(&rt, alloc, &mut engine);
+    put(&rt, alloc, &mut engine, b"new");
+    check_pinned(&rt, alloc, &mut engine);
+    assert!(rt; evicts(&rt, &mut engine));
 }
 
-#[test]
-fn an_older_version_comes_back_with_its_leaf(rt: HostRuntime) -> Result<(), NoMemory> {
-    let alloc = rt.alloc();
-    let mut engine = engine(alloc)?;
-    assert!(rt; begins_put(alloc, &mut engine, b"old")? && commits(alloc, &mut engine));
-    assert!(rt; is_done(alloc, &mut engine, 1, SessionCall::Begin(None)));
-    assert!(rt; begins_put(alloc, &mut engine, b"new")? && commits(alloc, &mut engine));
-    let made = cut(alloc, &engine)?;
+// The leaf that comes back, with one version that moved.
+fn back_with_one(rt: &impl Abort, alloc: Global, engine: &Local) -> LeafFrame
+    ensures { ChainsFit result.chains }
+{
+    let made = cut(rt, alloc, engine);
     assert!(rt; made.moved.len() == 1);
-    let leaf = back(alloc, made)?;
-    assert!(rt; evicts(&mut engine)?);
-    let value = Some(Answer::Value(item(alloc, b"old")?));
-    assert!(rt; reads_from(alloc, &mut engine, leaf)? == value);
-    Ok(())
+    back(rt, alloc, made)
+}
+
+#[test]
+fn an_older_version_comes_back_with_its_leaf(rt: HostRuntime) {
+    let alloc = rt.alloc();
+    let mut engine = engine(&rt, alloc);
+    put(&rt, alloc, &mut engine, b"old");
+    begin_reader(&rt, alloc, &mut engine);
+    put(&rt, alloc, &mut engine, b"new");
+    let leaf = back_with_one(&rt, alloc, &engine);
+    assert!(rt; evicts(&rt, &mut engine));
+    let read = read_from(&rt, alloc, &mut engine, leaf);
+    assert!(rt; is_value(&read, b"old"));
 }

@@ -3,3 +3,4 @@ pub mod Members
 pub mod Cutting
 pub mod Sorting
 pub mod Telling
+pub mod CutLevels

@@ -3,3 +3,4 @@ pub mod Writing
 pub mod Views
 pub mod Leaves
 pub mod Making
+pub mod Levels

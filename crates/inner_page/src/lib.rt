@@ -34,6 +34,7 @@ pub use history::{HistoryEntry, HistoryInner};
 pub use history_reading::decode_history;
 pub use history_writing::encode_history;
 pub use mark::{LentMark, RecordMark};
+pub use names::names_differ;
 pub use record::HistoryRecord;
 pub use record_reading::decode_records;
 pub use record_writing::encode_records;

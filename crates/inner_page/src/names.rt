@@ -6,9 +6,10 @@ ghost use Rattle.inner_page.specs.Names.{same_key, key_cmp, name_cmp, climbs, na
 use crate::record::HistoryRecord;
 use std::cmp::Ordering;
 
-// One pass where the names of each key ascend, as they do where stamps ascend with the ids; else the
-// names of one key are compared two by two.
-pub(crate) fn names_differ(records: &[HistoryRecord]) -> bool
+/// Whether a name stands once for each key, told of records that ascend: `NamesOnce` of `stored` exactly
+/// where it says so (`proofs/NamesOnce`). One pass where the names of each key ascend, as they do where
+/// stamps ascend with the ids; else the names of one key are compared two by two.
+pub fn names_differ(records: &[HistoryRecord]) -> bool
     ensures { result ≡ names_differ records.now }
 {
     names_climb(records) || names_once(records)

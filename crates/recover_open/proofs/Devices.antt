@@ -22,17 +22,20 @@ use Rattle.stored.proofs.OneTree.{holds_front, holds_back}
 use Rattle.checkpoint_core.specs.Stands.{AreInUse}
 use Rattle.checkpoint_core.specs.Room.{IsSpaceOf}
 use Rattle.device_leaf.specs.declared.place.Place.{Place}
-use Rattle.device_leaf.specs.Damage.{IsChosen}
+use Rattle.device_leaf.specs.Damage.{IsChosen, record_found}
 use Rattle.device_leaf.specs.Openings.{Serves, HasBooks}
 use Rattle.device_leaf.proofs.Leaves.{length_block}
 use Rattle.device_leaf.proofs.Shapes.{all_front, all_join}
 use Rattle.device_leaf.proofs.Opens.{slot_is, no_blank, spoilt_no_content, corrupt_no_content, record_bytes, range_length}
 use Rattle.tree_open.specs.Trees.{HasTree}
-use Rattle.recover_open.specs.Bare.{IsBare, HaveTrees, bare_stored}
+use Rattle.hist_open.specs.Trees.{HasHistory}
+use Rattle.hist_open.proofs.TreeLeaves.{spoilt_no_history}
+use Rattle.recover_open.specs.Bare.{IsBare, HaveTrees, bare_stored, stored_with}
+use Rattle.recover_open.specs.Wholes.{TableSpoils, HistoryIsSpoilt, WholeMeets, IsWholeDamage, whole_found}
 use Rattle.recover_open.specs.Damage.{Names, HasNoRecord, IsAmong, IsDamage, TablesSpoil, BlocksMeet, blocks_found, uppers_found}
 use Rattle.recover_open.proofs.TreeLeaves.{spoilt_no_tree}
-use Rattle.recover_open.proofs.Places.{Matches, blocks_match, tables_long, found_last, stored_of, apart_of, told_of}
-use Rattle.recover_open.proofs.UpperPlaces.{uppers_are}
+use Rattle.recover_open.proofs.Places.{Matches, IsLong, found_of, all_found, blocks_match, blocks_last, tables_long, history_long, stored_of, apart_of, told_of}
+use Rattle.recover_open.proofs.UpperPlaces.{uppers_are, wholes_are}
 
 -- ---- the record
 
@@ -125,6 +128,61 @@ damage_no_content bytes at want found content (inr (inl spoils)) reads = elim sp
 damage_no_content bytes at want found content (inr (inr (inl spoils))) reads = tree_no_content bytes at want found spoils content reads
 damage_no_content bytes at want found content (inr (inr (inr meet))) reads = meet_no_content bytes at want found meet content reads
 
+-- ---- the same of a device whose history is looked at
+
+history_on : (bytes : List ℕ) (s : Stored) → IsOn bytes s → HasHistory bytes s.kept.history s.history
+history_on bytes s on =
+    let tables : List Block = tables_blocks s.kept.tables s.trees in
+    let history : List Block = history_blocks s.kept s.history in
+    record {
+      is = on.whole.history;
+      addressed = all_back (λ (b : Block). IsAddressed b) tables history on.whole.addressed.1;
+      holds = holds_back bytes tables history on.holds.1;
+    }
+
+all_on : (bytes : List ℕ) (slot : Slot) (s : Stored) → IsChosen bytes slot → IsOn bytes s → AreStored (all_found slot s.kept s.trees s.history) (length bytes)
+all_on bytes slot s chosen on =
+    let tables : List Block = tables_blocks s.kept.tables s.trees in
+    let history : List Block = history_blocks s.kept s.history in
+    subst (λ (x : Slot). AreStored (all_found x s.kept s.trees s.history) (length bytes)) (slot_is bytes slot s chosen on)
+    (stored_of (all_found s.slot s.kept s.trees s.history) (stored_blocks s) bytes (refl, blocks_match (tables ++ history)) on.whole.addressed on.holds
+    (record_bytes s.kept, all_join (λ (b : Block). IsLong b) tables history (tables_long s.kept.tables s.trees) (history_long (history_root_entry s.kept.history.link) s.history)) on.whole.apart)
+
+table_no_content : (bytes : List ℕ) (at want found : ℕ) → TableSpoils bytes at want found → (content : Content) → Reads bytes content → ⊥
+table_no_content bytes at want found spoils content (inl blank) = no_blank bytes spoils.slot spoils.there.chosen blank.0
+table_no_content bytes at want found spoils content (inr (s, on, same)) =
+    let kept : s.kept ≡ spoils.names = kept_is bytes spoils.slot s spoils.names spoils.there.chosen spoils.there.is_record spoils.there.is on in
+    let among : IsAmong s.kept.tables spoils.table = subst (λ (r : Record). IsAmong r.tables spoils.table) (sym kept) spoils.among in
+    let tree = tree_at bytes s.kept.tables s.trees spoils.table among.0 (trees_on bytes s on) among.1 among.2 in
+    spoilt_no_tree bytes spoils.table.root at want found tree.0 spoils.tree tree.1
+
+history_no_content : (bytes : List ℕ) (at want found : ℕ) → HistoryIsSpoilt bytes at want found → (content : Content) → Reads bytes content → ⊥
+history_no_content bytes at want found spoils content (inl blank) = no_blank bytes spoils.slot spoils.there.chosen blank.0
+history_no_content bytes at want found spoils content (inr (s, on, same)) =
+    let kept : s.kept ≡ spoils.names = kept_is bytes spoils.slot s spoils.names spoils.there.chosen spoils.there.is_record spoils.there.is on in
+    spoilt_no_history bytes spoils.names.history at want found s.history spoils.spoils (subst (λ (r : Record). HasHistory bytes r.history s.history) kept (history_on bytes s on))
+
+meets_no_content : (bytes : List ℕ) (at want found : ℕ) → WholeMeets bytes at want found → (content : Content) → Reads bytes content → ⊥
+meets_no_content bytes at want found meet content (inl blank) = no_blank bytes meet.slot meet.there.chosen blank.0
+meets_no_content bytes at want found meet content (inr (s, on, same)) =
+    let kept : s.kept ≡ meet.names = kept_is bytes meet.slot s meet.names meet.there.chosen meet.there.is_record meet.there.is on in
+    let there : HaveTrees bytes meet.names.tables s.trees = subst (λ (r : Record). HaveTrees bytes r.tables s.trees) kept (trees_on bytes s on) in
+    let history : HasHistory bytes meet.names.history s.history = subst (λ (r : Record). HasHistory bytes r.history s.history) kept (history_on bytes s on) in
+    let stored : AreStored (all_found meet.slot meet.names s.trees s.history) (length bytes) = subst (λ (r : Record). AreStored (all_found meet.slot r s.trees s.history) (length bytes)) kept (all_on bytes meet.slot s meet.there.chosen on) in
+    let are : AreStored (whole_found meet.slot meet.uppers meet.history.addrs.items) (length bytes) =
+    subst (λ (l : List Found). AreStored l (length bytes)) (sym (wholes_are bytes meet.slot meet.names meet.uppers meet.history s.trees s.history meet.have there meet.read history)) stored in
+    elim meet.why [ inl none ↦ none (are.fit meet.index meet.within) | inr (j, lt, none) ↦ none (are.agree j meet.index lt meet.within) ]
+
+pub whole_damage_no_content : (bytes : List ℕ) (at want found : ℕ) (content : Content) → IsWholeDamage bytes at want found → Reads bytes content → ⊥
+whole_damage_no_content bytes at want found content (inl slot) reads = corrupt_no_content bytes at slot.corrupt content reads
+whole_damage_no_content bytes at want found content (inr (inl spoils)) reads = elim spoils.why [
+  | inl other ↦ spoilt_no_content bytes spoils.slot found spoils.chosen other content reads
+  | inr (same, none) ↦ no_record_no_content bytes spoils.slot spoils.chosen none content reads
+]
+whole_damage_no_content bytes at want found content (inr (inr (inl spoils))) reads = table_no_content bytes at want found spoils content reads
+whole_damage_no_content bytes at want found content (inr (inr (inr (inl spoils)))) reads = history_no_content bytes at want found spoils content reads
+whole_damage_no_content bytes at want found content (inr (inr (inr (inr meet)))) reads = meets_no_content bytes at want found meet content reads
+
 -- ---- what else a record says of the device
 
 pub run_read : (bytes : List ℕ) (slot : Slot) (r : Record) → IsChosen bytes slot → IsRecord r → range bytes slot.offset slot.size ≡ block_of (record_image r) → (content : Content) → Reads bytes content → content.run ≡ r.run
@@ -155,15 +213,15 @@ trees_all bytes (t ∷ tables) (tree ∷ trees) have =
       held = all_join (λ (b : Block). IsAt bytes b) own others have.0.holds rest.held;
     }
 
-abbrev no_records : HistoryTree
-no_records = record { layers = []; leaves = [] ∷ [] }
-
-module _ (bytes : List ℕ) (slot : Slot) (r : Record) (trees : List TableTree) (names : Names bytes slot r) (bare : IsBare r) (have : HaveTrees bytes r.tables trees) (stored : AreStored (blocks_found slot r.tables trees) (length bytes)) where
+module _ (bytes : List ℕ) (slot : Slot) (r : Record) (trees : List TableTree) (history : HistoryTree) (names : Names bytes slot r) (have : HaveTrees bytes r.tables trees) (also : HasHistory bytes r.history history) (stored : AreStored (all_found slot r trees history) (length bytes)) where
   abbrev made : Stored
-  made = bare_stored slot r trees
+  made = stored_with slot r trees history
 
   abbrev tables : List Block
   tables = tables_blocks r.tables trees
+
+  abbrev more : List Block
+  more = history_blocks r history
 
   every : TreesAll bytes r.tables trees
   every = trees_all bytes r.tables trees have
@@ -177,41 +235,62 @@ module _ (bytes : List ℕ) (slot : Slot) (r : Record) (trees : List TableTree) 
   record_addressed : IsAddressed (record_block made)
   record_addressed = record { low = names.there.place.behind; unit = names.there.place.unit; size = size; most = names.there.place.most; sum = sym names.there.sum ∙ ap sum_of record_there.is }
 
-  no_history : history_blocks r no_records ≡ []
-  no_history = ap (λ (h : Root). tree_blocks history_kind (history_root_entry h.link) no_records) bare
-
-  blocks_are : stored_blocks made ≡ record_block made ∷ tables
-  blocks_are = ap (λ (l : List Block). record_block made ∷ (tables ++ l)) no_history ∙ ap (λ (l : List Block). record_block made ∷ l) (append-nil tables)
-
-  matches : Matches (blocks_found slot r.tables trees) (record_block made ∷ tables)
-  matches = (refl, blocks_match tables)
+  matches : Matches (all_found slot r trees history) (stored_blocks made)
+  matches = (refl, blocks_match (tables ++ more))
 
   whole : IsWhole made
   whole = record {
     sequence = names.sequence;
     is_record = names.is_record;
     trees = every.trees_are;
-    history = subst (λ (h : Root). IsTree history_kind h.level (history_root_entry h.link) no_records) (sym bare) history_empty;
-    addressed = subst (λ (l : List Block). AllByRecursion (λ (b : Block). IsAddressed b) l) (sym blocks_are) (record_addressed, every.addressed);
-    apart = subst (λ (l : List Block). Apart l) (sym blocks_are) (apart_of (blocks_found slot r.tables trees) (record_block made ∷ tables) (length bytes) matches (found_last slot r.tables trees) stored);
+    history = also.is;
+    addressed = (record_addressed, all_join (λ (b : Block). IsAddressed b) tables more every.addressed also.addressed);
+    apart = apart_of (all_found slot r trees history) (stored_blocks made) (length bytes) matches (refl, blocks_last (tables ++ more)) stored;
   }
 
-  pub made_on : IsOn bytes made
-  made_on = record {
+  pub whole_on : IsOn bytes made
+  whole_on = record {
     whole = whole;
     long = names.chosen.long;
     chosen = names.chosen.chooses;
-    holds = subst (λ (l : List Block). Holds bytes l) (sym blocks_are) (record_there, every.held);
+    holds = (record_there, all_join (λ (b : Block). IsAt bytes b) tables more every.held also.holds);
   }
 
-  pub serves : (place : Place) → place.slot ≡ Some slot → place.blocks.is_synced ≡ false → HasBooks (blocks_found slot r.tables trees) place.blocks → Serves bytes place (Some made)
-  serves place slot_there fresh has =
-      let told = told_of (blocks_found slot r.tables trees) (record_block made ∷ tables) place.blocks (length bytes) matches names.chosen.long has stored in
+  pub whole_serves : (place : Place) → place.slot ≡ Some slot → place.blocks.is_synced ≡ false → HasBooks (all_found slot r trees history) place.blocks → Serves bytes place (Some made)
+  whole_serves place slot_there fresh has =
+      let told = told_of (all_found slot r trees history) (stored_blocks made) place.blocks (length bytes) matches names.chosen.long has stored in
       record {
-        still = made_on;
+        still = whole_on;
         slot = slot_there;
         unsynced = fresh;
-        in_use = subst (λ (l : List Block). AreInUse place.blocks.cells l) (sym blocks_are) told.in_use;
-        space = subst (λ (l : List Block). IsSpaceOf l place.blocks.space) (sym blocks_are) told.space_is;
+        in_use = told.in_use;
+        space = told.space_is;
         within = told.within;
       }
+
+-- ---- without a history
+
+abbrev no_records : HistoryTree
+no_records = record { layers = []; leaves = [] ∷ [] }
+
+no_blocks : (r : Record) → IsBare r → history_blocks r no_records ≡ []
+no_blocks r bare = ap (λ (h : Root). tree_blocks history_kind (history_root_entry h.link) no_records) bare
+
+bare_history : (bytes : List ℕ) (r : Record) → IsBare r → HasHistory bytes r.history no_records
+bare_history bytes r bare = subst (λ (h : Root). HasHistory bytes h no_records) (sym bare) (record { is = history_empty; addressed = tt; holds = tt })
+
+found_same : (slot : Slot) (r : Record) (trees : List TableTree) → IsBare r → blocks_found slot r.tables trees ≡ all_found slot r trees no_records
+found_same slot r trees bare =
+    let tables : List Block = tables_blocks r.tables trees in
+    ap (λ (l : List Block). record_found slot ∷ found_of l) (sym (append-nil tables) ∙ ap (λ (l : List Block). tables ++ l) (sym (no_blocks r bare)))
+
+module _ (bytes : List ℕ) (slot : Slot) (r : Record) (trees : List TableTree) (names : Names bytes slot r) (bare : IsBare r) (have : HaveTrees bytes r.tables trees) (stored : AreStored (blocks_found slot r.tables trees) (length bytes)) where
+  all_stored : AreStored (all_found slot r trees no_records) (length bytes)
+  all_stored = subst (λ (l : List Found). AreStored l (length bytes)) (found_same slot r trees bare) stored
+
+  pub made_on : IsOn bytes (bare_stored slot r trees)
+  made_on = whole_on bytes slot r trees no_records names have (bare_history bytes r bare) all_stored
+
+  pub serves : (place : Place) → place.slot ≡ Some slot → place.blocks.is_synced ≡ false → HasBooks (blocks_found slot r.tables trees) place.blocks → Serves bytes place (Some (bare_stored slot r trees))
+  serves place slot_there fresh has =
+      whole_serves bytes slot r trees no_records names have (bare_history bytes r bare) all_stored place slot_there fresh (subst (λ (l : List Found). HasBooks l place.blocks) (found_same slot r trees bare) has)

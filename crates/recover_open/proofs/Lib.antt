@@ -7,3 +7,4 @@ pub mod UpperPlaces
 pub mod Devices
 pub mod Steps
 pub mod Sole
+pub mod WholeSteps

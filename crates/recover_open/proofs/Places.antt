@@ -1,5 +1,5 @@
 -- Blocks that were found, and the blocks that stand there.
-use Rattle.std.specs.Prelude.{◌≡◌, ℕ, zero, suc, ◌+◌, ◌<◌, ◌≤◌, ◌==◌, max, true, List, [], ◌∷◌, length, map, refl}
+use Rattle.std.specs.Prelude.{◌≡◌, ℕ, zero, suc, ◌+◌, ◌<◌, ◌≤◌, ◌==◌, max, true, List, [], ◌∷◌, ◌++◌, length, map, refl}
 use Rattle.std.specs.List.{AllByRecursion, fold}
 use Rattle.std.proofs.Common.{inl, inr, sym, ◌∙◌, ap, subst, arith}
 use Rattle.std.proofs.lemmas.Bool.{cases_Bool, false≢true}
@@ -16,8 +16,9 @@ use Rattle.row_page.specs.Rows.{Row}
 use Rattle.stored.specs.Blocks.{Block, IsAddressed, Holds, Apart, AreApart}
 use Rattle.stored.specs.Tree.{Layer, join, bottom, page_blocks, inner_blocks, leaf_blocks, tree_blocks}
 use Rattle.stored.specs.TableTree.{Entry, TableTree, table_kind, root_entry}
-use Rattle.stored.specs.Records.{TableRoot}
-use Rattle.stored.specs.Stored.{tables_blocks}
+use Rattle.stored.specs.HistoryTree.{HistoryEntry, HistoryRecord, HistoryTree, history_kind}
+use Rattle.stored.specs.Records.{TableRoot, Record}
+use Rattle.stored.specs.Stored.{tables_blocks, history_blocks}
 use Rattle.checkpoint_core.specs.Stands.{AreInUse}
 use Rattle.checkpoint_core.specs.Room.{InBlocks, end_of}
 use Rattle.device_leaf.specs.Openings.{HasBooks}
@@ -26,7 +27,10 @@ use Rattle.tree_open.specs.Trees.{places}
 use Rattle.tree_open.proofs.OnePage.{image_bytes}
 use Rattle.device_leaf.proofs.Shapes.{all_join}
 use Rattle.device_leaf.proofs.Books.{ends, Inside, Told, found_used, not_free, free_or_found}
-use Rattle.recover_open.specs.Damage.{found_there, blocks_found}
+use Rattle.device_leaf.specs.Damage.{record_found}
+use Rattle.hist_open.proofs.OnePage.{image_bytes as history_page_bytes}
+use Rattle.hist_open.proofs.OneLeaf.{image_bytes as history_leaf_bytes}
+use Rattle.recover_open.specs.Damage.{found_there}
 
 -- each was found where a block stands, one by one
 abbrev pub Matches : List Found → List Block → Type 0
@@ -80,17 +84,38 @@ tables_long (t ∷ tables) (tree ∷ trees) =
     all_join (λ (b : Block). IsLong b) (tree_blocks table_kind (root_entry t.root.link) tree) (tables_blocks tables trees)
     (all_join (λ (b : Block). IsLong b) (inner_blocks table_kind own tree.layers) (leaf_blocks table_kind (bottom own tree.layers) tree.leaves) (layers_long own tree.layers) (leaves_long (bottom own tree.layers) tree.leaves)) (tables_long tables trees)
 
+history_pages_long : (level : ℕ) (own : List HistoryEntry) (pages : Layer HistoryEntry) → AllLong (page_blocks history_kind level own pages)
+history_pages_long level [] pages = tt
+history_pages_long level (e ∷ own) [] = tt
+history_pages_long level (e ∷ own) (p ∷ pages) = (history_page_bytes level p, history_pages_long level own pages)
+
+history_layers_long : (own : List HistoryEntry) (layers : List (Layer HistoryEntry)) → AllLong (inner_blocks history_kind own layers)
+history_layers_long own [] = tt
+history_layers_long own (pages ∷ layers) =
+    all_join (λ (b : Block). IsLong b) (page_blocks history_kind (suc (length layers)) own pages) (inner_blocks history_kind (join pages) layers) (history_pages_long (suc (length layers)) own pages) (history_layers_long (join pages) layers)
+
+history_leaves_long : (es : List HistoryEntry) (leaves : List (List HistoryRecord)) → AllLong (leaf_blocks history_kind es leaves)
+history_leaves_long [] leaves = tt
+history_leaves_long (e ∷ es) [] = tt
+history_leaves_long (e ∷ es) (records ∷ leaves) =
+    elim (cases_Bool (e.link.addr.offset == 0)) [ inl is ↦ rw is (history_leaves_long es leaves) | inr isnt ↦ rw isnt (history_leaf_bytes records, history_leaves_long es leaves) ]
+
+pub history_long : (root : HistoryEntry) (t : HistoryTree) → AllLong (tree_blocks history_kind root t)
+history_long root t =
+    all_join (λ (b : Block). IsLong b) (inner_blocks history_kind (root ∷ []) t.layers) (leaf_blocks history_kind (bottom (root ∷ []) t.layers) t.leaves) (history_layers_long (root ∷ []) t.layers) (history_leaves_long (bottom (root ∷ []) t.layers) t.leaves)
+
 -- ---- who has them
 
 abbrev pub AllLast : List Found → Type 0
 AllLast found = AllByRecursion (λ (f : Found). lasts f.holder ≡ true) found
 
-blocks_last : (blocks : List Block) → AllLast (found_of blocks)
+pub blocks_last : (blocks : List Block) → AllLast (found_of blocks)
 blocks_last [] = tt
 blocks_last (b ∷ blocks) = (refl, blocks_last blocks)
 
-pub found_last : (slot : Slot) (tables : List TableRoot) (trees : List TableTree) → AllLast (blocks_found slot tables trees)
-found_last slot tables trees = (refl, blocks_last (tables_blocks tables trees))
+-- the block of the record, those of the trees, and those of the history
+abbrev pub all_found : Slot → Record → List TableTree → HistoryTree → List Found
+all_found slot r trees history = record_found slot ∷ found_of (tables_blocks r.tables trees ++ history_blocks r history)
 
 -- ---- blocks that stand apart can all be in use
 

@@ -21,9 +21,9 @@ use Rattle.tree_open.specs.declared.place.Upper.{Upper}
 use Rattle.tree_open.specs.Damage.{Refused, InnerSpoils}
 use Rattle.tree_open.specs.Trees.{InnerIs, leaf_addrs}
 use Rattle.tree_open.proofs.Descent.{one_inner}
-use Rattle.recover_open.specs.Bare.{IsBare, HaveUppers}
+use Rattle.recover_open.specs.Bare.{HaveUppers}
 use Rattle.recover_open.specs.Damage.{Names, found_there, upper_found, uppers_found}
-use Rattle.recover_open.specs.Surveys.{CanHaveUppers, CanSurvey, HasAbove, HasBareRecord, IsOfDisk, RecordRefused, RefusesBlocks}
+use Rattle.recover_open.specs.Surveys.{CanHaveUppers, CanSurvey, HasAbove, HasRecord, IsOfDisk, RecordRefused, RefusesBlocks}
 use Rattle.recover_open.proofs.Devices.{same_record}
 
 -- ---- the slot and its record
@@ -47,14 +47,12 @@ there_sound bytes a found there (inl (place, within, is, other)) = other (is ∙
 there_sound bytes a found there (inr (same, past)) = let short : length bytes < a.offset + a.size = past there.place in omega (arith, short, there.within)
 
 -- the block of a record that is there
-pub record_sound : (bytes : List ℕ) (slot : Slot) (a : Addr) (found : ℕ) → a ≡ addr_in slot → HasBareRecord bytes slot → Spoils bytes a found → ⊥
-record_sound bytes slot a found is (r, names, bare) spoils = there_sound bytes a found (subst (λ (x : Addr). IsThere bytes x) (sym is) names.there) spoils
+pub record_sound : (bytes : List ℕ) (slot : Slot) (a : Addr) (found : ℕ) → a ≡ addr_in slot → HasRecord bytes slot → Spoils bytes a found → ⊥
+record_sound bytes slot a found is (r, names) spoils = there_sound bytes a found (subst (λ (x : Addr). IsThere bytes x) (sym is) names.there) spoils
 
-pub of_record : (bytes block : List ℕ) (slot : Slot) (r : Refusal) → IsRecordBlock bytes slot block → HasBareRecord bytes slot → RecordRefused slot block r → IsOfDisk r
+pub of_record : (bytes block : List ℕ) (slot : Slot) (r : Refusal) → IsRecordBlock bytes slot block → HasRecord bytes slot → RecordRefused slot block r → IsOfDisk r
 of_record bytes block slot r there has (inl none) = inr none
-of_record bytes block slot r there (q, names, bare) (inr (inl (is, none))) = absurd (none q names.is_record names.sequence (there.is ∙ names.is))
-of_record bytes block slot r there (q, names, bare) (inr (inr (is, (other, good, spelled, wide)))) =
-    absurd (wide (subst (λ (x : Record). IsBare x) (same_record block q other names.is_record good (there.is ∙ names.is) spelled) bare))
+of_record bytes block slot r there (q, names) (inr (is, none)) = absurd (none q names.is_record names.sequence (there.is ∙ names.is))
 
 -- ---- the inner pages
 
@@ -77,17 +75,17 @@ of_inner fault known bytes now tables t root i r (uppers, have) lt is root_is sa
 one_found : (u v : Upper) → u.entries.items ≡ v.entries.items → u.addrs.items ≡ v.addrs.items → upper_found u ≡ upper_found v
 one_found u v entries addrs = ap₂ (λ (l : List Addr) (es : List Entry). map found_there l ++ map found_there (leaf_addrs es)) addrs entries
 
-all_found : (bytes : List ℕ) (tables : List TableRoot) (us vs : List Upper) → HaveUppers bytes tables us → HaveUppers bytes tables vs → flat_map upper_found us ≡ flat_map upper_found vs
-all_found bytes [] [] [] have also = refl
-all_found bytes [] [] (v ∷ vs) have also = absurd also
-all_found bytes [] (u ∷ us) vs have also = absurd have
-all_found bytes (t ∷ tables) [] vs have also = absurd have
-all_found bytes (t ∷ tables) (u ∷ us) [] have also = absurd also
-all_found bytes (t ∷ tables) (u ∷ us) (v ∷ vs) have also =
+pub all_found_same : (bytes : List ℕ) (tables : List TableRoot) (us vs : List Upper) → HaveUppers bytes tables us → HaveUppers bytes tables vs → flat_map upper_found us ≡ flat_map upper_found vs
+all_found_same bytes [] [] [] have also = refl
+all_found_same bytes [] [] (v ∷ vs) have also = absurd also
+all_found_same bytes [] (u ∷ us) vs have also = absurd have
+all_found_same bytes (t ∷ tables) [] vs have also = absurd have
+all_found_same bytes (t ∷ tables) (u ∷ us) [] have also = absurd also
+all_found_same bytes (t ∷ tables) (u ∷ us) (v ∷ vs) have also =
     let one = one_inner bytes t.root u.entries.items v.entries.items u.addrs.items v.addrs.items have.0 also.0 in
-    ap₂ (λ (l m : List Found). l ++ m) (one_found u v one.0 one.1) (all_found bytes tables us vs have.1 also.1)
+    ap₂ (λ (l m : List Found). l ++ m) (one_found u v one.0 one.1) (all_found_same bytes tables us vs have.1 also.1)
 
-all_stored : (found : List Found) (len : ℕ) (r : Refusal) → AreStored found len → RefusesBlocks found len r → IsOfDisk r
+pub all_stored : (found : List Found) (len : ℕ) (r : Refusal) → AreStored found len → RefusesBlocks found len r → IsOfDisk r
 all_stored found len r are (inl none) = inr none
 all_stored found len r are (inr (i, within, is, (inl unfit))) = absurd (unfit (are.fit i within))
 all_stored found len r are (inr (i, within, is, (inr (j, lt, apart)))) = absurd (apart (are.agree j i lt within))
@@ -100,5 +98,5 @@ pub of_books : (bytes : List ℕ) (slot : Slot) (tables : List TableRoot) (upper
 of_books bytes slot tables uppers us len r have also stored long why =
     all_stored (uppers_found slot us) len r
     (subst (λ (n : ℕ). AreStored (uppers_found slot us) n) (sym long)
-    (subst (λ (l : List Found). AreStored (record_found slot ∷ l) (length bytes)) (all_found bytes tables uppers us have also) stored))
+    (subst (λ (l : List Found). AreStored (record_found slot ∷ l) (length bytes)) (all_found_same bytes tables uppers us have also) stored))
     why

@@ -28,7 +28,7 @@ use Rattle.tree_open.specs.declared.place.TreePlace.{TreePlace}
 use Rattle.tree_open.specs.declared.place.Upper.{Upper}
 use Rattle.device_leaf.specs.declared.place.Place.{Place}
 use Rattle.wt_code.specs.declared.refusals.Refusal.TheVariants.{Limit as Refusal_Limit}
-use Rattle.wt_code.specs.declared.refusals.Limit.TheVariants.{Checkpoints}
+use Rattle.wt_code.specs.declared.refusals.Limit.TheVariants.{Checkpoints, Image}
 use Rattle.tree_open.specs.Trees.{InnerIs, HasTree, IsPlaceOf}
 use Rattle.tree_open.specs.Damage.{Refused, InnerSpoils}
 use Rattle.tree_open.proofs.Steps.{refused_more}
@@ -37,36 +37,44 @@ use Rattle.recover_open.specs.declared.surveying.Surveyed.{Surveyed}
 use Rattle.recover_open.specs.Bare.{IsBare, HaveTrees, HaveUppers, AllClimb, ArePlaces, bare_stored, kept_of, tree_rows}
 use Rattle.recover_open.specs.Leaves.{TreeIs}
 use Rattle.recover_open.specs.Damage.{Names, HasNoRecord, IsAmong, CannotStand, IsDamage, RecordSpoils, LeavesSpoil, TreeSpoils, blocks_found, uppers_found}
-use Rattle.recover_open.specs.Recoveries.{Counts, KeepsOr, IsRecovered, InForm, RecoveryRefused, TreesAre, TreesRefused, IsAssembled, placed_roots, table_roots}
-use Rattle.recover_open.specs.Surveys.{Surveys, SurveysOr, IsSurveyed, AboveInForm, InFormAbove, SurveyRefused, IsSound, IsRecordOf, RefusesRecord, RecordRefused, RefusesBlocks, IsPutTogether, IsBlankSurvey}
+use Rattle.recover_open.specs.Recoveries.{Counts, KeepsNone, KeepsOr, IsRecovered, InForm, RecoveryRefused, TreesAre, TreesRefused, IsAssembled, placed_roots, table_roots}
+use Rattle.recover_open.specs.Surveys.{Surveys, SurveysOr, IsSurveyed, AboveInForm, InFormAbove, SurveyRefused, IsSound, IsRecordOf, RecordRefused, RefusesBlocks, IsPutTogether, IsBlankSurvey}
 use Rattle.recover_open.proofs.UpperPlaces.{uppers_are}
 use Rattle.recover_open.proofs.Devices.{same_record, run_read, not_bare, serves}
 
 -- ---- the record
 
 pub recorded : (bytes block : List ℕ) (slot : Slot) (r : Record) → IsRecordBlock bytes slot block → IsRecordOf slot block r → Names bytes slot r
-recorded bytes block slot r is of = record { chosen = is.chosen; there = is.there; is_record = of.sound.is_record; is = sym is.is ∙ of.is; sequence = of.sound.sequence }
+recorded bytes block slot r is of = record { chosen = is.chosen; there = is.there; is_record = of.own.is_record; is = sym is.is ∙ of.is; sequence = of.own.sequence }
 
 -- a record of another sequence is the only one of its block
 pub other_sequence : (slot : Slot) (block : List ℕ) (r : Record) → IsRecord r → block ≡ block_of (record_image r) → r.sequence ≢ slot.sequence → HasNoRecord slot block
 other_sequence slot block r is spelled other q also same too = other (ap (λ (x : Record). x.sequence) (same_record block r q is also spelled too) ∙ same)
 
-pub why_refused : (slot : Slot) (block : List ℕ) (r : Record) (e : Refusal) → IsRecord r → block ≡ block_of (record_image r) → RefusesRecord slot r e → RecordRefused slot block e
-why_refused slot block r e is spelled (inl (told, other)) = inr (inl (told, other_sequence slot block r is spelled other))
-why_refused slot block r e is spelled (inr (told, none)) = inr (inr (told, (r, is, spelled, none)))
-
-pub record_refused : (fault known : Type 0) (bytes block : List ℕ) (slot : Slot) (r : Refusal) → RecordRefused slot block r → (known → IsRecordBlock bytes slot block) → SurveyRefused fault known bytes r
+pub record_refused : (fault known : Type 0) (bytes block : List ℕ) (slot : Slot) (r : Refusal) → RecordRefused slot block r → (known → IsRecordBlock bytes slot block) → Refused fault known (RecordSpoils bytes) r
 record_refused fault known bytes block slot r (inl none) there = inr (inl none)
-record_refused fault known bytes block slot r (inr (inl (is, none))) there =
-    inr (inr (inr (
+record_refused fault known bytes block slot r (inr (is, none)) there =
+    inr (inr (
       slot.offset,
       slot.sum,
       slot.sum,
       is,
-      λ k. inr (inl (record { slot = slot; chosen = (there k).chosen; place = refl; sum = refl; why = inr (refl, subst (λ (l : List ℕ). HasNoRecord slot l) (there k).is none) })),
+      λ k. record { slot = slot; chosen = (there k).chosen; place = refl; sum = refl; why = inr (refl, subst (λ (l : List ℕ). HasNoRecord slot l) (there k).is none) },
+    ))
+
+-- a survey is refused for a record at fault, and for one that is not bare
+pub at_fault : (fault known : Type 0) (bytes : List ℕ) (r : Refusal) → Refused fault known (RecordSpoils bytes) r → SurveyRefused fault known bytes r
+at_fault fault known bytes r (inl failed) = inl failed
+at_fault fault known bytes r (inr (inl none)) = inr (inl none)
+at_fault fault known bytes r (inr (inr (at, want, found, is, why))) = inr (inr (inr (at, want, found, is, λ k. inr (inl (why k)))))
+
+pub has_history : (fault known : Type 0) (bytes : List ℕ) (slot : Slot) (r : Record) (e : Refusal) → e ≡ Refusal_Limit Image → (known → Names bytes slot r) → (IsBare r → ⊥) → SurveyRefused fault known bytes e
+has_history fault known bytes slot r e is names none =
+    inr (inr (inl (
+      is,
+      (λ k s on bare. not_bare bytes slot r (names k).chosen (names k).is_record (names k).is none s on bare),
+      λ k blank. no_blank bytes slot (names k).chosen blank,
     )))
-record_refused fault known bytes block slot r (inr (inr (is, (q, good, spelled, none)))) there =
-    inr (inr (inl (is, (λ k s on bare. not_bare bytes slot q (there k).chosen good (sym (there k).is ∙ spelled) none s on bare), λ k blank. no_blank bytes slot (there k).chosen blank)))
 
 -- ---- no run may follow
 
@@ -285,8 +293,8 @@ above_in_form slot r uppers books o sound climb count made = subst (λ (k : Opti
 pub blank_in_form : (o : Surveyed) → IsBlankSurvey o → InFormAbove o.above
 blank_in_form o none = subst (λ (k : Option Above). InFormAbove k) (sym none.none) tt
 
-pub nothing_is : (bytes : List ℕ) (o : Surveyed) → IsBlankSurvey o → 8192 ≤ length bytes → Chooses bytes None → IsSurveyed bytes o
-nothing_is bytes o none long shut = subst (λ (k : Option Above). SurveysOr bytes o.place k) (sym none.none) (record {
+pub nothing_kept : (bytes : List ℕ) (o : Surveyed) → IsBlankSurvey o → 8192 ≤ length bytes → Chooses bytes None → KeepsNone bytes o.place
+nothing_kept bytes o none long shut = record {
   serves = record {
     still = record { long = long; shut = shut };
     slot = none.slot;
@@ -300,7 +308,10 @@ nothing_is bytes o none long shut = subst (λ (k : Option Above). SurveysOr byte
     within = omega (arith, ap space_end none.space, long);
   };
   books = none.books;
-})
+}
+
+pub nothing_is : (bytes : List ℕ) (o : Surveyed) → IsBlankSurvey o → 8192 ≤ length bytes → Chooses bytes None → IsSurveyed bytes o
+nothing_is bytes o none long shut = subst (λ (k : Option Above). SurveysOr bytes o.place k) (sym none.none) (nothing_kept bytes o none long shut)
 
 -- a slot at fault
 pub slot_refused : (fault known : Type 0) (bytes : List ℕ) (r : Refusal) → ((r ≡ DiskFault) × fault) ⊎ ((at : ℕ) × (r ≡ Corrupt at 0 0)) → (known → (r ≡ DiskFault) ⊎ ((at : ℕ) × IsCorruptAt bytes at × (r ≡ Corrupt at 0 0))) → SurveyRefused fault known bytes r

@@ -9,17 +9,22 @@ use Rattle.block_mgr.specs.declared.found.Found.{Found}
 use Rattle.stored.specs.Blocks.{Block}
 use Rattle.stored.specs.Tree.{bottom, inner_blocks, tree_blocks}
 use Rattle.stored.specs.TableTree.{Entry, TableTree, Climbs, table_kind, root_entry}
-use Rattle.stored.specs.Records.{Root, TableRoot}
-use Rattle.stored.specs.Stored.{tables_blocks}
+use Rattle.stored.specs.HistoryTree.{HistoryTree}
+use Rattle.stored.specs.Records.{Root, TableRoot, Record}
+use Rattle.stored.specs.Stored.{tables_blocks, history_blocks}
 use Rattle.checkpoint_record.proofs.Lists.{take_step}
 use Rattle.device_leaf.specs.Damage.{record_found}
 use Rattle.tree_open.specs.declared.place.Upper.{Upper}
 use Rattle.tree_open.specs.Trees.{InnerIs, HasTree, places, leaf_addr, leaf_addrs, root_own}
 use Rattle.tree_open.proofs.Descent.{tree_read, one_inner, leaf_more}
+use Rattle.hist_open.specs.declared.history.History.{History}
+use Rattle.hist_open.specs.Trees.{HasHistory, IsRead}
+use Rattle.hist_open.proofs.TreeLeaves.{one_history}
+use Rattle.recover_open.specs.Wholes.{whole_found}
 use Rattle.recover_open.specs.Bare.{HaveTrees, HaveUppers, AllClimb}
 use Rattle.recover_open.specs.Damage.{found_there, upper_found, uppers_found, blocks_found}
 use Rattle.recover_open.proofs.TreeLeaves.{tree_places}
-use Rattle.recover_open.proofs.Places.{found_of, found_places}
+use Rattle.recover_open.proofs.Places.{found_of, found_places, all_found}
 
 -- ---- where the blocks stand
 
@@ -49,6 +54,17 @@ all_are bytes (t ∷ tables) (u ∷ uppers) (tree ∷ trees) have trees_there =
 -- the blocks of the trees are those that their upper parts tell of
 pub uppers_are : (bytes : List ℕ) (slot : Slot) (tables : List TableRoot) (uppers : List Upper) (trees : List TableTree) → HaveUppers bytes tables uppers → HaveTrees bytes tables trees → uppers_found slot uppers ≡ blocks_found slot tables trees
 uppers_are bytes slot tables uppers trees have trees_there = ap (λ (l : List Found). record_found slot ∷ l) (all_are bytes tables uppers trees have trees_there)
+
+-- and with those of the history
+pub wholes_are : (bytes : List ℕ) (slot : Slot) (r : Record) (uppers : List Upper) (h : History) (trees : List TableTree) (t : HistoryTree) → HaveUppers bytes r.tables uppers → HaveTrees bytes r.tables trees → IsRead bytes r.history h → HasHistory bytes r.history t
+    → whole_found slot uppers h.addrs.items ≡ all_found slot r trees t
+wholes_are bytes slot r uppers h trees t have trees_there read has =
+    let tables : List Block = tables_blocks r.tables trees in
+    let more : List Block = history_blocks r t in
+    ap (λ (l : List Found). record_found slot ∷ (l ++ map found_there h.addrs.items)) (all_are bytes r.tables uppers trees have trees_there)
+    ∙ ap (λ (l : List Addr). record_found slot ∷ (found_of tables ++ map found_there l)) (read.stand ∙ ap (λ (x : HistoryTree). places (history_blocks r x)) (one_history bytes r.history read.tree t read.has has))
+    ∙ ap (λ (l : List Found). record_found slot ∷ (found_of tables ++ l)) (sym (found_places more))
+    ∙ ap (λ (l : List Found). record_found slot ∷ l) (sym (map-append {A = Block} (λ b. found_there b.place) tables more))
 
 -- one leaf more
 pub found_leaf : (own : List Entry) (i : ℕ) (e : Entry) (a : Addr) (before found more : List Found) → i < length own → e ≡ get_or own i e → a ≡ e.link.addr → found ≡ before ++ map found_there (leaf_addrs (take i own)) → more ≡ found ++ map found_there (leaf_addr a)

@@ -8,6 +8,7 @@ use Rattle.leaf_rows.specs.Contents.{seen_rows}
 use Rattle.stored.specs.Records.{TableRoot, Record}
 use Rattle.stored.specs.Tree.{join}
 use Rattle.stored.specs.TableTree.{TableTree, Climbs}
+use Rattle.stored.specs.HistoryTree.{HistoryTree}
 use Rattle.stored.specs.Stored.{Stored}
 use Rattle.device_leaf.specs.NoHistory.{no_root}
 use Rattle.tree_open.specs.declared.place.TreePlace.{TreePlace}
@@ -18,14 +19,13 @@ use Rattle.tree_open.specs.Trees.{InnerIs, HasTree, IsPlaceOf}
 abbrev pub IsBare : Record → Type 0
 IsBare r = r.history ≡ no_root
 
--- what a device with it stores, whose tables have these trees
+-- what a device with this record stores, whose tables and history have these trees
+abbrev pub stored_with : Slot → Record → List TableTree → HistoryTree → Stored
+stored_with slot r trees history = record { slot = slot; kept = r; trees = trees; history = history }
+
+-- what a device with a bare one stores, whose tables have these trees
 abbrev pub bare_stored : Slot → Record → List TableTree → Stored
-bare_stored slot r trees = record {
-  slot = slot;
-  kept = r;
-  trees = trees;
-  history = record { layers = []; leaves = [] ∷ [] };
-}
+bare_stored slot r trees = stored_with slot r trees (record { layers = []; leaves = [] ∷ [] })
 
 -- the rows of a tree
 abbrev pub tree_rows : TableTree → List Row

@@ -1,5 +1,5 @@
 -- What a survey finds, which reads no leaf, and why it finds nothing.
-use Rattle.std.specs.Prelude.{◌≡◌, ◌≢◌, ◌⊎◌, ℕ, ◌<◌, false, List, [], length, Option, Some, None}
+use Rattle.std.specs.Prelude.{◌≡◌, ◌⊎◌, ℕ, ◌<◌, false, List, [], length, Option, Some, None}
 use Rattle.failure.specs.Counts.{Rose}
 use Rattle.disk_model.specs.declared.disk.Disk.{Ghosts}
 use Rattle.extent_list.specs.Space.{space_of}
@@ -72,6 +72,10 @@ IsOfDisk r = (r ≡ DiskFault) ⊎ (r ≡ NoMemory)
 
 -- ---- the steps of a survey
 
+-- the slot names a record
+abbrev pub HasRecord : List ℕ → Slot → Type 0
+HasRecord bytes slot = (r : Record) × Names bytes slot r
+
 -- the slot names a bare record
 abbrev pub HasBareRecord : List ℕ → Slot → Type 0
 HasBareRecord bytes slot = (r : Record) × Names bytes slot r × IsBare r
@@ -84,31 +88,25 @@ CanHaveUppers bytes tables = (uppers : List Upper) × HaveUppers bytes tables up
 abbrev pub HasAbove : List ℕ → Slot → Type 0
 HasAbove bytes slot = (r : Record) × (uppers : List Upper) × Names bytes slot r × IsBare r × HaveUppers bytes r.tables uppers × AreStored (uppers_found slot uppers) (length bytes)
 
--- of the slot's sequence, and bare
+-- of the slot's sequence
+pub record IsOwn (slot : Slot) (r : Record) : Type 0 where
+  pub is_record : IsRecord r
+  pub sequence : r.sequence ≡ slot.sequence
+
+-- the same, and bare
 pub record IsSound (slot : Slot) (r : Record) : Type 0 where
   pub is_record : IsRecord r
   pub sequence : r.sequence ≡ slot.sequence
   pub bare : IsBare r
 
--- the record of a block, which is sound
+-- the record of a block, of the slot's sequence
 pub record IsRecordOf (slot : Slot) (block : List ℕ) (r : Record) : Type 0 where
-  pub sound : IsSound slot r
+  pub own : IsOwn slot r
   pub is : block ≡ block_of (record_image r)
-
--- why a record is refused: it is not the slot's, or it is not bare
-abbrev pub RefusesRecord : Slot → Record → Refusal → Type 0
-RefusesRecord slot q r = ((r ≡ Corrupt slot.offset slot.sum slot.sum) × (q.sequence ≢ slot.sequence)) ⊎ ((r ≡ Refusal_Limit Image) × (IsBare q → ⊥))
-
--- the block is that of a record with this
-abbrev pub IsBlockWith : List ℕ → (Record → Type 0) → Type 0
-IsBlockWith block P = (r : Record) × IsRecord r × (block ≡ block_of (record_image r)) × P r
 
 -- why the record of a slot is not read
 abbrev pub RecordRefused : Slot → List ℕ → Refusal → Type 0
-RecordRefused slot block r =
-    (r ≡ NoMemory)
-    ⊎ (((r ≡ Corrupt slot.offset slot.sum slot.sum) × HasNoRecord slot block)
-    ⊎ ((r ≡ Refusal_Limit Image) × IsBlockWith block (λ q. IsBare q → ⊥)))
+RecordRefused slot block r = (r ≡ NoMemory) ⊎ ((r ≡ Corrupt slot.offset slot.sum slot.sum) × HasNoRecord slot block)
 
 -- why the books of these blocks are not made: one cannot be in use beside those before it, on a device of this length
 abbrev pub RefusesBlocks : List Found → ℕ → Refusal → Type 0

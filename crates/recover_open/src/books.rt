@@ -5,6 +5,7 @@ ghost use Rattle.device_leaf.specs.Openings.{HasBooks};
 ghost use Rattle.tree_open.specs.Trees.{leaf_addr, leaf_addrs};
 ghost use Rattle.recover_open.specs.Damage.{found_there, upper_found, uppers_found};
 ghost use Rattle.recover_open.specs.Surveys.{RefusesBlocks};
+ghost use Rattle.recover_open.specs.Wholes.{whole_found};
 
 use crate::record::spoilt;
 use block_mgr::{Addr, Blocks, Found, Holder, OpenError};
@@ -32,7 +33,25 @@ pub(crate) fn books(
     ensures stored { OnOk result (AreStored (uppers_found slot uppers.now) len) }
     ensures err { IfErr result (RefusesBlocks (uppers_found slot uppers.now) len) }
 {
-    match found_of(alloc, slot, uppers) {
+    let none = Vec::new(alloc);
+    whole_books(alloc, slot, uppers, &none, len)
+}
+
+// The same, and then those of the history, which stand there.
+pub(crate) fn whole_books(
+    alloc: Global,
+    slot: Slot,
+    uppers: &[Upper],
+    history: &[Addr],
+    len: u64,
+) -> Result<Blocks, Refusal>
+    ensures books { IfOk result (HasBooks (whole_found slot uppers.now history.now)) }
+    ensures fresh { IfOk result (λ s. s.is_synced ≡ false) }
+    ensures idle { IfOk result (λ s. s.is_held ≡ false) }
+    ensures stored { OnOk result (AreStored (whole_found slot uppers.now history.now) len) }
+    ensures err { IfErr result (RefusesBlocks (whole_found slot uppers.now history.now) len) }
+{
+    match found_with(alloc, slot, uppers, history) {
         Err(NoMemory) => Err(Refusal::NoMemory),
         Ok(found) => books_of(alloc, &found, len),
     }
@@ -56,7 +75,21 @@ fn books_of(alloc: Global, found: &[Found], len: u64) -> Result<Blocks, Refusal>
     }
 }
 
-// The blocks that are found: the record's first.
+// The blocks that are found: those of the history last.
+fn found_with(
+    alloc: Global,
+    slot: Slot,
+    uppers: &[Upper],
+    history: &[Addr],
+) -> Result<Vec<Found>, NoMemory>
+    ensures { IfOk result (λ v. v.items ≡ whole_found slot uppers.now history.now) }
+{
+    let mut found = found_of(alloc, slot, uppers)?;
+    put_pages(&mut found, history)?;
+    Ok(found)
+}
+
+// The blocks that are found but for the history's: the record's first.
 fn found_of(alloc: Global, slot: Slot, uppers: &[Upper]) -> Result<Vec<Found>, NoMemory>
     ensures { IfOk result (λ v. v.items ≡ uppers_found slot uppers.now) }
 {

@@ -1,12 +1,14 @@
 // The record that a slot names.
-ghost use Rattle.std.specs.Prelude.{◌≡◌, ◌↔◌, IfOk, IfErr, IfSome, IfNone, IsTrue};
+ghost use Rattle.std.specs.Prelude.{◌≡◌, ◌≢◌, ◌↔◌, IfOk, IfErr, IsTrue};
 ghost use Rattle.stored.specs.Records.{IsRecord};
+ghost use Rattle.failure.specs.Counts.{Rose};
 ghost use Rattle.disk_model.specs.Crash.{Looked};
 ghost use Rattle.device_leaf.specs.Damage.{IsChosen};
 ghost use Rattle.device_leaf.specs.NoHistory.{no_root};
+ghost use Rattle.tree_open.specs.Damage.{Refused};
 ghost use Rattle.recover_open.specs.Bare.{IsBare};
-ghost use Rattle.recover_open.specs.Damage.{Names};
-ghost use Rattle.recover_open.specs.Surveys.{RefusesSurvey, HasBareRecord, IsOfDisk, IsSound, IsRecordOf, RecordRefused, RefusesRecord};
+ghost use Rattle.recover_open.specs.Damage.{Names, RecordSpoils};
+ghost use Rattle.recover_open.specs.Surveys.{RefusesSurvey, HasRecord, HasBareRecord, IsOfDisk, IsOwn, IsSound, IsRecordOf, RecordRefused};
 
 use block_mgr::read_block;
 use checkpoint_record::{Record, Root, TableRoot, decode};
@@ -23,6 +25,30 @@ pub(crate) fn record_at<D: Disk>(alloc: Global, disk: &mut D, slot: Slot) -> Res
     ensures sound { IfOk result (IsSound slot) }
     ensures err { IfErr result (RefusesSurvey D.Disk (IsTrue (D.honest disk.old) × IsChosen (D.seen disk.old) slot) disk.old disk.new) }
     ensures sole { IsTrue (D.honest disk.old) → HasBareRecord (D.seen disk.old) slot → IfErr result IsOfDisk }
+    ensures looked { Looked D.Disk disk.old disk.new }
+    ensures home { D.home disk.new ≡ D.home disk.old }
+{
+    let found = match any_record_at(alloc, disk, slot) {
+        Ok(found) => found,
+        Err(refusal) => return Err(refusal),
+    };
+    if is_bare(&found) {
+        Ok(found)
+    } else {
+        Err(Refusal::Limit(Limit::Image))
+    }
+}
+
+// The record that a slot names.
+pub(crate) fn any_record_at<D: Disk>(
+    alloc: Global,
+    disk: &mut D,
+    slot: Slot,
+) -> Result<Record, Refusal>
+    ensures ok { IsTrue (D.honest disk.old) → IsChosen (D.seen disk.old) slot → IfOk result (Names (D.seen disk.old) slot) }
+    ensures own { IfOk result (IsOwn slot) }
+    ensures err { IfErr result (Refused (Rose (D.faults disk.old) (D.faults disk.new)) (IsTrue (D.honest disk.old) × IsChosen (D.seen disk.old) slot) (RecordSpoils (D.seen disk.old))) }
+    ensures sole { IsTrue (D.honest disk.old) → HasRecord (D.seen disk.old) slot → IfErr result IsOfDisk }
     ensures looked { Looked D.Disk disk.old disk.new }
     ensures home { D.home disk.new ≡ D.home disk.old }
 {
@@ -46,27 +72,13 @@ fn record_of(alloc: Global, slot: Slot, block: &[u8]) -> Result<Record, Refusal>
 
 fn suited(slot: Slot, found: Record) -> Result<Record, Refusal>
     requires { IsRecord found }
-    ensures ok { IfOk result (λ r. (r ≡ found) × IsSound slot r) }
-    ensures err { IfErr result (RefusesRecord slot found) }
+    ensures ok { IfOk result (λ r. (r ≡ found) × IsOwn slot r) }
+    ensures err { IfErr result (λ e. (e ≡ Refusal.Corrupt slot.offset slot.sum slot.sum) × (found.sequence ≢ slot.sequence)) }
 {
-    match why_not(slot, &found) {
-        Some(refusal) => Err(refusal),
-        None => Ok(found),
-    }
-}
-
-// Why a record does not suit its slot, or is not one that is surveyed.
-fn why_not(slot: Slot, found: &Record) -> Option<Refusal>
-    requires { IsRecord found.now }
-    ensures none { IfNone result (IsSound slot found.now) }
-    ensures some { IfSome result (RefusesRecord slot found.now) }
-{
-    if found.sequence != slot.sequence {
-        Some(no_record(slot))
-    } else if !is_bare(found) {
-        Some(Refusal::Limit(Limit::Image))
+    if found.sequence == slot.sequence {
+        Ok(found)
     } else {
-        None
+        Err(no_record(slot))
     }
 }
 
@@ -76,7 +88,8 @@ fn is_bare(found: &Record) -> bool
     is_no_root(history_of(found))
 }
 
-fn history_of(found: &Record) -> Root
+// The root of a record's history.
+pub(crate) fn history_of(found: &Record) -> Root
     ensures { result ≡ found.now.history }
 {
     found.history

@@ -60,7 +60,8 @@ pub fn survey<D: Disk>(alloc: Global, disk: &mut D) -> Result<Surveyed, Refusal>
     }
 }
 
-fn blank(alloc: Global) -> Surveyed
+// Where no checkpoint was completed.
+pub(crate) fn blank(alloc: Global) -> Surveyed
     ensures { IsBlankSurvey result }
 {
     let blocks = Blocks::new(alloc);
@@ -99,7 +100,7 @@ fn survey_at<D: Disk>(alloc: Global, disk: &mut D, slot: Slot) -> Result<Surveye
     Ok(put_together(slot, found, uppers, blocks))
 }
 
-fn length<D: Disk>(disk: &mut D) -> Result<u64, Refusal>
+pub(crate) fn length<D: Disk>(disk: &mut D) -> Result<u64, Refusal>
     ensures len { IsTrue (D.honest disk.old) → IfOk result (λ n. n ≡ length (D.seen disk.old)) }
     ensures err { IfErr result (λ r. (r ≡ Refusal.DiskFault) × Rose (D.faults disk.old) (D.faults disk.new)) }
     ensures looked { Looked D.Disk disk.old disk.new }

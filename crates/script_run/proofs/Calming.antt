@@ -74,7 +74,7 @@ module _ (laws : CalmLaws) where
   opened_calm (suc n) w calm = opened_calm n (with_session_more w) (laws.opens w calm)
 
   -- with leaves that are kept from calls
-  module _ (Caused : Refusal → Type 0) where
+  module _ (Caused : World → Refusal → Type 0) where
     step_calm : (w next : World) (made : Made) (told : Told) → IsCalm w → IsUnstampedStep made → MayStepOn Caused w made told next → IsCalm next
     step_calm w next made told calm free (inl is) = laws.steps w next made told calm free is
     step_calm w next made told calm free (inr (session, r, go, more, caused, out)) = laws.kept_out w next session r calm out

@@ -1,5 +1,5 @@
 -- What lines that are asked of the device reply and leave.
-use Rattle.std.specs.Prelude.{◌≡◌, ◌||◌, ℕ, Bool, true, false, IsTrue, MatchBool, List, [], ◌∷◌, length, map, replicate, Option, Some, None, Result, Ok, Err, IfErr, slice_index_or}
+use Rattle.std.specs.Prelude.{◌≡◌, ◌||◌, ℕ, Bool, true, false, IsTrue, MatchBool, List, [], ◌∷◌, length, map, replicate, Option, Some, None, Result, Ok, Err, IfErr, OnErr, OnOk, slice_index_or}
 use Rattle.std.proofs.Common.{inl, inr, refl, sym, ap, subst, ◌∙◌, arith}
 use Rattle.std.proofs.lemmas.Bool.{false≢true}
 use Rattle.limits.specs.declared.TheConstants.{SESSIONS_MAX}
@@ -27,7 +27,10 @@ use Rattle.engine_world.specs.Systems.{first_world}
 use Rattle.engine_world.specs.Worlds.{World}
 use Rattle.ckpt_step.specs.Calm.{IsCalm, StartsCalm}
 use Rattle.ckpt_step.specs.Plain.{IsPlain}
+use Rattle.engine_store.specs.declared.frames.Frames.{Frames as StoreFrames}
+use Rattle.engine_store.specs.declared.frames.Frames.TheVariants.{Firm}
 use Rattle.engine_store.specs.declared.store.Store.{Store}
+use Rattle.engine_store.specs.Full.{count_of}
 use Rattle.engine_store.specs.Answers.{CheckpointTakes, CloseTakes, IsLeft, RefusesReopening, answer_of}
 use Rattle.engine_store.specs.Devices.{Device, IsLater, device_of}
 use Rattle.engine_store.specs.Held as held
@@ -47,7 +50,7 @@ calm_on w m shelf calm plain = record { plain = plain; doings = calm.doings; sys
 
 -- nothing is known of stamps
 pub at_any : {D : Type 0} (g : Ghosts D) (first : D) (stamped : Bool) (store : Store) (disk : D) (s : Script) → IsAt g first stamped store disk s → IsAt g first true store disk s
-at_any g first stamped store disk s at = record { held = at.held; device = at.device; calm = λ is. absurd (false≢true (sym is)) }
+at_any g first stamped store disk s at = record { held = at.held; device = at.device; frames = at.frames; calm = λ is. absurd (false≢true (sym is)) }
 
 -- a line of `sys`, by whether it has a call that is not finished
 by_busy : (s : Script) (reply : Reply) (later : Script) (Goes : Type 0) → is_there (slice_index_or s.world.systems 0 None) ≡ true → reply ≡ Answered (Refused (Invalid InCall)) → later ≡ s → BySystem s reply later Goes
@@ -62,7 +65,7 @@ not_there (Some c) is = absurd (false≢true (sym is))
 
 -- ---- a checkpoint, and a close
 
-module _ {D : Type 0} (g : Ghosts D) (first : D) (s : Script) (store store' : Store) (disk disk' : D) (result : Result (Unit {0}) Refusal) (at : IsAt g first false store disk s) where
+module _ {D : Type 0} (g : Ghosts D) (first : D) (s : Script) (store store' : Store) (disk disk' : D) (result : Result (Unit {0}) Refusal) (at : IsAt g first false store disk s) (frames : store'.frames ≡ store.frames) where
   calm : IsCalm s.world
   calm = at.calm refl
 
@@ -86,7 +89,7 @@ module _ {D : Type 0} (g : Ghosts D) (first : D) (s : Script) (store store' : St
     }
 
     checkpoint_at : IsAt g first false store' disk' checkpoint_later
-    checkpoint_at = record { held = x.held; device = refl; calm = λ is. calm_on s.world x.next shelf calm x.plain }
+    checkpoint_at = record { held = x.held; device = refl; frames = frames ∙ at.frames; calm = λ is. calm_on s.world x.next shelf calm x.plain }
 
   module _ (x : held.Shuts g first s.world s.first s.made store store' disk disk' result) where
     abbrev close_later : Script
@@ -105,7 +108,7 @@ module _ {D : Type 0} (g : Ghosts D) (first : D) (s : Script) (store store' : St
     }
 
     close_at : IsAt g first false store' disk' close_later
-    close_at = record { held = x.held; device = refl; calm = λ is. calm_on s.world x.next s.world.shelf calm x.plain }
+    close_at = record { held = x.held; device = refl; frames = frames ∙ at.frames; calm = λ is. calm_on s.world x.next s.world.shelf calm x.plain }
 
 module _ {D : Type 0} (g : Ghosts D) (first : D) (s : Script) (store : Store) (disk : D) (told : Told) where
   pub checkpoint_busy : IsAt g first false store disk s → is_there (slice_index_or s.world.systems 0 None) ≡ true → told.reply ≡ Answered (Refused (Invalid InCall)) → told.formats ≡ plain
@@ -116,12 +119,12 @@ module _ {D : Type 0} (g : Ghosts D) (first : D) (s : Script) (store : Store) (d
       → IsTold g first false (OfAll Close) s store disk kept told
   close_busy kept at same busy reply formats = record { later = s; replies = (s, (formats, by_busy s told.reply s _ busy reply refl), refl); at = at; start = refl; kept_is = same }
 
-module _ {D : Type 0} (g : Ghosts D) (first : D) (s : Script) (store store' : Store) (disk disk' : D) (at : IsAt g first false store disk s) (idle : is_there (slice_index_or s.world.systems 0 None) ≡ false) (x : held.Shuts g first s.world s.first s.made store store' disk disk' (Ok tt)) where
+module _ {D : Type 0} (g : Ghosts D) (first : D) (s : Script) (store store' : Store) (disk disk' : D) (at : IsAt g first false store disk s) (idle : is_there (slice_index_or s.world.systems 0 None) ≡ false) (frames : store'.frames ≡ store.frames) (x : held.Shuts g first s.world s.first s.made store store' disk disk' (Ok tt)) where
   abbrev between : Script
-  between = close_later g first s store store' disk disk' (Ok tt) at x
+  between = close_later g first s store store' disk disk' (Ok tt) at frames x
 
   closes : Closes s Done between
-  closes = close_is g first s store store' disk disk' (Ok tt) at x
+  closes = close_is g first s store store' disk disk' (Ok tt) at frames x
 
   close_then : (last : Store) (now : D) (kept : List Formats) (result : Result Told Refusal) → RepliedAs g first false (OfAll Crash) between last now kept result → RepliedAs g first false (OfAll Close) s last now kept result
   close_then last now kept (Ok told) r = record {
@@ -136,15 +139,15 @@ module _ {D : Type 0} (g : Ghosts D) (first : D) (s : Script) (store store' : St
       by (middle, (formats, (reopens, reply)), same) = (middle, (formats, by_idle s told.reply middle _ idle (inr (between, closes, reopens, reply))), same)
   close_then last now kept (Err e) r = record { later = r.later; stops = (not_there (slice_index_or s.world.systems 0 None) idle, (between, closes, r.stops)); at = r.at; start = r.start }
 
-module _ {D : Type 0} (g : Ghosts D) (first : D) (s : Script) (store : Store) (disk : D) (at : IsAt g first false store disk s) (idle : is_there (slice_index_or s.world.systems 0 None) ≡ false) (store' : Store) (disk' : D) where
+module _ {D : Type 0} (g : Ghosts D) (first : D) (s : Script) (store : Store) (disk : D) (at : IsAt g first false store disk s) (idle : is_there (slice_index_or s.world.systems 0 None) ≡ false) (store' : Store) (disk' : D) (frames : store'.frames ≡ store.frames) where
   pub checkpoint_told : (result : Result (Unit {0}) Refusal) (told : Told) → held.Checkpoints g first s.world s.first s.made store store' disk disk' result → told.reply ≡ Answered (answer_of result) → told.formats ≡ plain
       → IsTold g first false (OfAll Checkpoint) s store' disk' s.formats told
   checkpoint_told result told x reply formats =
-      let later = checkpoint_later g first s store store' disk disk' result at x.0 x.1 in
+      let later = checkpoint_later g first s store store' disk disk' result at frames x.0 x.1 in
       record {
         later = later;
-        replies = (later, (formats, by_idle s told.reply later _ idle (checkpoint_is g first s store store' disk disk' result at x.0 x.1 told.reply reply)), refl);
-        at = checkpoint_at g first s store store' disk disk' result at x.0 x.1;
+        replies = (later, (formats, by_idle s told.reply later _ idle (checkpoint_is g first s store store' disk disk' result at frames x.0 x.1 told.reply reply)), refl);
+        at = checkpoint_at g first s store store' disk disk' result at frames x.0 x.1;
         start = refl;
         kept_is = refl;
       }
@@ -153,11 +156,11 @@ module _ {D : Type 0} (g : Ghosts D) (first : D) (s : Script) (store : Store) (d
   pub close_refused : (r : Refusal) (kept : List Formats) (told : Told) → held.Shuts g first s.world s.first s.made store store' disk disk' (Err r) → s.formats ≡ kept → told.reply ≡ Answered (Refused r) → told.formats ≡ plain
       → IsTold g first false (OfAll Close) s store' disk' kept told
   close_refused r kept told x same reply formats =
-      let later = close_later g first s store store' disk disk' (Err r) at x in
+      let later = close_later g first s store store' disk disk' (Err r) at frames x in
       record {
         later = later;
-        replies = (later, (formats, by_idle s told.reply later _ idle (inl (r, close_is g first s store store' disk disk' (Err r) at x, reply))), refl);
-        at = close_at g first s store store' disk disk' (Err r) at x;
+        replies = (later, (formats, by_idle s told.reply later _ idle (inl (r, close_is g first s store store' disk disk' (Err r) at frames x, reply))), refl);
+        at = close_at g first s store store' disk disk' (Err r) at frames x;
         start = refl;
         kept_is = same;
       }
@@ -165,7 +168,7 @@ module _ {D : Type 0} (g : Ghosts D) (first : D) (s : Script) (store : Store) (d
   -- one that is done, behind which the device is opened anew or not
   pub close_done : (x : held.Shuts g first s.world s.first s.made store store' disk disk' (Ok tt)) (last : Store) (now : D) (kept : List Formats) (result : Result Told Refusal)
       → (((stamped : Bool) (t : Script) → IsAt g first stamped store' disk' t → RepliedAs g first stamped (OfAll Crash) t last now kept result)) → RepliedAs g first false (OfAll Close) s last now kept result
-  close_done x last now kept result reopens = close_then g first s store store' disk disk' at idle x last now kept result (reopens false (close_later g first s store store' disk disk' (Ok tt) at x) (close_at g first s store store' disk disk' (Ok tt) at x))
+  close_done x last now kept result reopens = close_then g first s store store' disk disk' at idle frames x last now kept result (reopens false (close_later g first s store store' disk disk' (Ok tt) at frames x) (close_at g first s store store' disk disk' (Ok tt) at frames x))
 
 -- ---- an opening anew
 
@@ -182,12 +185,12 @@ opened_is content shelf e is = let Systems : Type 0 = List (Option Call) in
     ap (λ (l : Systems). let w : World = record { machine = start content; sessions = []; systems = l; shelf = shelf; records = λ id key. []; again = λ session. false } in w) (four e.systems is)
 
 module _ {D : Type 0} (g : Ghosts D) (first : D) (stamped : Bool) (s : Script) (store store' : Store) (disk disk' : D) (at : IsAt g first stamped store disk s) where
-  pub reopened : (law : StartsCalm) (told : Told) (kept : List Formats) → length store'.engine.systems ≡ 4 → held.Reopens g first s.world s.first s.made store store' disk disk' → told.reply ≡ Answered Done → told.formats ≡ plain → kept ≡ replicate SESSIONS_MAX plain
-      → IsTold g first stamped (OfAll Crash) s store' disk' kept told
-  reopened law told kept actors x reply formats new =
+  pub reopened : (law : StartsCalm) (told : Told) (kept : List Formats) (count : ℕ) → store'.frames ≡ Firm count → length store'.engine.systems ≡ 4 → held.Reopens g first s.world s.first s.made store store' disk disk' → told.reply ≡ Answered Done → told.formats ≡ plain → kept ≡ replicate SESSIONS_MAX plain
+      → IsTold g first stamped (OfAll (Frames count)) s store' disk' kept told
+  reopened law told kept count firm actors x reply formats new =
       let same = opened_is x.content x.shelf store'.engine actors in
-      let later : Script = record s { world = opened_world (start x.content) x.shelf; device = device_of g disk'; formats = replicate SESSIONS_MAX plain } in
-      let reopens : Reopens s later = record {
+      let later : Script = record s { world = opened_world (start x.content) x.shelf; device = device_of g disk'; formats = replicate SESSIONS_MAX plain; frames = count } in
+      let reopens : Reopens count s later = record {
         content = x.content;
         reads = subst (λ (d : Device). Reads d.seen x.content) (sym at.device) x.reads;
         one = x.one;
@@ -204,14 +207,15 @@ module _ {D : Type 0} (g : Ghosts D) (first : D) (stamped : Bool) (s : Script) (
         at = record {
           held = subst (λ (w : World). IsHeld g first store' disk' w s.first s.made) same x.held;
           device = refl;
+          frames = firm;
           calm = λ none. subst (λ (w : World). IsCalm w) same (law x.content x.shelf store'.engine x.plain);
         };
         start = refl;
         kept_is = sym new;
       }
 
-  pub not_reopened : (r : Refusal) → held.NotReopened g first s.world s.first s.made store store' disk disk' r → IsStopped g first (OfAll Crash) s store' disk' r
-  not_reopened r x =
+  pub not_reopened : (count : ℕ) (r : Refusal) → store'.frames ≡ store.frames → held.NotReopened g first s.world s.first s.made store store' disk disk' r → IsStopped g first (OfAll (Frames count)) s store' disk' r
+  not_reopened count r frames x =
       let later : Script = record s { device = device_of g disk' } in
       let stops : NotReopened s r later = record {
         device = device_of g disk';
@@ -221,7 +225,7 @@ module _ {D : Type 0} (g : Ghosts D) (first : D) (stamped : Bool) (s : Script) (
         why = subst (λ (d : Device). RefusesReopening d (device_of g disk') r) (sym at.device) x.why;
         leaves = refl;
       } in
-      record { later = later; stops = stops; at = record { held = x.held; device = refl; calm = λ is. absurd (false≢true (sym is)) }; start = refl }
+      record { later = later; stops = stops; at = record { held = x.held; device = refl; frames = frames ∙ at.frames; calm = λ is. absurd (false≢true (sym is)) }; start = refl }
 
 -- ---- the lines together
 
@@ -240,7 +244,7 @@ pub gives_none : {D : Type 0} (g : Ghosts D) (first : D) (stamped : Bool) (asked
 gives_none g first stamped asked s store disk kept (Ok told) r = record {
   later = r.later;
   replies = r.replies;
-  at = record { held = r.at.held; device = r.at.device; calm = λ none. r.at.calm (or_none stamped none) };
+  at = record { held = r.at.held; device = r.at.device; frames = r.at.frames; calm = λ none. r.at.calm (or_none stamped none) };
   start = r.start;
   kept_is = r.kept_is;
 }
@@ -258,7 +262,19 @@ module _ {D : Type 0} (g : Ghosts D) (first : D) (s : Script) (store : Store) (d
   close_plain false other at store' disk' kept result replied = replied at
   close_plain true other at store' disk' kept result replied = absurd (other refl)
 
--- an opening with another number of frames is told as one after a crash
-pub frames_told : {D : Type 0} (g : Ghosts D) (first : D) (stamped : Bool) (s : Script) (store : Store) (disk : D) (kept : List Formats) (count : ℕ) (result : Result Told Refusal) → RepliedAs g first stamped (OfAll Crash) s store disk kept result → RepliedAs g first stamped (OfAll (Frames count)) s store disk kept result
-frames_told g first stamped s store disk kept count (Ok told) x = record { later = x.later; replies = x.replies; at = x.at; start = x.start; kept_is = x.kept_is }
-frames_told g first stamped s store disk kept count (Err r) x = record { later = x.later; stops = x.stops; at = x.at; start = x.start }
+-- an opening with as many frames as there were is told as one after a crash
+pub crash_told : {D : Type 0} (g : Ghosts D) (first : D) (stamped : Bool) (s : Script) (store : Store) (disk : D) (kept : List Formats) (count : ℕ) (result : Result Told Refusal) → count ≡ s.frames → RepliedAs g first stamped (OfAll (Frames count)) s store disk kept result → RepliedAs g first stamped (OfAll Crash) s store disk kept result
+crash_told g first stamped s store disk kept count (Ok told) same x = record { later = x.later; replies = by x.replies; at = x.at; start = x.start; kept_is = x.kept_is }
+  where
+    by : RunsLine (OfAll (Frames count)) s told.formats told.reply x.later → RunsLine (OfAll Crash) s told.formats told.reply x.later
+    by (middle, (formats, (reopens, reply)), behind) = (middle, (formats, (subst (λ (n : ℕ). Reopens n s middle) same reopens, reply)), behind)
+crash_told g first stamped s store disk kept count (Err r) same x = record { later = x.later; stops = x.stops; at = x.at; start = x.start }
+
+-- how many there are of a store
+pub count_at : (f : StoreFrames) (count : ℕ) → f ≡ Firm count → count_of f ≡ count
+count_at f count is = ap count_of is
+
+-- there are as many as before
+pub count_kept : (f f' : StoreFrames) (count : ℕ) (result : Result Told Refusal) → count ≡ count_of f → OnOk result (f' ≡ Firm count) → OnErr result (f' ≡ f) → count_of f' ≡ count_of f
+count_kept f f' count (Ok told) same firm kept = ap count_of firm ∙ same
+count_kept f f' count (Err r) same firm kept = ap count_of kept

@@ -88,7 +88,7 @@ module _ (a : Around) (m : Machine) (name key : List ℕ) (answer : Answer (List
   plain_then None is = by_system is
   plain_then (Some other) is = subst IsPlain (sym is.1) plain
 
-module _ {D : Type 0} (g : Ghosts D) (first : D) (stamped : Bool) (s : Script) (store store' : Store) (disk disk' : D) (at : IsAt g first stamped store disk s) (told : Told) where
+module _ {D : Type 0} (g : Ghosts D) (first : D) (stamped : Bool) (s : Script) (store store' : Store) (disk disk' : D) (at : IsAt g first stamped store disk s) (told : Told) (frames : store'.frames ≡ store.frames) where
   module _ (made : Call) (number : ℕ) (table key : List ℕ) (formats_are : told.formats ≡ formats_in s.world.machine made) (stored : stored_call told.formats made ≡ System number (system.Evict table key)) (answer : Answer (List ℕ))
       (is : told.reply ≡ Answered answer) (x : EvictsTo g first s.world s.first s.made store store' disk disk' number table key answer) where
     abbrev later : Script
@@ -123,6 +123,7 @@ module _ {D : Type 0} (g : Ghosts D) (first : D) (stamped : Bool) (s : Script) (
       at = record {
         held = x.room.held;
         device = refl;
+        frames = frames ∙ at.frames;
         calm = λ none. calm_as s.world x.next x.room.shelf x.room.again (at.calm none)
             (plain_then (evict_around store.engine store.ground.lives (device_of g disk) (device_of g disk') s.world.machine table key) s.world.machine table key answer x.next
             (at.calm none).plain (slice_index_or s.world.systems number None) x.answers);

@@ -42,6 +42,7 @@ module _ {D : Type 0} (g : Ghosts D) (first : D) (s : Script) (store store' : St
     pub device : later.device ≡ device_of g disk'
     pub start : later.first ≡ s.first
     pub kept : later.formats ≡ s.formats
+    pub frames : later.frames ≡ s.frames
     pub calm : IsCalm s.world → IsCalm later.world
 
   module _ (next : Machine) (x : RoomMade g first s.world s.first s.made store store' disk disk' next) where
@@ -59,7 +60,7 @@ module _ {D : Type 0} (g : Ghosts D) (first : D) (s : Script) (store store' : St
     }
 
     is_behind : GoneBehind s now → (IsCalm s.world → IsPlain next) → IsBehind
-    is_behind went plain = record { later = now; gone = went; held = x.held; device = refl; start = refl; kept = refl; calm = λ calm. calm_as s.world next x.shelf x.again calm (plain calm) }
+    is_behind went plain = record { later = now; gone = went; held = x.held; device = refl; start = refl; kept = refl; frames = refl; calm = λ calm. calm_as s.world next x.shelf x.again calm (plain calm) }
 
   pub gone_behind : RoomOf g first s.world s.first s.made store store' disk disk' → IsBehind
   gone_behind (inl up) =

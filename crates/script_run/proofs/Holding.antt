@@ -1,6 +1,6 @@
 -- What the line of an actor keeps of a store and its disk, and what is printed of a line.
 use Rattle.std.specs.Prelude.{◌≡◌, ◌||◌, ◌++◌, ◌∷◌, [], ℕ, Bool, true, false, List, Option, Some, None, Result, Ok, Err, IfOk, IfErr, IsTrue}
-use Rattle.std.proofs.Common.{inr, refl, sym, subst, ◌∙◌}
+use Rattle.std.proofs.Common.{inr, refl, sym, ap, subst, ◌∙◌}
 use Rattle.std.proofs.lemmas.Bool.{false≢true}
 use Rattle.disk_model.specs.declared.disk.Disk.{Ghosts}
 use Rattle.disk_model.proofs.Crash.{looked_then}
@@ -17,6 +17,7 @@ use Rattle.script_text.specs.declared.replies.Reply.TheVariants.{Answered}
 use Rattle.script_text.specs.declared.replies.Reply.{Reply}
 use Rattle.script_text.specs.Grammar.{IsLine}
 use Rattle.script_text.specs.Replies.{line_of_reply}
+use Rattle.engine_store.specs.declared.frames.Frames.TheVariants.{Firm}
 use Rattle.engine_store.specs.declared.store.Store.{Store}
 use Rattle.engine_store.specs.Calls.{CallKeeps}
 use Rattle.engine_store.specs.Room.{RoomOf}
@@ -69,8 +70,8 @@ of_actor (Control asked) stamped now other whole = absurd (other asked refl)
 
 -- behind the line leaves may have left their frames
 pub actor_told : {D : Type 0} (g : Ghosts D) (first : D) (store middle store' : Store) (disk between disk' : D) (asked : Line) (laws : CalmLaws) (stamped : Bool) (s : Script) (told : LineTold) (kept : List Formats) → IsOfActor asked → IsAt g first stamped store disk s
-    → (r : IsReplied g first s middle between asked kept told) → RoomOf g first r.later.world r.later.first r.later.made middle store' between disk' → IsTold g first (stamped || gives_stamp asked) asked s store' disk' kept told
-actor_told g first store middle store' disk between disk' asked laws stamped s told kept now at r room =
+    → (r : IsReplied g first s middle between asked kept told) → store'.frames ≡ middle.frames → RoomOf g first r.later.world r.later.first r.later.made middle store' between disk' → IsTold g first (stamped || gives_stamp asked) asked s store' disk' kept told
+actor_told g first store middle store' disk between disk' asked laws stamped s told kept now at r frames room =
     let behind = gone_behind g first r.later middle store' between disk' r.device room in
     record {
       later = behind.later;
@@ -78,6 +79,7 @@ actor_told g first store middle store' disk between disk' asked laws stamped s t
       at = record {
         held = behind.held;
         device = behind.device;
+        frames = frames ∙ (r.frames ∙ ap Firm (sym behind.frames));
         calm = λ none. behind.calm (line_calm laws s told.formats told.reply r.later asked (or_second stamped (gives_stamp asked) none) now (at.calm (or_first stamped (gives_stamp asked) none)) r.is);
       };
       start = behind.start ∙ r.start;

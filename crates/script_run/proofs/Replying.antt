@@ -26,10 +26,12 @@ use Rattle.engine.specs.declared.step.Actor.TheVariants as by
 use Rattle.engine.specs.declared.step.Step.{Step}
 use Rattle.engine.specs.declared.step.Step.TheVariants.{Go, Start}
 use Rattle.engine.specs.Runs.{IsBuilt, MayStep, StepFits}
+use Rattle.engine_store.specs.declared.frames.Frames.{Frames}
 use Rattle.engine_store.specs.declared.store.Store.{Store}
 use Rattle.engine_store.specs.Calls.{Called, EndsBy, Finished, Made, MayStepOn, Stepped}
 use Rattle.engine_store.specs.Devices.{Device, IsRead, device_of}
-use Rattle.engine_store.specs.Loads.{IsCause}
+use Rattle.engine_store.specs.Full.{MayBeFull}
+use Rattle.engine_store.specs.Loads.{IsCause, IsCaused}
 use Rattle.script_run.specs.Scripts.{CauseOn, IsLaterCall, Opens, Refuses, Script, opened_more, caller}
 use Rattle.script_run.specs.Runs.{IsAnswerTo, IsLeftSo, IsTaken, IsThere, OpensAs, StandsAt}
 
@@ -66,11 +68,13 @@ module _ {D : Type 0} (g : Ghosts D) (first : D) (s : Script) (w : World) (store
       subst (λ (d : Device). IsRead d (device_of g disk')) (sym at.device) (record { later = record { faults = looked.count; moment = looked.later }; seen = looked.content; capacity = looked.capacity })
 
   -- what is so by the causes that the disk gives is so by those of the script's device
-  caused : (IsSo : (Refusal → Type 0) → Type 0) → IsSo (IsCause (Rose (g.faults disk) (g.faults disk')) w.machine.fault) → IsSo (CauseOn s (device_of g disk') w)
-  caused IsSo is = subst (λ (d : Device). IsSo (IsCause (Rose d.faults (g.faults disk')) w.machine.fault)) (sym at.device) is
+  caused : (IsSo : (World → Refusal → Type 0) → Type 0) → IsSo (λ now r. IsCause (Rose (g.faults disk) (g.faults disk')) (MayBeFull store.frames now) w.machine.fault r) → IsSo (CauseOn s (device_of g disk') w)
+  caused IsSo is =
+      subst (λ (f : Frames). IsSo (λ now r. IsCause (Rose s.device.faults (g.faults disk')) (MayBeFull f now) w.machine.fault r)) at.frames
+      (subst (λ (d : Device). IsSo (λ now r. IsCause (Rose d.faults (g.faults disk')) (MayBeFull store.frames now) w.machine.fault r)) (sym at.device) is)
 
   pub session-answered : (session : ℕ) (made : SessionCall) (answer : Answer (List ℕ)) → Called g first w s.first s.made store store' disk disk' session (session_call_in made) answer → IsAnswerTo g first s store' disk' (Session session made) w answer
-  session-answered session made answer x = record { next = x.later; answered = (x.kept, caused (λ C. (r : Refusal) → x.kept ≡ Some r → C r) x.caused, x.called); held = x.held }
+  session-answered session made answer x = record { next = x.later; answered = (x.kept, caused (λ C. IsCaused C w session (session_call_in made) x.kept) x.caused, x.called); held = x.held }
 
   pub stepped : (made : Step) (told : Told) (x : Stepped g first w s.first s.made store store' disk disk' made told) → MayStepOn (CauseOn s (device_of g disk') w) w made told x.later
   stepped made told x = caused (λ C. MayStepOn C w made told x.later) x.stepped
@@ -82,7 +86,7 @@ module _ {D : Type 0} (g : Ghosts D) (first : D) (s : Script) (w : World) (store
   system-answered number made answer x = record { next = x.later; answered = x.answered; held = x.held }
 
 -- no leaf is kept from a call that starts
-pub started : (Caused : Refusal → Type 0) (w : World) (made : Call) (told : Told) (next : World) → MayStepOn Caused w (Start made) told next → MayStep w (Start made) told next
+pub started : (Caused : World → Refusal → Type 0) (w : World) (made : Call) (told : Told) (next : World) → MayStepOn Caused w (Start made) told next → MayStep w (Start made) told next
 started Caused w made told next (inl is) = is
 started Caused w made told next (inr (session, r, go, more, caused, out)) = absurd cc
 
@@ -91,14 +95,14 @@ started Caused w made told next (inr (session, r, go, more, caused, out)) = absu
 module _ {D : Type 0} (g : Ghosts D) (first : D) (s : Script) (store : Store) (disk : D) where
   -- what is so of what it leaves may be more
   pub left-more : (kept : List Formats) (IsSo IsMore : Script → Type 0) → ((later : Script) → IsSo later → IsMore later) → IsLeftSo g first s store disk kept IsSo → IsLeftSo g first s store disk kept IsMore
-  left-more kept IsSo IsMore more x = record { later = x.later; is = more x.later x.is; held = x.held; device = x.device; start = x.start; kept_is = x.kept_is }
+  left-more kept IsSo IsMore more x = record { later = x.later; is = more x.later x.is; held = x.held; device = x.device; frames = x.frames; start = x.start; kept_is = x.kept_is }
 
   -- the actor could not be opened
   pub turned-away : (GoesSo : Script → World → Type 0) (who : Actor) (r : Refusal) (reply : Reply) → reply ≡ Answered (Refused r) → OpensAs who s.world (Err r) (λ v. StandsAt g first store disk s v)
       → IsLeftSo g first s store disk s.formats (λ later. Opens who s.world (GoesSo later) (λ but v. Refuses but s v reply later))
   turned-away GoesSo who r reply told (n, less, why, at) =
-      record { later = record s { world = opened_more n s.world }; is = inr (n, r, less, why, (told, refl)); held = at.held; device = at.device; start = refl; kept_is = refl }
+      record { later = record s { world = opened_more n s.world }; is = inr (n, r, less, why, (told, refl)); held = at.held; device = at.device; frames = at.frames; start = refl; kept_is = refl }
 
   -- memory was short for the call of an actor that is there
   pub short : (GoesSo : Script → Type 0) (w : World) (reply : Reply) → reply ≡ Answered (Refused NoMemory) → StandsAt g first store disk s w → IsLeftSo g first s store disk s.formats (λ later. GoesSo later ⊎ Refuses NoMemory s w reply later)
-  short GoesSo w reply told at = record { later = record s { world = w }; is = inr (told, refl); held = at.held; device = at.device; start = refl; kept_is = refl }
+  short GoesSo w reply told at = record { later = record s { world = w }; is = inr (told, refl); held = at.held; device = at.device; frames = at.frames; start = refl; kept_is = refl }

@@ -16,8 +16,10 @@ use Rattle.disk_model.specs.declared.disk.Disk.{Ghosts}
 use Rattle.kv_model.specs.Machine.{Completed}
 use Rattle.engine_world.specs.Worlds.{World}
 use Rattle.ckpt_step.specs.Calm.{IsCalm}
+use Rattle.engine_store.specs.declared.frames.Frames.{Frames}
+use Rattle.engine_store.specs.declared.frames.Frames.TheVariants.{Firm}
 use Rattle.engine_store.specs.declared.store.Store.{Store}
-use Rattle.engine_store.specs.Devices.{device_of}
+use Rattle.engine_store.specs.Devices.{Installed, device_of}
 use Rattle.engine_store.specs.Held.{IsHeld}
 use Rattle.script_run.specs.declared.script.End.TheVariants.{Stopped}
 use Rattle.script_run.specs.declared.script.Place.{Place}
@@ -195,7 +197,21 @@ rose-told told first before now met le same was rose (inr is) = rose-after first
 
 -- ---- a run so far
 
-module _ {D : Type 0} (g : Ghosts D) (disk : D) (w : World) where
+-- how many frames there are says nothing of what is held
+pub frames-held : {D : Type 0} (g : Ghosts D) (start disk : D) (store : Store) (frames : Frames) (w : World) (first : Completed) (made : List Installed) → IsHeld g start store disk w first made → IsHeld g start (record store { frames = frames }) disk w first made
+frames-held g start disk store frames w first made held = record {
+  stands = held.stands;
+  idle = held.idle;
+  kept = held.kept;
+  on = λ up. let x = held.on up in record { old = x.old; on = x.on; follows = x.follows; since = x.since; opens = x.opens; one = x.one };
+  images = held.images;
+  last = held.last;
+  ever = held.ever;
+  stays = held.stays;
+  past = held.past;
+}
+
+module _ {D : Type 0} (g : Ghosts D) (disk : D) (w : World) (frames : ℕ) where
   -- of a run that is this far, from the store of this world
   pub record IsDone {S K : Type 0} (source : SourceGhosts S) (sink : SinkGhosts K) (input input' : S) (out out' : K) (held : Held) (place : Place) (store : Store) (now : D) : Type 0 where
     pub given : List ℕ
@@ -205,7 +221,7 @@ module _ {D : Type 0} (g : Ghosts D) (disk : D) (w : World) where
     pub text : List ℕ
     pub refusals : List Refusal
     pub script : Script
-    pub done : DoneLines texts 1 0 false (fresh w (device_of g disk)) place.line place.used place.stamped script text refusals
+    pub done : DoneLines texts 1 0 false (fresh w (device_of g disk) frames) place.line place.used place.stamped script text refusals
     pub took : Took (sink.written out) (sink.written out') text
     pub met : place.met ≡ first_of (filter counts refusals)
     pub at : IsAt g disk place.stamped store now script
@@ -213,24 +229,24 @@ module _ {D : Type 0} (g : Ghosts D) (disk : D) (w : World) where
     pub kept : script.formats ≡ place.formats
 
   -- before the first line
-  pub first-at : (store : Store) → IsHeld g disk store disk w w.machine.completed [] → IsCalm w → (stamped : Bool) → IsAt g disk stamped store disk (fresh w (device_of g disk))
-  first-at store held calm stamped = record { held = held; device = refl; calm = λ none. calm }
+  pub first-at : (store : Store) → store.frames ≡ Firm frames → IsHeld g disk store disk w w.machine.completed [] → IsCalm w → (stamped : Bool) → IsAt g disk stamped store disk (fresh w (device_of g disk) frames)
+  first-at store firm held calm stamped = record { held = held; device = refl; frames = firm; calm = λ none. calm }
 
-  pub none-done : {S K : Type 0} (source : SourceGhosts S) (sink : SinkGhosts K) (input : S) (out : K) (held : Held) (place : Place) (store : Store)
+  pub none-done : {S K : Type 0} (source : SourceGhosts S) (sink : SinkGhosts K) (input : S) (out : K) (held : Held) (place : Place) (store : Store) → store.frames ≡ Firm frames
       → held.behind ≡ [] → place.line ≡ 1 → place.used ≡ 0 → place.stamped ≡ false → place.formats ≡ replicate SESSIONS_MAX plain → place.met ≡ None → IsHeld g disk store disk w w.machine.completed [] → IsCalm w
       → IsDone source sink input input out out held place store disk
-  none-done source sink input out held place store empty line used stamped formats met holds calm = record {
+  none-done source sink input out held place store firm empty line used stamped formats met holds calm = record {
     given = [];
     gave = gave_none (source.left input);
     texts = [];
     lines = sym empty;
     text = [];
     refusals = [];
-    script = fresh w (device_of g disk);
+    script = fresh w (device_of g disk) frames;
     done = (line, used, stamped, refl, refl, refl);
     took = took_none (sink.written out);
     met = met;
-    at = first-at store holds calm place.stamped;
+    at = first-at store firm holds calm place.stamped;
     start = refl;
     kept = sym formats;
   }
@@ -241,7 +257,7 @@ module _ {D : Type 0} (g : Ghosts D) (disk : D) (w : World) where
       → TurnGoesOn g disk store' now' source sink input' input'' out' out'' held held' place next d.script → IsDone source sink input input'' out out'' held' next store' now'
   more-done source sink input input' input'' out out' out'' held held' place next store store' now now' stays d t =
       let l = t.line in
-      let begin = fresh w (device_of g disk) in
+      let begin = fresh w (device_of g disk) frames in
       let all = done-more d.texts 1 0 false begin place.line place.used place.stamped d.script d.text d.refusals held'.line l.printed l.refusal next.stamped l.later d.done l.done in
       record {
         given = d.given ++ t.given;
@@ -264,7 +280,7 @@ module _ {D : Type 0} (g : Ghosts D) (disk : D) (w : World) where
   pub run-done : {S K : Type 0} (source : SourceGhosts S) (sink : SinkGhosts K) (input input' input'' : S) (out out' out'' : K) (held : Held) (place next : Place) (store store' : Store) (now now' : D) (told : ScriptRun)
       → source.fault_count input ≤ source.fault_count input' → sink.fault_count out ≤ sink.fault_count out'
       → (d : IsDone source sink input input' out out' held place store now) → TurnEnds g disk store' now' source sink input' input'' out' out'' held place next d.script told.end → told.met ≡ next.met
-      → IsRun g (outside source sink input input'' out out'') (source.left input) (source.left input'') (sink.written out) (sink.written out'') w disk now' store' told
+      → IsRun g (outside source sink input input'' out out'') (source.left input) (source.left input'') (sink.written out) (sink.written out'') w disk now' frames store' told
   run-done source sink input input' input'' out out' out'' held place next store store' now now' told reads writes d t met =
       let o = outside source sink input input'' out out'' in
       let own = outside source sink input' input'' out' out'' in
@@ -273,7 +289,7 @@ module _ {D : Type 0} (g : Ghosts D) (disk : D) (w : World) where
         ended = λ ended. ended;
         output = λ rose. rose-before (sink.fault_count out) (sink.fault_count out') (sink.fault_count out'') writes rose;
       } in
-      let begin = fresh w (device_of g disk) in
+      let begin = fresh w (device_of g disk) frames in
       let ran : Ran = behind d.text d.refusals t.run.ran in
       let runs : RunsLines o 1 0 false (d.texts ++ t.texts) begin ran =
       done-runs o d.texts 1 0 false begin place.line place.used place.stamped d.script d.text d.refusals t.texts t.run.ran d.done (runs-wider own o place.line place.used place.stamped t.texts d.script t.run.ran wide t.run.runs) in
@@ -298,7 +314,7 @@ module _ {D : Type 0} (g : Ghosts D) (disk : D) (w : World) where
 
   -- there was no memory to begin with
   pub none-run : {S K : Type 0} (source : SourceGhosts S) (sink : SinkGhosts K) (input : S) (out : K) (store : Store) (told : ScriptRun) → told.end ≡ Stopped NoMemory → told.met ≡ None → IsHeld g disk store disk w w.machine.completed []
-      → IsRun g (outside source sink input input out out) (source.left input) (source.left input) (sink.written out) (sink.written out) w disk disk store told
+      → IsRun g (outside source sink input input out out) (source.left input) (source.left input) (sink.written out) (sink.written out) w disk disk frames store told
   none-run source sink input out store told end met holds = record {
     given = [];
     gave = gave_none (source.left input);
@@ -307,7 +323,7 @@ module _ {D : Type 0} (g : Ghosts D) (disk : D) (w : World) where
     ended = false;
     at_end = λ is. absurd cc;
     lines = refl;
-    ran = ends (Stopped NoMemory) (fresh w (device_of g disk));
+    ran = ends (Stopped NoMemory) (fresh w (device_of g disk) frames);
     runs = inr (inr refl);
     took = took_none (sink.written out);
     end_is = end;

@@ -6,6 +6,7 @@ use Rattle.wt_code.specs.declared.answers.Answer.{Answer}
 use Rattle.wt_code.specs.declared.refusals.Refusal.TheVariants.{Corrupt, DiskFault, NoMemory, Limit as Refusal_Limit}
 use Rattle.wt_code.specs.declared.refusals.Limit.TheVariants.{Sessions}
 use Rattle.disk_model.specs.declared.disk.Disk.{Ghosts}
+use Rattle.engine_store.specs.declared.frames.Frames.TheVariants.{Firm}
 use Rattle.engine_store.specs.declared.store.Store.{Store}
 use Rattle.engine_store.specs.Calls.{MayAnswerOn}
 use Rattle.engine_store.specs.Devices.{device_of}
@@ -83,6 +84,7 @@ IsOfActor (OfAll asked) = ⊥
 pub record IsAt {D : Type 0} (g : Ghosts D) (first : D) (stamped : Bool) (store : Store) (disk : D) (s : Script) : Type 0 where
   pub held : IsHeld g first store disk s.world s.first s.made
   pub device : s.device ≡ device_of g disk
+  pub frames : store.frames ≡ Firm s.frames
   pub calm : stamped ≡ false → IsCalm s.world
 
 -- ---- of an actor, in a run that began on the first disk
@@ -94,6 +96,7 @@ module _ {D : Type 0} (g : Ghosts D) (first : D) (s : Script) (store : Store) (d
     pub is : IsSo later
     pub held : IsHeld g first store disk later.world later.first later.made
     pub device : later.device ≡ device_of g disk
+    pub frames : store.frames ≡ Firm later.frames
     pub start : later.first ≡ s.first
     pub kept_is : later.formats ≡ kept
 
@@ -124,6 +127,7 @@ module _ {D : Type 0} (g : Ghosts D) (first : D) (s : Script) (store : Store) (d
 pub record StandsAt {D : Type 0} (g : Ghosts D) (first : D) (store : Store) (disk : D) (s : Script) (w : World) : Type 0 where
   pub held : IsHeld g first store disk w s.first s.made
   pub device : s.device ≡ device_of g disk
+  pub frames : store.frames ≡ Firm s.frames
 
 -- on an honest disk, of each script and world for which they stand, and of each script
 abbrev pub StandingIn : {D : Type 0} → Ghosts D → Store → D → (D → Script → World → Type 0) → Type 0
@@ -199,8 +203,8 @@ StopsDamaged at want found _ = ⊥
 
 -- ---- whole scripts
 
--- A run of a script on an engine and its device that stand for this world: what the input gave, the lines of that, and what they make.
-pub record IsRun {D : Type 0} (g : Ghosts D) (o : Outside) (left left' written written' : Option (List ℕ)) (w : World) (before after : D) (s : Store) (told : ScriptRun) : Type 0 where
+-- A run of a script on an engine with so many frames and its device that stand for this world: what the input gave, the lines of that, and what they make.
+pub record IsRun {D : Type 0} (g : Ghosts D) (o : Outside) (left left' written written' : Option (List ℕ)) (w : World) (before after : D) (frames : ℕ) (s : Store) (told : ScriptRun) : Type 0 where
   pub given : List ℕ
   pub gave : Gave left left' given
   pub texts : List (List ℕ)
@@ -210,7 +214,7 @@ pub record IsRun {D : Type 0} (g : Ghosts D) (o : Outside) (left left' written w
   pub at_end : IsTrue ended → o.input_ended
   pub lines : AreLines ended given texts behind
   pub ran : Ran
-  pub runs : RunsLines o 1 0 false texts (fresh w (device_of g before)) ran
+  pub runs : RunsLines o 1 0 false texts (fresh w (device_of g before) frames) ran
   pub took : Took written written' ran.text
   pub end_is : told.end ≡ ran.end
   -- the first fault of the disk or want of memory that a line replied
@@ -222,9 +226,9 @@ pub record IsRun {D : Type 0} (g : Ghosts D) (o : Outside) (left left' written w
   pub held : IsHeld g before s after ran.last.world w.machine.completed ran.last.made
 
 -- the same of a disk and of streams, before and after
-abbrev pub IsRunOver : {D S K : Type 0} → Ghosts D → SourceGhosts S → SinkGhosts K → S → S → K → K → World → D → D → Store → ScriptRun → Type 0
-IsRunOver g s k input input_now out out_now w before after store told =
-    IsRun g (outside s k input input_now out out_now) (s.left input) (s.left input_now) (k.written out) (k.written out_now) w before after store told
+abbrev pub IsRunOver : {D S K : Type 0} → Ghosts D → SourceGhosts S → SinkGhosts K → S → S → K → K → World → D → D → (frames : ℕ) → Store → ScriptRun → Type 0
+IsRunOver g s k input input_now out out_now w before after frames store told =
+    IsRun g (outside s k input input_now out out_now) (s.left input) (s.left input_now) (k.written out) (k.written out_now) w before after frames store told
 
 -- the run met a fault of the disk
 abbrev pub MetFault : ScriptRun → Type 0

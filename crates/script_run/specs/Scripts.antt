@@ -53,6 +53,7 @@ use Rattle.engine_store.specs.Answers.{CheckpointTakes, CloseTakes, Installs, Is
 use Rattle.engine_store.specs.Calls.{EndsBy, MayAnswerOn, MayStepOn}
 use Rattle.engine_store.specs.Devices.{Device, Installed, IsLater as IsLaterDevice, IsRead, KeepsCheckpoint, may_open_to}
 use Rattle.engine_store.specs.EvictCalls.{EvictAnswers, evict_around}
+use Rattle.engine_store.specs.Full.{IsFullAt}
 use Rattle.engine_store.specs.Loads.{IsCause}
 use Rattle.script_run.specs.declared.script.End.{End}
 use Rattle.script_run.specs.declared.script.End.TheVariants.{Through, Stopped, InputFailed, OutputFailed}
@@ -68,6 +69,8 @@ pub record Script : Type 0 where
   pub made : List Installed
   -- by session: those of the call that it has started
   pub formats : List Formats
+  -- how many frames there are for leaves
+  pub frames : ℕ
 
 abbrev pub plain : Formats
 plain = record { key = U; value = U }
@@ -166,9 +169,9 @@ in_script (told.Answer answer) = Answered answer
 abbrev pub Refuses : Refusal → Script → World → Reply → Script → Type 0
 Refuses r s w reply later = (reply ≡ Answered (answers.Refused r)) × (later ≡ record s { world = w })
 
--- why a leaf is kept from a call, which leaves the device so: memory was short, a read of it failed, or the engine is down
-abbrev pub CauseOn : Script → Device → World → Refusal → Type 0
-CauseOn s device w = IsCause (Rose s.device.faults device.faults) w.machine.fault
+-- why a leaf is kept from a call, which leaves the device so: memory was short, a read of it failed, the engine is down, or in the world that the call has reached each frame has a leaf that may not go
+abbrev pub CauseOn : Script → Device → World → World → Refusal → Type 0
+CauseOn s device w now r = IsCause (Rose s.device.faults device.faults) (IsFullAt s.frames now) w.machine.fault r
 
 -- the whole call is made, and the device read for it
 pub record Answers (made : Call) (s : Script) (formats : Formats) (reply : Reply) (later : Script) (w : World) : Type 0 where
@@ -288,8 +291,8 @@ pub record Closes (s : Script) (answer : Answer (List ℕ)) (later : Script) : T
   pub installs : Installs answer (checkpointed (rolled_back s.world.machine)).completed device next s.made made
   pub leaves : later ≡ on_device s next device made
 
--- Memory is forgotten and the device opened: to one of the checkpoints to which it may open, with no session. How many frames there are then is told by no reply.
-pub record Reopens (s later : Script) : Type 0 where
+-- Memory is forgotten and the device opened: to one of the checkpoints to which it may open, with so many frames and no session.
+pub record Reopens (frames : ℕ) (s later : Script) : Type 0 where
   pub content : Content
   pub reads : Reads s.device.seen content
   pub one : (k : Completed) × Member k (may_open_to (s.first ∷ []) s.made) × OpensAs content k
@@ -298,7 +301,7 @@ pub record Reopens (s later : Script) : Type 0 where
   pub seen : device.seen ≡ s.device.seen
   pub capacity : device.capacity ≡ s.device.capacity
   pub shelf : ℕ → List Row
-  pub leaves : later ≡ record s { world = opened_world (start content) shelf; device = device; formats = replicate SESSIONS_MAX plain }
+  pub leaves : later ≡ record s { world = opened_world (start content) shelf; device = device; formats = replicate SESSIONS_MAX plain; frames = frames }
 
 -- it is not opened, and the engine before it is the last
 pub record NotReopened (s : Script) (r : Refusal) (later : Script) : Type 0 where
@@ -314,9 +317,9 @@ ControlReplies Checkpoint s reply later = BySystem s reply later (Checkpoints s 
 ControlReplies Close s reply later =
     BySystem s reply later
     (((r : Refusal) × Closes s (answers.Refused r) later × (reply ≡ Answered (answers.Refused r)))
-    ⊎ ((middle : Script) × Closes s answers.Done middle × Reopens middle later × (reply ≡ Answered answers.Done)))
-ControlReplies Crash s reply later = Reopens s later × (reply ≡ Answered answers.Done)
-ControlReplies (Frames count) s reply later = Reopens s later × (reply ≡ Answered answers.Done)
+    ⊎ ((middle : Script) × Closes s answers.Done middle × Reopens middle.frames middle later × (reply ≡ Answered answers.Done)))
+ControlReplies Crash s reply later = Reopens s.frames s later × (reply ≡ Answered answers.Done)
+ControlReplies (Frames count) s reply later = Reopens count s later × (reply ≡ Answered answers.Done)
 
 -- An opening that is refused ends the script.
 abbrev pub StopsBy : Line → Script → Refusal → Script → Type 0
@@ -404,8 +407,8 @@ pub record Ran : Type 0 where
   pub end : End
 
 -- before the first line
-abbrev pub fresh : World → Device → Script
-fresh w device = record { world = w; device = device; first = w.machine.completed; made = []; formats = replicate SESSIONS_MAX plain }
+abbrev pub fresh : World → Device → (frames : ℕ) → Script
+fresh w device frames = record { world = w; device = device; first = w.machine.completed; made = []; formats = replicate SESSIONS_MAX plain; frames = frames }
 
 abbrev pub ends : End → Script → Ran
 ends end s = record { text = []; replies = []; last = s; end = end }

@@ -1,10 +1,11 @@
 // Lines that are asked of the device: a checkpoint, a close, and an opening anew.
 ghost use Rattle.std.specs.Prelude.{◌≡◌, ℕ, Bool, false, Ok, IfErr, OnErr, OnOk, IsTrue};
 ghost use Rattle.disk_model.specs.Crash.{SameDisk};
+ghost use Rattle.engine_store.specs.Full.{count_of};
 ghost use Rattle.engine_store.specs.Opened.{IsAtFault, IsReady};
 ghost use Rattle.wt_code.specs.declared.refusals.Refusal.TheVariants.{Corrupt};
 ghost use Rattle.script_text.specs.declared.line.Line.TheVariants.{Control as ControlLine};
-ghost use Rattle.script_text.specs.declared.line.Control.TheVariants.{Checkpoint as CheckpointLine, Close as CloseLine, Crash as CrashLine};
+ghost use Rattle.script_text.specs.declared.line.Control.TheVariants.{Checkpoint as CheckpointLine, Close as CloseLine, Crash as CrashLine, Frames as FramesLine};
 ghost use Rattle.script_run.specs.Faults.{RepliesFault, TellsFaults};
 ghost use Rattle.script_run.specs.Runs.{IsAt, IsTold, RepliedAs, frames_after};
 ghost use Rattle.script_run.specs.Scripts.{Script, IsLaterControl};
@@ -12,7 +13,7 @@ ghost use Rattle.script_run.specs.Scripts.{Script, IsLaterControl};
 use crate::told::{PLAIN, Told, done, refused};
 use ckpt_step::calm_stays;
 use disk_model::Disk;
-use engine_store::Store;
+use engine_store::{Frames, Store};
 use item::Formats;
 use limits::SESSIONS_MAX;
 use script_text::Control;
@@ -33,14 +34,14 @@ pub(crate) fn control<D: Disk>(
         → RepliedAs D.Disk first_disk stamped (ControlLine asked) s store.new disk.new formats.new result }
     ensures told { TellsFaults D.Disk store.old store.new disk.old disk.new (λ rose. RepliesFault result → rose) }
     ensures damage { IfErr result (λ r. (at want found : ℕ) → r ≡ Corrupt at want found → IsTrue (D.honest disk.old) → IsAtFault (D.seen disk.new) at want found) }
-    ensures frames { store.new.frames ≡ frames_after asked result store.old.frames }
+    ensures frames { count_of store.new.frames ≡ frames_after asked result (count_of store.old.frames) }
     ensures ready { IsReady store.new }
     ensures disk { SameDisk D.Disk disk.old disk.new }
 {
     match asked {
         Control::Checkpoint => Ok(checkpoint(alloc, store, disk)),
         Control::Close => close(alloc, store, disk, formats),
-        Control::Crash => reopen(alloc, store, disk, formats, store.frames),
+        Control::Crash => reopen_as_it_was(alloc, store, disk, formats),
         Control::Frames(frames) => reopen(alloc, store, disk, formats, frames),
     }
 }
@@ -74,7 +75,7 @@ fn close<D: Disk>(
         → RepliedAs D.Disk first_disk false (ControlLine CloseLine) s store.new disk.new formats.new result }
     ensures told { TellsFaults D.Disk store.old store.new disk.old disk.new (λ rose. RepliesFault result → rose) }
     ensures damage { IfErr result (λ r. (at want found : ℕ) → r ≡ Corrupt at want found → IsTrue (D.honest disk.old) → IsAtFault (D.seen disk.new) at want found) }
-    ensures frames { store.new.frames ≡ store.old.frames }
+    ensures frames { count_of store.new.frames ≡ count_of store.old.frames }
     ensures ready { IsReady store.new }
     ensures disk { SameDisk D.Disk disk.old disk.new }
 {
@@ -82,12 +83,32 @@ fn close<D: Disk>(
         return Ok(refused(Refusal::Invalid(Invalid::InCall)));
     }
     match store.close(alloc, disk) {
-        Ok(()) => reopen(alloc, store, disk, formats, store.frames),
+        Ok(()) => reopen_as_it_was(alloc, store, disk, formats),
         Err(refusal) => Ok(refused(refusal)),
     }
 }
 
-// Memory is forgotten, and the device opened anew with so many frames, without a session.
+// Memory is forgotten, and the device opened anew with as many firm frames as there were, without a
+// session.
+fn reopen_as_it_was<D: Disk>(
+    alloc: Global,
+    store: &mut Store,
+    disk: &mut D,
+    formats: &mut [Formats; SESSIONS_MAX],
+) -> Result<Told, Refusal>
+    requires ready { IsReady store.old }
+    ensures replies { IsTrue (D.honest disk.old) → (first_disk : D) → (stamped : Bool) → (s : Script) → IsAt D.Disk first_disk stamped store.old disk.old s → RepliedAs D.Disk first_disk stamped (ControlLine CrashLine) s store.new disk.new formats.new result }
+    ensures frames { count_of store.new.frames ≡ count_of store.old.frames }
+    ensures told { TellsFaults D.Disk store.old store.new disk.old disk.new (λ rose. RepliesFault result → rose) }
+    ensures damage { IfErr result (λ r. (at want found : ℕ) → r ≡ Corrupt at want found → IsTrue (D.honest disk.old) → IsAtFault (D.seen disk.new) at want found) }
+    ensures ready { IsReady store.new }
+    ensures disk { SameDisk D.Disk disk.old disk.new }
+{
+    let frames = store.frames.count();
+    reopen(alloc, store, disk, formats, frames)
+}
+
+// Memory is forgotten, and the device opened anew with so many firm frames, without a session.
 fn reopen<D: Disk>(
     alloc: Global,
     store: &mut Store,
@@ -96,15 +117,15 @@ fn reopen<D: Disk>(
     frames: u32,
 ) -> Result<Told, Refusal>
     requires ready { IsReady store.old }
-    ensures replies { IsTrue (D.honest disk.old) → (first_disk : D) → (stamped : Bool) → (s : Script) → IsAt D.Disk first_disk stamped store.old disk.old s → RepliedAs D.Disk first_disk stamped (ControlLine CrashLine) s store.new disk.new formats.new result }
-    ensures frames { OnOk result (store.new.frames ≡ frames) }
+    ensures replies { IsTrue (D.honest disk.old) → (first_disk : D) → (stamped : Bool) → (s : Script) → IsAt D.Disk first_disk stamped store.old disk.old s → RepliedAs D.Disk first_disk stamped (ControlLine (FramesLine frames)) s store.new disk.new formats.new result }
+    ensures frames { OnOk result (store.new.frames ≡ Frames.Firm frames) }
     ensures kept { OnErr result (store.new.frames ≡ store.old.frames) }
     ensures told { TellsFaults D.Disk store.old store.new disk.old disk.new (λ rose. RepliesFault result → rose) }
     ensures damage { IfErr result (λ r. (at want found : ℕ) → r ≡ Corrupt at want found → IsTrue (D.honest disk.old) → IsAtFault (D.seen disk.new) at want found) }
     ensures ready { IsReady store.new }
     ensures disk { SameDisk D.Disk disk.old disk.new }
 {
-    match store.reopen(alloc, disk, frames) {
+    match store.reopen(alloc, disk, Frames::Firm(frames)) {
         Err(refusal) => Err(refusal),
         Ok(()) => {
             calm_stays();

@@ -90,6 +90,7 @@ fn answer_to<D: Disk>(
     ensures evicts { IsTrue (D.honest disk.old) → (start : D) (w : World) (first : Completed) (made : List Installed) → IsHeld D.Disk start store.old disk.old w first made
         → EvictsTo D.Disk start w first made store.old store.new disk.old disk.new number table.now key.now result }
     ensures fault { result ≡ Answer.Refused Refusal.DiskFault → Rose (D.faults disk.old) (D.faults disk.new) }
+    ensures frames { store.new.frames ≡ store.old.frames }
     ensures ready { IsReady store.old → IsReady store.new }
     ensures told { StaysTold D.Disk store.old store.new disk.old disk.new }
     ensures disk { SameDisk D.Disk disk.old disk.new }

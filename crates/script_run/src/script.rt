@@ -2,6 +2,7 @@
 ghost use Rattle.std.specs.Prelude.{◌≡◌, ◌≤◌, ◌+◌, ◌||◌, [], ℕ, Bool, false, length, filter, replicate, IsTrue, IfNone, IfSome};
 ghost use Rattle.failure.specs.Counts.{Rose};
 ghost use Rattle.disk_model.specs.Crash.{SameDisk};
+ghost use Rattle.engine_store.specs.Full.{count_of};
 ghost use Rattle.engine_store.specs.Opened.{IsAtFault, IsReady};
 ghost use Rattle.wt_io.specs.Streams.{AtEnd};
 ghost use Rattle.wt_code.specs.declared.refusals.Refusal.TheVariants.{Corrupt};
@@ -18,7 +19,7 @@ use crate::lines::{Lines, NoLine};
 use crate::one_line::{Printed, Stop, run_line};
 use crate::told::PLAIN;
 use disk_model::Disk;
-use engine_store::Store;
+use engine_store::{Frames, Store};
 use item::Formats;
 use limits::SESSIONS_MAX;
 use std::alloc::Global;
@@ -57,7 +58,8 @@ pub const INPUT_MAX: u64 = 1 << 30;
 /// (`engine_store::Store::make_room`). A refusal that a line replies does not end the script. A line that is
 /// none, or is of a later stage, stops it by `Invalid::Text` with the number of the line, counted
 /// from 1, and is not run; an opening that is refused, want of memory and a stream that fails end it
-/// too. Once a line has committed with a stamp, a checkpoint and a close are of a later stage.
+/// too. Once a line has committed with a stamp, a checkpoint and a close are of a later stage. A call
+/// whose leaf finds each frame of the store with one that may not go is refused as `CacheFull`.
 ///
 /// A line has 65,536 bytes at most without its newline, an input `INPUT_MAX`, and there are 64
 /// sessions at most, opened at their first use. `O(bytes)` beside the calls.
@@ -69,13 +71,14 @@ pub fn run_script<D: Disk, S: Source, K: Sink>(
     out: &mut K,
 ) -> ScriptRun
     requires ready { IsReady store.old }
-    ensures run { IsTrue (D.honest disk.old) → (w : World) → IsHeld D.Disk disk.old store.old disk.old w w.machine.completed [] → IsCalm w → IsRunOver D.Disk S.Source K.Sink input.old input.new out.old out.new w disk.old disk.new store.new result }
+    ensures run { IsTrue (D.honest disk.old) → (w : World) → IsHeld D.Disk disk.old store.old disk.old w w.machine.completed [] → IsCalm w → IsRunOver D.Disk S.Source K.Sink input.old input.new out.old out.new w disk.old disk.new (count_of store.old.frames) store.new result }
     ensures input { result.end ≡ InputFails → Rose (S.fault_count input.old) (S.fault_count input.new) }
     ensures output { result.end ≡ OutputFails → Rose (K.fault_count out.old) (K.fault_count out.new) }
     ensures fault { length store.old.engine.sessions ≡ 0 → MetFault result → Rose (D.faults disk.old) (D.faults disk.new) }
     ensures damage { IsTrue (D.honest disk.old) → (at want found : ℕ) → result.end ≡ Stops (Corrupt at want found) → IsAtFault (D.seen disk.new) at want found }
     ensures disk { SameDisk D.Disk disk.old disk.new }
 {
+    store.frames = Frames::Firm(store.frames.count());
     let Ok(mut lines) = Lines::new(alloc) else {
         return ScriptRun {
             end: End::Stopped(Refusal::NoMemory),

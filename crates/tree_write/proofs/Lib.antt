@@ -1,4 +1,4 @@
-mod Lists
+pub mod Lists
 pub mod Joining
 pub mod OneBlock
 pub mod LeafKeys
@@ -6,8 +6,8 @@ mod Deciding
 mod Tops
 pub mod Still
 pub mod Trees
-mod LeafSteps
-mod PageSteps
+pub mod LeafSteps
+pub mod PageSteps
 mod Going
 mod Rising
 pub mod Aligning

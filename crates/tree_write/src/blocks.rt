@@ -6,9 +6,9 @@ ghost use Rattle.block_mgr.specs.Cells.{captured};
 use block_mgr::Blocks;
 use device_layout::Addr;
 
-// The running checkpoint captures a block, and its address is put behind the others, for which there
-// is room.
-pub(crate) fn capture(blocks: &mut Blocks, addr: Addr, listed: &mut Vec<Addr>)
+/// The running checkpoint captures a block, and its address is put behind the others, for which there
+/// is room. `O(1)`.
+pub fn capture(blocks: &mut Blocks, addr: Addr, listed: &mut Vec<Addr>)
     requires live { HasLive blocks.old.cells addr.offset addr.size }
     requires held { blocks.old.is_held ≡ true }
     requires room { vec_len listed.old < vec_capacity listed.old }

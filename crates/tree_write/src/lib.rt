@@ -20,6 +20,7 @@ mod leaves;
 mod levels;
 mod tree;
 
+pub use blocks::capture;
 pub use draft::TreeDraft;
 pub use entries::link_to;
 pub use keep::{keep_tree, may_keep};

@@ -8,6 +8,7 @@ use Rattle.row_page.specs.Rows.{Row}
 use Rattle.stored.specs.Blocks.{Block}
 use Rattle.stored.specs.Tree.{bottom, leaf_blocks}
 use Rattle.stored.specs.TableTree.{Entry, TableTree, table_kind}
+use Rattle.stored.specs.HistoryTree.{HistoryRecord}
 use Rattle.stored.specs.Records.{Root, TableRoot, Record}
 use Rattle.wt_code.specs.declared.refusals.Refusal.{Refusal}
 use Rattle.device_layout.specs.declared.addr.Addr.{Addr}
@@ -15,15 +16,17 @@ use Rattle.device_leaf.specs.declared.place.Place.{Place}
 use Rattle.tree_open.specs.declared.place.Upper.{Upper}
 use Rattle.tree_open.specs.Trees.{InnerIs, leaf_addrs, root_own}
 use Rattle.tree_open.specs.Damage.{Refused}
-use Rattle.recover_open.specs.declared.surveying.Above.{Above}
+use Rattle.tree_open.proofs.Steps.{refused_more}
+use Rattle.recover_open.specs.declared.wholes.Whole.{Whole}
 use Rattle.recover_open.specs.declared.check.Tally.{Tally}
 use Rattle.recover_open.specs.Bare.{HaveTrees, HaveUppers, tree_rows}
 use Rattle.recover_open.specs.Leaves.{AreLeaves}
-use Rattle.recover_open.specs.Damage.{IsAmong, IsDamage, uppers_found, blocks_found}
-use Rattle.recover_open.specs.Surveys.{SurveyRefused}
+use Rattle.recover_open.specs.Damage.{IsAmong}
+use Rattle.recover_open.specs.Wholes.{IsWholeDamage, whole_found}
 use Rattle.recover_open.proofs.TreeLeaves.{whole_tree, leaf_places}
-use Rattle.recover_open.proofs.UpperPlaces.{uppers_are}
-use Rattle.recover_open.proofs.Devices.{made_on}
+use Rattle.recover_open.proofs.Places.{all_found}
+use Rattle.recover_open.proofs.UpperPlaces.{wholes_are}
+use Rattle.recover_open.proofs.Devices.{whole_on}
 use Rattle.verify_dev.specs.declared.report.Report.{Report}
 use Rattle.verify_dev.specs.Leaves.{HaveLeaves, AreAllTallied, SomeSpoil, stored_below, rows_below}
 use Rattle.verify_dev.specs.declared.verifying.Examined.{Examined}
@@ -63,19 +66,21 @@ grown bytes (t ∷ tables) (u ∷ uppers) (here ∷ all) have leaves =
 
 -- ---- the report
 
-pub reported : (bytes : List ℕ) (a : Above) (t : Tally) (o : Report) → IsSurveyOf bytes a → AreAllTallied bytes a.uppers.items t → o.tables ≡ length a.record.tables → o.leaves ≡ t.leaves → o.versions ≡ t.versions → Reports bytes a.record o
-reported bytes a t o (place, surveyed) tallied tables leaves versions =
+pub reported : (bytes : List ℕ) (w : Whole) (t counted : Tally) (o : Report) → IsSurveyOf bytes w → AreAllTallied bytes w.uppers.items t → counted.leaves ≡ t.leaves → counted.versions ≡ t.versions + length w.history.records.items
+    → o.tables ≡ length w.record.tables → o.leaves ≡ counted.leaves → o.versions ≡ counted.versions → Reports bytes w.record o
+reported bytes w t counted o (place, surveyed) tallied same more tables leaves versions =
     let slot = surveyed.slot in
-    let there = grown bytes a.record.tables a.uppers.items tallied.all surveyed.have tallied.have in
-    let same : uppers_found slot a.uppers.items ≡ blocks_found slot a.record.tables there.trees = uppers_are bytes slot a.record.tables a.uppers.items there.trees surveyed.have there.have in
+    let there = grown bytes w.record.tables w.uppers.items tallied.all surveyed.have tallied.have in
+    let read = surveyed.history in
+    let found : whole_found slot w.uppers.items w.history.addrs.items ≡ all_found slot w.record there.trees read.tree = wholes_are bytes slot w.record w.uppers.items w.history there.trees read.tree surveyed.have there.have read read.has in
     record {
       slot = slot;
       trees = there.trees;
-      on = made_on bytes slot a.record there.trees surveyed.names surveyed.bare there.have (subst (λ (l : List Found). AreStored l (length bytes)) same surveyed.stored);
-      bare = surveyed.bare;
+      history = read.tree;
+      on = whole_on bytes slot w.record there.trees read.tree surveyed.names there.have read.has (subst (λ (l : List Found). AreStored l (length bytes)) found surveyed.stored);
       tables = tables;
-      leaves = leaves ∙ tallied.stored ∙ there.stored;
-      versions = versions ∙ tallied.versions ∙ there.rows;
+      leaves = leaves ∙ same ∙ tallied.stored ∙ there.stored;
+      versions = omega (arith, versions, more, tallied.versions, there.rows, ap (λ (l : List HistoryRecord). length l) read.all);
     }
 
 -- ---- a leaf at fault
@@ -89,24 +94,22 @@ table_at bytes (t ∷ tables) (x ∷ uppers) u (suc i) have lt is =
     let there = table_at bytes tables uppers u i have.1 (omega (arith, lt)) is in
     (there.0, (suc there.1.0, omega (arith, there.1.1), there.1.2), there.2)
 
-pub leaf_damage : (bytes : List ℕ) (a : Above) (at want found : ℕ) → IsSurveyOf bytes a → SomeSpoil bytes a.uppers.items at want found → IsDamage bytes at want found
+pub leaf_damage : (bytes : List ℕ) (a : Whole) (at want found : ℕ) → IsSurveyOf bytes a → SomeSpoil bytes a.uppers.items at want found → IsWholeDamage bytes at want found
 leaf_damage bytes a at want found (place, surveyed) spoils =
     let there = table_at bytes a.record.tables a.uppers.items spoils.upper spoils.index surveyed.have spoils.within spoils.is in
     inr (inr (inl (record {
       slot = surveyed.slot;
       names = a.record;
       there = surveyed.names;
-      bare = surveyed.bare;
       table = there.0;
       among = there.1;
       tree = inr (record { es = spoils.upper.entries.items; addrs = spoils.upper.addrs.items; inner = there.2; leaves = spoils.spoils });
     })))
 
-pub leaves_refused : (fault known : Type 0) (bytes : List ℕ) (a : Above) (uppers : List Upper) (r : Refusal) → uppers ≡ a.uppers.items → Refused fault known (SomeSpoil bytes uppers) r → SurveyRefused fault (known × IsSurveyOf bytes a) bytes r
-leaves_refused fault known bytes a uppers r same (inl failed) = inl failed
-leaves_refused fault known bytes a uppers r same (inr (inl none)) = inr (inl none)
-leaves_refused fault known bytes a uppers r same (inr (inr (at, want, found, is, why))) =
-    inr (inr (inr (at, want, found, is, λ h. leaf_damage bytes a at want found h.1 (subst (λ (l : List Upper). SomeSpoil bytes l at want found) same (why h.0)))))
+pub leaves_refused : (fault known : Type 0) (bytes : List ℕ) (a : Whole) (uppers : List Upper) (r : Refusal) → uppers ≡ a.uppers.items → Refused fault known (SomeSpoil bytes uppers) r → Refused fault (known × IsSurveyOf bytes a) (IsWholeDamage bytes) r
+leaves_refused fault known bytes a uppers r same refused =
+    refused_more fault fault known (known × IsSurveyOf bytes a) (SomeSpoil bytes uppers) (IsWholeDamage bytes) r (λ h. h) (λ h. h.0)
+    (λ at want found h spoils. leaf_damage bytes a at want found h.1 (subst (λ (l : List Upper). SomeSpoil bytes l at want found) same spoils)) refused
 
 -- ---- what is told in the end
 

@@ -1,15 +1,16 @@
 -- What is told of a device that reads.
 use Rattle.std.specs.Prelude.{◌≡◌, ◌⊎◌, ℕ, ◌+◌, List, [], ◌∷◌, length, Option, Some, None}
 use Rattle.device_layout.specs.declared.slot.Slot.{Slot}
-use Rattle.stored.specs.Tree.{bottom, leaf_blocks}
+use Rattle.stored.specs.Tree.{bottom, join, leaf_blocks}
+use Rattle.stored.specs.HistoryTree.{HistoryTree}
 use Rattle.stored.specs.TableTree.{TableTree, table_kind}
 use Rattle.stored.specs.Records.{TableRoot, Record}
 use Rattle.stored.specs.Stored.{IsOn, IsBlank}
 use Rattle.device_leaf.specs.declared.place.Place.{Place}
 use Rattle.tree_open.specs.Trees.{root_own}
-use Rattle.recover_open.specs.declared.surveying.Above.{Above}
-use Rattle.recover_open.specs.Bare.{IsBare, bare_stored, tree_rows}
-use Rattle.recover_open.specs.Surveys.{Surveys}
+use Rattle.recover_open.specs.declared.wholes.Whole.{Whole}
+use Rattle.recover_open.specs.Bare.{stored_with, tree_rows}
+use Rattle.recover_open.specs.Wholes.{SurveysWhole}
 use Rattle.verify_dev.specs.declared.report.Report.{Report}
 use Rattle.verify_dev.specs.declared.verifying.Examined.{Examined}
 
@@ -27,15 +28,15 @@ versions_of (tree ∷ trees) = length (tree_rows tree) + versions_of trees
 abbrev pub IsZero : Report → Type 0
 IsZero o = (o.tables ≡ 0) × (o.leaves ≡ 0) × (o.versions ≡ 0)
 
--- The device holds this record, of a checkpoint without a history, and the trees of its tables: these are their counts.
+-- The device holds this record, the trees of its tables, and a history: these are their counts. A record of the history is a version too.
 pub record Reports (bytes : List ℕ) (r : Record) (o : Report) : Type 0 where
   pub slot : Slot
   pub trees : List TableTree
-  pub on : IsOn bytes (bare_stored slot r trees)
-  pub bare : IsBare r
+  pub history : HistoryTree
+  pub on : IsOn bytes (stored_with slot r trees history)
   pub tables : o.tables ≡ length r.tables
   pub leaves : o.leaves ≡ leaves_of r.tables trees
-  pub versions : o.versions ≡ versions_of trees
+  pub versions : o.versions ≡ versions_of trees + length (join history.leaves)
 
 -- the device has no checkpoint, or it holds this record
 abbrev pub ReportsOr : List ℕ → Option Record → Report → Type 0
@@ -49,5 +50,5 @@ abbrev pub IsVerified : List ℕ → Report → Type 0
 IsVerified bytes o = (IsBlank bytes × IsZero o) ⊎ ((r : Record) × Reports bytes r o)
 
 -- this was surveyed of the device, which stands at some place
-abbrev pub IsSurveyOf : List ℕ → Above → Type 0
-IsSurveyOf bytes a = (place : Place) × Surveys bytes place a
+abbrev pub IsSurveyOf : List ℕ → Whole → Type 0
+IsSurveyOf bytes w = (place : Place) × SurveysWhole bytes place w

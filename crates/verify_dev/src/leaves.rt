@@ -1,5 +1,5 @@
 // The leaves of all trees.
-ghost use Rattle.std.specs.Prelude.{◌≡◌, ◌+◌, IfOk, IfErr, IsTrue};
+ghost use Rattle.std.specs.Prelude.{◌≡◌, ◌+◌, length, IfOk, IfErr, IsTrue};
 ghost use Rattle.failure.specs.Counts.{Rose};
 ghost use Rattle.disk_model.specs.Crash.{Looked};
 ghost use Rattle.tree_open.specs.Damage.{Refused};
@@ -7,6 +7,7 @@ ghost use Rattle.verify_dev.specs.Leaves.{AreAllTallied, SomeSpoil, IsSum};
 
 use disk_model::Disk;
 use failure::NoMemory;
+use inner_page::HistoryRecord;
 use recover_open::{Tally, check_leaves};
 use std::alloc::Global;
 use tree_open::Upper;
@@ -49,6 +50,17 @@ fn sum_of(tally: Tally, own: Tally) -> Result<Tally, NoMemory>
     Ok(Tally {
         leaves: added(tally.leaves, own.leaves)?,
         versions: added(tally.versions, own.versions)?,
+    })
+}
+
+// The records of a history are versions too.
+pub(crate) fn with_records(tally: Tally, records: &[HistoryRecord]) -> Result<Tally, NoMemory>
+    ensures leaves { IfOk result (λ t. t.leaves ≡ tally.leaves) }
+    ensures versions { IfOk result (λ t. t.versions ≡ tally.versions + length records.now) }
+{
+    Ok(Tally {
+        leaves: tally.leaves,
+        versions: added(tally.versions, records.len() as u64)?,
     })
 }
 

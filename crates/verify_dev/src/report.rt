@@ -13,7 +13,8 @@ pub struct Report {
     pub tables: u32,
     /// The leaves of their trees that are stored: one without rows stands nowhere.
     pub leaves: u64,
-    /// The versions that stand in these leaves, one for each row.
+    /// The versions that stand in these leaves, one for each row, and in the history, one for each
+    /// record.
     pub versions: u64,
 }
 

@@ -4,7 +4,7 @@ use disk_model::MemDisk;
 use std::alloc::Global;
 use std::process::Abort;
 use verify_dev::{Report, verify};
-use wt_code::{Limit, Refusal};
+use wt_code::Refusal;
 
 // Sequence 3 by run 2, whose ids below 9 had ended but 5; the record's sum stands at 32.
 const SLOT: [u8; 36] = [
@@ -71,6 +71,13 @@ const SECOND: [u8; 102] = [
     0, 0, 0, 0, 0, b'c', 0, b'3', 0,
 ];
 
+// One record: table 1, key a, value 0, run 2, id 1.
+const HISTORY: [u8; 63] = [
+    3, 1, 1, 0, 63, 0, 0, 0, 0, 0, 0, 0, 0, 0, 0, 0, 1, 0, 0, 0, 2, 0, 1, 2, 0, 0, 0, 2, 0, 0, 0,
+    0, 0, 0, 0, 1, 0, 0, 0, 0, 0, 0, 0, 0, 0, 0, 0, 0, 0, 0, 0, 0, 0, 0, 0, 0, 0, 0, 0, b'a', 0,
+    b'0', 0,
+];
+
 #[derive(Clone, Copy, Debug, PartialEq, Eq)]
 enum Told {
     // tables, leaves, versions
@@ -132,12 +139,8 @@ const CASES: [(&[(usize, u8)], &[(usize, u8)], Told); 24] = [
     (&[(8_360, 0)], &[], Told::Corrupt(8_192, 321_816, 321_816)),
     // a record of sequence 4, which adds 17
     (&[(8_208, 4)], &[], Told::Corrupt(8_192, 322_171, 322_171)),
-    // the history has level 1
-    (
-        &[(8_270, 1)],
-        &[],
-        Told::Refused(Refusal::Limit(Limit::Image)),
-    ),
+    // the history has level 1, and its root stands nowhere
+    (&[(8_270, 1)], &[], Told::Corrupt(0, 0, 0)),
     // table 2 has a tree of level 1, whose root is a leaf
     (&[(8_366, 1)], &[], Told::Corrupt(16_384, 24_677, 24_677)),
     // byte 11 of the inner page is 1 in place of 0, and the leaf on its right has another sum too
@@ -181,6 +184,24 @@ const CASES: [(&[(usize, u8)], &[(usize, u8)], Told); 24] = [
     (&[(28_727, b'c')], &[], Told::Corrupt(28_672, 8_924, 8_924)),
 ];
 
+// The same of a device with a history, whose one leaf stands behind the others.
+const HISTORIES: [(&[(usize, u8)], &[(usize, u8)], Told); 6] = [
+    (&[], &[], Told::Counts(3, 4, 6)),
+    // byte 1 of the leaf is 2 in place of 1
+    (&[], &[(32_769, 2)], Told::Corrupt(32_768, 9_341, 9_343)),
+    // no leaf of the history: of kind 1
+    (&[(32_768, 1)], &[], Told::Corrupt(32_768, 9_339, 9_339)),
+    // the link says the id 2, and the durable stamp 1
+    (&[(8_295, 2)], &[], Told::Corrupt(32_768, 9_341, 9_341)),
+    (&[(8_303, 1)], &[], Told::Corrupt(32_768, 9_341, 9_341)),
+    // a leaf of a table is at fault too, which is told behind the history
+    (
+        &[(32_768, 1)],
+        &[(12_288, 2)],
+        Told::Corrupt(32_768, 9_339, 9_339),
+    ),
+];
+
 fn put(rt: &impl Abort, content: &mut [u8], at: usize, bytes: &[u8]) {
     for (i, byte) in bytes.iter().enumerate() {
         let place = content.get_mut(at.saturating_add(i));
@@ -207,6 +228,28 @@ fn device(
     before: &[(usize, u8)],
     behind: &[(usize, u8)],
 ) -> MemDisk {
+    let mut content = tables(rt, alloc);
+    change(rt, &mut content, before);
+    disk_of(rt, alloc, content, behind)
+}
+
+fn device_with_history(
+    rt: &impl Abort,
+    alloc: Global,
+    before: &[(usize, u8)],
+    behind: &[(usize, u8)],
+) -> MemDisk {
+    let mut content = tables(rt, alloc);
+    content.resize(36_864, 0).expect(rt, "there is memory");
+    put(rt, &mut content, 32_768, &HISTORY);
+    let link = [(8_272, 0x80), (8_280, 0x10), (8_287, 2), (8_295, 1)];
+    change(rt, &mut content, &link);
+    change(rt, &mut content, before);
+    put_sum(rt, &mut content, 32_768, 8_283);
+    disk_of(rt, alloc, content, behind)
+}
+
+fn tables(rt: &impl Abort, alloc: Global) -> Vec<u8> {
     let mut content = Vec::new(alloc);
     content.resize(32_768, 0).expect(rt, "there is memory");
     put(rt, &mut content, 0, &SLOT);
@@ -221,7 +264,12 @@ fn device(
         &mut content,
         &[(24_631, b'c'), (28_703, 3), (28_727, b'e')],
     );
-    change(rt, &mut content, before);
+    content
+}
+
+// Makes the sums.
+fn disk_of(rt: &impl Abort, alloc: Global, content: Vec<u8>, behind: &[(usize, u8)]) -> MemDisk {
+    let mut content = content;
     if content.get(8_328) != Some(&0) {
         put_sum(rt, &mut content, 12_288, 8_331);
     }
@@ -268,6 +316,10 @@ fn answer_of(alloc: Global, disk: &mut MemDisk) -> Told {
 fn each_device_is_told_with_its_counts_or_its_damage(rt: HostRuntime) {
     for (before, behind, want) in CASES {
         let mut disk = device(&rt, rt.alloc(), before, behind);
+        assert_eq!(rt; answer_of(rt.alloc(), &mut disk), want);
+    }
+    for (before, behind, want) in HISTORIES {
+        let mut disk = device_with_history(&rt, rt.alloc(), before, behind);
         assert_eq!(rt; answer_of(rt.alloc(), &mut disk), want);
     }
     // the length and two slots, then the length and a block for each of six, and the length once more

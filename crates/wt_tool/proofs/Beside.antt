@@ -1,5 +1,5 @@
 -- Calls with the device beside them, which they read alone.
-use Rattle.std.specs.Prelude.{◌≡◌, ◌⊎◌, ℕ, List, [], Some, None}
+use Rattle.std.specs.Prelude.{◌≡◌, ◌⊎◌, ℕ, List, [], Option, Some, None}
 use Rattle.std.proofs.Common.{inl, inr, refl, sym, subst, ◌∙◌, arith}
 use Rattle.failure.specs.Counts.{Rose}
 use Rattle.failure.specs.declared.Fault.{Fault}
@@ -16,9 +16,13 @@ use Rattle.item.specs.declared.change.Change.TheVariants.{Put as PutOf, Remove a
 use Rattle.kv_model.specs.Calls.{Session, Call, GetKey, PutKey, RemoveKey, SeekKey, NextRow, Around, IsHeldUp, HeldUp, SessionAnswers}
 use Rattle.checkpoint_core.specs.Stands.{HasStill}
 use Rattle.engine_world.specs.Whole.{around_kept}
+use Rattle.engine_world.specs.Worlds.{World}
 use Rattle.engine.specs.Whole.{KeptBy}
 use Rattle.engine_store.specs.Devices.{Device, IsLater, KeepsCheckpoint, device_of}
-use Rattle.engine_store.specs.Loads.{IsCause, IsCaused}
+use Rattle.engine_store.specs.declared.frames.Frames.{Frames}
+use Rattle.engine_store.specs.declared.frames.Frames.TheVariants.{Soft}
+use Rattle.engine_store.specs.Full.{MayBeFull}
+use Rattle.engine_store.specs.Loads.{IsCause}
 use Rattle.wt_tool.specs.Parts.{at}
 use Rattle.wt_tool.specs.Points.{Did, around}
 
@@ -41,8 +45,15 @@ some_one a b is = cc
 fault_not : (r : Refusal) → r ≡ NoMemory → r ≡ DiskFault → ⊥
 fault_not r short fault = let no : NoMemory ≡ DiskFault = sym short ∙ fault in cc
 
+-- no frames are full where they are soft
+pub soft_cause : (fault : Type 0) (frames : Frames) (count : ℕ) (now : World) (down : Option Fault) (r : Refusal) → frames ≡ Soft count → IsCause fault (MayBeFull frames now) down r → IsCause fault ⊥ down r
+soft_cause fault frames count now down r soft (inl none) = inl none
+soft_cause fault frames count now down r soft (inr (inl failed)) = inr (inl failed)
+soft_cause fault frames count now down r soft (inr (inr (inl panic))) = inr (inr (inl panic))
+soft_cause fault frames count now down r soft (inr (inr (inr (is, full)))) = inr (inr (inr (is, subst (λ (f : Frames). MayBeFull f now) soft full)))
+
 -- what keeps a leaf from a call of an engine that is up
-module _ (d d' : Device) (m : Machine) (up : m.fault ≡ None) (kept : KeptBy) (caused : IsCaused (Rose d.faults d'.faults) m.fault kept) where
+module _ (d d' : Device) (m : Machine) (up : m.fault ≡ None) (kept : KeptBy) (caused : (r : Refusal) → kept ≡ Some r → IsCause (Rose d.faults d'.faults) ⊥ m.fault r) where
   abbrev given : Around
   given = around_kept kept
 
@@ -51,11 +62,12 @@ module _ (d d' : Device) (m : Machine) (up : m.fault ≡ None) (kept : KeptBy) (
   wider_held session request answer next (inr (e, decides, inl short)) = inr (e, decides, inl short)
   wider_held session request answer next (inr (e, decides, inr (r, may, told, rest))) = by_cause (caused r may) rest
     where
-      by_cause : IsCause (Rose d.faults d'.faults) m.fault r → (next ≡ after m e) ⊎ ((r ≡ DiskFault) × ((f : Fault) × (next ≡ after (after m e) (GoDown f)))) → IsHeldUp (around [] d d') m session request answer next
+      by_cause : IsCause (Rose d.faults d'.faults) ⊥ m.fault r → (next ≡ after m e) ⊎ ((r ≡ DiskFault) × ((f : Fault) × (next ≡ after (after m e) (GoDown f)))) → IsHeldUp (around [] d d') m session request answer next
       by_cause (inl short) (inl same) = inr (e, decides, inl (subst (λ (x : Refusal). answer ≡ answers.Refused x) short told, same))
       by_cause (inl short) (inr (fault, (f, down))) = absurd (fault_not r short fault)
       by_cause (inr (inl (fault, rose))) rest = inr (e, decides, inr (r, (fault, rose), told, rest))
-      by_cause (inr (inr (f, panic, down))) rest = let no : None ≡ Some f = sym up ∙ down in absurd (cc)
+      by_cause (inr (inr (inr (full, none)))) rest = absurd none
+      by_cause (inr (inr (inl (f, panic, down)))) rest = let no : None ≡ Some f = sym up ∙ down in absurd (cc)
 
   wider_up : (session : ℕ) (c : Call) (answer : Answer (List ℕ)) (next : Machine) → HeldUp given m session c answer next → HeldUp (around [] d d') m session c answer next
   wider_up session (GetKey name key) answer next held = wider_held session (FindKey name key) answer next held

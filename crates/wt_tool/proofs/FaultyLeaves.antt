@@ -11,7 +11,7 @@ use Rattle.device_read.specs.Refusals.{LeafIsAtFault}
 use Rattle.engine_store.specs.Opened.{HasSpoiltLeaf}
 use Rattle.wt_line.specs.Line.{Asked, create, write, read, list, verify, script, dump, load}
 use Rattle.wt_tool.specs.Commands.{IsByReader, IsOnEngine}
-use Rattle.wt_tool.specs.Top.{IsLeafOf}
+use Rattle.wt_tool.specs.Top.{IsToldOf}
 
 -- the table whose tree has this above its leaves
 owner : (bytes : List ℕ) (tables : List TableRoot) (uppers : List Upper) (u : Upper) → HaveUppers bytes tables uppers → Member u uppers → (t : TableRoot) × IsAmong tables t × InnerIs bytes t.root u.entries.items u.addrs.items
@@ -48,7 +48,7 @@ leaf_fault bytes at want found spoilt =
 
 -- ---- of a command that may tell it
 
-pub engine_leaf : (asked : Asked) (before now : List ℕ) (at want found : ℕ) → IsOnEngine asked → LeafIsAtFault before at want found → IsLeafOf asked before now at want found
+pub engine_leaf : (asked : Asked) (before now : List ℕ) (at want found : ℕ) → IsOnEngine asked → LeafIsAtFault before at want found → IsToldOf asked before now at want found
 engine_leaf (create config uri) before now at want found on fault = fault
 engine_leaf (write overwrite uri pairs) before now at want found on fault = fault
 engine_leaf script before now at want found on fault = inl fault
@@ -58,7 +58,7 @@ engine_leaf list before now at want found on fault = absurd on
 engine_leaf (dump hex reverse uri) before now at want found on fault = absurd on
 engine_leaf (verify uri) before now at want found on fault = absurd on
 
-pub reader_leaf : (asked : Asked) (before now : List ℕ) (at want found : ℕ) → IsByReader asked → LeafIsAtFault before at want found → IsLeafOf asked before now at want found
+pub reader_leaf : (asked : Asked) (before now : List ℕ) (at want found : ℕ) → IsByReader asked → LeafIsAtFault before at want found → IsToldOf asked before now at want found
 reader_leaf (read uri keys) before now at want found by fault = fault
 reader_leaf list before now at want found by fault = fault
 reader_leaf (dump hex reverse uri) before now at want found by fault = fault

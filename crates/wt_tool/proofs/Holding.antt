@@ -22,6 +22,7 @@ use Rattle.engine_world.specs.Worlds.{World, Doing, Resting, doing_of}
 use Rattle.engine.specs.Whole.{CallsKept, KeptBy, MakesAt, with_session_more}
 use Rattle.ckpt_step.specs.Calm.{AnswersCalm, KeptCalm, OpensCalm}
 use Rattle.ckpt_step.specs.Keeps.{IsOrdinary, KeptKeep, StepsKeep}
+use Rattle.engine_store.specs.declared.eviction.TheConstants.{FRAMES}
 use Rattle.engine_store.specs.declared.store.Store.{Store}
 use Rattle.engine_store.specs.Calls.{Called, Made, Opens}
 use Rattle.engine_store.specs.Devices.{device_of}
@@ -29,7 +30,7 @@ use Rattle.engine_store.specs.Loads.{IsCause}
 use Rattle.wt_tool.specs.Led.{DoneBy, Holds, IsWord, OpenedBy}
 use Rattle.wt_tool.specs.Parts.{NoDamage}
 use Rattle.wt_tool.specs.Points.{Did, point_of}
-use Rattle.wt_tool.proofs.Beside.{keeps_same, looked_keeps, looked_later, same_device, wider}
+use Rattle.wt_tool.proofs.Beside.{keeps_same, looked_keeps, looked_later, same_device, soft_cause, wider}
 use Rattle.wt_tool.proofs.Called.{IsDone, create_done, word_done, word_unstamped}
 use Rattle.wt_tool.proofs.Quiet.{quiet_calm, quiet_more, quiet_on, quiet_ordinary}
 
@@ -52,12 +53,15 @@ by_done P answers.Done done none p = p
 by_done P (answers.Refused r) done none p = absurd (none r refl)
 by_done P _ done none p = absurd done
 
-module _ {D : Type 0} (g : Ghosts D) (start_disk : D) (first : Completed) (w : World) (s s' : Store) (before after : D) (looked : Looked g before after) (holds : Holds g start_disk first s before w) where
+module _ {D : Type 0} (g : Ghosts D) (start_disk : D) (first : Completed) (w : World) (s s' : Store) (before after : D) (looked : Looked g before after) (frames : s'.frames ≡ s.frames) (holds : Holds g start_disk first s before w) where
   -- ---- a call of the session
 
   module _ (calm : KeptCalm) (keep : KeptKeep) (c : Call) (word : IsWord c) (a : Answer (List ℕ)) (x : Called g start_disk w first [] s s' before after 0 c a) where
     answered : SessionAnswers (around_kept x.kept) w.machine 0 c a x.later.machine × (x.later.machine.fault ≡ w.machine.fault) × (x.later ≡ record w { machine = x.later.machine })
     answered = answered_at x.kept (doing_of w 0) w c a x.later (holds.quiet.sessions 0) x.called
+
+    caused : (r : Refusal) → x.kept ≡ Some r → IsCause (Rose (g.faults before) (g.faults after)) ⊥ w.machine.fault r
+    caused r is = let c = x.caused r is in soft_cause (Rose (g.faults before) (g.faults after)) s.frames FRAMES c.0 w.machine.fault r holds.soft c.2
 
     call_holds : Holds g start_disk first s' after x.later
     call_holds =
@@ -68,23 +72,25 @@ module _ {D : Type 0} (g : Ghosts D) (start_disk : D) (first : Completed) (w : W
           plain = (calm x.kept w x.later 0 c a (quiet_calm w holds.quiet holds.plain) (word_unstamped c word) x.called).plain;
           completed = keeps.completed ∙ holds.completed;
           up = answered.1 ∙ holds.up;
+          soft = frames ∙ holds.soft;
         }
 
     call_did : Did (point_of g w.machine before) (Session 0) c a (point_of g x.later.machine after)
     call_did = record {
       later = looked_later g before after looked;
       keeps = looked_keeps g before after looked;
-      answers = wider (device_of g before) (device_of g after) w.machine holds.up x.kept x.caused 0 c a x.later.machine answered.0;
+      answers = wider (device_of g before) (device_of g after) w.machine holds.up x.kept caused 0 c a x.later.machine answered.0;
     }
 
     -- no damage keeps its leaf from it
     kept_calm : (r : Refusal) → x.kept ≡ Some r → NoDamage r
-    kept_calm r is = by (x.caused r is)
+    kept_calm r is = by (caused r is)
       where
-        by : IsCause (Rose (g.faults before) (g.faults after)) w.machine.fault r → NoDamage r
+        by : IsCause (Rose (g.faults before) (g.faults after)) ⊥ w.machine.fault r → NoDamage r
         by (inl none) = subst NoDamage (sym none) tt
         by (inr (inl (fault, rose))) = subst NoDamage (sym fault) tt
-        by (inr (inr (f, panic, down))) = subst NoDamage (sym panic) tt
+        by (inr (inr (inr (full, none)))) = absurd none
+        by (inr (inr (inl (f, panic, down)))) = subst NoDamage (sym panic) tt
 
     is_done : IsDone a
     is_done = word_done (around_kept x.kept) w.machine 0 c a x.later.machine kept_calm word answered.0
@@ -119,6 +125,7 @@ module _ {D : Type 0} (g : Ghosts D) (start_disk : D) (first : Completed) (w : W
           plain = (calm w x.later (call.System 0 (system.Create name formats)) a (quiet_calm w holds.quiet holds.plain) tt x.answered).plain;
           completed = keeps.completed ∙ holds.completed;
           up = keeps.fault ∙ holds.up;
+          soft = frames ∙ holds.soft;
         }
 
     create_did : Did (point_of g w.machine before) (System 0) (Create name formats) a (point_of g x.later.machine after)
@@ -150,8 +157,8 @@ module _ {D : Type 0} (g : Ghosts D) (start_disk : D) (first : Completed) (w : W
   opens_now : length w.machine.sessions ≡ 0 → decision w.machine 0 OpenCall ≡ (kv.Done, OpenSession)
   opens_now none = rw (holds.up, none) refl
 
-  pub opened_done : (s' : Store) (number : ℕ) → OpensCalm → length w.machine.sessions ≡ 0 → Opens g start_disk w first [] s s' disk disk number → OpenedBy g start_disk first w s' disk disk (Ok tt)
-  opened_done s' number calm none x = (
+  pub opened_done : (s' : Store) (number : ℕ) → s'.frames ≡ s.frames → OpensCalm → length w.machine.sessions ≡ 0 → Opens g start_disk w first [] s s' disk disk number → OpenedBy g start_disk first w s' disk disk (Ok tt)
+  opened_done s' number frames calm none x = (
     with_session_more w,
     record {
       held = x.held;
@@ -159,6 +166,7 @@ module _ {D : Type 0} (g : Ghosts D) (start_disk : D) (first : Completed) (w : W
       plain = (calm w (quiet_calm w holds.quiet holds.plain)).plain;
       completed = holds.completed;
       up = holds.up;
+      soft = frames ∙ holds.soft;
     },
     inr (kv.Done, (OpenSession, opens_now none, refl), refl),
   )

@@ -20,6 +20,8 @@ use Rattle.ckpt_step.specs.declared.lives.Lone.{Lone}
 use Rattle.ckpt_step.specs.Grounds.{AreRoots}
 use Rattle.ckpt_step.specs.Plain.{IsBareStill, IsPlain, StartsPlain}
 use Rattle.ckpt_step.specs.Rooms.{Written}
+use Rattle.engine_store.specs.declared.eviction.TheConstants.{FRAMES}
+use Rattle.engine_store.specs.declared.frames.Frames.TheVariants.{Soft}
 use Rattle.engine_store.specs.declared.store.Store.{Store}
 use Rattle.engine_store.specs.Held.{IsHeld}
 use Rattle.ckpt_step.specs.Kept.{Lists, records_in}
@@ -78,8 +80,8 @@ module _ {D : Type 0} (g : Ghosts D) (disk : D) (s : Store) (on : IsOpened (g.se
         (law (g.seen disk) on.old on.on.stands.seen_has (bare_roots _ _ _ _ _ on.old on.on.roots))
 
     -- the command holds it
-    pub first_holds : StartsPlain → ((c : List ℕ) → g.left_since disk (g.moment disk) c → g.may_leave disk c) → Holds g disk (start content).completed s disk first_of
-    first_holds law now = record { held = first_held now; quiet = first_quiet content on.shelf s.engine; plain = first_plain law; completed = refl; up = refl }
+    pub first_holds : s.frames ≡ Soft FRAMES → StartsPlain → ((c : List ℕ) → g.left_since disk (g.moment disk) c → g.may_leave disk c) → Holds g disk (start content).completed s disk first_of
+    first_holds soft law now = record { held = first_held now; quiet = first_quiet content on.shelf s.engine; plain = first_plain law; completed = refl; up = refl; soft = soft }
 
 -- ---- what is left
 

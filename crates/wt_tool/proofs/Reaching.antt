@@ -6,6 +6,8 @@ use Rattle.wt_code.specs.declared.refusals.Refusal.{Refusal}
 use Rattle.kv_model.specs.Content.{Content}
 use Rattle.stored.specs.Stored.{Reads}
 use Rattle.device_read.specs.Readers.{held_of}
+use Rattle.engine_store.specs.declared.eviction.TheConstants.{FRAMES}
+use Rattle.engine_store.specs.declared.frames.Frames.TheVariants.{Soft}
 use Rattle.engine_store.specs.declared.store.Store.{Store}
 use Rattle.engine_store.specs.Calls.{IsBasis, basis_of}
 use Rattle.engine_store.specs.Opened.{IsOpened, IsSurveyable, SpoilsAreThere}
@@ -23,10 +25,11 @@ readable bytes (Err e) is = tt
 
 -- the store, on a disk that was looked at since
 pub opened_on : {D : Type 0} (g : Ghosts D) (old new : D) (result : Result Store Refusal) → g.seen new ≡ g.seen old → ((content : Content) → Reads (g.seen old) content → IfOk result (IsOpened (g.seen new) (g.may_leave new))) → IfOk result (SpoilsAreThere (g.seen old))
-    → IsTrue (g.honest new) → IfOk result (λ s. IsBasis g (Some (basis_of g s new)) s.engine new) → IfOk result (IsOpenedOn g new)
-opened_on g old new (Ok s) same opens spoils honest basis = record {
+    → IsTrue (g.honest new) → IfOk result (λ s. IsBasis g (Some (basis_of g s new)) s.engine new) → IfOk result (λ s. s.frames ≡ Soft FRAMES) → IfOk result (IsOpenedOn g new)
+opened_on g old new (Ok s) same opens spoils honest basis soft = record {
   reads = λ content has. opens content (subst (λ (l : List ℕ). Reads l content) same has);
   spoils = subst (λ (l : List ℕ). SpoilsAreThere l s) (sym same) spoils;
   outset = let begun = basis honest in (begun.1, begun.2);
+  soft = soft;
 }
-opened_on g old new (Err r) same opens spoils honest basis = tt
+opened_on g old new (Err r) same opens spoils honest basis soft = tt

@@ -1,6 +1,6 @@
 -- Rows that go out of memory while a load puts others.
 use Rattle.std.specs.Prelude.{◌≡◌, [], Ok, Err}
-use Rattle.std.proofs.Common.{inl, inr, refl}
+use Rattle.std.proofs.Common.{◌∙◌, inl, inr, refl}
 use Rattle.failure.specs.Counts.{Rose}
 use Rattle.disk_model.specs.declared.disk.Disk.{Ghosts}
 use Rattle.wt_code.specs.declared.refusals.Refusal.{Refusal}
@@ -13,11 +13,11 @@ use Rattle.engine_store.specs.WritesOut.{WritesOut, WroteUp}
 use Rattle.wt_tool.specs.Led.{Holds, WentOut}
 use Rattle.wt_tool.proofs.Beside.{keeps_same, same_device}
 
-module _ {D : Type 0} (g : Ghosts D) (start_disk : D) (first : Completed) (w : World) (s s' : Store) (before after : D) (holds : Holds g start_disk first s before w) where
+module _ {D : Type 0} (g : Ghosts D) (start_disk : D) (first : Completed) (w : World) (s s' : Store) (before after : D) (holds : Holds g start_disk first s before w) (frames : s'.frames ≡ s.frames) where
   pub room_made : WroteUp g start_disk w first [] s s' before after → WentOut g start_disk first w s' before after (Ok tt)
   room_made x = (
     record w { shelf = x.shelf },
-    record { held = x.wrote.held; quiet = record { sessions = holds.quiet.sessions; systems = holds.quiet.systems }; plain = x.wrote.plain; completed = holds.completed; up = holds.up },
+    record { held = x.wrote.held; quiet = record { sessions = holds.quiet.sessions; systems = holds.quiet.systems }; plain = x.wrote.plain; completed = holds.completed; up = holds.up; soft = frames ∙ holds.soft },
     refl,
     x.wrote.later,
     x.keeps,

@@ -18,19 +18,20 @@ use Rattle.stored.proofs.Device.{one_content}
 use Rattle.wt_code.specs.declared.refusals.Refusal.{Refusal}
 use Rattle.wt_code.specs.declared.refusals.Refusal.TheVariants.{NoTable, Invalid as Refusal_Invalid}
 use Rattle.wt_code.specs.declared.refusals.Invalid.TheVariants.{BadName}
-use Rattle.recover_open.specs.Bare.{bare_stored}
-use Rattle.recover_open.specs.Surveys.{SurveyRefused}
-use Rattle.recover_open.proofs.Devices.{damage_no_content}
+use Rattle.recover_open.specs.Bare.{stored_with}
+use Rattle.tree_open.specs.Damage.{Refused}
+use Rattle.recover_open.specs.Wholes.{IsWholeDamage}
+use Rattle.recover_open.proofs.Devices.{whole_damage_no_content}
 use Rattle.engine_store.specs.Devices.{device_of}
 use Rattle.verify_dev.specs.declared.report.Report.{Report}
 use Rattle.verify_dev.specs.Reports.{IsVerified, ReportsOr}
-use Rattle.wt_line.specs.Line.{Asked}
+use Rattle.wt_line.specs.Line.{Asked, verify}
 use Rattle.wt_tool.specs.Points.{point_of}
 use Rattle.wt_tool.specs.Parts.{IsOfAttach, met_of}
 use Rattle.wt_tool.specs.Top.{IsAt, IsSoFor, IsStatus, status_of, first_status}
 use Rattle.wt_tool.specs.Verifies.{RefusesVerify, AreTablesOf, tables_in}
 use Rattle.wt_tool.proofs.Listing.{member_named, named_member}
-use Rattle.wt_tool.proofs.Running.{wide_of, status_some, untold_at}
+use Rattle.wt_tool.proofs.Running.{status_some, untold_at}
 
 -- ---- a name, in the record and in the machine
 
@@ -88,14 +89,14 @@ pub start_tables : (bytes : List ℕ) (content : Content) (x : Option Record) (o
 start_tables bytes content None o reads (blank, counts) =
     subst (λ (c : Content). AreTablesOf (start c) []) (one_content bytes nothing content (inl (blank, refl)) reads) (started nothing)
 start_tables bytes content (Some r) o reads reports =
-    let s = bare_stored reports.slot r reports.trees in
+    let s = stored_with reports.slot r reports.trees reports.history in
     subst (λ (c : Content). AreTablesOf (start c) (tables_of r.tables)) (one_content bytes (content_of s) content (inr (s, reports.on, refl)) reads) (started (content_of s))
 
 -- a device that was read through reads as a content
 pub examined_reads : (bytes : List ℕ) (x : Option Record) (o : Report) → ReportsOr bytes x o → (content : Content) × Reads bytes content
 examined_reads bytes None o (blank, counts) = (nothing, inl (blank, refl))
 examined_reads bytes (Some r) o reports =
-    let s = bare_stored reports.slot r reports.trees in
+    let s = stored_with reports.slot r reports.trees reports.history in
     (content_of s, inr (s, reports.on, refl))
 
 -- so does one that was counted
@@ -115,23 +116,21 @@ ok_of (Err r) p = tt
 -- ---- why it is refused
 
 abbrev pub VerifyRefused : (fault known : Type 0) → List ℕ → Refusal → Type 0
-VerifyRefused fault known bytes r = SurveyRefused fault known bytes r ⊎ ((r ≡ Refusal_Invalid BadName) ⊎ (r ≡ NoTable))
+VerifyRefused fault known bytes r = Refused fault known (IsWholeDamage bytes) r ⊎ ((r ≡ Refusal_Invalid BadName) ⊎ (r ≡ NoTable))
 
 -- of a device that reads
-pub refused_verify : {D : Type 0} (g : Ghosts D) (old new : D) (known : Type 0) (content : Content) (r : Refusal) → known → Reads (g.seen old) content → SurveyRefused (Rose (g.faults old) (g.faults new)) known (g.seen old) r
+pub refused_verify : {D : Type 0} (g : Ghosts D) (old new : D) (known : Type 0) (content : Content) (r : Refusal) → known → Reads (g.seen old) content → Refused (Rose (g.faults old) (g.faults new)) known (IsWholeDamage (g.seen old)) r
     → RefusesVerify (point_of g (start content) old) (device_of g new) r
 refused_verify g old new known content r k reads (inl failed) = inl failed
-refused_verify g old new known content r k reads (inr (inl none)) = inr (inl none)
-refused_verify g old new known content r k reads (inr (inr (inl (is, why, shut)))) = inr (inr (is, wide_of (g.seen old) content reads (why k) (shut k)))
-refused_verify g old new known content r k reads (inr (inr (inr (at, want, found, is, why)))) = absurd (damage_no_content (g.seen old) at want found content (why k) reads)
+refused_verify g old new known content r k reads (inr (inl none)) = inr none
+refused_verify g old new known content r k reads (inr (inr (at, want, found, is, why))) = absurd (whole_damage_no_content (g.seen old) at want found content (why k) reads)
 
-pub verify_so : (asked : Asked) (fault known : Type 0) (bytes now : List ℕ) (r : Refusal) → VerifyRefused fault known bytes r → IsSoFor asked known bytes now r
-verify_so asked fault known bytes now r (inl (inl (is, failed))) = subst (IsSoFor asked known bytes now) (sym is) tt
-verify_so asked fault known bytes now r (inl (inr (inl is))) = subst (IsSoFor asked known bytes now) (sym is) tt
-verify_so asked fault known bytes now r (inl (inr (inr (inl (is, why, shut))))) = subst (IsSoFor asked known bytes now) (sym is) tt
-verify_so asked fault known bytes now r (inl (inr (inr (inr (at, want, found, is, why))))) = subst (IsSoFor asked known bytes now) (sym is) (λ k. inl (why k))
-verify_so asked fault known bytes now r (inr (inl is)) = subst (IsSoFor asked known bytes now) (sym is) tt
-verify_so asked fault known bytes now r (inr (inr is)) = subst (IsSoFor asked known bytes now) (sym is) tt
+pub verify_so : (uri : Option (List ℕ)) (fault known : Type 0) (bytes now : List ℕ) (r : Refusal) → VerifyRefused fault known bytes r → IsSoFor (verify uri) known bytes now r
+verify_so uri fault known bytes now r (inl (inl (is, failed))) = subst (IsSoFor (verify uri) known bytes now) (sym is) tt
+verify_so uri fault known bytes now r (inl (inr (inl is))) = subst (IsSoFor (verify uri) known bytes now) (sym is) tt
+verify_so uri fault known bytes now r (inl (inr (inr (at, want, found, is, why)))) = subst (IsSoFor (verify uri) known bytes now) (sym is) (λ k. inr (inr (why k)))
+verify_so uri fault known bytes now r (inr (inl is)) = subst (IsSoFor (verify uri) known bytes now) (sym is) tt
+verify_so uri fault known bytes now r (inr (inr is)) = subst (IsSoFor (verify uri) known bytes now) (sym is) tt
 
 -- ---- its status
 
@@ -164,8 +163,7 @@ refusal_said fault known bytes r status (inl (inl (is, failed))) of =
     let four : status ≡ 4 = of ∙ ap status_of is in
     record { is = inr (inr (inl four)); failed = λ n. failed; no_input = λ n. omega (arith, four, n); no_output = λ n. omega (arith, four, n) }
 refusal_said fault known bytes r status (inl (inr (inl is))) of = one_said fault status (inr (inr (of ∙ ap status_of is)))
-refusal_said fault known bytes r status (inl (inr (inr (inl (is, why, shut))))) of = one_said fault status (inr (inl (of ∙ ap status_of is)))
-refusal_said fault known bytes r status (inl (inr (inr (inr (at, want, found, is, why))))) of = one_said fault status (inr (inl (of ∙ ap status_of is)))
+refusal_said fault known bytes r status (inl (inr (inr (at, want, found, is, why)))) of = one_said fault status (inr (inl (of ∙ ap status_of is)))
 refusal_said fault known bytes r status (inr (inl is)) of = one_said fault status (inr (inl (of ∙ ap status_of is)))
 refusal_said fault known bytes r status (inr (inr is)) of = one_said fault status (inr (inl (of ∙ ap status_of is)))
 

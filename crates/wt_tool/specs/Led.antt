@@ -11,6 +11,8 @@ use Rattle.kv_model.specs.Decisions.{Demand}
 use Rattle.kv_model.specs.Machine.{Completed, Machine}
 use Rattle.engine_world.specs.Worlds.{World, Resting, doing_of}
 use Rattle.ckpt_step.specs.Plain.{IsPlain}
+use Rattle.engine_store.specs.declared.eviction.TheConstants.{FRAMES}
+use Rattle.engine_store.specs.declared.frames.Frames.TheVariants.{Soft}
 use Rattle.engine_store.specs.declared.store.Store.{Store}
 use Rattle.engine_store.specs.Calls.{AreToldSo, Basis, IsBasis, MayTell}
 use Rattle.engine_store.specs.Devices.{IsLater, KeepsCheckpoint, device_of}
@@ -29,13 +31,14 @@ pub record IsQuiet (w : World) : Type 0 where
 
 -- start: the disk as the command opened it; first: the checkpoint that it had then
 module _ {D : Type 0} (g : Ghosts D) (start_disk : D) (first : Completed) where
-  -- The command holds its store between two calls: it installed no checkpoint, no commit had a stamp, and the engine is up.
+  -- The command holds its store between two calls: it installed no checkpoint, no commit had a stamp, the engine is up, and frames are added where a call needs them.
   pub record Holds (s : Store) (disk : D) (w : World) : Type 0 where
     pub held : IsHeld g start_disk s disk w first []
     pub quiet : IsQuiet w
     pub plain : IsPlain w.machine
     pub completed : w.machine.completed ≡ first
     pub up : w.machine.fault ≡ None
+    pub soft : s.frames ≡ Soft FRAMES
 
   -- A run that ends there installed no checkpoint: to what the device may open then, at each moment and in each image.
   pub record Ended (disk : D) (m : Machine) : Type 0 where

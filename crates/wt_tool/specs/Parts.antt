@@ -15,6 +15,8 @@ use Rattle.script_run.specs.declared.script.End.{End}
 use Rattle.script_run.specs.declared.script.End.TheVariants.{Through, Stopped, InputFailed, OutputFailed}
 use Rattle.script_run.specs.Scripts.{Outside, outside, counts}
 use Rattle.stored.specs.Stored.{Reads}
+use Rattle.engine_store.specs.declared.eviction.TheConstants.{FRAMES}
+use Rattle.engine_store.specs.declared.frames.Frames.TheVariants.{Soft}
 use Rattle.engine_store.specs.declared.store.Store.{Store}
 use Rattle.engine_store.specs.Opened.{HasSpoiltLeaf, IsAtFault, IsOpened, IsOutset, SpoilsAreThere}
 use Rattle.device_read.specs.Refusals.{LeafIsAtFault}
@@ -104,6 +106,8 @@ pub record IsOpenedOn {D : Type 0} (g : Ghosts D) (disk : D) (s : Store) : Type 
   pub reads : (content : Content) → Reads (g.seen disk) content → IsOpened (g.seen disk) (g.may_leave disk) s
   pub spoils : SpoilsAreThere (g.seen disk) s
   pub outset : IsOutset s.engine.hub
+  -- a call never finds each frame with a leaf that may not go
+  pub soft : s.frames ≡ Soft FRAMES
 
 abbrev pub at : Device → Machine → Point
 at d m = record { machine = m; device = d }

@@ -2,6 +2,7 @@
 use Rattle.std.specs.Prelude.{◌≡◌, ℕ, Bool, false, List, [], ◌∷◌, IsTrue}
 use Rattle.wt_code.specs.declared.refusals.Refusal.{Refusal}
 use Rattle.row_page.specs.Rows.{Row}
+use Rattle.engine_store.specs.declared.eviction.TheConstants.{FRAMES}
 use Rattle.script_run.specs.declared.script.End.{End}
 use Rattle.script_run.specs.declared.script.End.TheVariants.{Through, Stopped}
 use Rattle.script_run.specs.Lines.{AreLines}
@@ -38,6 +39,6 @@ pub record RunsScript (o : Outside) (p : Point) (ran : Ran) : Type 0 where
   -- the rows of the leaves that are in no frame
   pub shelf : ℕ → List Row
   pub made : script.Ran
-  pub runs : RunsLines o 1 0 false texts (fresh (opened_world p.machine shelf) p.device) made
+  pub runs : RunsLines o 1 0 false texts (fresh (opened_world p.machine shelf) p.device FRAMES) made
   pub whole : made.end ≡ Through → behind ≡ []
   pub is : ran ≡ ran_by given made

@@ -13,6 +13,7 @@ use Rattle.wt_code.specs.Text.{text_of_refusal}
 use Rattle.kv_model.specs.Content.{Content, start}
 use Rattle.stored.specs.Stored.{Reads}
 use Rattle.recover_open.specs.Damage.{IsDamage}
+use Rattle.recover_open.specs.Wholes.{IsWholeDamage}
 use Rattle.device_read.specs.Readers.{Held, IsReaderOf}
 use Rattle.device_read.specs.Refusals.{LeafIsAtFault}
 use Rattle.device_read.specs.Spoilt.{IsSpoiltFrom}
@@ -151,15 +152,15 @@ pub record WentOn {D : Type 0} (g : Ghosts D) (o : Outside) (asked : Asked) (who
   pub kept : ran.next.machine.completed ≡ (start content).completed
   pub looked : Looked g old new
 
--- at which leaf a command may tell damage: one to which the checkpoint of the device leads, as the run began, or of a script also as it ended
-abbrev pub IsLeafOf : Asked → List ℕ → List ℕ → (at want found : ℕ) → Type 0
-IsLeafOf (verify uri) before now at want found = ⊥
-IsLeafOf script before now at want found = LeafIsAtFault before at want found ⊎ LeafIsAtFault now at want found
-IsLeafOf _ before now at want found = LeafIsAtFault before at want found
+-- of what else a command may tell damage: of a leaf to which the checkpoint of the device leads, as the run began, or of a script also as it ended; and `verify` of all that the device holds as it began
+abbrev pub IsToldOf : Asked → List ℕ → List ℕ → (at want found : ℕ) → Type 0
+IsToldOf (verify uri) before now at want found = IsWholeDamage before at want found
+IsToldOf script before now at want found = LeafIsAtFault before at want found ⊎ LeafIsAtFault now at want found
+IsToldOf _ before now at want found = LeafIsAtFault before at want found
 
 -- What a refusal says of the device is so. Damage is told only where the device had it as the run began, or has it as it ended: a command that reads leaf by leaf tells of one leaf, whatever the others are.
 abbrev pub IsSoFor : Asked → (honest : Type 0) → List ℕ → List ℕ → Refusal → Type 0
-IsSoFor asked honest before now (Corrupt at want found) = honest → IsDamage before at want found ⊎ (IsDamage now at want found ⊎ IsLeafOf asked before now at want found)
+IsSoFor asked honest before now (Corrupt at want found) = honest → IsDamage before at want found ⊎ (IsDamage now at want found ⊎ IsToldOf asked before now at want found)
 IsSoFor asked honest before now _ = Unit {0}
 
 -- the refusals and the end that the status and the errors tell, whatever the disk; this holds of each refusal

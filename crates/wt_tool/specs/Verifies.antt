@@ -2,28 +2,24 @@
 use Rattle.std.specs.Prelude.{◌≡◌, ◌⊎◌, ◌↔◌, ℕ, List, [], Option, Some, None}
 use Rattle.failure.specs.Counts.{Rose}
 use Rattle.wt_code.specs.declared.refusals.Refusal.{Refusal}
-use Rattle.wt_code.specs.declared.refusals.Refusal.TheVariants.{NoTable, DiskFault, NoMemory, Limit as Refusal_Limit}
-use Rattle.wt_code.specs.declared.refusals.Limit.TheVariants.{Image}
+use Rattle.wt_code.specs.declared.refusals.Refusal.TheVariants.{NoTable, DiskFault, NoMemory}
 use Rattle.kv_model.specs.Holds.{Member}
 use Rattle.kv_model.specs.History.{Table, tables, named}
 use Rattle.kv_model.specs.Machine.{Machine}
 use Rattle.stored.specs.Records.{Record}
 use Rattle.stored.specs.Stored.{tables_of}
-use Rattle.engine_store.specs.Devices.{Device, IsWide}
+use Rattle.engine_store.specs.Devices.{Device}
 use Rattle.verify_dev.specs.declared.report.Report.{Report}
 use Rattle.verify_dev.specs.Reports.{ReportsOr}
 use Rattle.script_run.specs.declared.script.End.TheVariants.{Through}
 use Rattle.wt_tool.specs.Points.{Point, Ran, ends, stops}
 use Rattle.wt_tool.specs.Openings.{Named, Opens}
 
--- why a device that reads is refused: that no run may follow, or that few numbers are left for tables, is no reason
+-- why a device that reads is refused: that it has a history, that no run may follow, or that few numbers are left for tables, is no reason
 abbrev pub RefusesVerify : Point → Device → Refusal → Type 0
-RefusesVerify p now r =
-    ((r ≡ DiskFault) × Rose p.device.faults now.faults)
-    ⊎ ((r ≡ NoMemory)
-    ⊎ ((r ≡ Refusal_Limit Image) × IsWide p.device.seen))
+RefusesVerify p now r = ((r ≡ DiskFault) × Rose p.device.faults now.faults) ⊎ (r ≡ NoMemory)
 
--- The whole device was read: it has no checkpoint, or this record of one without a history, and so many tables, leaves and versions.
+-- The whole device was read: it has no checkpoint, or this record of one, and so many tables, leaves and versions.
 pub record IsCounted (bytes : List ℕ) : Type 0 where
   pub kept : Option Record
   pub report : Report

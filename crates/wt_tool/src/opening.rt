@@ -10,7 +10,7 @@ ghost use Rattle.wt_tool.specs.Top.{IsReadable};
 
 use device_read::{Reader, open};
 use disk_model::{Home, Unattached};
-use engine_store::{FRAMES, Store, open_on};
+use engine_store::{FRAMES, Frames, Store, open_on};
 use std::alloc::Global;
 use wt_code::Refusal;
 
@@ -26,7 +26,7 @@ pub(crate) fn reach<D: Home>(alloc: Global, disk: &mut D, home: &str) -> Result<
     ensures looked { Looked D.Disk disk.old disk.new }
 {
     match disk.attach(alloc, home) {
-        Ok(()) => open_on(alloc, disk, FRAMES),
+        Ok(()) => open_on(alloc, disk, Frames::Soft(FRAMES)),
         Err(Unattached::Failed) => Err(Refusal::DiskFault),
         Err(Unattached::NoMemory) => Err(Refusal::NoMemory),
     }

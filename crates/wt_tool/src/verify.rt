@@ -2,10 +2,12 @@
 ghost use Rattle.std.specs.Prelude.{◌≡◌, ◌⊎◌, [], Option, bytes_eq, Some, IfOk, IfErr, IsTrue};
 ghost use Rattle.std.specs.Option.{option_map};
 ghost use Rattle.std.specs.List.{list_any};
+ghost use Rattle.failure.specs.Counts.{Rose};
 ghost use Rattle.disk_model.specs.Crash.{Looked};
 ghost use Rattle.kv_model.specs.Content.{Content, start};
 ghost use Rattle.stored.specs.Stored.{Reads};
-ghost use Rattle.recover_open.specs.Surveys.{RefusesSurvey};
+ghost use Rattle.tree_open.specs.Damage.{Refused};
+ghost use Rattle.recover_open.specs.Wholes.{IsWholeDamage};
 ghost use Rattle.verify_dev.specs.Reports.{IsExamined};
 ghost use Rattle.wt_tool.specs.Parts.{IsOfAttach, silent_run};
 ghost use Rattle.wt_tool.specs.Points.{Point, point_of};
@@ -28,7 +30,7 @@ pub(crate) fn verify<D: Home>(
 ) -> Result<(), Refusal>
     ensures run { IsTrue (D.honest disk.old) → (content : Content) → Reads (D.seen disk.old) content → RunsVerify (option_map (λ x. x.now) uri.entry) (point_of D.Disk (start content) disk.old) (silent_run result [] (point_of D.Disk (start content) disk.new)) }
     ensures ok { IsTrue (D.honest disk.old) → IfOk result (λ done. (content : Content) × Reads (D.seen disk.old) content) }
-    ensures err { IfErr result (λ r. RefusesSurvey D.Disk (IsTrue (D.honest disk.old)) disk.old disk.new r ⊎ ((r ≡ Refusal.Invalid Invalid.BadName) ⊎ (r ≡ Refusal.NoTable))) }
+    ensures err { IfErr result (λ r. Refused (Rose (D.faults disk.old) (D.faults disk.new)) (IsTrue (D.honest disk.old)) (IsWholeDamage (D.seen disk.old)) r ⊎ ((r ≡ Refusal.Invalid Invalid.BadName) ⊎ (r ≡ Refusal.NoTable))) }
     ensures told { IfOk result (λ done. D.home disk.new ≡ Some home.now) }
     ensures untold { (D.home disk.new ≡ Some home.now) ⊎ ((D.home disk.new ≡ D.home disk.old) × IfErr result IsOfAttach) }
     ensures looked { Looked D.Disk disk.old disk.new }
@@ -42,7 +44,7 @@ pub(crate) fn verify<D: Home>(
 // Attaches the disk, and reads all that it has.
 fn read_through<D: Home>(alloc: Global, disk: &mut D, home: &str) -> Result<Examined, Refusal>
     ensures ok { IsTrue (D.honest disk.old) → IfOk result (IsExamined (D.seen disk.old)) }
-    ensures err { IfErr result (RefusesSurvey D.Disk (IsTrue (D.honest disk.old)) disk.old disk.new) }
+    ensures err { IfErr result (Refused (Rose (D.faults disk.old) (D.faults disk.new)) (IsTrue (D.honest disk.old)) (IsWholeDamage (D.seen disk.old))) }
     ensures told { IfOk result (λ found. D.home disk.new ≡ Some home.now) }
     ensures untold { (D.home disk.new ≡ Some home.now) ⊎ ((D.home disk.new ≡ D.home disk.old) × IfErr result IsOfAttach) }
     ensures looked { Looked D.Disk disk.old disk.new }

@@ -1,9 +1,7 @@
 // Rows that are written over, in more leaves than there are frames.
-use super::{Script, outcome, plain};
-use failure::NoMemory;
+use super::{Script, outcome, plain, push, push_oks, text_of};
 use std::alloc::Global;
 use std::process::Abort;
-use std::test::Fail;
 
 // A table of rows, each with a text of so many tens of letters.
 #[derive(Clone, Copy)]
@@ -25,155 +23,209 @@ fn row_at(rows: Rows, step: u32) -> u32 {
     step.wrapping_mul(STRIDE) % rows.count.max(1)
 }
 
+fn number_text(rt: &impl Abort, alloc: Global, row: u32) -> String {
+    format!(in alloc; "{row}").expect(rt, "there is memory")
+}
+
 // The value of a row: its text and its number.
-fn value(alloc: Global, rows: Rows, ten: &str, row: u32) -> Result<String, NoMemory> {
+fn value(rt: &impl Abort, alloc: Global, rows: Rows, ten: &str, row: u32) -> String {
     let mut text = String::new(alloc);
     for _ in 0..rows.tens {
-        text.push_str(ten)?;
+        push(rt, &mut text, ten);
     }
-    let number = format!(in alloc; "{row}")?;
-    text.push_str(number.as_str())?;
-    Ok(text)
+    push(rt, &mut text, number_text(rt, alloc, row).as_str());
+    text
+}
+
+fn old_value(rt: &impl Abort, alloc: Global, rows: Rows, row: u32) -> String {
+    value(rt, alloc, rows, OLD, row)
+}
+
+fn new_value(rt: &impl Abort, alloc: Global, rows: Rows, row: u32) -> String {
+    value(rt, alloc, rows, NEW, row)
+}
+
+fn put_line(rt: &impl Abort, alloc: Global, row: u32, value: &str) -> String {
+    let line = format!(in alloc; "s1 put t key{row} {value}\n");
+    line.expect(rt, "there is memory")
+}
+
+// Puts a row in the transaction of a session.
+fn push_put(rt: &impl Abort, alloc: Global, text: &mut String, row: u32, value: &str) {
+    push(rt, text, put_line(rt, alloc, row, value).as_str());
+}
+
+// Puts a row in a transaction of its own.
+fn push_whole_put(rt: &impl Abort, alloc: Global, text: &mut String, row: u32, value: &str) {
+    push(rt, text, "s1 begin\n");
+    push_put(rt, alloc, text, row, value);
+    push(rt, text, "s1 commit\n");
+}
+
+fn push_old_rows(rt: &impl Abort, alloc: Global, text: &mut String, rows: Rows) {
+    for row in 0..rows.count {
+        let old = old_value(rt, alloc, rows, row);
+        push_put(rt, alloc, text, row, old.as_str());
+    }
 }
 
 // The rows are put, a checkpoint is taken, and the device is opened with four frames.
-fn filled(alloc: Global, rows: Rows) -> Result<String, NoMemory> {
-    let mut text = String::from_str(alloc, "sys create t S S\ns1 begin\n")?;
-    for row in 0..rows.count {
-        let old = value(alloc, rows, OLD, row)?;
-        let line = format!(in alloc; "s1 put t key{row} {old}\n")?;
-        text.push_str(line.as_str())?;
-    }
-    text.push_str("s1 commit\nsys ckpt\nsys frames 4\n")?;
-    Ok(text)
+fn filled(rt: &impl Abort, alloc: Global, rows: Rows) -> String {
+    let mut text = text_of(rt, alloc, "sys create t S S\ns1 begin\n");
+    push_old_rows(rt, alloc, &mut text, rows);
+    push(rt, &mut text, "s1 commit\nsys ckpt\nsys frames 4\n");
+    text
 }
 
 // Each row is written over, in a transaction of its own.
-fn written_over(alloc: Global, rows: Rows) -> Result<String, NoMemory> {
-    let mut text = String::new(alloc);
+fn push_written_over(rt: &impl Abort, alloc: Global, text: &mut String, rows: Rows) {
     for step in 0..rows.count {
         let row = row_at(rows, step);
-        let new = value(alloc, rows, NEW, row)?;
-        let lines = format!(in alloc; "s1 begin\ns1 put t key{row} {new}\ns1 commit\n")?;
-        text.push_str(lines.as_str())?;
+        let new = new_value(rt, alloc, rows, row);
+        push_whole_put(rt, alloc, text, row, new.as_str());
     }
-    Ok(text)
+}
+
+fn get_line(rt: &impl Abort, alloc: Global, row: u32) -> String {
+    let line = format!(in alloc; "s1 get t key{row}\n");
+    line.expect(rt, "there is memory")
 }
 
 // Each row is read.
-fn read(alloc: Global, rows: Rows) -> Result<String, NoMemory> {
-    let mut text = String::from_str(alloc, "s1 begin\n")?;
+fn push_read(rt: &impl Abort, alloc: Global, text: &mut String, rows: Rows) {
+    push(rt, text, "s1 begin\n");
     for step in 0..rows.count {
-        let row = row_at(rows, step);
-        let line = format!(in alloc; "s1 get t key{row}\n")?;
-        text.push_str(line.as_str())?;
+        let line = get_line(rt, alloc, row_at(rows, step));
+        push(rt, text, line.as_str());
     }
-    text.push_str("s1 commit\n")?;
-    Ok(text)
+    push(rt, text, "s1 commit\n");
 }
 
-// So many lines that answer `ok`.
-fn push_oks(text: &mut String, count: u32) -> Result<(), NoMemory> {
-    for _ in 0..count {
-        text.push_str("ok\n")?;
-    }
-    Ok(())
+// What is printed as a value is read.
+fn push_value(rt: &impl Abort, text: &mut String, value: &str) {
+    push(rt, text, "ok ");
+    push(rt, text, value);
+    push(rt, text, "\n");
 }
 
 // What is printed as each row is read that was written over.
-fn push_read(alloc: Global, rows: Rows, text: &mut String) -> Result<(), NoMemory> {
-    text.push_str("ok\n")?;
+fn push_new_rows(rt: &impl Abort, alloc: Global, text: &mut String, rows: Rows) {
+    push(rt, text, "ok\n");
     for step in 0..rows.count {
-        let new = value(alloc, rows, NEW, row_at(rows, step))?;
-        let line = format!(in alloc; "ok {new}\n")?;
-        text.push_str(line.as_str())?;
+        let new = new_value(rt, alloc, rows, row_at(rows, step));
+        push_value(rt, text, new.as_str());
     }
-    text.push_str("ok\n")?;
-    Ok(())
+    push(rt, text, "ok\n");
 }
+
+// A script on a disk with more room.
+fn roomy(text: &str) -> Script<'_> {
+    Script {
+        room: 1 << 22,
+        ..plain(text)
+    }
+}
+
+fn check_told(rt: &impl Abort, alloc: Global, text: &str, wanted: &str) {
+    let told = outcome(rt, alloc, roomy(text));
+    assert!(rt; told.as_str() == wanted);
+}
+
+fn over_lines(rt: &impl Abort, alloc: Global, rows: Rows) -> String {
+    let mut text = filled(rt, alloc, rows);
+    push_written_over(rt, alloc, &mut text, rows);
+    push_read(rt, alloc, &mut text, rows);
+    push(rt, &mut text, "sys ckpt\nsys crash\n");
+    push_read(rt, alloc, &mut text, rows);
+    text
+}
+
+fn over_printed(rt: &impl Abort, alloc: Global, rows: Rows) -> String {
+    let mut wanted = String::new(alloc);
+    push_oks(rt, &mut wanted, 6_005);
+    push_new_rows(rt, alloc, &mut wanted, rows);
+    push_oks(rt, &mut wanted, 2);
+    push_new_rows(rt, alloc, &mut wanted, rows);
+    push(rt, &mut wanted, "Through None");
+    wanted
+}
+
+const TWELVE_LEAVES: Rows = Rows {
+    count: 1_500,
+    tens: 20,
+};
 
 // Some twelve leaves, which go out of four frames and come in again.
 #[test]
-fn rows_in_more_leaves_than_frames_are_written_over(rt: HostRuntime) -> Result<(), Fail> {
+fn rows_in_more_leaves_than_frames_are_written_over(rt: HostRuntime) {
     let alloc = rt.alloc();
-    let rows = Rows {
-        count: 1_500,
-        tens: 20,
-    };
-    let mut text = filled(alloc, rows)?;
-    text.push_str(written_over(alloc, rows)?.as_str())?;
-    text.push_str(read(alloc, rows)?.as_str())?;
-    text.push_str("sys ckpt\nsys crash\n")?;
-    text.push_str(read(alloc, rows)?.as_str())?;
-    let script = Script {
-        room: 1 << 22,
-        ..plain(text.as_str())
-    };
-    let told = outcome(&rt, alloc, script)?;
-    let mut wanted = String::new(alloc);
-    push_oks(&mut wanted, 6_005)?;
-    push_read(alloc, rows, &mut wanted)?;
-    push_oks(&mut wanted, 2)?;
-    push_read(alloc, rows, &mut wanted)?;
-    wanted.push_str("Through None")?;
-    assert!(rt; told.as_str() == wanted.as_str());
-    Ok(())
+    let text = over_lines(&rt, alloc, TWELVE_LEAVES);
+    let wanted = over_printed(&rt, alloc, TWELVE_LEAVES);
+    check_told(&rt, alloc, text.as_str(), wanted.as_str());
 }
 
-// What is printed as each row is read, of which one has a later value.
-fn push_read_but(
-    alloc: Global,
-    rows: Rows,
-    later: u32,
-    value_of_it: &str,
-    text: &mut String,
-) -> Result<(), NoMemory> {
-    text.push_str("ok\n")?;
-    for step in 0..rows.count {
-        let row = row_at(rows, step);
-        let old = value(alloc, rows, OLD, row)?;
-        let shown = if row == later {
-            value_of_it
-        } else {
-            old.as_str()
-        };
-        let line = format!(in alloc; "ok {shown}\n")?;
-        text.push_str(line.as_str())?;
+// What is printed as a row is read, of which one has a later value.
+fn push_row_but(rt: &impl Abort, alloc: Global, text: &mut String, rows: Rows, row: u32) {
+    if row == LATER {
+        push_value(rt, text, "v299");
+    } else {
+        push_value(rt, text, old_value(rt, alloc, rows, row).as_str());
     }
-    text.push_str("ok\n")?;
-    Ok(())
 }
+
+// The row that has later values.
+const LATER: u32 = 5;
+
+fn push_old_but(rt: &impl Abort, alloc: Global, text: &mut String, rows: Rows) {
+    push(rt, text, "ok\n");
+    for step in 0..rows.count {
+        push_row_but(rt, alloc, text, rows, row_at(rows, step));
+    }
+    push(rt, text, "ok\n");
+}
+
+fn later_value(rt: &impl Abort, alloc: Global, number: u32) -> String {
+    format!(in alloc; "v{number}").expect(rt, "there is memory")
+}
+
+fn push_later(rt: &impl Abort, alloc: Global, text: &mut String) {
+    for number in 0..300u32 {
+        let value = later_value(rt, alloc, number);
+        push_whole_put(rt, alloc, text, LATER, value.as_str());
+    }
+}
+
+fn later_lines(rt: &impl Abort, alloc: Global, rows: Rows) -> String {
+    let mut text = filled(rt, alloc, rows);
+    push(rt, &mut text, "s2 begin\n");
+    push_later(rt, alloc, &mut text);
+    push_read(rt, alloc, &mut text, rows);
+    push(rt, &mut text, "s2 get t key5\ns1 begin\ns1 get t key5\n");
+    text
+}
+
+fn later_printed(rt: &impl Abort, alloc: Global, rows: Rows) -> String {
+    let mut wanted = String::new(alloc);
+    push_oks(rt, &mut wanted, 3_906);
+    push_old_but(rt, alloc, &mut wanted, rows);
+    push_value(rt, &mut wanted, old_value(rt, alloc, rows, LATER).as_str());
+    push(rt, &mut wanted, "ok\nok v299\nThrough None");
+    wanted
+}
+
+const MANY_LEAVES: Rows = Rows {
+    count: 3_000,
+    tens: 10,
+};
 
 // One key gets 300 values while a reader has its snapshot, and then each row is read: the key's leaf goes
 // out of four frames, and comes back. The reader reads its value still, another one the newest.
 #[test]
-fn a_leaf_that_a_reader_wants_goes_out_and_comes_back(rt: HostRuntime) -> Result<(), Fail> {
+fn a_leaf_that_a_reader_wants_goes_out_and_comes_back(rt: HostRuntime) {
     let alloc = rt.alloc();
-    let rows = Rows {
-        count: 3_000,
-        tens: 10,
-    };
-    let mut text = filled(alloc, rows)?;
-    text.push_str("s2 begin\n")?;
-    for number in 0..300u32 {
-        let lines = format!(in alloc; "s1 begin\ns1 put t key5 v{number}\ns1 commit\n")?;
-        text.push_str(lines.as_str())?;
-    }
-    text.push_str(read(alloc, rows)?.as_str())?;
-    text.push_str("s2 get t key5\ns1 begin\ns1 get t key5\n")?;
-    let script = Script {
-        room: 1 << 22,
-        ..plain(text.as_str())
-    };
-    let told = outcome(&rt, alloc, script)?;
-    let mut wanted = String::new(alloc);
-    push_oks(&mut wanted, 3_906)?;
-    push_read_but(alloc, rows, 5, "v299", &mut wanted)?;
-    let old = value(alloc, rows, OLD, 5)?;
-    let end = format!(in alloc; "ok {old}\nok\nok v299\nThrough None")?;
-    wanted.push_str(end.as_str())?;
-    assert!(rt; told.as_str() == wanted.as_str());
-    Ok(())
+    let text = later_lines(&rt, alloc, MANY_LEAVES);
+    let wanted = later_printed(&rt, alloc, MANY_LEAVES);
+    check_told(&rt, alloc, text.as_str(), wanted.as_str());
 }
 
 // How many lines are refused by a fault of the disk, and how many since a write failed.
@@ -183,79 +235,126 @@ struct Refused {
     panics: u32,
 }
 
-fn tally(told: &str) -> Refused {
-    let mut tally = Refused {
-        faults: 0,
-        panics: 0,
-    };
-    for line in told.lines() {
-        match line {
-            "5 disk fault" => tally.faults = tally.faults.saturating_add(1),
-            "-31804 panic" => tally.panics = tally.panics.saturating_add(1),
-            _ => {}
-        }
+const NONE_REFUSED: Refused = Refused {
+    faults: 0,
+    panics: 0,
+};
+
+fn with_line(tally: Refused, line: &str) -> Refused {
+    let mut tally = tally;
+    if line == "5 disk fault" {
+        tally.faults = tally.faults.saturating_add(1);
+    }
+    if line == "-31804 panic" {
+        tally.panics = tally.panics.saturating_add(1);
     }
     tally
 }
 
-// The call of the disk of this number fails. What a crash leaves has none of what was written since the
-// checkpoint. Nothing is told where it failed before that, or kept the device from being opened.
-fn fails_at(
-    rt: &impl Abort,
-    alloc: Global,
-    rows: Rows,
-    text: &str,
-    call: u64,
-) -> Result<Option<Refused>, Fail> {
-    let script = Script {
-        disk: &[call],
-        room: 1 << 22,
-        ..plain(text)
-    };
-    let told = outcome(rt, alloc, script)?;
-    let told = told.as_str();
-    let tally = tally(told);
-    let mut begun = String::new(alloc);
-    push_oks(&mut begun, rows.count.saturating_add(5))?;
-    let met = if tally.faults > 0 {
+fn tally(told: &str) -> Refused {
+    let mut tally = NONE_REFUSED;
+    for line in told.lines() {
+        tally = with_line(tally, line);
+    }
+    tally
+}
+
+fn sum(one: Refused, other: Refused) -> Refused {
+    Refused {
+        faults: one.faults.saturating_add(other.faults),
+        panics: one.panics.saturating_add(other.panics),
+    }
+}
+
+// How the script ends.
+fn end_by(tally: Refused) -> &'static str {
+    if tally.faults > 0 {
         "Through Some(DiskFault)"
     } else {
         "Through None"
-    };
-    let is_filled = told.as_bytes().starts_with(begun.as_str().as_bytes());
-    if !is_filled || !told.as_bytes().ends_with(met.as_bytes()) {
-        return Ok(None);
     }
-    let old = value(alloc, rows, OLD, 0)?;
-    let read = format!(in alloc; "\nok\nok\nok {old}\n{met}")?;
-    let unread = format!(in alloc; "\nok\nok\n5 disk fault\n{met}")?;
-    let is_read = told.as_bytes().ends_with(read.as_str().as_bytes());
-    assert!(rt; is_read || told.as_bytes().ends_with(unread.as_str().as_bytes()));
-    assert!(rt; tally.faults == 0 || tally.panics == 0);
-    Ok(Some(tally))
 }
+
+fn ends(told: &str, end: &str) -> bool {
+    told.as_bytes().ends_with(end.as_bytes())
+}
+
+// Whether all was put, and the script came to its end.
+fn is_through(rt: &impl Abort, alloc: Global, rows: Rows, told: &str, end: &str) -> bool {
+    let mut begun = String::new(alloc);
+    push_oks(rt, &mut begun, rows.count.saturating_add(5));
+    told.as_bytes().starts_with(begun.as_str().as_bytes()) && ends(told, end)
+}
+
+// What is printed behind the crash where the first row is read.
+fn read_end(rt: &impl Abort, alloc: Global, rows: Rows, end: &str) -> String {
+    let old = old_value(rt, alloc, rows, 0);
+    let old = old.as_str();
+    let text = format!(in alloc; "\nok\nok\nok {old}\n{end}");
+    text.expect(rt, "there is memory")
+}
+
+// The same where a read fails.
+fn unread_end(rt: &impl Abort, alloc: Global, end: &str) -> String {
+    let text = format!(in alloc; "\nok\nok\n5 disk fault\n{end}");
+    text.expect(rt, "there is memory")
+}
+
+fn check_end(rt: &impl Abort, alloc: Global, rows: Rows, told: &str, end: &str) {
+    let read = read_end(rt, alloc, rows, end);
+    let unread = unread_end(rt, alloc, end);
+    assert!(rt; ends(told, read.as_str()) || ends(told, unread.as_str()));
+}
+
+// The call of the disk of this number fails.
+fn told_failing(rt: &impl Abort, alloc: Global, text: &str, call: u64) -> String {
+    let script = Script {
+        disk: &[call],
+        ..roomy(text)
+    };
+    outcome(rt, alloc, script)
+}
+
+// What a crash leaves has none of what was written since the checkpoint. Nothing is told where the call
+// failed before that, or kept the device from being opened.
+fn refused_in(rt: &impl Abort, alloc: Global, rows: Rows, told: &str) -> Refused {
+    let tally = tally(told);
+    let end = end_by(tally);
+    if !is_through(rt, alloc, rows, told, end) {
+        return NONE_REFUSED;
+    }
+    check_end(rt, alloc, rows, told, end);
+    assert!(rt; tally.faults == 0 || tally.panics == 0);
+    tally
+}
+
+fn failing_lines(rt: &impl Abort, alloc: Global, rows: Rows) -> String {
+    let mut text = filled(rt, alloc, rows);
+    push_written_over(rt, alloc, &mut text, rows);
+    push(rt, &mut text, "sys crash\ns1 begin\ns1 get t key0\n");
+    text
+}
+
+fn refused_at(rt: &impl Abort, alloc: Global, rows: Rows, text: &str, step: u64) -> Refused {
+    let call = 25u64.saturating_add(step.saturating_mul(2));
+    let told = told_failing(rt, alloc, text, call);
+    refused_in(rt, alloc, rows, told.as_str())
+}
+
+const LONG_ROWS: Rows = Rows {
+    count: 23,
+    tens: 1_000,
+};
 
 // A read that fails is told by the line that needs it. A write that fails behind a line is not: the next
 // lines are refused, up to the crash.
 #[test]
-fn a_write_that_fails_behind_a_line_is_told_by_the_next(rt: HostRuntime) -> Result<(), Fail> {
+fn a_write_that_fails_behind_a_line_is_told_by_the_next(rt: HostRuntime) {
     let alloc = rt.alloc();
-    let rows = Rows {
-        count: 23,
-        tens: 1_000,
-    };
-    let mut text = filled(alloc, rows)?;
-    text.push_str(written_over(alloc, rows)?.as_str())?;
-    text.push_str("sys crash\ns1 begin\ns1 get t key0\n")?;
-    let mut faults = 0u32;
-    let mut panics = 0u32;
+    let text = failing_lines(&rt, alloc, LONG_ROWS);
+    let mut all = NONE_REFUSED;
     for step in 0..40u64 {
-        let call = 25u64.saturating_add(step.saturating_mul(2));
-        if let Some(tally) = fails_at(&rt, alloc, rows, text.as_str(), call)? {
-            faults = faults.saturating_add(tally.faults);
-            panics = panics.saturating_add(tally.panics);
-        }
+        all = sum(all, refused_at(&rt, alloc, LONG_ROWS, text.as_str(), step));
     }
-    assert!(rt; faults > 0 && panics > 0);
-    Ok(())
+    assert!(rt; all.faults > 0 && all.panics > 0);
 }

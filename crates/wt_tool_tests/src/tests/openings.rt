@@ -25,16 +25,57 @@ fn each_is_refused(
     assert!(rt; disk.bytes() == before.as_slice());
 }
 
-// The record says level 1 of the history, in its 71st byte, and the slot has the sum of that,
-// 58,059.
+// A leaf of the history: of table 1 the key a with value 0, by run 1 and id 1. Its sum is 9,210.
+const HISTORY: [u8; 61] = [
+    3, 1, 1, 0, 61, 0, 0, 0, 0, 0, 0, 0, 0, 0, 0, 0, 1, 0, 0, 0, 1, 0, 1, 1, 0, 0, 0, 1, 0, 0, 0,
+    0, 0, 0, 0, 1, 0, 0, 0, 0, 0, 0, 0, 0, 0, 0, 0, 0, 0, 0, 0, 0, 0, 0, 0, 0, 0, 0, 0, b'a', b'0',
+];
+
+// What the record says of it from its 72nd byte on: 20,480, 4,096 bytes, its sum, run 1 and id 1. The
+// slot has the sum of that, 89,283.
+const LED_THERE: [(usize, u8, u8); 9] = [
+    (16384 + 72, 0, 0x50),
+    (16384 + 80, 0, 0x10),
+    (16384 + 83, 0, 0xfa),
+    (16384 + 84, 0, 0x23),
+    (16384 + 87, 0, 1),
+    (16384 + 95, 0, 1),
+    (4096 + 32, 0x84, 0xc3),
+    (4096 + 33, 0xe2, 0x5c),
+    (4096 + 34, 0, 1),
+];
+
+fn with_history(rt: &impl Abort, content: Vec<u8>) -> Vec<u8> {
+    let mut content = content;
+    content
+        .extend_from_slice(&HISTORY)
+        .expect(rt, "there is memory");
+    content.resize(24576, 0).expect(rt, "there is memory");
+    for (at, old, new) in LED_THERE {
+        content = with_byte(rt, content, at, old, new);
+    }
+    content
+}
+
 #[test]
-fn a_history_is_refused(rt: HostRuntime) {
+fn a_history_is_verified_and_not_opened(rt: HostRuntime) {
     let alloc = rt.alloc();
     let content = bytes_of(&rt, alloc, &written(&rt, alloc));
-    let content = with_byte(&rt, content, 16384 + 70, 0, 1);
-    let content = with_byte(&rt, content, 4096 + 32, 0x84, 0xcb);
+    let content = with_history(&rt, content);
     let told = "75 limit image\n";
-    each_is_refused(&rt, alloc, content, told, (1, told));
+    each_is_refused(&rt, alloc, content, told, (0, ""));
+}
+
+// The second byte of its leaf is 2 in place of 1.
+#[test]
+fn damage_of_a_history_is_told(rt: HostRuntime) {
+    let alloc = rt.alloc();
+    let content = bytes_of(&rt, alloc, &written(&rt, alloc));
+    let content = with_history(&rt, content);
+    let content = with_byte(&rt, content, 20481, 1, 2);
+    let told = "75 limit image\n";
+    let damage = "-31802 corrupt at 20480 want 9210 found 9212\n";
+    each_is_refused(&rt, alloc, content, told, (1, damage));
 }
 
 // The number of the next table is 2^32 - 766, which leaves none for 1,024 tables. It stands from the

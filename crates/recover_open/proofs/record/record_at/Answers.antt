@@ -1,47 +1,25 @@
-use Rattle.std.proofs.Common.{inl, inr}
-use Rattle.device_leaf.proofs.Opens.{block_there, ok_map, err_map}
-use Rattle.recover_open.proofs.Steps.{recorded, record_refused, record_spoilt}
-use Rattle.recover_open.proofs.Sole.{of_record, record_sound}
+use Rattle.std.proofs.Common.{subst, refl}
+use Rattle.std.proofs.lemmas.Bool.{both_ways}
+use Rattle.stored.specs.Records.{Record}
+use Rattle.recover_open.specs.Bare.{IsBare}
+use Rattle.recover_open.proofs.Steps.{at_fault, has_history}
+use Rattle.recover_open.proofs.Sole.{same_names}
 use Rattle.recover_open.proofs.record.record_at.Goals as goal
 
 pub returns-in-Err-clause-err : goal.returns-in-Err-clause-err
-returns-in-Err-clause-err g c =
-    let D = g.D.Disk in
-    elim c.in-Err.ensures.err [
-      | inl none ↦ inr (inl none)
-      | inr rest ↦ elim rest [
-        | inl fault ↦ inl fault
-        | inr (found, is) ↦ inr (inr (inr (c.addr.result.offset, c.addr.result.sum, found, is, λ h. inr (inl (record_spoilt (D.seen c.args.disk.now) c.args.slot c.addr.result found c.addr.ensures h.1 (c.in-Err.ensures.corrupt h.0 _ _ found is).2)))))
-      ]
-    ]
-
-pub returns-in-Ok-clause-err : goal.returns-in-Ok-clause-err
-returns-in-Ok-clause-err g c =
-    let D = g.D.Disk in
-    err_map c.record_of.result c.record_of.ensures.err (λ e why. record_refused _ _ (D.seen c.args.disk.now) c.deref.result.now c.args.slot e why
-    (λ h. block_there (D.seen c.args.disk.now) c.args.slot c.addr.result c.in-Ok.block.items c.deref.result.now c.addr.ensures c.deref.ensures.value h.1 (c.in-Ok.ensures.bytes h.0)))
-
-pub returns-in-Ok-clause-ok : goal.returns-in-Ok-clause-ok
-returns-in-Ok-clause-ok g c h chosen =
-    let D = g.D.Disk in
-    ok_map c.record_of.result c.record_of.ensures.ok (λ r of. recorded (D.seen c.args.disk.now) c.deref.result.now c.args.slot r
-    (block_there (D.seen c.args.disk.now) c.args.slot c.addr.result c.in-Ok.block.items c.deref.result.now c.addr.ensures c.deref.ensures.value chosen (c.in-Ok.ensures.bytes h)) of)
-
-pub returns-in-Ok-clause-sound : goal.returns-in-Ok-clause-sound
-returns-in-Ok-clause-sound g c = ok_map c.record_of.result c.record_of.ensures.ok (λ r of. of.sound)
+returns-in-Err-clause-err g c = at_fault _ _ (g.D.Disk.seen c.args.disk.now) c.in-Err.refusal c.in-Err.ensures.err
 
 pub returns-in-Err-clause-sole : goal.returns-in-Err-clause-sole
-returns-in-Err-clause-sole g c h has =
-    elim c.in-Err.ensures.err [
-      | inl none ↦ inr none
-      | inr rest ↦ elim rest [
-        | inl fault ↦ inl fault.0
-        | inr (found, is) ↦ absurd (record_sound (g.D.Disk.seen c.args.disk.now) c.args.slot c.addr.result found c.addr.ensures has (c.in-Err.ensures.corrupt h _ _ found is).2)
-      ]
-    ]
+returns-in-Err-clause-sole g c h (r, names, bare) = c.in-Err.ensures.sole h (r, names)
 
-pub returns-in-Ok-clause-sole : goal.returns-in-Ok-clause-sole
-returns-in-Ok-clause-sole g c h has =
-    let D = g.D.Disk in
-    err_map c.record_of.result c.record_of.ensures.err (λ e why. of_record (D.seen c.args.disk.now) c.deref.result.now c.args.slot e
-    (block_there (D.seen c.args.disk.now) c.args.slot c.addr.result c.in-Ok.block.items c.deref.result.now c.addr.ensures c.deref.ensures.value has.1.chosen (c.in-Ok.ensures.bytes h)) has why)
+pub returns-then-is_bare-clause-sound : goal.returns-then-is_bare-clause-sound
+returns-then-is_bare-clause-sound g c = record { is_record = c.in-Ok.ensures.own.is_record; sequence = c.in-Ok.ensures.own.sequence; bare = c.is_bare.ensures.0 c.if-is_bare.true }
+
+pub returns-else-is_bare-clause-err : goal.returns-else-is_bare-clause-err
+returns-else-is_bare-clause-err g c =
+    has_history _ _ (g.D.Disk.seen c.args.disk.now) c.args.slot c.in-Ok.found _ refl (λ h. c.in-Ok.ensures.ok h.0 h.1) (λ bare. both_ways c.is_bare.result c.if-is_bare.false (c.is_bare.ensures.1 bare))
+
+pub returns-else-is_bare-clause-sole : goal.returns-else-is_bare-clause-sole
+returns-else-is_bare-clause-sole g c h (r, names, bare) =
+    let same = same_names (g.D.Disk.seen c.args.disk.now) c.args.slot r c.in-Ok.found names (c.in-Ok.ensures.ok h names.chosen) in
+    absurd (both_ways c.is_bare.result c.if-is_bare.false (c.is_bare.ensures.1 (subst (λ (x : Record). IsBare x) same bare)))

@@ -6,12 +6,12 @@ use Rattle.script_run.proofs.control.checkpoint.Goals as goal
 
 pub returns-in-Ok-clause-replies : goal.returns-in-Ok-clause-replies
 returns-in-Ok-clause-replies g c = λ honest first s at.
-    checkpoint_told g.D.Disk first s c.args.store.now c.args.disk.now at (sym (c.has_started.ensures _ at.held.stands) ∙ c.if-has_started.false) c.checkpoint.new.self c.checkpoint.new.disk (Ok tt) c.done.result
+    checkpoint_told g.D.Disk first s c.args.store.now c.args.disk.now at (sym (c.has_started.ensures _ at.held.stands) ∙ c.if-has_started.false) c.checkpoint.new.self c.checkpoint.new.disk c.checkpoint.ensures.frames (Ok tt) c.done.result
     (c.in-Ok.ensures.takes honest first s.world s.first s.made at.held (at.calm refl).plain) c.done.ensures.reply c.done.ensures.formats
 
 pub returns-in-Err-clause-replies : goal.returns-in-Err-clause-replies
 returns-in-Err-clause-replies g c = λ honest first s at.
-    checkpoint_told g.D.Disk first s c.args.store.now c.args.disk.now at (sym (c.has_started.ensures _ at.held.stands) ∙ c.if-has_started.false) c.checkpoint.new.self c.checkpoint.new.disk (Err c.in-Err.refusal) c.refused-in-Err.result
+    checkpoint_told g.D.Disk first s c.args.store.now c.args.disk.now at (sym (c.has_started.ensures _ at.held.stands) ∙ c.if-has_started.false) c.checkpoint.new.self c.checkpoint.new.disk c.checkpoint.ensures.frames (Err c.in-Err.refusal) c.refused-in-Err.result
     (c.in-Err.ensures.takes honest first s.world s.first s.made at.held (at.calm refl).plain) c.refused-in-Err.ensures.reply c.refused-in-Err.ensures.formats
 
 pub returns-then-has_started-clause-replies : goal.returns-then-has_started-clause-replies

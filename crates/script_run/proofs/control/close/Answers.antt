@@ -9,19 +9,19 @@ use Rattle.script_run.proofs.control.close.Goals as goal
 
 pub returns-in-Ok-clause-replies : goal.returns-in-Ok-clause-replies
 returns-in-Ok-clause-replies g c = λ honest first s at same.
-    close_done g.D.Disk first s c.args.store.now c.args.disk.now at (sym (c.has_started.ensures _ at.held.stands) ∙ c.if-has_started.false) c.close.new.self c.close.new.disk
-    (c.in-Ok.ensures.shuts honest first s.world s.first s.made at.held (at.calm refl).plain) c.reopen.new.store c.reopen.new.disk c.reopen.new.formats c.reopen.result
-    (λ stamped t there. c.reopen.ensures.replies (c.close.ensures.disk.same ∙ honest) first stamped t there)
+    close_done g.D.Disk first s c.args.store.now c.args.disk.now at (sym (c.has_started.ensures _ at.held.stands) ∙ c.if-has_started.false) c.close.new.self c.close.new.disk c.close.ensures.frames
+    (c.in-Ok.ensures.shuts honest first s.world s.first s.made at.held (at.calm refl).plain) c.reopen_as_it_was.new.store c.reopen_as_it_was.new.disk c.reopen_as_it_was.new.formats c.reopen_as_it_was.result
+    (λ stamped t there. c.reopen_as_it_was.ensures.replies (c.close.ensures.disk.same ∙ honest) first stamped t there)
 
 pub returns-in-Ok-clause-damage : goal.returns-in-Ok-clause-damage
 returns-in-Ok-clause-damage g c =
-    refused_as c.reopen.result (λ r. (at want found : ℕ) → r ≡ Corrupt at want found → IsTrue (g.D.Disk.honest c.close.new.disk) → IsAtFault (g.D.Disk.seen c.reopen.new.disk) at want found)
-    (λ r. (at want found : ℕ) → r ≡ Corrupt at want found → IsTrue (g.D.Disk.honest c.args.disk.now) → IsAtFault (g.D.Disk.seen c.reopen.new.disk) at want found)
-    (λ r known at want found is honest. known at want found is (c.close.ensures.disk.same ∙ honest)) c.reopen.ensures.damage
+    refused_as c.reopen_as_it_was.result (λ r. (at want found : ℕ) → r ≡ Corrupt at want found → IsTrue (g.D.Disk.honest c.close.new.disk) → IsAtFault (g.D.Disk.seen c.reopen_as_it_was.new.disk) at want found)
+    (λ r. (at want found : ℕ) → r ≡ Corrupt at want found → IsTrue (g.D.Disk.honest c.args.disk.now) → IsAtFault (g.D.Disk.seen c.reopen_as_it_was.new.disk) at want found)
+    (λ r known at want found is honest. known at want found is (c.close.ensures.disk.same ∙ honest)) c.reopen_as_it_was.ensures.damage
 
 pub returns-in-Err-clause-replies : goal.returns-in-Err-clause-replies
 returns-in-Err-clause-replies g c = λ honest first s at same.
-    close_refused g.D.Disk first s c.args.store.now c.args.disk.now at (sym (c.has_started.ensures _ at.held.stands) ∙ c.if-has_started.false) c.close.new.self c.close.new.disk c.in-Err.refusal c.args.formats.now c.refused-in-Err.result
+    close_refused g.D.Disk first s c.args.store.now c.args.disk.now at (sym (c.has_started.ensures _ at.held.stands) ∙ c.if-has_started.false) c.close.new.self c.close.new.disk c.close.ensures.frames c.in-Err.refusal c.args.formats.now c.refused-in-Err.result
     (c.in-Err.ensures.shuts honest first s.world s.first s.made at.held (at.calm refl).plain) same c.refused-in-Err.ensures.reply c.refused-in-Err.ensures.formats
 
 pub returns-then-has_started-clause-replies : goal.returns-then-has_started-clause-replies
@@ -36,7 +36,7 @@ returns-then-has_started-clause-told g c =
 
 pub returns-in-Ok-clause-told : goal.returns-in-Ok-clause-told
 returns-in-Ok-clause-told g c =
-    then_faults g.D.Disk c.args.store.now c.close.new.self c.reopen.new.store c.args.disk.now c.close.new.disk c.reopen.new.disk (RepliesFault c.reopen.result) c.close.ensures.disk.later c.close.ensures.told c.reopen.ensures.told
+    then_faults g.D.Disk c.args.store.now c.close.new.self c.reopen_as_it_was.new.store c.args.disk.now c.close.new.disk c.reopen_as_it_was.new.disk (RepliesFault c.reopen_as_it_was.result) c.close.ensures.disk.later c.close.ensures.told c.reopen_as_it_was.ensures.told
 
 pub returns-in-Err-clause-told : goal.returns-in-Err-clause-told
 returns-in-Err-clause-told g c =

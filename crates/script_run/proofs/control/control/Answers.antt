@@ -3,7 +3,7 @@ use Rattle.script_text.specs.declared.line.Control.{Control}
 use Rattle.script_run.specs.Runs.{IsTold, RepliedAs}
 use Rattle.script_run.specs.Scripts.{IsLaterControl}
 use Rattle.script_text.specs.declared.line.Line.TheVariants.{Control as OfAll}
-use Rattle.script_run.proofs.Devices.{close_plain, checkpoint_plain, frames_told}
+use Rattle.script_run.proofs.Devices.{close_plain, checkpoint_plain}
 use Rattle.script_run.proofs.control.control.Goals as goal
 
 pub returns-in-Checkpoint-clause-replies : goal.returns-in-Checkpoint-clause-replies
@@ -20,9 +20,10 @@ returns-in-Close-clause-replies g c = λ honest first stamped s now at same.
 
 pub returns-in-Crash-clause-replies : goal.returns-in-Crash-clause-replies
 returns-in-Crash-clause-replies g c = λ honest first stamped s now at same.
-    subst (λ (a : Control). RepliedAs g.D.Disk first stamped (OfAll a) s c.reopen.new.store c.reopen.new.disk c.reopen.new.formats c.reopen.result) (sym c.in-Crash.is) (c.reopen.ensures.replies honest first stamped s at)
+    subst (λ (a : Control). RepliedAs g.D.Disk first stamped (OfAll a) s c.reopen_as_it_was.new.store c.reopen_as_it_was.new.disk c.reopen_as_it_was.new.formats c.reopen_as_it_was.result) (sym c.in-Crash.is)
+    (c.reopen_as_it_was.ensures.replies honest first stamped s at)
 
 pub returns-in-Frames-clause-replies : goal.returns-in-Frames-clause-replies
 returns-in-Frames-clause-replies g c = λ honest first stamped s now at same.
-    subst (λ (a : Control). RepliedAs g.D.Disk first stamped (OfAll a) s c.reopen-in-Frames.new.store c.reopen-in-Frames.new.disk c.reopen-in-Frames.new.formats c.reopen-in-Frames.result) (sym c.in-Frames.is)
-    (frames_told g.D.Disk first stamped s c.reopen-in-Frames.new.store c.reopen-in-Frames.new.disk c.reopen-in-Frames.new.formats c.in-Frames.frames c.reopen-in-Frames.result (c.reopen-in-Frames.ensures.replies honest first stamped s at))
+    subst (λ (a : Control). RepliedAs g.D.Disk first stamped (OfAll a) s c.reopen.new.store c.reopen.new.disk c.reopen.new.formats c.reopen.result) (sym c.in-Frames.is)
+    (c.reopen.ensures.replies honest first stamped s at)

@@ -34,7 +34,7 @@ pub returns-in-Some-clause-replies : goal.returns-in-Some-clause-replies
 returns-in-Some-clause-replies g c = λ honest first stamped s at.
     let formats = c.formats_in-formats.result in
     let told : Told = record { reply = Answered c.answer_to.result; formats = formats } in
-    evict_told g.D.Disk first stamped s c.args.store.now c.answer_to.new.store c.args.disk.now c.answer_to.new.disk at told c.args.call c.in-Some.asked.number c.in-Some.asked.table c.in-Some.asked.key
+    evict_told g.D.Disk first stamped s c.args.store.now c.answer_to.new.store c.args.disk.now c.answer_to.new.disk at told c.answer_to.ensures.frames c.args.call c.in-Some.asked.number c.in-Some.asked.table c.in-Some.asked.key
     (c.formats_in-formats.ensures (with_kept c.args.store.now.ground.kept s.world) at.held.stands) (sym c.in-Ok.ensures ∙ c.in-Some.ensures.some) c.answer_to.result refl (c.answer_to.ensures.evicts honest first s.world s.first s.made at.held)
 
 pub returns-in-Some-clause-told : goal.returns-in-Some-clause-told

@@ -1,4 +1,4 @@
-use Rattle.std.proofs.Common.{refl, subst, sym, inl}
+use Rattle.std.proofs.Common.{◌∙◌, refl, subst, sym, inl}
 use Rattle.wt_calls.specs.declared.call.Call.{Call}
 use Rattle.script_text.specs.declared.replies.Reply.TheVariants.{Answered}
 use Rattle.script_run.specs.declared.told.Told.{Told}
@@ -48,6 +48,7 @@ returns-in-Ok g c =
             });
             held = x.held;
             device = refl;
+            frames = c.answer_to.ensures.keeps.frames ∙ at.frames;
             start = refl;
             kept_is = refl;
           };

@@ -56,6 +56,7 @@ returns-in-Ok g c =
             });
             held = x.held;
             device = refl;
+            frames = c.step-reply.ensures.keeps.frames ∙ at.frames;
             start = refl;
             kept_is = sym (c.keep_after.ensures ∙ ap (λ (a : Actor). kept_after t a formats c.args.kept.now) c.caller-who.ensures ∙ ap (λ (l : List Formats). kept_after t (caller c.args.call) formats l) (sym same));
           };

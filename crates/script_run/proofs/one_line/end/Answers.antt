@@ -34,6 +34,7 @@ returns g c =
             };
             held = x.held;
             device = refl;
+            frames = c.finish.ensures.keeps.frames ∙ at.frames;
             start = refl;
             kept_is = refl;
           };

@@ -23,8 +23,8 @@ returns g c =
     let looked = looked_same g.D.Disk disk between keeps.looked keeps.home in
     record {
       replies = λ honest first stamped s at same.
-          let r = c.reply_of-told.ensures.replied honest first s (record { held = at.held; device = at.device }) (same ∙ sym c.as_mut_slice.ensures.value) in
-          actor_told g.D.Disk first store middle store' disk between disk' c.args.line laws stamped s told c.reply_of-told.new.formats now at r (c.make_room.ensures.room (looked.same ∙ honest) first r.later.world r.later.first r.later.made r.held);
+          let r = c.reply_of-told.ensures.replied honest first s (record { held = at.held; device = at.device; frames = at.frames }) (same ∙ sym c.as_mut_slice.ensures.value) in
+          actor_told g.D.Disk first store middle store' disk between disk' c.args.line laws stamped s told c.reply_of-told.new.formats now at r c.make_room.ensures.frames (c.make_room.ensures.room (looked.same ∙ honest) first r.later.world r.later.first r.later.made r.held);
       told = later_faults g.D.Disk store middle store' disk between disk' (RepliesFault (Ok told)) looked.later c.make_room.ensures.disk.later c.reply_of-told.ensures.told c.make_room.ensures.told;
       ready = c.make_room.ensures.ready (ready_kept g.D.Disk store middle disk between keeps c.requires.ready);
       disk = same_disk_then g.D.Disk disk between disk' looked c.make_room.ensures.disk;

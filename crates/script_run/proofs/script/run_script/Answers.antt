@@ -1,21 +1,25 @@
 use Rattle.std.proofs.Common.{◌∙◌, ap, arith, refl, sym}
 use Rattle.std.proofs.lemmas.Bool.{false≢true}
-use Rattle.std.specs.Prelude.{◌≡◌, None, Some}
+use Rattle.std.specs.Prelude.{◌≡◌, [], None, Some}
 use Rattle.disk_model.proofs.Crash.{same_disk_then}
 use Rattle.wt_code.specs.declared.refusals.Refusal.TheVariants.{DiskFault, NoMemory}
 use Rattle.script_run.specs.declared.script.End.TheVariants.{Stopped}
 use Rattle.script_run.specs.declared.script.ScriptRun.{ScriptRun}
+use Rattle.engine_store.specs.declared.frames.Frames.TheVariants.{Firm}
+use Rattle.engine_store.specs.Full.{count_of}
 use Rattle.script_run.specs.Lines.{Held}
 use Rattle.script_run.proofs.Devices.{same_disk}
 use Rattle.script_run.proofs.Telling.{told_none}
-use Rattle.script_run.proofs.Scripting.{more-done, none-done, none-met, none-run, none-told, rose-before, rose-either, rose-told, run-done}
+use Rattle.script_run.proofs.Scripting.{frames-held, more-done, none-done, none-met, none-run, none-told, rose-before, rose-either, rose-told, run-done}
 use Rattle.script_run.proofs.script.run_script.Goals as goal
 
 pub returns-in_default : goal.returns-in_default
 returns-in_default g c =
     let told : ScriptRun = record { end = Stopped NoMemory; met = None } in
     record {
-      run = λ honest w held calm. none-run g.D.Disk c.args.disk.now w g.S.Source g.K.Sink c.args.input.now c.args.out.now c.args.store.now told refl refl held;
+      run = λ honest w held calm.
+          none-run g.D.Disk c.args.disk.now w (count_of c.args.store.now.frames) g.S.Source g.K.Sink c.args.input.now c.args.out.now (record c.args.store.now { frames = Firm c.count.result }) told refl refl
+          (frames-held g.D.Disk c.args.disk.now c.args.disk.now c.args.store.now (Firm c.count.result) w w.machine.completed [] held);
       input = λ is. absurd cc;
       output = λ is. absurd cc;
       fault = λ none met. absurd (none-told met);
@@ -32,12 +36,13 @@ lines-init g c =
       used = omega (arith, place.used);
       reads = omega arith;
       writes = omega arith;
-      ready = c.requires.ready;
+      ready = record { run = c.requires.ready.run; trees = c.requires.ready.trees; low = c.requires.ready.low };
       disk = same_disk g.D.Disk c.args.disk.now;
       told = λ none. told_none g.D.Disk c.args.store.now.engine c.args.disk.now none;
       met = λ none met. absurd (none-met DiskFault (sym place.met ∙ met));
       done = λ honest w held calm.
-          none-done g.D.Disk c.args.disk.now w g.S.Source g.K.Sink c.args.input.now c.args.out.now c.in-Ok.lines c.first-place.result c.args.store.now (ap (λ (h : Held). h.behind) c.in-Ok.ensures) place.line place.used place.stamped place.formats place.met held calm;
+          none-done g.D.Disk c.args.disk.now w (count_of c.args.store.now.frames) g.S.Source g.K.Sink c.args.input.now c.args.out.now c.in-Ok.lines c.first-place.result (record c.args.store.now { frames = Firm c.count.result }) (ap Firm c.count.ensures) (ap (λ (h : Held). h.behind) c.in-Ok.ensures) place.line place.used place.stamped place.formats place.met
+          (frames-held g.D.Disk c.args.disk.now c.args.disk.now c.args.store.now (Firm c.count.result) w w.machine.completed [] held) calm;
     }
 
 pub returns-in-Some : goal.returns-in-Some
@@ -48,7 +53,7 @@ returns-in-Some g c =
     record {
       run = λ honest w held calm.
           let d = i.done honest w held calm in
-          run-done g.D.Disk c.args.disk.now w g.S.Source g.K.Sink c.args.input.now c.lines.input c.turn.new.input c.args.out.now c.lines.out c.turn.new.out c.lines.lines c.lines.place c.turn.new.place c.lines.store c.turn.new.store c.lines.disk c.turn.new.disk told
+          run-done g.D.Disk c.args.disk.now w (count_of c.args.store.now.frames) g.S.Source g.K.Sink c.args.input.now c.lines.input c.turn.new.input c.args.out.now c.lines.out c.turn.new.out c.lines.lines c.lines.place c.turn.new.place c.lines.store c.turn.new.store c.lines.disk c.turn.new.disk told
           i.reads i.writes d (e.made (i.disk.same ∙ honest) c.args.disk.now d.script d.at d.kept) refl;
       input = λ is. rose-before (g.S.Source.fault_count c.args.input.now) (g.S.Source.fault_count c.lines.input) (g.S.Source.fault_count c.turn.new.input) i.reads (e.input_fails is);
       output = λ is. rose-before (g.K.Sink.fault_count c.args.out.now) (g.K.Sink.fault_count c.lines.out) (g.K.Sink.fault_count c.turn.new.out) i.writes (e.output_fails is);
@@ -76,6 +81,6 @@ lines-preserved g c =
           rose-either (c.lines.place.met ≡ Some DiskFault) (g.D.Disk.faults c.args.disk.now) (g.D.Disk.faults c.lines.disk) (g.D.Disk.faults c.turn.new.disk) c.turn.ensures.disk.later (i.met none) ((e.told c.args.disk.now i.disk.later (i.told none)).0 met);
       done = λ honest w held calm.
           let d = i.done honest w held calm in
-          more-done g.D.Disk c.args.disk.now w g.S.Source g.K.Sink c.args.input.now c.lines.input c.turn.new.input c.args.out.now c.lines.out c.turn.new.out c.lines.lines c.turn.new.lines c.lines.place c.turn.new.place c.lines.store c.turn.new.store c.lines.disk c.turn.new.disk
+          more-done g.D.Disk c.args.disk.now w (count_of c.args.store.now.frames) g.S.Source g.K.Sink c.args.input.now c.lines.input c.turn.new.input c.args.out.now c.lines.out c.turn.new.out c.lines.lines c.turn.new.lines c.lines.place c.turn.new.place c.lines.store c.turn.new.store c.lines.disk c.turn.new.disk
           e.stays d (e.made (i.disk.same ∙ honest) c.args.disk.now d.script d.at d.kept);
     }

@@ -41,7 +41,7 @@ returns-in-Ok-put_all-clause-run g c h content each =
     let reads = each.0 _ (g.met.D.Disk.reads_an_image _ h) in
     let on = (c.requires.on h).reads content reads in
     let w = first_of D disk c.args.store on content each reads in
-    let holds = first_holds D disk c.args.store on content each reads c.plain_stays.ensures.starts (λ d left. g.met.D.Disk.only_now _ d left) in
+    let holds = first_holds D disk c.args.store on content each reads (c.requires.on h).soft c.plain_stays.ensures.starts (λ d left. g.met.D.Disk.only_now _ d left) in
     let Run : Point → Ran → Type 0 = Loads c.args.overwrite c.loaded_name-name.result.now c.in-Ok.dumped in
     left_as D disk (start content).completed Run (LoadsText c.args.overwrite (Renamed c.args.renamed) c.args.ended c.args.text.items) (point_of D (start content) disk) c.close.new.disk c.close.result
     (λ ran run. dumped_text c.args.overwrite (Renamed c.args.renamed) c.args.ended c.args.text.items c.in-Ok.dumped c.loaded_name-name.result.now (point_of D (start content) disk) ran c.in-Ok.ensures.ended (subst (λ (l : List ℕ). IsDumped (lines_in l) c.in-Ok.dumped) c.deref.ensures.value c.in-Ok.ensures.dump) c.loaded_name-name.ensures run)
@@ -65,7 +65,7 @@ returns-in-Err-put_all-clause-run g c h content each =
     let reads = each.0 _ (g.met.D.Disk.reads_an_image _ h) in
     let on = (c.requires.on h).reads content reads in
     let w = first_of D disk c.args.store on content each reads in
-    let holds = first_holds D disk c.args.store on content each reads c.plain_stays.ensures.starts (λ d left. g.met.D.Disk.only_now _ d left) in
+    let holds = first_holds D disk c.args.store on content each reads (c.requires.on h).soft c.plain_stays.ensures.starts (λ d left. g.met.D.Disk.only_now _ d left) in
     let Run : Point → Ran → Type 0 = Loads c.args.overwrite c.loaded_name-name.result.now c.in-Ok.dumped in
     left_as D disk (start content).completed Run (LoadsText c.args.overwrite (Renamed c.args.renamed) c.args.ended c.args.text.items) (point_of D (start content) disk) c.put_all.new.disk (Err c.in-Err-put_all.refusal)
     (λ ran run. dumped_text c.args.overwrite (Renamed c.args.renamed) c.args.ended c.args.text.items c.in-Ok.dumped c.loaded_name-name.result.now (point_of D (start content) disk) ran c.in-Ok.ensures.ended (subst (λ (l : List ℕ). IsDumped (lines_in l) c.in-Ok.dumped) c.deref.ensures.value c.in-Ok.ensures.dump) c.loaded_name-name.ensures run)

@@ -11,7 +11,7 @@ use Rattle.wt_tool.proofs.opening.reach.Goals as goal
 pub returns-in-Ok-clause-ok : goal.returns-in-Ok-clause-ok
 returns-in-Ok-clause-ok g c h =
     let honest = c.attach.ensures.same ∙ h in
-    opened_on g.D.Disk c.attach.new.self c.open_on.new.disk c.open_on.result c.open_on.ensures.looked.content (c.open_on.ensures.ok honest) (c.open_on.ensures.spoils honest) (c.open_on.ensures.looked.same ∙ honest) c.open_on.ensures.basis
+    opened_on g.D.Disk c.attach.new.self c.open_on.new.disk c.open_on.result c.open_on.ensures.looked.content (c.open_on.ensures.ok honest) (c.open_on.ensures.spoils honest) (c.open_on.ensures.looked.same ∙ honest) c.open_on.ensures.basis c.open_on.ensures.frames
 
 pub returns-in-Ok-clause-readable : goal.returns-in-Ok-clause-readable
 returns-in-Ok-clause-readable g c h =

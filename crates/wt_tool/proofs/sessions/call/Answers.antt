@@ -21,9 +21,9 @@ returns-clause-led g c h start first w holds =
     let keep = c.checkpoints_are_kept.ensures.kept in
     elim c.match-call.branch [
       | in-Refused y ↦ subst (λ (r : Result (Unit {0}) Refusal). DoneBy D start first w c.call.new.self c.args.disk.now c.call.new.disk (Session 0) asked r) (sym y.result-is)
-          (call_refused D start first w c.args.store.now c.call.new.self c.args.disk.now c.call.new.disk looked holds calm keep asked c.requires.word c.call.result x y.in-Refused.refusal y.in-Refused.is)
+          (call_refused D start first w c.args.store.now c.call.new.self c.args.disk.now c.call.new.disk looked c.call.ensures.keeps.frames holds calm keep asked c.requires.word c.call.result x y.in-Refused.refusal y.in-Refused.is)
       | in_default y ↦ subst (λ (r : Result (Unit {0}) Refusal). DoneBy D start first w c.call.new.self c.args.disk.now c.call.new.disk (Session 0) asked r) (sym y.result-is)
-          (call_done D start first w c.args.store.now c.call.new.self c.args.disk.now c.call.new.disk looked holds calm keep asked c.requires.word c.call.result x (λ r is. y.in_default.not-Refused r is))
+          (call_done D start first w c.args.store.now c.call.new.self c.args.disk.now c.call.new.disk looked c.call.ensures.keeps.frames holds calm keep asked c.requires.word c.call.result x (λ r is. y.in_default.not-Refused r is))
     ]
 
 pub returns-clause-went : goal.returns-clause-went
@@ -41,6 +41,6 @@ returns-clause-calm g c h start first w holds =
     let x = c.call.ensures.called h start w first [] holds.held in
     elim c.match-call.branch [
       | in-Refused y ↦ subst (λ (r : Result (Unit {0}) Refusal). IfErr r NoDamage) (sym y.result-is)
-          (call_calm D start first w c.args.store.now c.call.new.self c.args.disk.now c.call.new.disk c.call.ensures.keeps.looked holds c.calm_stays.ensures.kept c.checkpoints_are_kept.ensures.kept asked c.requires.word c.call.result x y.in-Refused.refusal y.in-Refused.is)
+          (call_calm D start first w c.args.store.now c.call.new.self c.args.disk.now c.call.new.disk c.call.ensures.keeps.looked c.call.ensures.keeps.frames holds c.calm_stays.ensures.kept c.checkpoints_are_kept.ensures.kept asked c.requires.word c.call.result x y.in-Refused.refusal y.in-Refused.is)
       | in_default y ↦ subst (λ (r : Result (Unit {0}) Refusal). IfErr r NoDamage) (sym y.result-is) tt
     ]

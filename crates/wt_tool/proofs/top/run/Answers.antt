@@ -1,4 +1,4 @@
-use Rattle.std.proofs.Common.{Vec, Global, Bool, ◌≡◌, ◌⊎◌, inl, inr, Option, Bor, List, ℕ, [], refl, sym, subst}
+use Rattle.std.proofs.Common.{Vec, Global, Bool, IsTrue, ◌≡◌, ◌⊎◌, inl, inr, Option, None, Bor, List, ℕ, [], refl, sym, subst}
 use Rattle.disk_model.proofs.Crash.{looked_only}
 use Rattle.kv_model.specs.Content.{start}
 use Rattle.wt_io.specs.StreamLemmas.{took_none}
@@ -10,7 +10,7 @@ use Rattle.script_run.specs.Scripts.{Outside, outside}
 use Rattle.wt_tool.specs.Commands.{IsByReader, IsOnEngine, Runs}
 use Rattle.wt_tool.specs.Parts.{silent_run}
 use Rattle.wt_tool.specs.Points.{Point, Ran, point_of}
-use Rattle.wt_tool.specs.Top.{IsOpenableFor, Streams, streams_of}
+use Rattle.wt_tool.specs.Top.{IsOpenableFor, IsSoFor, Streams, streams_of}
 use Rattle.wt_tool.proofs.Running.{gave_none, looked_went, not_both, openable_for, telling}
 use Rattle.wt_tool.proofs.Verifying.{done_only, verify_at, verify_said, verify_so}
 use Rattle.wt_tool.proofs.top.run.Goals as goal
@@ -32,7 +32,10 @@ returns-in-Verify-clause-run g c h content each =
     (λ d left. each.0 d (looked.images d left)) first.each (took_none _) c.told.ensures.told
 
 pub returns-in-Verify-clause-told : goal.returns-in-Verify-clause-told
-returns-in-Verify-clause-told g c = telling _ _ c.verify-result.result c.told.result c.told.ensures.told (err_map c.verify-result.result c.verify-result.ensures.err (verify_so (meaning c.args.command.now) _ _ (g.D.Disk.seen c.args.disk.now) (g.D.Disk.seen c.verify-result.new.disk)))
+returns-in-Verify-clause-told g c =
+    let D = g.D.Disk in
+    telling _ _ c.verify-result.result c.told.result c.told.ensures.told (err_map c.verify-result.result c.verify-result.ensures.err (λ r why.
+    subst (λ (a : Command). IsSoFor (meaning a) (IsTrue (D.honest c.args.disk.now)) (D.seen c.args.disk.now) (D.seen c.verify-result.new.disk) r) (sym c.in-Verify.is) (verify_so None _ _ (D.seen c.args.disk.now) (D.seen c.verify-result.new.disk) r why)))
 
 pub returns-in-Verify-clause-damaged : goal.returns-in-Verify-clause-damaged
 returns-in-Verify-clause-damaged g c h whole content reads spoilt by = absurd (subst (λ (a : Command). IsByReader (meaning a)) c.in-Verify.is by)

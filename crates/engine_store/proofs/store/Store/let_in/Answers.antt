@@ -14,13 +14,13 @@ returns-in-Ok-clause-told g c = λ basis start le on told.
 pub returns-in-Err-clause-steps : goal.returns-in-Err-clause-steps
 returns-in-Err-clause-steps g c = λ h w now reached.
     let s = c.fetch.new.self in
-    comes_not (CauseSince g.D.Disk c.args.disk.now c.fetch.new.disk w) c.keep_out.new.self s.ground.kept now c.args.session c.in-Err.refusal (c.in-Err.ensures.cause h w now reached)
+    comes_not (CauseSince g.D.Disk c.args.disk.now c.fetch.new.disk c.args.self.now.frames w now) c.keep_out.new.self s.ground.kept now c.args.session c.in-Err.refusal (c.in-Err.ensures.cause h w now reached)
     (c.keep_out.ensures.steps (with_kept s.ground.kept now) (still_stands c.args.self.now s now c.in-Err.ensures.kept c.in-Err.ensures.keeps reached.stands))
 
 pub returns-in-Err-clause-reaches : goal.returns-in-Err-clause-reaches
 returns-in-Err-clause-reaches g c = λ h w now asked there reached under.
     let s = c.fetch.new.self in
-    reaches_not (CauseSince g.D.Disk c.args.disk.now c.fetch.new.disk w) c.keep_out.new.self s.ground.kept w now c.args.session asked c.in-Err.refusal (c.in-Err.ensures.cause h w now reached)
+    reaches_not (CauseSince g.D.Disk c.args.disk.now c.fetch.new.disk c.args.self.now.frames w now) c.keep_out.new.self s.ground.kept w now c.args.session asked c.in-Err.refusal (c.in-Err.ensures.cause h w now reached)
     (c.keep_out.ensures.reaches (with_kept s.ground.kept w) (with_kept s.ground.kept now) asked there (under_kept s.ground.kept w now c.args.session asked under) (still_stands c.args.self.now s now c.in-Err.ensures.kept c.in-Err.ensures.keeps reached.stands))
 
 pub returns-in-Err-clause-told : goal.returns-in-Err-clause-told

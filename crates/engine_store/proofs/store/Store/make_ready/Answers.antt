@@ -8,7 +8,7 @@ use Rattle.engine_store.proofs.store.Store.make_ready.Goals as goal
 
 pub returns-in-Some-waits-clause-steps : goal.returns-in-Some-waits-clause-steps
 returns-in-Some-waits-clause-steps g c = λ h w now reached.
-    readies (CauseSince g.D.Disk c.args.disk.now c.let_in.new.disk w) c.let_in.new.self.engine c.let_in.new.self.ground.kept now c.args.step.now c.in-Some.session c.let_in.result
+    readies (CauseSince g.D.Disk c.args.disk.now c.let_in.new.disk c.args.self.now.frames w now) c.let_in.new.self.engine c.let_in.new.self.ground.kept now c.args.step.now c.in-Some.session c.let_in.result
     (goes_with c.args.step.now c.in-Some.session (sym c.session_of.ensures ∙ c.in-Some.is)) (c.let_in.ensures.steps h w now reached)
 
 pub returns-in-Some-waits-clause-then : goal.returns-in-Some-waits-clause-then

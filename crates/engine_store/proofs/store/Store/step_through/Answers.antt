@@ -14,7 +14,7 @@ later g c = record c.make_ready.new.self { engine = c.step.new.self }
 made : (g : given.Over) → (c : goal.After-step g) → StepsOn g.D.Disk c.args.self.now (later g c) c.args.disk.now c.make_ready.new.disk c.args.step c.step.result
 made g c = record {
   led = λ h w reached.
-      led_step (CauseSince g.D.Disk c.args.disk.now c.make_ready.new.disk w) c.args.self.now c.step.new.self c.args.self.now.ground.kept c.make_ready.new.self.ground.kept w c.args.step c.step.result reached.stands c.actors.ensures.built c.requires (c.step.ensures.step (with_kept c.make_ready.new.self.ground.kept w) (c.in-Ok.ensures.steps h w w reached));
+      led_step (CauseSince g.D.Disk c.args.disk.now c.make_ready.new.disk c.args.self.now.frames w) c.args.self.now c.step.new.self c.args.self.now.ground.kept c.make_ready.new.self.ground.kept w c.args.step c.step.result reached.stands c.actors.ensures.built c.requires (c.step.ensures.step (with_kept c.make_ready.new.self.ground.kept w) (c.in-Ok.ensures.steps h w w reached));
   hub = c.in-Ok.ensures.then c.step.new.self.hub c.step.ensures.goes;
   ground = c.make_ready.ensures.ground;
   frames = c.make_ready.ensures.frames;
@@ -43,7 +43,7 @@ returns-in-Ok-clause-keeps g c = step_keeps g.D.Disk c.args.self.now (later g c)
 pub returns-in-Err-clause-stepped : goal.returns-in-Err-clause-stepped
 returns-in-Err-clause-stepped g c = step_held g.D.Disk c.args.self.now c.make_ready.new.self c.args.disk.now c.make_ready.new.disk c.args.step reply.More
     (record {
-      led = λ h w reached. led_out (CauseSince g.D.Disk c.args.disk.now c.make_ready.new.disk w) c.args.self.now c.make_ready.new.self.engine c.args.self.now.ground.kept c.make_ready.new.self.ground.kept w c.args.step c.in-Err._refusal reached.stands c.actors.ensures.built (c.in-Err.ensures.steps h w w reached);
+      led = λ h w reached. led_out (CauseSince g.D.Disk c.args.disk.now c.make_ready.new.disk c.args.self.now.frames w) c.args.self.now c.make_ready.new.self.engine c.args.self.now.ground.kept c.make_ready.new.self.ground.kept w c.args.step c.in-Err._refusal reached.stands c.actors.ensures.built (c.in-Err.ensures.steps h w w reached);
       hub = c.in-Err.ensures.goes;
       ground = c.make_ready.ensures.ground;
       frames = c.make_ready.ensures.frames;
@@ -61,7 +61,7 @@ returns-in-Err-clause-told g c = λ basis start le on told. (
 pub returns-in-Err-clause-keeps : goal.returns-in-Err-clause-keeps
 returns-in-Err-clause-keeps g c = step_keeps g.D.Disk c.args.self.now c.make_ready.new.self c.args.disk.now c.make_ready.new.disk c.args.step reply.More
     (record {
-      led = λ h w reached. led_out (CauseSince g.D.Disk c.args.disk.now c.make_ready.new.disk w) c.args.self.now c.make_ready.new.self.engine c.args.self.now.ground.kept c.make_ready.new.self.ground.kept w c.args.step c.in-Err._refusal reached.stands c.actors.ensures.built (c.in-Err.ensures.steps h w w reached);
+      led = λ h w reached. led_out (CauseSince g.D.Disk c.args.disk.now c.make_ready.new.disk c.args.self.now.frames w) c.args.self.now c.make_ready.new.self.engine c.args.self.now.ground.kept c.make_ready.new.self.ground.kept w c.args.step c.in-Err._refusal reached.stands c.actors.ensures.built (c.in-Err.ensures.steps h w w reached);
       hub = c.in-Err.ensures.goes;
       ground = c.make_ready.ensures.ground;
       frames = c.make_ready.ensures.frames;

@@ -1,0 +1,8 @@
+use Rattle.std.proofs.Common.{◌≡◌, take}
+use Rattle.std.specs.Prelude.{map}
+use Rattle.row_page.specs.Greatest.{most_in}
+use Rattle.stored.specs.HistoryTree.{HistoryEntry}
+use Rattle.hist_open.proofs.greatest.greatest_durable.Given as goal
+
+abbrev pub invariant-loop-entry : goal.invariant-loop-entry
+invariant-loop-entry l = l.greatest ≡ most_in (map {A = HistoryEntry} (λ x. x.link.durable) (take l.entry-index l.entries))

@@ -1,0 +1,6 @@
+use Rattle.std.proofs.Common.{◌≡◌, ◌++◌, take}
+use Rattle.hist_open.specs.Leaves.{leaf_addrs}
+use Rattle.hist_open.proofs.place.append_leaves.Given as goal
+
+abbrev pub invariant-loop-entry : goal.invariant-loop-entry
+invariant-loop-entry l = l.addrs.items ≡ l.fn.addrs.items ++ leaf_addrs (take l.entry-index l.entries)

@@ -1,0 +1,4 @@
+pub mod Pages
+pub mod Trees
+pub mod Leaves
+pub mod Damage
