@@ -36,7 +36,7 @@ pub use hub::{Hub, leaf_of_row, stage_of};
 pub use hub_events::hub_event;
 pub use next::Next;
 pub use reply::Reply;
-pub use rows::{RowFound, find_row, next_row, walk_of};
+pub use rows::{RowFound, find_row, next_row, walk_near, walk_of};
 pub use stage::{CommitStamps, KeyCall, Stage, Target, Wanted};
 pub use state::SessionState;
 pub use words::unless_running;

@@ -10,7 +10,7 @@ ghost use Rattle.call_steps.specs.Looks.{GoesBehind, RowFoundBy, StepsAs};
 
 use failure::NoMemory;
 use item::Item;
-use leaf_frame::{FrameRead, HeldRow, LeafFrame, LeafWalk};
+use leaf_frame::{FrameRead, HeldRow, LeafFrame, LeafPlace, LeafWalk};
 use stamp::View;
 use std::alloc::Global;
 use wt_calls::Way;
@@ -55,14 +55,29 @@ pub fn find_row<'a>(
 pub fn walk_of<'a>(leaf: &'a LeafFrame, way: Way, from: Option<&'a [u8]>) -> LeafWalk<'a>
     ensures { result ≡ walk_on (way_in way) (option_map (λ k. k.now) from.entry) leaf.now }
 {
+    walk_near(leaf, way, from, LeafPlace::nowhere())
+}
+
+/// As `walk_of`, but looks first where the hint says that the bound stands: `O(1)` comparisons where
+/// it does, on the way down in the rows alone. Any hint is answered alike.
+#[inline(always)]
+pub fn walk_near<'a>(
+    leaf: &'a LeafFrame,
+    way: Way,
+    from: Option<&'a [u8]>,
+    hint: LeafPlace,
+) -> LeafWalk<'a>
+    ensures { result ≡ walk_on (way_in way) (option_map (λ k. k.now) from.entry) leaf.now }
+{
     match way {
-        Way::Up => leaf.walk_up(from),
-        Way::Down => leaf.walk_down(from),
+        Way::Up => leaf.walk_up_near(from, hint),
+        Way::Down => leaf.walk_down_near(from, hint),
     }
 }
 
 /// The nearest row on the way, which goes on behind its key. `O(1)` for each row that is given or
 /// passed, and `O(log n)` comparisons with n keys of the chains for a key of theirs.
+#[inline(always)]
 pub fn next_row<'a>(walk: &mut LeafWalk<'a>, view: &View<'_>) -> RowFound<'a>
     requires { IsSight (sight_of view.now) }
     ensures found { RowFoundBy view.now walk.old.way walk.old.from walk.old.leaf result }
@@ -77,6 +92,7 @@ pub fn next_row<'a>(walk: &mut LeafWalk<'a>, view: &View<'_>) -> RowFound<'a>
 }
 
 // What the key gives; none where no version that is held is admitted.
+#[inline(always)]
 fn row_of(held: HeldRow<'_>) -> Option<RowFound<'_>>
     ensures { MatchOption result (IsQuiet (reply_in held.entry.read)) (IsRowOf held.entry) }
 {

@@ -4,11 +4,10 @@ ghost use Rattle.std.specs.Prelude.{◌≡◌, Some, length, option_map, OnErr, 
 ghost use Rattle.call_steps.specs.Looks.{start_in};
 ghost use Rattle.call_steps.specs.State.{changed_at, placed};
 
-use crate::cursor::Position;
+use crate::cursor::{Cursor, Position};
 use crate::looks::start_of;
 use crate::rows::item_of;
 use crate::state::SessionState;
-use crate::words::place;
 use failure::NoMemory;
 use std::alloc::Global;
 
@@ -28,7 +27,8 @@ impl SessionState {
     }
 
     /// A cursor stands at this key from now on, and keeps its hazard word. Where memory is short,
-    /// nothing is changed. One allocation, for a copy of the key.
+    /// nothing is changed. The key is copied over that of the row where it stood, which takes memory
+    /// only where there is no room for it.
     pub fn stand_at(
         &mut self,
         alloc: Global,
@@ -39,12 +39,49 @@ impl SessionState {
         ensures stands { OnOk result (self.new ≡ record self.old { cursors = changed_at self.old.cursors cursor (placed (Some (record { table = table; key = key.now }))) }) }
         ensures kept { OnErr result (self.new ≡ self.old) }
     {
-        let key = item_of(alloc, key)?;
-        place(
-            self.cursors.as_mut_slice(),
-            cursor,
-            Some(Position { table, key }),
-        );
-        Ok(())
+        stand_among(alloc, self.cursors.as_mut_slice(), cursor, table, key)
     }
+}
+
+// The same of the cursors.
+#[inline(always)]
+fn stand_among(
+    alloc: Global,
+    cursors: &mut [Cursor],
+    cursor: u32,
+    table: u32,
+    key: &[u8],
+) -> Result<(), NoMemory>
+    ensures stands { OnOk result (cursors.new ≡ changed_at cursors.old cursor (placed (Some (record { table = table; key = key.now })))) }
+    ensures kept { OnErr result (cursors.new ≡ cursors.old) }
+{
+    let at = cursor as usize;
+    if at < cursors.len() {
+        stand(alloc, &mut cursors[at].position, table, key)?;
+    }
+    Ok(())
+}
+
+// Stands at this key. Where memory is short, nothing is changed.
+#[inline(always)]
+fn stand(
+    alloc: Global,
+    position: &mut Option<Position>,
+    table: u32,
+    key: &[u8],
+) -> Result<(), NoMemory>
+    ensures stands { OnOk result (position.new ≡ Some (record { table = table; key = key.now })) }
+    ensures kept { OnErr result (position.new ≡ position.old) }
+{
+    match position {
+        Some(there) => {
+            there.key.set(key)?;
+            there.table = table;
+        }
+        None => {
+            let key = item_of(alloc, key)?;
+            *position = Some(Position { table, key });
+        }
+    }
+    Ok(())
 }

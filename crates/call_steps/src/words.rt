@@ -255,7 +255,7 @@ fn unpin(cursors: &mut [Cursor], cursor: u32)
 }
 
 /// The cursor stands there, or nowhere.
-pub(crate) fn place(cursors: &mut [Cursor], cursor: u32, position: Option<Position>)
+fn place(cursors: &mut [Cursor], cursor: u32, position: Option<Position>)
     ensures { cursors.new ≡ changed_at cursors.old cursor (placed position) }
 {
     let at = cursor as usize;

@@ -8,11 +8,11 @@ use Rattle.stored.specs.Stored.{Stored}
 use Rattle.call_steps.specs.declared.hub.Hub.{Hub}
 use Rattle.engine_world.specs.Stands.{Engine}
 use Rattle.engine_world.specs.Worlds.{Records, World}
+use Rattle.evict_step.specs.Kept.{Lists}
 use Rattle.ckpt_step.specs.declared.ground.Ground.{Ground}
 use Rattle.ckpt_step.specs.Evicts.{LeftFrame, LeftInParts}
 use Rattle.ckpt_step.specs.Floors.{Follows}
 use Rattle.ckpt_step.specs.Grounds.{StandsOn}
-use Rattle.ckpt_step.specs.Kept.{Lists}
 use Rattle.ckpt_step.specs.WritesOut.{NotWritten, RefusesOut}
 
 pub stands_kept : (seen : List ℕ) (images : List ℕ → Type 0) (hub : Hub) (g : Ground) (old : Option Stored) (kept : Lists) → StandsOn seen images hub g old → StandsOn seen images hub (record g { kept = kept }) old

@@ -2,13 +2,12 @@
 use Rattle.std.specs.Prelude.{◌≡◌, ◌≢◌, ℕ, ◌<◌, ◌==◌, true, false, cond, List, [], ◌∷◌, Option, Some, None, Result, Ok, Err, OnOk, OnErr, option_map, is_some, Vec, if◌then◌else◌, refl}
 use Rattle.std.specs.Map.{lookup}
 use Rattle.std.specs.BTreeMap.{is_at}
-use Rattle.std.specs.Cmp.{nat_cmp_is}
 use Rattle.std.specs.Ordering.{nat_cmp, is_eq}
-use Rattle.std.specs.declared.cmp.Ordering.TheVariants.{Less, Equal, Greater}
 use Rattle.std.specs.declared.alloc.Global.{Global}
-use Rattle.std.proofs.Common.{inl, inr, sym, ◌∙◌, ap, arith}
-use Rattle.std.proofs.lemmas.Bool.{cases_Bool, cases_eq, cases_lt, eq-eqb, false≢true, ne_eqb}
+use Rattle.std.proofs.Common.{inl, inr, sym, ◌∙◌, ap}
+use Rattle.std.proofs.lemmas.Bool.{cases_Bool, cases_eq, eq-eqb, false≢true, ne_eqb}
 use Rattle.stored.specs.TableTree.{Entry}
+use Rattle.evict_step.proofs.KeptLists.{same_test}
 use Rattle.ckpt_step.specs.Rooms.{has_room, known_in, rooms_in}
 
 -- what a map has in its rooms
@@ -23,17 +22,6 @@ found es id = lookup (is_at (nat_cmp id)) es
 abbrev pub entries_in : Option (Option (Vec Entry Global)) → Option (List Entry)
 entries_in None = None
 entries_in (Some room) = option_map (λ (es : Vec Entry Global). es.items) room
-
--- ---- a key and a query
-
-pub same_test : (id k : ℕ) → is_eq (nat_cmp id k) ≡ (k == id)
-same_test id k = elim (cases_eq k id) [
-  | inl same ↦ ap is_eq (sym (nat_cmp_is id k Equal (sym same))) ∙ sym (eq-eqb k id same)
-  | inr differ ↦ elim (cases_lt id k) [
-    | inl less ↦ ap is_eq (sym (nat_cmp_is id k Less less)) ∙ sym (ne_eqb k id differ)
-    | inr most ↦ (let more : k < id = omega (arith, most, differ) in ap is_eq (sym (nat_cmp_is id k Greater more)) ∙ sym (ne_eqb k id differ))
-  ]
-]
 
 -- ---- the rooms
 

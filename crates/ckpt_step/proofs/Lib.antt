@@ -57,7 +57,6 @@ pub mod Behind
 pub mod KnownRooms
 pub mod KeptLists
 pub mod KeptGround
-pub mod FreshLists
 pub mod MovedApart
 mod LonesIn
 pub mod Unwritten

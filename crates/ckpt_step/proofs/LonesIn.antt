@@ -6,10 +6,10 @@ use Rattle.std.specs.Ordering.{nat_cmp, is_eq}
 use Rattle.std.proofs.Common.{inl, inr, ◌∙◌}
 use Rattle.std.proofs.lemmas.Bool.{cases_Bool}
 use Rattle.kv_model.specs.Machine.{of_some}
+use Rattle.evict_step.proofs.KeptLists.{same_test}
 use Rattle.ckpt_step.specs.declared.lives.Held.{Held}
 use Rattle.ckpt_step.specs.declared.lives.Lone.{Lone}
 use Rattle.ckpt_step.specs.Lives.{has_at, lone_at, lones_in}
-use Rattle.ckpt_step.proofs.KnownRooms.{same_test}
 
 abbrev pub found : List (ℕ × Held) → ℕ → Option Held
 found es offset = lookup (is_at (nat_cmp offset)) es

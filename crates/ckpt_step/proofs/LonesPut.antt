@@ -7,11 +7,11 @@ use Rattle.std.specs.Ordering.{nat_cmp, is_eq}
 use Rattle.std.specs.declared.cmp.Ordering.TheVariants.{Less, Equal, Greater}
 use Rattle.std.proofs.Common.{inl, inr, sym, ◌∙◌, ap, arith}
 use Rattle.std.proofs.lemmas.Bool.{cases_Bool, cases_eq, cases_lt, eq-eqb, le-ltb, lt-ltb, ne_eqb}
+use Rattle.evict_step.proofs.KeptLists.{same_test}
 use Rattle.ckpt_step.specs.declared.lives.Held.{Held}
 use Rattle.ckpt_step.specs.declared.lives.Lone.{Lone}
 use Rattle.ckpt_step.specs.Holding.{gone_at, named_at, put_lone}
 use Rattle.ckpt_step.specs.Lives.{lone_of, lones_in}
-use Rattle.ckpt_step.proofs.KnownRooms.{same_test}
 use Rattle.ckpt_step.proofs.LonesIn.{found}
 use Rattle.ckpt_step.proofs.Members.{none_some, some_same}
 

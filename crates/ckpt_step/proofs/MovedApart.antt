@@ -17,7 +17,7 @@ use Rattle.tree_dir.specs.GivingWay.{StandFor}
 use Rattle.tree_dir.specs.Leaves.{Directory, IsDirectory, leaf_under}
 use Rattle.engine_world.proofs.Homes.{LiesIn, lies-or-not, same-id}
 use Rattle.engine_world.specs.Worlds.{Records, World}
-use Rattle.ckpt_step.specs.Kept.{KeepsMore, KeepsThese, Lists, lies_in, list_of, lying_in, records_in, with_moved}
+use Rattle.evict_step.specs.Kept.{KeepsMore, KeepsThese, Lists, lies_in, list_of, lying_in, records_in, with_moved}
 use Rattle.ckpt_step.proofs.Members.{some_same}
 use Rattle.ckpt_step.proofs.TableLeaves.{contains_of, under_in}
 

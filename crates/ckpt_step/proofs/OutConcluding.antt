@@ -32,12 +32,12 @@ use Rattle.stored.specs.Stored.{Stored}
 use Rattle.call_steps.specs.declared.frame.Frame.{Frame}
 use Rattle.tree_dir.specs.declared.leaf.Leaf.{Leaf}
 use Rattle.tree_dir.specs.Leaves.{Directory, IsDirectory, leaf_named, leaf_under, leaves_with}
+use Rattle.evict_step.specs.Kept.{with_moved}
 use Rattle.ckpt_step.specs.declared.ground.Ground.{Ground}
 use Rattle.ckpt_step.specs.declared.moving_in.When.TheVariants.{Idle, AtWork}
 use Rattle.ckpt_step.specs.CutOuts.{AreShelved, HasPut}
 use Rattle.ckpt_step.specs.Evicts.{IsGrown, LeftInParts}
 use Rattle.ckpt_step.specs.Floors.{AreNewestIn}
-use Rattle.ckpt_step.specs.Kept.{with_moved}
 use Rattle.ckpt_step.specs.WritesOut.{AreRowsIn, WrittenOut}
 use Rattle.ckpt_step.proofs.KeptGround.{follows_records}
 use Rattle.ckpt_step.proofs.LedNewest.{evicted_rows}

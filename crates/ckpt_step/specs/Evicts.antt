@@ -25,12 +25,12 @@ use Rattle.engine.specs.declared.evicting.Stays.{Stays as Why}
 use Rattle.engine.specs.Evictions.{HasBeenEvicted, KeepsLeaf}
 use Rattle.engine.specs.Partings.{HasParted, KeepsWhole}
 use Rattle.evict_step.specs.Cuts.{AreCut, IsLeastUnended}
+use Rattle.evict_step.specs.Kept.{KeepsAt, KeepsMore, KeepsThese, Lists, lying_in, with_moved}
 use Rattle.ckpt_step.specs.declared.evicting.Evicted.{Evicted}
 use Rattle.ckpt_step.specs.declared.evicting.Evicted.TheVariants.{Done, Parted, Emptied, Stays, Unresolved, Empty}
 use Rattle.ckpt_step.specs.declared.ground.Ground.{Ground}
 use Rattle.ckpt_step.specs.Floors.{AreLivesOn, Follows}
 use Rattle.ckpt_step.specs.Grounds.{StandsOn}
-use Rattle.ckpt_step.specs.Kept.{KeepsAt, KeepsMore, KeepsThese, Lists, lying_in, with_moved}
 use Rattle.ckpt_step.specs.Lives.{has_at, is_live}
 use Rattle.ckpt_step.specs.Parts.{has_rows}
 use Rattle.ckpt_step.specs.Rooms.{known_in}

@@ -20,7 +20,6 @@ pub mod Rooms
 pub mod Stays
 pub mod Giving
 pub mod Lives
-pub mod Kept
 pub mod Holding
 pub mod WritesOut
 pub mod CutOuts

@@ -11,11 +11,11 @@ ghost use Rattle.engine_world.specs.Worlds.{World};
 ghost use Rattle.engine.specs.Evictions.{HasBeenEvicted};
 ghost use Rattle.reconcile.specs.declared.image.Moved.{Moved as AMoved};
 ghost use Rattle.evict_step.specs.Cuts.{AreCut};
+ghost use Rattle.evict_step.specs.Kept.{KeepsThese};
 ghost use Rattle.ckpt_step.specs.EvictSteps.{IsLowOf, PutsBack};
 ghost use Rattle.ckpt_step.specs.Evicts.{EvictsEngine, Evicts, KeepsStill};
 ghost use Rattle.ckpt_step.specs.Floors.{AreLivesOn, Follows};
 ghost use Rattle.ckpt_step.specs.Grounds.{StandsOn};
-ghost use Rattle.ckpt_step.specs.Kept.{KeepsThese};
 ghost use Rattle.ckpt_step.specs.Takes.{IsOfCheckpoint};
 
 use crate::emptying::leave_empty;

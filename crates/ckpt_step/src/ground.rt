@@ -1,8 +1,8 @@
 // On what the next checkpoint of an engine stands.
-use crate::kept::Kept;
 use crate::lives::Lives;
 use crate::parts::Parts;
 use device_leaf::Place;
+use evict_step::Kept;
 use stamp::Name;
 use tree_open::TreePlace;
 

@@ -18,10 +18,8 @@ mod clean;
 mod cutting_out;
 mod emptying;
 mod evicting;
-mod fresh;
 mod giving;
 mod ground;
-mod kept;
 mod laws;
 mod leaves;
 mod lives;
@@ -37,10 +35,10 @@ mod trees;
 mod writing;
 mod writing_out;
 
+pub use evict_step::Kept;
 pub use evicting::{Evicted, evict};
 pub use giving::entries_in_place;
 pub use ground::Ground;
-pub use kept::Kept;
 pub use laws::{
     calm_stays, checkpoints_are_kept, checkpoints_have_newest, checkpoints_open, grounds_give_way,
     grounds_let_go, grounds_stay, plain_stays,

@@ -6,10 +6,10 @@ ghost use Rattle.stored.specs.Stored.{Stored};
 ghost use Rattle.engine_world.specs.Stands.{Stands};
 ghost use Rattle.engine_world.specs.Worlds.{World};
 ghost use Rattle.evict_step.specs.Cuts.{AreCut};
+ghost use Rattle.evict_step.specs.Kept.{KeepsThese};
 ghost use Rattle.ckpt_step.specs.Evicts.{EvictsEngine, Evicts, KeepsStill};
 ghost use Rattle.ckpt_step.specs.Floors.{AreLivesOn, Follows};
 ghost use Rattle.ckpt_step.specs.Grounds.{StandsOn};
-ghost use Rattle.ckpt_step.specs.Kept.{KeepsThese};
 ghost use Rattle.ckpt_step.specs.Takes.{IsOfCheckpoint};
 
 use crate::cutting_out::in_place;

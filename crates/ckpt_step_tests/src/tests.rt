@@ -25,6 +25,11 @@ const BYTES: Formats = Formats {
     value: Format::U,
 };
 
+const COMMIT: SessionCall = SessionCall::Commit {
+    commit: None,
+    durable: None,
+};
+
 const ROOM: u64 = 1 << 20; // bytes
 
 // An engine, its disk, and what its next checkpoint stands on.
@@ -46,13 +51,43 @@ fn engine_on_nothing(rt: &impl Abort, alloc: Global) -> Local {
     opened.expect(rt, "there is memory")
 }
 
+// So many bytes, each of them this one.
+fn bytes_of(rt: &impl Abort, alloc: Global, len: usize, byte: u8) -> Vec<u8> {
+    let mut bytes = Vec::new(alloc);
+    bytes.resize(len, byte).expect(rt, "there is memory");
+    bytes
+}
+
 // A new device. The calls of the disk of these numbers fail, the first being 0.
 fn new_disk(rt: &impl Abort, alloc: Global, capacity: u64, failing: &[u64]) -> PlainDisk {
-    let mut content = Vec::new(alloc);
-    content.resize(8_192, 0).expect(rt, "there is memory");
+    let content = bytes_of(rt, alloc, 8_192, 0);
     let failing = Vec::from_slice(alloc, failing).expect(rt, "there is memory");
     let medium = MemDisk::new(alloc, content, capacity, failing).expect(rt, "there is memory");
     PlainDisk { medium }
+}
+
+// What a checkpoint of a new device stands on.
+fn ground_on(alloc: Global, found: Recovered) -> Ground {
+    let Recovered { place, kept: _ } = found;
+    Ground {
+        place,
+        number: 0,
+        trees: Vec::new(alloc),
+        parts: Parts::new(alloc),
+        lives: Lives::new(alloc),
+        kept: ckpt_step::Kept::new(alloc),
+        floor: Name { run: 0, id: 0 },
+    }
+}
+
+// An engine that has these tables and a session.
+fn engine_with(rt: &impl Abort, alloc: Global, tables: &[&[u8]]) -> Local {
+    let mut engine = engine_on_nothing(rt, alloc);
+    assert!(rt; engine.open_session(alloc).is_ok());
+    for name in tables {
+        create(rt, alloc, &mut engine, name);
+    }
+    engine
 }
 
 // A new device, and an engine on it that has these tables and a session.
@@ -65,24 +100,16 @@ fn new_bench(
 ) -> Bench {
     let mut disk = new_disk(rt, alloc, capacity, failing);
     let found = recover(alloc, &mut disk).expect(rt, "a new device");
-    let mut engine = engine_on_nothing(rt, alloc);
-    assert!(rt; engine.open_session(alloc).is_ok());
-    for name in tables {
-        create(rt, alloc, &mut engine, name);
-    }
     Bench {
         disk,
-        ground: Ground {
-            place: found.place,
-            number: 0,
-            trees: Vec::new(alloc),
-            parts: Parts::new(alloc),
-            lives: Lives::new(alloc),
-            kept: ckpt_step::Kept::new(alloc),
-            floor: Name { run: 0, id: 0 },
-        },
-        engine,
+        ground: ground_on(alloc, found),
+        engine: engine_with(rt, alloc, tables),
     }
+}
+
+// The same with room enough, no call that fails, and the table `a`.
+fn new_table(rt: &impl Abort, alloc: Global) -> Bench {
+    new_bench(rt, alloc, ROOM, &[], &[b"a"])
 }
 
 fn create(rt: &impl Abort, alloc: Global, engine: &mut Local, name: &[u8]) {
@@ -95,38 +122,48 @@ fn create(rt: &impl Abort, alloc: Global, engine: &mut Local, name: &[u8]) {
     assert!(rt; engine.call_system(alloc, 0, call) == Answer::Done);
 }
 
-fn ask(rt: &impl Abort, alloc: Global, engine: &mut Local, call: SessionCall) {
-    assert!(rt; engine.sessions() > 0);
-    assert!(rt; engine.call(alloc, 0, call) == Called::Ended(Answer::Done));
+fn ask(rt: &impl Abort, alloc: Global, engine: &mut Local, session: u32, call: SessionCall) {
+    assert!(rt; session < engine.sessions());
+    assert!(rt; engine.call(alloc, session, call) == Called::Ended(Answer::Done));
 }
 
-// A transaction that gives the key `k` of a table a value.
-fn put(rt: &impl Abort, alloc: Global, bench: &mut Bench, table: &[u8], value: &[u8]) {
-    put_at(rt, alloc, bench, table, b"k", value)
+// A transaction of one call.
+fn ask_whole(rt: &impl Abort, alloc: Global, bench: &mut Bench, call: SessionCall) {
+    let engine = &mut bench.engine;
+    ask(rt, alloc, engine, 0, SessionCall::Begin(None));
+    ask(rt, alloc, engine, 0, call);
+    ask(rt, alloc, engine, 0, COMMIT);
 }
 
-fn put_at(
+// A second session, with a transaction.
+fn begin_beside(rt: &impl Abort, alloc: Global, engine: &mut Local) {
+    assert!(rt; engine.open_session(alloc).is_ok());
+    ask(rt, alloc, engine, 1, SessionCall::Begin(None));
+}
+
+fn put_call(
     rt: &impl Abort,
     alloc: Global,
-    bench: &mut Bench,
-    table: &[u8],
-    key: &[u8],
-    value: &[u8],
-) {
-    let engine = &mut bench.engine;
-    ask(rt, alloc, engine, SessionCall::Begin(None));
-    let put = SessionCall::Put {
+    (table, key, value): (&[u8], &[u8], &[u8]),
+) -> SessionCall {
+    SessionCall::Put {
         table: item(rt, alloc, table),
         key: item(rt, alloc, key),
         value: item(rt, alloc, value),
         demand: Demand::Anything,
-    };
-    ask(rt, alloc, engine, put);
-    let commit = SessionCall::Commit {
-        commit: None,
-        durable: None,
-    };
-    ask(rt, alloc, engine, commit);
+    }
+}
+
+// A transaction that gives the key `k` of a table a value.
+fn put(rt: &impl Abort, alloc: Global, bench: &mut Bench, table: &[u8], value: &[u8]) {
+    ask_whole(rt, alloc, bench, put_call(rt, alloc, (table, b"k", value)));
+}
+
+// A transaction that gives a key of the table `a` a value of so many bytes.
+fn put_at(rt: &impl Abort, alloc: Global, bench: &mut Bench, key: u16, (len, byte): (usize, u8)) {
+    let value = bytes_of(rt, alloc, len, byte);
+    let put = put_call(rt, alloc, (b"a", &key.to_be_bytes(), &value));
+    ask_whole(rt, alloc, bench, put);
 }
 
 // Whether no tree has more levels than a record tells.
@@ -147,6 +184,28 @@ fn take(rt: &impl Abort, alloc: Global, bench: &mut Bench) -> Result<(), Refusal
     assert!(rt; bench.ground.trees.len() <= bench.engine.tables().len());
     assert!(rt; are_low(&bench.ground.trees));
     checkpoint(alloc, &mut bench.disk, &mut bench.ground, &mut bench.engine)
+}
+
+fn take_whole(rt: &impl Abort, alloc: Global, bench: &mut Bench) {
+    assert!(rt; take(rt, alloc, bench) == Ok(()));
+}
+
+fn check_len(rt: &impl Abort, bench: &Bench, wanted: usize) {
+    assert_eq!(rt; bench.disk.medium.bytes().len(), wanted);
+}
+
+// Takes a checkpoint, the one of this number, behind which the device has so many bytes at most.
+fn take_within(rt: &impl Abort, alloc: Global, bench: &mut Bench, number: usize, most: usize) {
+    assert!(rt; take(rt, alloc, bench) == Ok(()), "checkpoint {number}");
+    let len = bench.disk.medium.bytes().len();
+    assert!(rt; len <= most, "checkpoint {number}: {len}");
+}
+
+// Checkpoints for which there is no room.
+fn take_none(rt: &impl Abort, alloc: Global, bench: &mut Bench, count: u32) {
+    for _ in 0..count {
+        assert!(rt; take(rt, alloc, bench) == Err(Refusal::NoSpace));
+    }
 }
 
 // Sequence 1, of the record at 16,384; its sum stands at 32.
@@ -193,49 +252,49 @@ const RECORD: [u8; 209] = [
 // What is written at an offset, with bytes of it that are other ones.
 type Piece<'a> = (usize, &'a [u8], &'a [(usize, u8)]);
 
-// The length of the device after each of three checkpoints, what it writes, and where the sum of
-// a block of 4,096 bytes at an offset stands.
+// The length of the device after a checkpoint, what it writes, and where the sum of a block of 4,096
+// bytes at an offset stands.
 type Written<'a> = (usize, &'a [Piece<'a>], &'a [(usize, usize)]);
 
-const WRITTEN: [Written<'static>; 3] = [
-    (
-        20_480,
-        &[
-            (0, &SLOT, &[]),
-            (8_192, &LEAF, &[]),
-            (12_288, &LEAF, &[(31, 2)]),
-            (16_384, &RECORD, &[]),
-        ],
-        &[(12_288, 16_515), (8_192, 16_564), (16_384, 32)],
-    ),
-    // Table 1 changed: value 2, id 3.
-    (
-        28_672,
-        &[
-            (4_096, &SLOT, &[(12, 2), (21, 0x60)]),
-            (20_480, &LEAF, &[(31, 3), (56, b'2')]),
-            (
-                24_576,
-                &RECORD,
-                &[(16, 2), (48, 4), (56, 4), (169, 0x50), (192, 3)],
-            ),
-        ],
-        &[(12_288, 24_707), (20_480, 24_756), (24_576, 4_128)],
-    ),
-    // Nothing changed.
-    (
-        28_672,
-        &[
-            (0, &SLOT, &[(12, 3), (21, 0x20)]),
-            (
-                8_192,
-                &RECORD,
-                &[(16, 3), (48, 4), (56, 4), (169, 0x50), (192, 3)],
-            ),
-        ],
-        &[(12_288, 8_323), (20_480, 8_372), (8_192, 32)],
-    ),
-];
+const FIRST: Written<'static> = (
+    20_480,
+    &[
+        (0, &SLOT, &[]),
+        (8_192, &LEAF, &[]),
+        (12_288, &LEAF, &[(31, 2)]),
+        (16_384, &RECORD, &[]),
+    ],
+    &[(12_288, 16_515), (8_192, 16_564), (16_384, 32)],
+);
+
+// Table 1 changed: value 2, id 3.
+const SECOND: Written<'static> = (
+    28_672,
+    &[
+        (4_096, &SLOT, &[(12, 2), (21, 0x60)]),
+        (20_480, &LEAF, &[(31, 3), (56, b'2')]),
+        (
+            24_576,
+            &RECORD,
+            &[(16, 2), (48, 4), (56, 4), (169, 0x50), (192, 3)],
+        ),
+    ],
+    &[(12_288, 24_707), (20_480, 24_756), (24_576, 4_128)],
+);
+
+// Nothing changed.
+const THIRD: Written<'static> = (
+    28_672,
+    &[
+        (0, &SLOT, &[(12, 3), (21, 0x20)]),
+        (
+            8_192,
+            &RECORD,
+            &[(16, 3), (48, 4), (56, 4), (169, 0x50), (192, 3)],
+        ),
+    ],
+    &[(12_288, 8_323), (20_480, 8_372), (8_192, 32)],
+);
 
 fn lay(rt: &impl Abort, content: &mut [u8], at: usize, bytes: &[u8]) {
     for (i, byte) in bytes.iter().enumerate() {
@@ -244,35 +303,67 @@ fn lay(rt: &impl Abort, content: &mut [u8], at: usize, bytes: &[u8]) {
     }
 }
 
+fn lay_piece(rt: &impl Abort, content: &mut [u8], (at, bytes, changes): &Piece<'_>) {
+    lay(rt, content, *at, bytes);
+    for (place, byte) in *changes {
+        lay(rt, content, at.saturating_add(*place), &[*byte]);
+    }
+}
+
+fn lay_sum(rt: &impl Abort, content: &mut [u8], block: usize, at: usize) {
+    let bytes = content.get(block..block.saturating_add(4_096));
+    let sum = sum(bytes.expect(rt, "a block"));
+    lay(rt, content, at, &sum.to_le_bytes());
+}
+
+fn lay_pieces(rt: &impl Abort, content: &mut [u8], pieces: &[Piece<'_>]) {
+    for piece in pieces {
+        lay_piece(rt, content, piece);
+    }
+}
+
+fn lay_sums(rt: &impl Abort, content: &mut [u8], sums: &[(usize, usize)]) {
+    for (block, at) in sums {
+        lay_sum(rt, content, *block, *at);
+    }
+}
+
 // The content of the device after one checkpoint more.
 fn add_written(rt: &impl Abort, content: &mut Vec<u8>, written: &Written<'_>) {
     let (len, pieces, sums) = written;
     content.resize(*len, 0).expect(rt, "there is memory");
-    for (at, bytes, changes) in *pieces {
-        lay(rt, content, *at, bytes);
-        for (place, byte) in *changes {
-            lay(rt, content, at.saturating_add(*place), &[*byte]);
-        }
-    }
-    for (block, at) in *sums {
-        let bytes = content.get(*block..block.saturating_add(4_096));
-        let sum = sum(bytes.expect(rt, "a block"));
-        lay(rt, content, *at, &sum.to_le_bytes());
-    }
+    lay_pieces(rt, content, pieces);
+    lay_sums(rt, content, sums);
 }
 
 // The first place at which two contents differ.
 fn first_difference(content: &[u8], other: &[u8]) -> Option<usize> {
-    let len = content.len().max(other.len());
-    (0..len).find(|i| content.get(*i) != other.get(*i))
+    for i in 0..content.len().max(other.len()) {
+        if content.get(i) != other.get(i) {
+            return Some(i);
+        }
+    }
+    None
+}
+
+fn reads_block(call: &DiskCall) -> bool {
+    matches!(call, DiskCall::Looked(Look::Read(at)) if *at >= 8_192)
 }
 
 // How many blocks were read, leaving out so many calls at the front.
 fn blocks_read(disk: &MemDisk, first: usize) -> usize {
-    let calls = disk.calls().iter().skip(first);
-    calls
-        .filter(|call| matches!(call, DiskCall::Looked(Look::Read(at)) if *at >= 8_192))
-        .count()
+    let mut count = 0usize;
+    for call in disk.calls().iter().skip(first) {
+        if reads_block(call) {
+            count = count.saturating_add(1);
+        }
+    }
+    count
+}
+
+fn check_content(rt: &impl Abort, bench: &Bench, content: &[u8]) {
+    let bytes = bench.disk.medium.bytes();
+    assert_eq!(rt; first_difference(bytes, content), None);
 }
 
 // Takes a checkpoint that reads no block and writes this, the content of the device being known.
@@ -284,85 +375,122 @@ fn take_written(
     written: &Written<'_>,
 ) {
     let first = two.disk.medium.calls().len();
-    assert!(rt; take(rt, alloc, two) == Ok(()));
-    assert_eq!(rt; blocks_read(&two.disk.medium, first), 0);
+    take_whole(rt, alloc, two);
+    assert!(rt; blocks_read(&two.disk.medium, first) == 0);
     add_written(rt, content, written);
-    let bytes = two.disk.medium.bytes();
-    assert_eq!(rt; first_difference(bytes, content), None);
+    check_content(rt, two, content);
+}
+
+fn check_written(rt: &impl Abort, alloc: Global, two: &mut Bench) {
+    put(rt, alloc, two, b"b", b"1");
+    put(rt, alloc, two, b"a", b"1");
+    let mut content = bytes_of(rt, alloc, 8_192, 0);
+    take_written(rt, alloc, two, &mut content, &FIRST);
+    put(rt, alloc, two, b"b", b"2");
+    take_written(rt, alloc, two, &mut content, &SECOND);
+    take_written(rt, alloc, two, &mut content, &THIRD);
 }
 
 #[test]
 fn a_checkpoint_writes_what_changed_and_its_record(rt: HostRuntime) {
     let alloc = rt.alloc();
     let mut two = new_bench(&rt, alloc, ROOM, &[], &[b"b", b"a"]);
-    put(&rt, alloc, &mut two, b"b", b"1");
-    put(&rt, alloc, &mut two, b"a", b"1");
-    let mut content = Vec::new(alloc);
-    content.resize(8_192, 0).expect(&rt, "there is memory");
-    for (i, written) in WRITTEN.iter().enumerate() {
-        if i == 1 {
-            put(&rt, alloc, &mut two, b"b", b"2");
-        }
-        take_written(&rt, alloc, &mut two, &mut content, written);
+    check_written(&rt, alloc, &mut two);
+}
+
+const TABLES: [&[u8]; 3] = [b"a", b"b", b"c"];
+
+fn put_in_turn(rt: &impl Abort, alloc: Global, three: &mut Bench, i: usize) {
+    put(rt, alloc, three, TABLES[i % 3], &i.to_le_bytes());
+}
+
+fn take_many(rt: &impl Abort, alloc: Global, three: &mut Bench) {
+    for i in 0..1_000usize {
+        put_in_turn(rt, alloc, three, i);
+        take_within(rt, alloc, three, i, 32_768);
     }
+    check_len(rt, three, 32_768);
 }
 
 // Three leaves and the record of the checkpoint before, a new leaf and a new record.
 #[test]
 fn the_room_of_older_checkpoints_is_used_again(rt: HostRuntime) {
     let alloc = rt.alloc();
-    let mut three = new_bench(&rt, alloc, ROOM, &[], &[b"a", b"b", b"c"]);
-    let tables = [b"a", b"b", b"c"];
-    for i in 0..1_000usize {
-        put(&rt, alloc, &mut three, tables[i % 3], &i.to_le_bytes());
-        assert!(rt; take(&rt, alloc, &mut three) == Ok(()), "checkpoint {i}");
-        let len = three.disk.medium.bytes().len();
-        assert!(rt; len <= 32_768, "checkpoint {i}: {len}");
-    }
-    assert_eq!(rt; three.disk.medium.bytes().len(), 32_768);
+    let mut three = new_bench(&rt, alloc, ROOM, &[], &TABLES);
+    take_many(&rt, alloc, &mut three);
 }
 
 // A bench of two tables that has taken so many checkpoints, and whose table `b` has changed since.
 fn changed_after(rt: &impl Abort, alloc: Global, count: u8, failing: &[u64]) -> Bench {
     let mut two = new_bench(rt, alloc, ROOM, failing, &[b"b", b"a"]);
-    put(rt, alloc, &mut two, b"a", b"\0");
-    for i in 0..count {
-        put(rt, alloc, &mut two, b"b", &[i]);
-        assert!(rt; take(rt, alloc, &mut two) == Ok(()));
-    }
-    put(rt, alloc, &mut two, b"b", &[count]);
+    take_and_change(rt, alloc, &mut two, count);
     two
 }
 
-// The value of the key of table `b` on a device, none where no checkpoint was completed. Table `a`
-// has its row.
-fn value_on(rt: &impl Abort, alloc: Global, mut disk: MemDisk) -> Option<u8> {
+fn take_and_change(rt: &impl Abort, alloc: Global, two: &mut Bench, count: u8) {
+    put(rt, alloc, two, b"a", b"\0");
+    for i in 0..count {
+        put(rt, alloc, two, b"b", &[i]);
+        take_whole(rt, alloc, two);
+    }
+    put(rt, alloc, two, b"b", &[count]);
+}
+
+// What the last checkpoint on a device has.
+fn kept_on(rt: &impl Abort, alloc: Global, mut disk: MemDisk) -> Option<Kept> {
     let Recovered { place: _, kept } = recover(alloc, &mut disk).expect(rt, "it opens");
-    let Kept {
-        record: _,
-        trees: _,
-        leaves,
-    } = kept?;
-    let mut leaves = leaves.into_iter();
-    let first = leaves.next().expect(rt, "table a").into_rows();
-    assert!(rt; !first.is_empty());
-    let second = leaves.next().expect(rt, "table b").into_rows();
-    match &second.get(0)?.1.change {
-        CellChange::Put(value) => Some(*value.as_bytes().get(0)?),
+    kept
+}
+
+fn byte_of(change: &CellChange<Item>) -> Option<u8> {
+    match change {
+        CellChange::Put(value) => value.as_bytes().first().copied(),
         CellChange::Remove => None,
     }
 }
 
-// How many rows the first table on a device has.
-fn rows_on(rt: &impl Abort, alloc: Global, mut disk: MemDisk) -> usize {
-    let Recovered { place: _, kept } = recover(alloc, &mut disk).expect(rt, "it opens");
+// The value of the key of table `b`. Table `a` has its row.
+fn value_in(rt: &impl Abort, kept: Kept) -> Option<u8> {
     let Kept {
         record: _,
         trees: _,
         leaves,
-    } = kept.expect(rt, "a checkpoint");
+    } = kept;
+    let mut leaves = leaves.into_iter();
+    let first = leaves.next().expect(rt, "table a").into_rows();
+    assert!(rt; !first.is_empty());
+    let second = leaves.next().expect(rt, "table b").into_rows();
+    match second.first() {
+        Some((_, cell)) => byte_of(&cell.change),
+        None => None,
+    }
+}
+
+// The same on an image that a crash leaves of a device, none where no checkpoint was completed.
+fn value_left(rt: &impl Abort, alloc: Global, two: Bench, pick: u64) -> Option<u8> {
+    let left = two.disk.medium.crash(pick).expect(rt, "there is memory");
+    match kept_on(rt, alloc, left) {
+        Some(kept) => value_in(rt, kept),
+        None => None,
+    }
+}
+
+// How many rows the first table has.
+fn rows_in(rt: &impl Abort, kept: Kept) -> usize {
+    let Kept {
+        record: _,
+        trees: _,
+        leaves,
+    } = kept;
     let mut leaves = leaves.into_iter();
     leaves.next().expect(rt, "a table").into_rows().len()
+}
+
+// The first table on what a crash leaves of the device has so many rows.
+fn check_rows(rt: &impl Abort, alloc: Global, bench: Bench, wanted: usize) {
+    let left = bench.disk.medium.crash(0).expect(rt, "there is memory");
+    let kept = kept_on(rt, alloc, left).expect(rt, "a checkpoint");
+    assert_eq!(rt; rows_in(rt, kept), wanted);
 }
 
 // Whether the call of this number is a write or a sync that failed.
@@ -374,50 +502,93 @@ fn takes_down(rt: &impl Abort, disk: &MemDisk, call: u64) -> bool {
     )
 }
 
-// The call of this number fails in a checkpoint that would end before the call `end`. The next one
-// goes on where the engine is up. What a crash then leaves: the last two calls write the gate of the
-// slot, which is one byte, and sync it; other bytes in its place are an open gate.
-fn fails(rt: &impl Abort, alloc: Global, count: u8, call: u64, end: u64, pick: u64) {
-    let mut two = changed_after(rt, alloc, count, &[call]);
-    assert!(rt;
-        take(rt, alloc, &mut two) == Err(Refusal::DiskFault),
-        "{count}: call {call}"
-    );
-    let again = take(rt, alloc, &mut two);
+// The call of this number fails in a checkpoint.
+fn fail(rt: &impl Abort, alloc: Global, two: &mut Bench, count: u8, call: u64) {
+    let taken = take(rt, alloc, two);
+    assert!(rt; taken == Err(Refusal::DiskFault), "{count}: call {call}");
+}
+
+// The same, and the next checkpoint. Whether the engine is down then.
+fn fail_and_take(rt: &impl Abort, alloc: Global, two: &mut Bench, count: u8, call: u64) -> bool {
+    fail(rt, alloc, two, count, call);
+    take_again(rt, alloc, two, count, call)
+}
+
+// The next checkpoint goes on where the engine is up. Whether it is down.
+fn take_again(rt: &impl Abort, alloc: Global, two: &mut Bench, count: u8, call: u64) -> bool {
+    let again = take(rt, alloc, two);
     let is_down = takes_down(rt, &two.disk.medium, call);
     assert!(rt; matches!(again, Err(Refusal::Panic { fault: _ })) == is_down);
     assert!(rt; again.is_ok() != is_down, "{count}: call {call}");
-    let opens_gate = end.saturating_sub(call) <= 2 && matches!(pick, 1 | 3 | 4 | 6);
-    let want = if !is_down || opens_gate {
+    is_down
+}
+
+// What a crash then leaves: the last two calls write the gate of the slot, which is one byte, and sync
+// it; other bytes in its place are an open gate.
+fn value_after(count: u8, is_down: bool, left: u64, pick: u64) -> Option<u8> {
+    let opens_gate = left <= 2 && matches!(pick, 1 | 3 | 4 | 6);
+    if !is_down || opens_gate {
         Some(count)
     } else {
         count.checked_sub(1)
-    };
-    let left = two.disk.medium.crash(pick).expect(rt, "there is memory");
-    assert_eq!(rt;
-        value_on(rt, alloc, left),
-        want,
-        "{count}: call {call}, {pick}"
-    );
+    }
+}
+
+// The call of this number fails in a checkpoint that would end so many calls behind it.
+fn fails(rt: &impl Abort, alloc: Global, count: u8, call: u64, left: u64, pick: u64) {
+    let mut two = changed_after(rt, alloc, count, &[call]);
+    let is_down = fail_and_take(rt, alloc, &mut two, count, call);
+    let want = value_after(count, is_down, left, pick);
+    let found = value_left(rt, alloc, two, pick);
+    assert_eq!(rt; found, want, "{count}: call {call}, {pick}");
+}
+
+// All outcomes of the gate's byte, and four of what is before it.
+fn fails_by_picks(rt: &impl Abort, alloc: Global, count: u8, call: u64, left: u64) {
+    let picks = if left <= 2 { 8 } else { 4 };
+    for pick in 0..picks {
+        fails(rt, alloc, count, call, left, pick);
+    }
+}
+
+// The number of the first call of the next checkpoint, and that of the one behind its last.
+fn bounds(rt: &impl Abort, alloc: Global, count: u8) -> (u64, u64) {
+    let mut two = changed_after(rt, alloc, count, &[]);
+    bounds_on(rt, alloc, &mut two)
+}
+
+fn bounds_on(rt: &impl Abort, alloc: Global, two: &mut Bench) -> (u64, u64) {
+    let first = two.disk.medium.calls().len() as u64;
+    take_whole(rt, alloc, two);
+    (first, two.disk.medium.calls().len() as u64)
+}
+
+// The checkpoint behind so many others makes so many calls, each of which fails in turn.
+fn each_fails(rt: &impl Abort, alloc: Global, count: u8, calls: u64) {
+    let (first, end) = bounds(rt, alloc, count);
+    assert_eq!(rt; end.saturating_sub(first), calls, "{count}");
+    for call in first..end {
+        fails_by_picks(rt, alloc, count, call, end.saturating_sub(call));
+    }
 }
 
 #[test]
 fn a_failing_call_leaves_the_checkpoint_before_or_the_new_one(rt: HostRuntime) {
-    let alloc = rt.alloc();
     for (count, calls) in [(0, 12), (1, 10), (2, 12)] {
-        let mut two = changed_after(&rt, alloc, count, &[]);
-        let first = two.disk.medium.calls().len() as u64;
-        assert!(rt; take(&rt, alloc, &mut two) == Ok(()));
-        let end = two.disk.medium.calls().len() as u64;
-        assert_eq!(rt; end.saturating_sub(first), calls, "{count}");
-        for call in first..end {
-            // All outcomes of the gate's byte, and four of what is before it.
-            let picks = if end.saturating_sub(call) <= 2 { 8 } else { 4 };
-            for pick in 0..picks {
-                fails(&rt, alloc, count, call, end, pick);
-            }
-        }
+        each_fails(&rt, rt.alloc(), count, calls);
     }
+}
+
+fn check_only_length(rt: &impl Abort, calls: &[DiskCall]) {
+    assert!(rt; calls.len() == 1);
+    let only = calls.first().expect(rt, "a call");
+    assert!(rt; matches!(only, DiskCall::Looked(Look::Len)));
+}
+
+fn check_short(rt: &impl Abort, alloc: Global, two: &mut Bench) {
+    two.disk = new_disk(rt, alloc, ROOM, &[]);
+    assert!(rt; take(rt, alloc, two) == Err(Refusal::NoMemory));
+    check_only_length(rt, two.disk.medium.calls());
 }
 
 // The blocks of the checkpoint before are gone: the length is asked for, and nothing is written.
@@ -425,12 +596,21 @@ fn a_failing_call_leaves_the_checkpoint_before_or_the_new_one(rt: HostRuntime) {
 fn a_device_shorter_than_its_blocks_is_left_alone(rt: HostRuntime) {
     let alloc = rt.alloc();
     let mut two = changed_after(&rt, alloc, 1, &[]);
-    two.disk = new_disk(&rt, alloc, ROOM, &[]);
-    assert!(rt; take(&rt, alloc, &mut two) == Err(Refusal::NoMemory));
-    let calls = two.disk.medium.calls();
-    assert_eq!(rt; calls.len(), 1);
-    let only = calls.get(0).expect(&rt, "a call");
-    assert!(rt; matches!(only, DiskCall::Looked(Look::Len)));
+    check_short(&rt, alloc, &mut two);
+}
+
+fn put_long(rt: &impl Abort, alloc: Global, bench: &mut Bench) {
+    let long = bytes_of(rt, alloc, 5_000, b'1');
+    put(rt, alloc, bench, b"a", &long);
+}
+
+fn check_room(rt: &impl Abort, alloc: Global, bench: &mut Bench) {
+    put_long(rt, alloc, bench);
+    take_none(rt, alloc, bench, 3);
+    put(rt, alloc, bench, b"a", b"1");
+    take_whole(rt, alloc, bench);
+    check_len(rt, bench, 16_384);
+    take_none(rt, alloc, bench, 1);
 }
 
 // Two units have room for a leaf and a record, and not for a leaf of two and a record.
@@ -438,25 +618,22 @@ fn a_device_shorter_than_its_blocks_is_left_alone(rt: HostRuntime) {
 fn a_checkpoint_without_room_gives_back_what_it_wrote(rt: HostRuntime) {
     let alloc = rt.alloc();
     let mut bench = new_bench(&rt, alloc, 16_384, &[], &[b"a"]);
-    let mut long = Vec::new(alloc);
-    long.resize(5_000, b'1').expect(&rt, "there is memory");
-    put(&rt, alloc, &mut bench, b"a", &long);
-    for _ in 0..3u32 {
-        assert!(rt; take(&rt, alloc, &mut bench) == Err(Refusal::NoSpace));
-    }
-    put(&rt, alloc, &mut bench, b"a", b"1");
-    assert!(rt; take(&rt, alloc, &mut bench) == Ok(()));
-    assert_eq!(rt; bench.disk.medium.bytes().len(), 16_384);
-    assert!(rt; take(&rt, alloc, &mut bench) == Err(Refusal::NoSpace));
+    check_room(&rt, alloc, &mut bench);
 }
 
 // Gives each of 300 keys a value of so many bytes.
 fn put_rows(rt: &impl Abort, alloc: Global, bench: &mut Bench, len: usize) {
-    let mut value = Vec::new(alloc);
-    value.resize(len, b'1').expect(rt, "there is memory");
-    for i in 0..300u16 {
-        put_at(rt, alloc, bench, b"a", &i.to_be_bytes(), &value);
+    for key in 0..300u16 {
+        put_at(rt, alloc, bench, key, (len, b'1'));
     }
+}
+
+// A bench with the rows of 200 bytes: two leaves of 135 rows, which take 32,768 bytes, one of 30, which
+// takes 8,192, an inner page, and the record.
+fn with_rows(rt: &impl Abort, alloc: Global) -> Bench {
+    let mut bench = new_table(rt, alloc);
+    put_rows(rt, alloc, &mut bench, 200);
+    bench
 }
 
 // The offsets of the leaves of the first table.
@@ -469,38 +646,45 @@ fn leaf_offsets(rt: &impl Abort, alloc: Global, bench: &Bench) -> Vec<u64> {
     offsets
 }
 
-// 300 rows of 241 bytes: two leaves of 135 rows, which take 32,768 bytes, one of 30, which takes
-// 8,192, an inner page, and the record.
+// Takes a checkpoint, behind which the leaves of the first table stand there.
+fn take_at(rt: &impl Abort, alloc: Global, bench: &mut Bench, wanted: &[u64]) {
+    take_whole(rt, alloc, bench);
+    assert_eq!(rt; leaf_offsets(rt, alloc, bench).as_slice(), wanted);
+}
+
+// Changes 20 rows one by one. What the checkpoints before had alone is free again.
+fn change_rows(rt: &impl Abort, alloc: Global, bench: &mut Bench) {
+    for i in 0..20u16 {
+        let key = i.saturating_mul(10).saturating_add(100);
+        put_at(rt, alloc, bench, key, (200, b'2'));
+        take_within(rt, alloc, bench, usize::from(key), 167_936);
+    }
+}
+
+fn take_first(rt: &impl Abort, alloc: Global, bench: &mut Bench) {
+    take_at(rt, alloc, bench, &[8_192, 40_960, 73_728]);
+    check_len(rt, bench, 90_112);
+}
+
+// The middle leaf changes: it, the inner page and the record are written behind the others.
+fn take_second(rt: &impl Abort, alloc: Global, bench: &mut Bench) {
+    put_at(rt, alloc, bench, 200, (200, b'2'));
+    take_at(rt, alloc, bench, &[8_192, 90_112, 73_728]);
+    check_len(rt, bench, 131_072);
+}
+
+fn take_changed(rt: &impl Abort, alloc: Global, bench: &mut Bench) {
+    take_first(rt, alloc, bench);
+    take_second(rt, alloc, bench);
+    change_rows(rt, alloc, bench);
+}
+
 #[test]
 fn a_table_past_one_leaf_keeps_the_leaves_that_are_the_same(rt: HostRuntime) {
     let alloc = rt.alloc();
-    let mut bench = new_bench(&rt, alloc, ROOM, &[], &[b"a"]);
-    put_rows(&rt, alloc, &mut bench, 200);
-    assert!(rt; take(&rt, alloc, &mut bench) == Ok(()));
-    assert_eq!(rt;
-        leaf_offsets(&rt, alloc, &bench).as_slice(),
-        [8_192u64, 40_960, 73_728].as_slice()
-    );
-    assert_eq!(rt; bench.disk.medium.bytes().len(), 90_112);
-    // The middle leaf changes: it, the inner page and the record are written behind the others.
-    let mut value = Vec::new(alloc);
-    value.resize(200, b'2').expect(&rt, "there is memory");
-    put_at(&rt, alloc, &mut bench, b"a", &200u16.to_be_bytes(), &value);
-    assert!(rt; take(&rt, alloc, &mut bench) == Ok(()));
-    assert_eq!(rt;
-        leaf_offsets(&rt, alloc, &bench).as_slice(),
-        [8_192u64, 90_112, 73_728].as_slice()
-    );
-    assert_eq!(rt; bench.disk.medium.bytes().len(), 131_072);
-    // What the checkpoints before had alone is free again.
-    for i in 0..20u16 {
-        let key = i.saturating_mul(10).saturating_add(100);
-        put_at(&rt, alloc, &mut bench, b"a", &key.to_be_bytes(), &value);
-        assert!(rt; take(&rt, alloc, &mut bench) == Ok(()), "row {key}");
-        assert!(rt; bench.disk.medium.bytes().len() <= 167_936, "row {key}");
-    }
-    let left = bench.disk.medium.crash(0).expect(&rt, "there is memory");
-    assert_eq!(rt; rows_on(&rt, alloc, left), 300);
+    let mut bench = with_rows(&rt, alloc);
+    take_changed(&rt, alloc, &mut bench);
+    check_rows(&rt, alloc, bench, 300);
 }
 
 // Evicts the first leaf that was made.
@@ -514,27 +698,55 @@ fn let_out(alloc: Global, bench: &mut Bench) -> Result<Evicted, Refusal> {
     )
 }
 
+fn check_let_out(rt: &impl Abort, alloc: Global, bench: &mut Bench, wanted: Evicted) {
+    assert!(rt; let_out(alloc, bench) == Ok(wanted));
+}
+
+fn part(rt: &impl Abort, alloc: Global, bench: &mut Bench) {
+    begin_beside(rt, alloc, &mut bench.engine);
+    check_let_out(rt, alloc, bench, Evicted::Parted);
+    check_let_out(rt, alloc, bench, Evicted::Stays(Stays::Away));
+    check_len(rt, bench, 81_920);
+    take_at(rt, alloc, bench, &[8_192, 40_960, 73_728]);
+}
+
 // The leaf of these rows parts while a transaction runs, and the checkpoint keeps its three blocks as
 // they stand.
 #[test]
 fn a_leaf_of_three_blocks_parts_beside_a_transaction(rt: HostRuntime) {
     let alloc = rt.alloc();
-    let mut bench = new_bench(&rt, alloc, ROOM, &[], &[b"a"]);
-    put_rows(&rt, alloc, &mut bench, 200);
-    assert!(rt; bench.engine.open_session(alloc).is_ok());
-    assert!(rt; bench.engine.sessions() > 1);
-    let begun = bench.engine.call(alloc, 1, SessionCall::Begin(None));
-    assert!(rt; begun == Called::Ended(Answer::Done));
-    assert!(rt; let_out(alloc, &mut bench) == Ok(Evicted::Parted));
-    assert!(rt; let_out(alloc, &mut bench) == Ok(Evicted::Stays(Stays::Away)));
-    assert_eq!(rt; bench.disk.medium.bytes().len(), 81_920);
-    assert!(rt; take(&rt, alloc, &mut bench) == Ok(()));
-    assert_eq!(rt;
-        leaf_offsets(&rt, alloc, &bench).as_slice(),
-        [8_192u64, 40_960, 73_728].as_slice()
-    );
-    let left = bench.disk.medium.crash(0).expect(&rt, "there is memory");
-    assert_eq!(rt; rows_on(&rt, alloc, left), 300);
+    let mut bench = with_rows(&rt, alloc);
+    part(&rt, alloc, &mut bench);
+    check_rows(&rt, alloc, bench, 300);
+}
+
+fn is_first(change: &Change) -> bool {
+    matches!(change, Change::Put(value) if value.as_bytes() == b"first".as_slice())
+}
+
+// The first value alone is kept of the leaf.
+fn check_first_kept(rt: &impl Abort, alloc: Global, ground: &Ground) {
+    let moved = ground.kept.copy_of(alloc, 0);
+    let moved = moved.expect(rt, "there is memory");
+    assert!(rt; moved.len() == 1);
+    for one in &moved {
+        assert!(rt; is_first(&one.version.change));
+    }
+}
+
+fn check_none_kept(rt: &impl Abort, alloc: Global, ground: &Ground) {
+    let moved = ground.kept.copy_of(alloc, 0);
+    assert!(rt; moved.expect(rt, "there is memory").is_empty());
+}
+
+fn check_removed(rt: &impl Abort, alloc: Global, bench: &mut Bench) {
+    put(rt, alloc, bench, b"a", b"first");
+    begin_beside(rt, alloc, &mut bench.engine);
+    remove(rt, alloc, bench);
+    check_let_out(rt, alloc, bench, Evicted::Done);
+    check_first_kept(rt, alloc, &bench.ground);
+    bench.ground.kept.forget(0);
+    check_none_kept(rt, alloc, &bench.ground);
 }
 
 // A reader may still want the value under a removal: the leaf goes out with the removal as its row, and
@@ -542,44 +754,41 @@ fn a_leaf_of_three_blocks_parts_beside_a_transaction(rt: HostRuntime) {
 #[test]
 fn what_a_reader_may_want_of_an_evicted_leaf_is_kept(rt: HostRuntime) {
     let alloc = rt.alloc();
-    let mut bench = new_bench(&rt, alloc, ROOM, &[], &[b"a"]);
-    put(&rt, alloc, &mut bench, b"a", b"first");
-    assert!(rt; bench.engine.open_session(alloc).is_ok());
-    assert!(rt; bench.engine.sessions() > 1);
-    let begun = bench.engine.call(alloc, 1, SessionCall::Begin(None));
-    assert!(rt; begun == Called::Ended(Answer::Done));
-    remove(&rt, alloc, &mut bench, b"a");
-    assert!(rt; let_out(alloc, &mut bench) == Ok(Evicted::Done));
-    let moved = bench
-        .ground
-        .kept
-        .copy_of(alloc, 0)
-        .expect(&rt, "there is memory");
-    assert_eq!(rt; moved.len(), 1);
-    for one in &moved {
-        assert!(rt;
-            matches!(&one.version.change, Change::Put(value) if value.as_bytes() == b"first".as_slice())
-        );
-    }
-    bench.ground.kept.forget(0);
-    let none = bench
-        .ground
-        .kept
-        .copy_of(alloc, 0)
-        .expect(&rt, "there is memory");
-    assert!(rt; none.is_empty());
+    let mut bench = new_table(&rt, alloc);
+    check_removed(&rt, alloc, &mut bench);
 }
 
 // How many versions are kept of a leaf, each of a key that lies in it.
-fn kept_of(rt: &impl Abort, alloc: Global, bench: &Bench, leaf: Option<&Leaf>) -> usize {
-    let leaf = leaf.expect(rt, "a leaf");
+fn kept_of(rt: &impl Abort, alloc: Global, bench: &Bench, leaf: &Leaf) -> usize {
     let kept = bench.ground.kept.copy_of(alloc, leaf.id);
     let kept = kept.expect(rt, "there is memory");
     for one in &kept {
-        let leaves = bench.engine.leaves();
-        assert!(rt; leaves.leaf_for(leaf.table, one.key.as_bytes()) == Some(leaf.id));
+        let found = bench
+            .engine
+            .leaves()
+            .leaf_for(leaf.table, one.key.as_bytes());
+        assert!(rt; found == Some(leaf.id));
     }
     kept.len()
+}
+
+// So many versions are kept of each leaf of the first table.
+fn check_kept(rt: &impl Abort, alloc: Global, bench: &Bench, wanted: &[usize]) {
+    let table = bench.engine.tables().table(0).expect(rt, "a table").number;
+    let mut leaves = bench.engine.leaves().leaves_of(table);
+    for count in wanted {
+        let leaf = leaves.next_leaf().expect(rt, "a leaf");
+        assert!(rt; kept_of(rt, alloc, bench, leaf) == *count);
+    }
+    assert!(rt; leaves.next_leaf().is_none());
+}
+
+fn check_parted(rt: &impl Abort, alloc: Global, bench: &mut Bench) {
+    put_rows(rt, alloc, bench, 100);
+    begin_beside(rt, alloc, &mut bench.engine);
+    put_rows(rt, alloc, bench, 200);
+    check_let_out(rt, alloc, bench, Evicted::Parted);
+    check_kept(rt, alloc, bench, &[135, 135, 30]);
 }
 
 // A reader may still want the first value of each row of a leaf that parts into three. Each of these
@@ -587,48 +796,40 @@ fn kept_of(rt: &impl Abort, alloc: Global, bench: &Bench, leaf: Option<&Leaf>) -
 #[test]
 fn what_a_reader_may_want_of_a_leaf_that_parts_is_kept_by_leaf(rt: HostRuntime) {
     let alloc = rt.alloc();
-    let mut bench = new_bench(&rt, alloc, ROOM, &[], &[b"a"]);
-    put_rows(&rt, alloc, &mut bench, 100);
-    assert!(rt; bench.engine.open_session(alloc).is_ok());
-    assert!(rt; bench.engine.sessions() > 1);
-    let begun = bench.engine.call(alloc, 1, SessionCall::Begin(None));
-    assert!(rt; begun == Called::Ended(Answer::Done));
-    put_rows(&rt, alloc, &mut bench, 200);
-    assert!(rt; let_out(alloc, &mut bench) == Ok(Evicted::Parted));
-    let table = bench.engine.tables().table(0).expect(&rt, "a table").number;
-    let mut leaves = bench.engine.leaves().leaves_of(table);
-    for want in [135usize, 135, 30] {
-        assert_eq!(rt; kept_of(&rt, alloc, &bench, leaves.next_leaf()), want);
-    }
-    assert!(rt; leaves.next_leaf().is_none());
+    let mut bench = new_table(&rt, alloc);
+    check_parted(&rt, alloc, &mut bench);
+}
+
+fn check_empty(rt: &impl Abort, alloc: Global, bench: &mut Bench) {
+    check_let_out(rt, alloc, bench, Evicted::Empty);
+    take_whole(rt, alloc, bench);
+    check_let_out(rt, alloc, bench, Evicted::Emptied);
+    check_let_out(rt, alloc, bench, Evicted::Stays(Stays::Away));
+    take_whole(rt, alloc, bench);
 }
 
 // A leaf without keys stays where no checkpoint has its table, and leaves its frame where one has.
 #[test]
 fn a_leaf_without_keys_leaves_its_frame_behind_a_checkpoint(rt: HostRuntime) {
     let alloc = rt.alloc();
-    let mut bench = new_bench(&rt, alloc, ROOM, &[], &[b"a"]);
-    assert!(rt; let_out(alloc, &mut bench) == Ok(Evicted::Empty));
-    assert!(rt; take(&rt, alloc, &mut bench) == Ok(()));
-    assert!(rt; let_out(alloc, &mut bench) == Ok(Evicted::Emptied));
-    assert!(rt; let_out(alloc, &mut bench) == Ok(Evicted::Stays(Stays::Away)));
-    assert!(rt; take(&rt, alloc, &mut bench) == Ok(()));
+    let mut bench = new_table(&rt, alloc);
+    check_empty(&rt, alloc, &mut bench);
 }
 
-// A transaction that removes the key `k` of a table.
-fn remove(rt: &impl Abort, alloc: Global, bench: &mut Bench, table: &[u8]) {
-    let engine = &mut bench.engine;
-    ask(rt, alloc, engine, SessionCall::Begin(None));
+// A transaction that removes the key `k` of the table `a`.
+fn remove(rt: &impl Abort, alloc: Global, bench: &mut Bench) {
     let call = SessionCall::Remove {
-        table: item(rt, alloc, table),
+        table: item(rt, alloc, b"a"),
         key: item(rt, alloc, b"k"),
     };
-    ask(rt, alloc, engine, call);
-    let commit = SessionCall::Commit {
-        commit: None,
-        durable: None,
-    };
-    ask(rt, alloc, engine, commit);
+    ask_whole(rt, alloc, bench, call);
+}
+
+fn check_given_back(rt: &impl Abort, alloc: Global, bench: &mut Bench) {
+    put_rows(rt, alloc, bench, 200);
+    take_none(rt, alloc, bench, 3);
+    put_rows(rt, alloc, bench, 1);
+    take_whole(rt, alloc, bench);
 }
 
 // There is room for the tree, and not for the record behind it.
@@ -636,10 +837,5 @@ fn remove(rt: &impl Abort, alloc: Global, bench: &mut Bench, table: &[u8]) {
 fn a_tree_without_a_record_is_given_back(rt: HostRuntime) {
     let alloc = rt.alloc();
     let mut bench = new_bench(&rt, alloc, 86_016, &[], &[b"a"]);
-    put_rows(&rt, alloc, &mut bench, 200);
-    for _ in 0..3u32 {
-        assert!(rt; take(&rt, alloc, &mut bench) == Err(Refusal::NoSpace));
-    }
-    put_rows(&rt, alloc, &mut bench, 1);
-    assert!(rt; take(&rt, alloc, &mut bench) == Ok(()));
+    check_given_back(&rt, alloc, &mut bench);
 }

@@ -48,7 +48,7 @@ set-before session again r is = elim (cases_eq r session) [
 ]
 
 -- whether a leaf went out before a session's last call is no matter
-again-back : (e : Engine) (w : World) (session : ℕ) → Stands e (record w { again = unset session w.again }) → Stands e w
+pub again-back : (e : Engine) (w : World) (session : ℕ) → Stands e (record w { again = unset session w.again }) → Stands e w
 again-back e w session st = again-as e (record w { again = unset session w.again }) w.again st (λ r a at noticed. noticed-more a.stage e.pieces (unset session w.again r) (w.again r) (set-before session w.again r) noticed)
 
 -- none has since it began
@@ -69,7 +69,7 @@ module _ (w middle last : World) (session : ℕ) (told : Reply) (inside : sessio
     long = subst (λ (n : ℕ). session < n) (sym (ap (λ (x : World). length x.sessions) at ∙ length-set w.sessions session (doing_of middle session))) inside
 
 -- a step after which the call goes on
-step-reaches : StepsReach → (kept : KeptBy) (from : Machine) (w middle last : World) (session : ℕ) (call : Call) → session < length w.sessions → middle ≡ moved w session middle.machine (doing_of middle session)
+pub step-reaches : StepsReach → (kept : KeptBy) (from : Machine) (w middle last : World) (session : ℕ) (call : Call) → session < length w.sessions → middle ≡ moved w session middle.machine (doing_of middle session)
     → Reached kept from session call (doing_of middle session) middle.machine → MayGo middle session reply.More last → Reached kept from session call (doing_of last session) last.machine
 step-reaches law kept from w middle last session call inside at reached go = elim (law kept from middle.machine session call (doing_of middle session) go.made reached (goes-quietly w middle last session reply.More inside at go)) [
   | inl on ↦ subst (λ d. Reached kept from session call d last.machine) (sym (does-now w middle last session reply.More inside at go))
@@ -111,7 +111,7 @@ comes-to law kept w session call inside (suc n) middle last under steps = comes-
     }) steps.2
 
 -- the session does nothing, as before
-at-rest : (new : Engine) (w last : World) (session : ℕ) → doing_of w session ≡ Resting → last ≡ moved w session last.machine Resting → Stands new last → Stands new (record w { machine = last.machine })
+pub at-rest : (new : Engine) (w last : World) (session : ℕ) → doing_of w session ≡ Resting → last ≡ moved w session last.machine Resting → Stands new last → Stands new (record w { machine = last.machine })
 at-rest new w last session rests is st = again-back new (record w { machine = last.machine }) session (subst (Stands new)
     (is ∙ (λ i. record w { machine = last.machine; sessions = (ap (slice_set w.sessions session) (sym rests) ∙ set-get_or w.sessions session Resting) i; again = unset session w.again })) st)
 
@@ -130,7 +130,7 @@ not-begun (Decided told event left) w later session call answer is = ((let e : r
 not-begun (Ending told left) w later session call answer is = ((let e : reply.Answer answer ≡ reply.Answer (answers.Refused (refusal.Invalid InCall)) = is.0 in cc), is.1)
 
 -- a call that was begun is under way
-begun-under : (w middle : World) (session : ℕ) (call : Call) (left : ℕ) → doing_of w session ≡ Resting → session < length w.sessions → middle ≡ record w { sessions = slice_set w.sessions session (Asked call left); again = unset session w.again } → IsUnderWay None w session call middle
+pub begun-under : (w middle : World) (session : ℕ) (call : Call) (left : ℕ) → doing_of w session ≡ Resting → session < length w.sessions → middle ≡ record w { sessions = slice_set w.sessions session (Asked call left); again = unset session w.again } → IsUnderWay None w session call middle
 begun-under w middle session call left rests inside begun = record {
   rests = rests;
   moved_to = begun ∙ (λ i. moved w session (sym machine-is' i) (sym does i));

@@ -31,7 +31,7 @@ taken-goes old new session reply.More now answer taken leads fewer own = subst (
 taken-goes old new session reply.Started now answer taken leads fewer own = subst (λ (g : Went). GoesBy g old new session answer) (sym taken) (record { told = reply.Started; none = λ a e. absurd (cc); leads = leads; fewer = fewer (λ a e. absurd (cc)) })
 
 -- a call goes on where it is not answered
-is-more : (w later : World) (session : ℕ) (told : Reply) → IsNoAnswer told → MayGo w session told later → told ≡ reply.More
+pub is-more : (w later : World) (session : ℕ) (told : Reply) → IsNoAnswer told → MayGo w session told later → told ≡ reply.More
 is-more w later session told none go = elim (ends-or-goes (w.again session) (doing_of w session) w.machine session go.made go.goes) [
   | inl answered ↦ absurd (none answered.0 (go.tells ∙ answered.1))
   | inr more ↦ go.tells ∙ more

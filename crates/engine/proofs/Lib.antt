@@ -44,3 +44,5 @@ pub mod CursorsKept
 pub mod TableNames
 pub mod ReadingRows
 pub mod OneRow
+pub mod TurningAway
+pub mod Lockers

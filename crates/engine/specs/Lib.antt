@@ -18,3 +18,4 @@ pub mod Told
 pub mod Reads
 pub mod RowReads
 pub mod Batches
+pub mod Turning

@@ -4,6 +4,7 @@ ghost use Rattle.std.specs.Prelude.{◌≡◌, ◌≤◌, ◌+◌, ◌∷◌, �
 ghost use Rattle.engine.specs.Batches.{EndsIn, lent_row};
 
 use failure::NoMemory;
+use leaf_frame::LeafPlace;
 use std::alloc::Global;
 use std::marker::Model;
 
@@ -29,6 +30,8 @@ pub(crate) struct Bounds {
 pub struct RowBatch {
     bytes: Vec<u8>,
     bounds: Vec<Bounds>,
+    // Where the last row stood in its leaf, when it was read: a hint for the next read.
+    hint: LeafPlace,
 }
 
 impl Model for RowBatch {
@@ -50,7 +53,20 @@ impl RowBatch {
         RowBatch {
             bytes: Vec::new(alloc),
             bounds: Vec::new(alloc),
+            hint: LeafPlace::nowhere(),
         }
+    }
+
+    // Where the row may stand in its leaf behind which the next one is read.
+    pub(crate) fn hint(&self) -> LeafPlace {
+        self.hint
+    }
+
+    // Keeps where the last row stands.
+    pub(crate) fn keep_hint(&mut self, hint: LeafPlace)
+        ensures { self.new ≡ self.old }
+    {
+        self.hint = hint;
     }
 
     /// How many rows it has.
@@ -61,6 +77,7 @@ impl RowBatch {
     }
 
     /// Has no rows from now on; the buffers stay.
+    #[inline(always)]
     pub fn clear(&mut self)
         ensures { self.new ≡ [] }
     {
@@ -69,6 +86,7 @@ impl RowBatch {
     }
 
     /// The row at a place, from 0 on. `O(1)`.
+    #[inline(always)]
     pub fn row(&self, at: usize) -> Option<LentRow<'_>>
         ensures { option_map lent_row result ≡ slice_get self.now at }
     {
@@ -77,6 +95,7 @@ impl RowBatch {
     }
 
     /// The last row. `O(1)`.
+    #[inline(always)]
     pub fn last(&self) -> Option<LentRow<'_>>
         ensures { EndsIn self.now (option_map lent_row result) }
     {
@@ -88,6 +107,7 @@ impl RowBatch {
     }
 
     /// Copies a row behind the others. Where memory is short, nothing is changed.
+    #[inline(always)]
     pub fn push(&mut self, key: &[u8], value: &[u8]) -> Result<(), NoMemory>
         ensures pushed { OnOk result (self.new ≡ self.old ++ (key.now, value.now) ∷ []) }
         ensures kept { OnErr result (self.new ≡ self.old) }
@@ -105,6 +125,7 @@ impl RowBatch {
 }
 
 // The row that lies there.
+#[inline(always)]
 fn row_at(bytes: &[u8], bounds: Bounds) -> LentRow<'_>
     requires key { bounds.key ≤ bounds.value }
     requires value { bounds.value ≤ bounds.end }
@@ -118,6 +139,7 @@ fn row_at(bytes: &[u8], bounds: Bounds) -> LentRow<'_>
 }
 
 // Both, one behind the other, behind the bytes. Where memory is short, nothing is changed.
+#[inline(always)]
 fn append_both(bytes: &mut Vec<u8>, key: &[u8], value: &[u8]) -> Result<(), NoMemory>
     ensures appended { OnOk result (bytes.new.items ≡ (bytes.old.items ++ key.now) ++ value.now) }
     ensures kept { OnErr result (bytes.new.items ≡ bytes.old.items) }

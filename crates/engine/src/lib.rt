@@ -11,8 +11,9 @@
 //! nobody between answer as `kv_model` says; and that each call ends or waits for a leaf. What a
 //! device brings need not be what any world says: then too the engine stays whole, keeps its tables
 //! and their leaves, and its calls end; and a call tells no refusal that only a device gives, but the
-//! one by which its leaf was kept from it. Tells those who open and close it what a checkpoint in one
-//! go and a close rest on, and leaves to them what a device keeps.
+//! one by which its leaf was kept from it. A leaf that is evicted by steps has its frame locked, by
+//! whoever keeps the eviction (`Evicting`): a call that comes to it is turned away. Tells those who open
+//! and close it what a checkpoint in one go and a close rest on, and leaves to them what a device keeps.
 #![tactic(auto)]
 
 mod batch;
@@ -35,6 +36,7 @@ mod row_reads;
 mod runs;
 mod step;
 mod system;
+mod turning;
 mod waiting;
 
 pub use batch::{LentRow, RowBatch};
@@ -45,3 +47,7 @@ pub use got::Got;
 pub use local::Local;
 pub use runs::run_steps;
 pub use step::{Actor, Step};
+pub use turning::{
+    EvictStage, Evicting, are_any, evicting_of, first_found, is_evicting, locker, put_evicting,
+    put_stage,
+};

@@ -85,6 +85,7 @@ impl Parts {
         requires ready { waits_in self.old session ≡ None }
         requires sound { IsSound self.old }
         ensures step { LeadsEach self.old self.new session result }
+        ensures fewer { LeavesFewer self.old self.new session result }
         ensures kept { Keeps self.old self.new }
         ensures tells { TellsFrom (answer_in self.old session) result }
     {

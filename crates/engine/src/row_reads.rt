@@ -21,7 +21,7 @@ use crate::batch::RowBatch;
 use crate::local::Local;
 use crate::parts::Parts;
 use crate::reads::refused_first;
-use call_steps::{RowFound, leaf_of_row, next_row, walk_of};
+use call_steps::{RowFound, leaf_of_row, next_row, walk_near};
 use failure::NoMemory;
 use leaf_frame::{LeafFrame, held_reads_stand};
 use stamp::View;
@@ -37,8 +37,9 @@ impl Local {
     /// is copied once, into the batch in place of what that had, and the cursor stands on the last. A
     /// batch that is not full has all that the leaf has up to a conflict: what comes then, in the next
     /// leaf or in one that is in no frame, is told by `call`. A refusal is that of such a call; then there
-    /// are no rows, and nothing is changed. `O(log n)` comparisons with n keys of the leaf, then `O(1)`
-    /// for each row of its page and as many for each key that has updates.
+    /// are no rows, and nothing is changed. `O(log n)` comparisons with n keys of the leaf, and on the way
+    /// up a few where the cursor stands on the last row that was read into this batch; then `O(1)` for each
+    /// row of its page and as many for each key that has updates.
     pub fn next_rows(
         &mut self,
         alloc: Global,
@@ -65,7 +66,7 @@ impl Local {
     }
 
     /// The next row of a cursor alone, as by `next_rows`: whether the leaf has one. `O(log n)`
-    /// comparisons with n keys of the leaf.
+    /// comparisons with n keys of the leaf, or a few, as there.
     pub fn next_into(
         &mut self,
         alloc: Global,
@@ -216,12 +217,13 @@ fn copy_rows<'a>(
     ensures ends { OnOk result (length rows.new < most → NoneNearest view.now (way_in way) (start_behind (option_map (λ k. k.now) from.entry) rows.new) leaf.now) }
     ensures few { length rows.new ≤ most }
 {
-    let mut walk = walk_of(leaf, way, from);
+    let mut walk = walk_near(leaf, way, from, rows.hint());
     while rows.len() < most {
         match next_row(&mut walk, view) {
             RowFound::Row(key, value) => rows.push(key, value)?,
             _ => return Ok(()),
         }
     }
+    rows.keep_hint(walk.place());
     Ok(())
 }

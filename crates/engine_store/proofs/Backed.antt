@@ -15,10 +15,10 @@ use Rattle.call_steps.specs.declared.hub.Hub.{Hub}
 use Rattle.engine_world.specs.Stands.{Stands}
 use Rattle.engine_world.specs.Worlds.{World}
 use Rattle.engine.specs.Directories.{HubGoesOn}
+use Rattle.evict_step.specs.Kept.{KeepsThese}
 use Rattle.ckpt_step.specs.declared.ground.Ground.{Ground}
 use Rattle.ckpt_step.specs.Floors.{AreLivesOn, Follows, GoesOn}
 use Rattle.ckpt_step.specs.Grounds.{StandsOn}
-use Rattle.ckpt_step.specs.Kept.{KeepsThese}
 use Rattle.ckpt_step.proofs.Floors.{goes_same}
 use Rattle.ckpt_step.proofs.KeptGround.{follows_records, stands_kept}
 use Rattle.ckpt_step.proofs.Staying.{grounds_stay, no_fewer}

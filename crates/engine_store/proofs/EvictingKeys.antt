@@ -33,16 +33,16 @@ use Rattle.engine_store.proofs.AsHeld.{room_down_as, room_up_as}
 use Rattle.engine_store.proofs.MakingRoom.{LeafTold, WhyEvicted, still_up}
 
 -- a refusal is not done
-not_done : (r : Refusal) → (let answer : Answer (List ℕ) = Refused r in answer ≡ Done) → ⊥
+pub not_done : (r : Refusal) → (let answer : Answer (List ℕ) = Refused r in answer ≡ Done) → ⊥
 not_done r done = cc
 
 -- ---- before the leaf is looked at
 
-refused_so : (started : Option Call) (a : Around) (m : Machine) (name key : List ℕ) (r : Refusal) → IsRefusedAtOnce started m name key r → EvictAnswers started a m name key (Refused r) m
+pub refused_so : (started : Option Call) (a : Around) (m : Machine) (name key : List ℕ) (r : Refusal) → IsRefusedAtOnce started m name key r → EvictAnswers started a m name key (Refused r) m
 refused_so None a m name key r is = inr (inr (Decided_Refused r, is, refl, refl))
 refused_so (Some other) a m name key r is = (ap (λ (x : Refusal). let answer : Answer (List ℕ) = Refused x in answer) is, refl)
 
-looked_so : (started : Option Call) (a : Around) (m : Machine) (name key : List ℕ) (answer : Answer (List ℕ)) (next : Machine) → started ≡ None → SystemAnswers a m (Evict name key) answer next → EvictAnswers started a m name key answer next
+pub looked_so : (started : Option Call) (a : Around) (m : Machine) (name key : List ℕ) (answer : Answer (List ℕ)) (next : Machine) → started ≡ None → SystemAnswers a m (Evict name key) answer next → EvictAnswers started a m name key answer next
 looked_so None a m name key answer next none is = is
 looked_so (Some other) a m name key answer next none is = absurd cc
 

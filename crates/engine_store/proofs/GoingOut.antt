@@ -16,9 +16,9 @@ use Rattle.engine.specs.Directories.{HubGoesOn}
 use Rattle.engine.specs.Frames.{HasGoneOut, MayGoOut}
 use Rattle.engine.specs.declared.step.Actor.{Actor}
 use Rattle.engine.specs.declared.step.Step.{Step}
+use Rattle.evict_step.specs.Kept.{KeepsThese}
 use Rattle.ckpt_step.specs.declared.ground.Ground.{Ground}
 use Rattle.ckpt_step.specs.Floors.{AreLivesOn, Follows}
-use Rattle.ckpt_step.specs.Kept.{KeepsThese}
 use Rattle.ckpt_step.specs.Grounds.{StandsOn}
 use Rattle.ckpt_step.specs.Rooms.{known_in}
 use Rattle.ckpt_step.specs.Stays.{GroundsLetGo, let_go}

@@ -57,3 +57,6 @@ pub mod Stepping
 pub mod KeptAnswers
 pub mod MakingRoom
 pub mod EvictingKeys
+pub mod BesideSteps
+pub mod BesideCalls
+pub mod EvictTurns

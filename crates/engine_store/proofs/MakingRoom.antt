@@ -20,12 +20,12 @@ use Rattle.engine_world.specs.Systems.{DownsGo}
 use Rattle.engine_world.specs.Worlds.{Records, World, with_records}
 use Rattle.engine.specs.Evictions.{MayBeEvicted}
 use Rattle.evict_step.specs.Cuts.{IsLeastUnended}
+use Rattle.evict_step.specs.Kept.{KeepsThese, with_moved}
 use Rattle.ckpt_step.specs.declared.evicting.Evicted.{Evicted}
 use Rattle.ckpt_step.specs.declared.evicting.Evicted.TheVariants.{Done, Parted, Emptied, Stays, Unresolved, Empty}
 use Rattle.ckpt_step.specs.declared.ground.Ground.{Ground}
 use Rattle.ckpt_step.specs.Evicts.{Evicts, EvictsEngine, HasLeftFrame, HasLeftInParts, KeepsStill, LeftEmpty, WhyNotNow}
 use Rattle.ckpt_step.specs.Floors.{AreLivesOn, Follows}
-use Rattle.ckpt_step.specs.Kept.{KeepsThese, with_moved}
 use Rattle.ckpt_step.specs.Grounds.{StandsOn, number_of}
 use Rattle.ckpt_step.specs.WritesOut.{FallenOut, NotWritten, WhyNotOut}
 use Rattle.ckpt_step.proofs.KeptLists.{keeps_none}

@@ -35,8 +35,8 @@ use Rattle.wt_calls.specs.declared.call.Call.TheVariants as call
 use Rattle.engine.specs.Waits.{IsAway}
 use Rattle.engine.specs.Whole.{CallsIn, IsUnderWay, KeptBy, MakesAt, MayAnswer}
 use Rattle.evict_step.specs.Backs.{AreNewestFirst}
+use Rattle.evict_step.specs.Kept.{KeepsAt, KeepsThese, Lists, list_of, records_in}
 use Rattle.ckpt_step.specs.Floors.{laid_of}
-use Rattle.ckpt_step.specs.Kept.{KeepsAt, KeepsThese, Lists, list_of, records_in}
 use Rattle.ckpt_step.proofs.Members.{none_some, some_same}
 use Rattle.ckpt_step.specs.declared.ground.Ground.{Ground}
 use Rattle.disk_model.specs.declared.disk.Disk.{Ghosts}

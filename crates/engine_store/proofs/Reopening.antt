@@ -17,9 +17,9 @@ use Rattle.recover_open.proofs.Devices.{damage_no_content}
 use Rattle.tree_dir.specs.declared.leaf.Leaf.{Leaf}
 use Rattle.engine_world.specs.Systems.{first_world}
 use Rattle.engine_world.specs.Worlds.{World}
+use Rattle.evict_step.specs.Kept.{Lists, records_in}
 use Rattle.ckpt_step.specs.declared.lives.Lone.{Lone}
 use Rattle.ckpt_step.specs.Floors.{AreLivesOn}
-use Rattle.ckpt_step.specs.Kept.{Lists, records_in}
 use Rattle.ckpt_step.specs.Grounds.{AreRoots}
 use Rattle.ckpt_step.specs.Plain.{IsBareStill, StartsPlain}
 use Rattle.ckpt_step.specs.Rooms.{Written, known_in}

@@ -17,7 +17,7 @@ use Rattle.engine.specs.Directories.{HubGoesOn}
 use Rattle.engine.specs.Runs.{MayStep, StepFits}
 use Rattle.engine.specs.Sound.{AreBuilt}
 use Rattle.engine.specs.Waits.{awaited_by, waits_in}
-use Rattle.ckpt_step.specs.Kept.{Lists}
+use Rattle.evict_step.specs.Kept.{Lists}
 use Rattle.ckpt_step.proofs.Ordinary.{engines_are, fits_are}
 use Rattle.engine_store.specs.declared.store.Store.{Store}
 use Rattle.engine_store.specs.Calls.{CallKeeps, MayStepOn, Stepped}

@@ -14,9 +14,9 @@ use Rattle.engine.specs.declared.step.Actor.TheVariants as by
 use Rattle.engine.specs.declared.step.Step.TheVariants.{Go}
 use Rattle.engine.specs.Runs.{StepsMore, StepsOut}
 use Rattle.engine.specs.Whole.{Ends}
+use Rattle.evict_step.specs.Kept.{Lists}
 use Rattle.ckpt_step.specs.Keeps.{AreOrdinary}
 use Rattle.ckpt_step.specs.Floors.{laid_of}
-use Rattle.ckpt_step.specs.Kept.{Lists}
 use Rattle.engine_store.specs.declared.frames.Frames.{Frames}
 use Rattle.engine_store.specs.Calls.{EndsIn, GoesOrKept}
 use Rattle.engine_store.specs.Fetches.{CauseSince, ComesOrNot, GoesIn, StepsBy}
@@ -31,11 +31,11 @@ IsMiddle Caused now session middle = (middle ≡ now) ⊎ ((r : Refusal) × Caus
 
 -- ---- for other causes
 
-or_more : (P Q : World → Refusal → Type 0) → ((v : World) (r : Refusal) → P v r → Q v r) → (w : World) (session : ℕ) (next : World) → GoesOrKept P w session next → GoesOrKept Q w session next
+pub or_more : (P Q : World → Refusal → Type 0) → ((v : World) (r : Refusal) → P v r → Q v r) → (w : World) (session : ℕ) (next : World) → GoesOrKept P w session next → GoesOrKept Q w session next
 or_more P Q more w session next (inl goes) = inl goes
 or_more P Q more w session next (inr (r, cause, out)) = inr (r, more w r cause, out)
 
-in_more : (P Q : World → Refusal → Type 0) → ((v : World) (r : Refusal) → P v r → Q v r) → (n : ℕ) (w : World) (session : ℕ) (last : World) → GoesIn P n w session last → GoesIn Q n w session last
+pub in_more : (P Q : World → Refusal → Type 0) → ((v : World) (r : Refusal) → P v r → Q v r) → (n : ℕ) (w : World) (session : ℕ) (last : World) → GoesIn P n w session last → GoesIn Q n w session last
 in_more P Q more zero w session last is = is
 in_more P Q more (suc n) w session last (next, one, rest) = (next, or_more P Q more w session next one, in_more P Q more n next session last rest)
 
@@ -50,11 +50,11 @@ module _ (Caused : World → Refusal → Type 0) (session : ℕ) where
   out_in zero w last answer is = is
   out_in (suc n) w last answer (middle, one, rest) = (middle, inl one, out_in n middle last answer rest)
 
-  in_then : (n : ℕ) (w middle : World) (m : ℕ) (last : World) → GoesIn Caused n w session middle → GoesIn Caused m middle session last → (k : ℕ) × GoesIn Caused k w session last
+  pub in_then : (n : ℕ) (w middle : World) (m : ℕ) (last : World) → GoesIn Caused n w session middle → GoesIn Caused m middle session last → (k : ℕ) × GoesIn Caused k w session last
   in_then zero w middle m last is rest = (m, subst (λ (x : World). GoesIn Caused m x session last) is rest)
   in_then (suc n) w middle m last (next, one, first) rest = let k = in_then n next middle m last first rest in (suc k.0, (next, one, k.1))
 
-  ends_then : (n : ℕ) (w middle : World) (m : ℕ) (answer : Answer (List ℕ)) (last : World) → GoesIn Caused n w session middle → EndsIn Caused m middle session answer last → (k : ℕ) × EndsIn Caused k w session answer last
+  pub ends_then : (n : ℕ) (w middle : World) (m : ℕ) (answer : Answer (List ℕ)) (last : World) → GoesIn Caused n w session middle → EndsIn Caused m middle session answer last → (k : ℕ) × EndsIn Caused k w session answer last
   ends_then zero w middle m answer last is rest = (m, subst (λ (x : World). EndsIn Caused m x session answer last) is rest)
   ends_then (suc n) w middle m answer last (next, one, first) rest = let k = ends_then n next middle m answer last first rest in (suc k.0, (next, one, k.1))
 

@@ -17,8 +17,8 @@ use Rattle.engine.specs.declared.called.Called.TheVariants as called
 use Rattle.engine.specs.Waits.{WaitsAs, waits_in}
 use Rattle.engine.specs.Whole.{CallsIn, CallsKept, CallsTo, IsUnderWay, KeptBy, ResumesTo}
 use Rattle.engine.proofs.Waited.{filling, held}
+use Rattle.evict_step.specs.Kept.{Lists}
 use Rattle.ckpt_step.specs.Floors.{laid_of}
-use Rattle.ckpt_step.specs.Kept.{Lists}
 use Rattle.engine_store.specs.declared.frames.Frames.{Frames}
 use Rattle.engine_store.specs.declared.store.Store.{Store}
 use Rattle.engine_store.specs.Fetches.{CallsBy, CauseSince, CausedSince, ComesOrNot, ReachesOrNot}

@@ -24,8 +24,8 @@ use Rattle.engine_world.specs.Systems.{DownsGo}
 use Rattle.engine_world.specs.Worlds.{World}
 use Rattle.engine_world.proofs.HubMoves.{decided-down}
 use Rattle.engine.specs.Checkpoints.{MayStart, started_as}
+use Rattle.evict_step.specs.Kept.{KeepsThese, Lists}
 use Rattle.ckpt_step.specs.Floors.{AreLivesOn, Follows}
-use Rattle.ckpt_step.specs.Kept.{KeepsThese, Lists}
 use Rattle.ckpt_step.specs.Grounds.{StandsOn, number_of}
 use Rattle.ckpt_step.specs.Plain.{IsPlain}
 use Rattle.ckpt_step.specs.Trees.{AreLow}

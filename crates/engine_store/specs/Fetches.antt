@@ -15,9 +15,9 @@ use Rattle.engine.specs.declared.step.Step.{Step}
 use Rattle.engine.specs.declared.step.Step.TheVariants.{Go}
 use Rattle.engine.specs.Waits.{turns_in}
 use Rattle.engine.specs.Whole.{IsUnderWay, KeptBy, MayCallKept}
+use Rattle.evict_step.specs.Kept.{Lists}
 use Rattle.ckpt_step.specs.Floors.{AreLivesOn, Follows}
 use Rattle.ckpt_step.specs.Grounds.{StandsOn}
-use Rattle.ckpt_step.specs.Kept.{Lists}
 use Rattle.engine_store.specs.declared.frames.Frames.{Frames}
 use Rattle.engine_store.specs.declared.store.Store.{Store}
 use Rattle.engine_store.specs.Calls.{Basis, EndsIn, GoesOrKept, MayAnswerSo}

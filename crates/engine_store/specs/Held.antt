@@ -14,9 +14,9 @@ use Rattle.engine_world.specs.Stands.{Stands}
 use Rattle.engine_world.specs.Systems.{checkpointed, first_world}
 use Rattle.row_page.specs.Rows.{Row}
 use Rattle.engine_world.specs.Worlds.{World}
+use Rattle.evict_step.specs.Kept.{KeepsThese}
 use Rattle.ckpt_step.specs.Floors.{AreLivesOn, Follows}
 use Rattle.ckpt_step.specs.Grounds.{StandsOn}
-use Rattle.ckpt_step.specs.Kept.{KeepsThese}
 use Rattle.ckpt_step.specs.Plain.{IsPlain}
 use Rattle.engine_store.specs.declared.store.Store.{Store}
 use Rattle.engine_store.specs.Answers.{CheckpointTakes, CloseTakes, Installs, IsLeft, RefusesReopening, answer_of}

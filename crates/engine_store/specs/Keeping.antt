@@ -1,7 +1,7 @@
 -- What a store keeps of leaves that are in no frame, and the world in which the history has that.
 use Rattle.std.specs.Prelude.{◌≡◌}
 use Rattle.engine_world.specs.Worlds.{World}
-use Rattle.ckpt_step.specs.Kept.{Lists, records_in}
+use Rattle.evict_step.specs.Kept.{Lists, records_in}
 use Rattle.ckpt_step.specs.declared.ground.Ground.{Ground}
 
 -- the world in which the history has these versions, whatever it had

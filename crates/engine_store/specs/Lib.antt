@@ -19,3 +19,5 @@ pub mod Relieves
 pub mod WritesOut
 pub mod Room
 pub mod EvictCalls
+pub mod Beside
+pub mod EvictSteps

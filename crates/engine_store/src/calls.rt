@@ -215,7 +215,7 @@ impl Store {
     }
 
     // The same, with the leaves that it read still in their frames.
-    fn step_through<D: Disk>(&mut self, alloc: Global, disk: &mut D, step: Step) -> Reply
+    pub(crate) fn step_through<D: Disk>(&mut self, alloc: Global, disk: &mut D, step: Step) -> Reply
         requires { StepFits self.old.engine step }
         ensures stepped { Holding D.Disk self.old disk.old (λ start w first made. Stepped D.Disk start w first made self.old self.new disk.old disk.new step result) }
         ensures told { TellsSo D.Disk self.old self.new disk.old disk.new (λ basis start. MayReplySo D.Disk basis start disk.new result) }
@@ -244,7 +244,12 @@ impl Store {
     }
 
     // The same, with the leaves that it read still in their frames.
-    fn finish_through<D: Disk>(&mut self, alloc: Global, disk: &mut D, actor: Actor) -> Answer<Item>
+    pub(crate) fn finish_through<D: Disk>(
+        &mut self,
+        alloc: Global,
+        disk: &mut D,
+        actor: Actor,
+    ) -> Answer<Item>
         requires { StepFits self.old.engine (Step.Go actor) }
         ensures finished { Holding D.Disk self.old disk.old (λ start w first made. Finished D.Disk start w first made self.old self.new disk.old disk.new actor result) }
         ensures told { TellsSo D.Disk self.old self.new disk.old disk.new (λ basis start. MayAnswerSo D.Disk basis start disk.new result) }
@@ -352,7 +357,7 @@ impl Store {
 
     // The leaf that a session's call waits for comes into a frame. Where it cannot be had, the call is
     // kept out.
-    fn let_in<D: Disk>(
+    pub(crate) fn let_in<D: Disk>(
         &mut self,
         alloc: Global,
         disk: &mut D,
@@ -366,6 +371,7 @@ impl Store {
         ensures told { (basis : Option ABasis) (start : D) → D.faults start ≤ D.faults disk.old → IsBasis D.Disk basis self.old.engine disk.old → AreToldSo D.Disk basis start self.old.engine disk.old → AreToldSo D.Disk basis start self.new.engine disk.new }
         ensures ready { waits_in self.new.engine session ≡ None }
         ensures turns { turns_in self.new.engine session ≤ turns_in self.old.engine session }
+        ensures fewer { OnErr result (turns_in self.new.engine session < turns_in self.old.engine session) }
         ensures goes { HubGoesOn self.old.engine.hub self.new.engine.hub }
         ensures ground { IsSameButKept self.old.ground self.new.ground }
         ensures frames { self.new.frames ≡ self.old.frames }
@@ -419,7 +425,7 @@ impl Store {
 }
 
 // The session with whose call a step goes on.
-fn session_of(step: &Step) -> Option<u32>
+pub(crate) fn session_of(step: &Step) -> Option<u32>
     ensures { result ≡ session_in step.now }
 {
     match step {

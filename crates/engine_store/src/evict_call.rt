@@ -25,7 +25,7 @@ use std::alloc::Global;
 use wt_code::{Busy, Invalid, Limit, Refusal};
 
 // So many hazard words each session has, one session's behind the other's.
-const WORDS_EACH: usize = 5;
+pub(crate) const WORDS_EACH: u32 = 5;
 
 impl Store {
     /// A whole call of an actor of the system: the leaf in which the key of a table lies is evicted
@@ -69,7 +69,7 @@ impl Store {
     }
 
     // Whether the leaf of a key is looked at, or the call is refused before.
-    fn may_look(&self, number: u32, table: &[u8], key: &[u8]) -> Result<(), Refusal>
+    pub(crate) fn may_look(&self, number: u32, table: &[u8], key: &[u8]) -> Result<(), Refusal>
         ensures refused { IfErr result (λ r. (w : World) → Stands self.now.engine w → IsRefusedAtOnce (slice_index_or w.systems number None) w.machine table.now key.now r) }
         ensures own { IfErr result (λ r. r ≢ Refusal.DiskFault) }
         ensures goes { IfOk result (λ _. (w : World) → Stands self.now.engine w → MayLook (slice_index_or w.systems number None) w.machine table.now key.now) }
@@ -95,7 +95,7 @@ impl Store {
     }
 
     // The leaf in which a key lies, where it is in a frame.
-    fn framed_leaf(&self, table: &[u8], key: &[u8]) -> Option<u64>
+    pub(crate) fn framed_leaf(&self, table: &[u8], key: &[u8]) -> Option<u64>
         ensures none { result ≡ None → (w : World) → Stands self.now.engine w → IsOut self.now.engine w.machine table.now key.now }
         ensures some { IfSome result (λ id. (w : World) → Stands self.now.engine w → IsLeafOf self.now.engine w.machine table.now key.now id) }
     {
@@ -139,7 +139,7 @@ impl Store {
     }
 
     // What is told where a leaf stays for this reason.
-    fn kept_by(&self, alloc: Global, leaf: u64, why: Stays) -> Refusal
+    pub(crate) fn kept_by(&self, alloc: Global, leaf: u64, why: Stays) -> Refusal
         ensures told { WhyNotNow self.now.engine leaf why → IsKeptBy self.now.engine leaf result }
         ensures own { result ≢ Refusal.DiskFault }
     {
@@ -180,7 +180,7 @@ fn pinned_by(word: usize) -> Refusal
     ensures told { IsPinnedBy word result }
     ensures own { result ≢ Refusal.DiskFault }
 {
-    match u32::try_from(word / WORDS_EACH) {
+    match u32::try_from(word / (WORDS_EACH as usize)) {
         Ok(session) => Refusal::Busy(Busy::Pinned(session)),
         // There are not so many sessions.
         Err(_) => Refusal::NoMemory,

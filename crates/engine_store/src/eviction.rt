@@ -19,6 +19,9 @@ pub(crate) const TRIES: usize = 4;
 // So many calls are passed over between two looks for leaves of which many keys were written.
 const LOOK_EVERY: u32 = 1_000; // calls
 
+// So many where one of these leaves stayed at the last look, as while a transaction that wrote there goes on.
+const LOOK_AGAIN: u32 = 32; // calls
+
 /// Which leaves go out: a hand that goes over the frames, one after the other.
 #[derive(Drop)]
 pub(crate) struct Clock {
@@ -30,6 +33,8 @@ pub(crate) struct Clock {
     is_over: bool,
     // How many calls went by since leaves were looked for of which many keys were written.
     calls: u32,
+    // Whether there were such leaves behind that look.
+    are_left: bool,
 }
 
 impl Clock {
@@ -39,6 +44,7 @@ impl Clock {
             is_due: false,
             is_over: false,
             calls: 0,
+            are_left: false,
         }
     }
 
@@ -61,13 +67,26 @@ impl Clock {
     // A call went by. Whether leaves are looked for of which many keys were written.
     pub(crate) fn count_call(&mut self) -> bool {
         self.calls = self.calls.wrapping_add(1);
-        if self.calls < LOOK_EVERY {
+        if self.calls < self.pause() {
             return false;
         }
         self.calls = 0;
         // Leaves of new tables came into frames unread.
         self.is_due = true;
         true
+    }
+
+    // How many calls go by between two looks for such leaves.
+    fn pause(&self) -> u32 {
+        if self.are_left {
+            LOOK_AGAIN
+        } else {
+            LOOK_EVERY
+        }
+    }
+
+    pub(crate) fn note_left(&mut self, are_left: bool) {
+        self.are_left = are_left;
     }
 
     // The next one of so many frames.

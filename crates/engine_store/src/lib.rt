@@ -9,15 +9,18 @@
 //! from the device when they need them, and leave memory behind a call that read others, or behind
 //! a checkpoint; those that calls changed go out of it where the caller asks for it, while nobody
 //! is at work (`Store::write_out`) or whoever is (`Store::make_room`, and of one key
-//! `Store::evict`), and come back with what is kept of them. Of a device where a leaf is at fault
-//! it promises that damage is told of such a leaf alone, where a call needs it. Leaves to the
-//! caller to attach the disk, and to say how many frames there are.
+//! `Store::evict`), and come back with what is kept of them. One of these goes by steps too
+//! (`Store::evict_step`), beside which a call that comes to its leaf is turned away. Of a device
+//! where a leaf is at fault it promises that damage is told of such a leaf alone, where a call needs
+//! it. Leaves to the caller to attach the disk, and to say how many frames there are.
 #![tactic(auto)]
 
 mod above;
+mod beside;
 mod by_place;
 mod calls;
 mod evict_call;
+mod evict_steps;
 mod eviction;
 mod frames;
 mod loading;
@@ -30,6 +33,7 @@ mod store;
 mod tables;
 mod writing_out;
 
+pub use evict_steps::EvictTurn;
 pub use eviction::FRAMES;
 pub use frames::Frames;
 pub use opening::open_on;

@@ -9,7 +9,7 @@ ghost use Rattle.engine.specs.Waits.{IsAway, turns_in, waits_in};
 ghost use Rattle.leaf_capture.specs.Capture.{ChainsFit};
 ghost use Rattle.engine_world.specs.Coming.{ComesFrom};
 ghost use Rattle.evict_step.specs.Backs.{AreNewestFirst};
-ghost use Rattle.ckpt_step.specs.Kept.{list_of, records_in};
+ghost use Rattle.evict_step.specs.Kept.{list_of, records_in};
 ghost use Rattle.engine_store.specs.Keeping.{with_kept};
 ghost use Rattle.engine_store.specs.Loads.{IsReadAs, LacksLeaf, RefusesLeaf, ShelfIsOn};
 ghost use Rattle.failure.specs.Counts.{Rose};

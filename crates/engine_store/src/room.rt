@@ -12,6 +12,7 @@ use crate::store::Store;
 use crate::writing_out::{CHANGED_LEAST, is_short};
 use ckpt_step::evict;
 use disk_model::Disk;
+use engine::{Evicting, are_any};
 use engine_world::downs_go;
 use std::alloc::Global;
 
@@ -25,10 +26,10 @@ impl Store {
     ///
     /// While more frames have leaves than there are to be, these are the next ones of which keys were
     /// written since they were read. Every 1,000 calls it is each of which `CHANGED_LEAST` keys or more
-    /// were. At most four are tried; where the frames are firm, each is, until no more have leaves than
-    /// there are to be. A leaf stays in its frame that may not go, and for which memory or
-    /// the device has no room. A failed write takes the engine down; a failed read does not. Either ends
-    /// it.
+    /// were, and every 32 calls while one of these stays. At most four are tried; where the frames are
+    /// firm, each is, until no more have leaves than there are to be. A leaf stays in its frame that may
+    /// not go, and for which memory or the device has no room. A failed write takes the engine down; a
+    /// failed read does not. Either ends it.
     ///
     /// `O(1)` where nothing is due, else `O(n)` in the frames, and of each such leaf what
     /// `ckpt_step::evict` costs.
@@ -45,6 +46,26 @@ impl Store {
         self.evict_due(alloc, disk);
     }
 
+    /// The same, where no actor has an eviction that goes by steps; nothing else.
+    pub fn make_room_beside<D: Disk>(
+        &mut self,
+        alloc: Global,
+        disk: &mut D,
+        evicting: &[Option<Evicting>],
+    )
+        ensures room { MakesRoom D.Disk self.old self.new disk.old disk.new }
+        ensures frames { self.new.frames ≡ self.old.frames }
+        ensures sessions { length self.new.engine.sessions ≡ length self.old.engine.sessions }
+        ensures number { self.new.ground.number ≡ self.old.ground.number }
+        ensures ready { IsReady self.old → IsReady self.new }
+        ensures told { StaysTold D.Disk self.old self.new disk.old disk.new }
+        ensures disk { SameDisk D.Disk disk.old disk.new }
+    {
+        if !are_any(evicting) {
+            self.make_room(alloc, disk);
+        }
+    }
+
     // Those leaves, if any are due.
     #[inline(always)]
     fn evict_due<D: Disk>(&mut self, alloc: Global, disk: &mut D)
@@ -54,8 +75,30 @@ impl Store {
         if self.clock.take_over() {
             self.evict_over(alloc, disk);
         } else if self.clock.count_call() {
-            self.evict_some(alloc, disk, TRIES, CHANGED_LEAST);
+            self.evict_many(alloc, disk);
         }
+    }
+
+    // Some of the leaves of each of which many keys were written. While any is left, they are looked for
+    // again soon.
+    #[inline(never)]
+    fn evict_many<D: Disk>(&mut self, alloc: Global, disk: &mut D)
+        ensures room { MakesRoom D.Disk self.old self.new disk.old disk.new }
+        ensures alike { RoomAlike D.Disk self.old self.new disk.old disk.new }
+    {
+        self.evict_some(alloc, disk, TRIES, CHANGED_LEAST);
+        let are_left = self.has_changed();
+        self.clock.note_left(are_left);
+    }
+
+    // Whether many keys of a leaf in a frame were written.
+    fn has_changed(&self) -> bool {
+        for frame in 0..self.engine.frames() {
+            if self.changed_in(frame).is_some() {
+                return true;
+            }
+        }
+        false
     }
 
     // Some of the leaves beyond so many as there are frames. As long as some go, others go behind the next

@@ -67,7 +67,7 @@ impl Store {
     }
 
     // The leaf in a frame, where `CHANGED_LEAST` of its keys or more were written since it was read.
-    fn changed_in(&self, frame: usize) -> Option<u64> {
+    pub(crate) fn changed_in(&self, frame: usize) -> Option<u64> {
         let number = u32::try_from(frame).ok()?;
         self.changed_by(number, CHANGED_LEAST)
     }

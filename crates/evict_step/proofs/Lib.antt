@@ -5,3 +5,5 @@ pub mod Unended
 pub mod Cutting
 pub mod BroughtBack
 pub mod MovedFit
+pub mod KeptLists
+pub mod FreshLists

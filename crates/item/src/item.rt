@@ -1,7 +1,7 @@
 // Byte strings.
 
 ghost use Rattle.std.proofs.Common.{rules};
-ghost use Rattle.std.specs.Prelude.{◌≡◌, List, ℕ, IfOk, IsTrue, ◌↔◌, ◌==◌, length};
+ghost use Rattle.std.specs.Prelude.{◌≡◌, List, ℕ, ◌≤◌, IfOk, IsTrue, OnErr, OnOk, ◌↔◌, ◌==◌, length, vec_capacity};
 ghost use Rattle.std.specs.Cmp.{partial_order_from_own_ties};
 ghost use Rattle.std.specs.Cmp.Lexicographic.{pointwise, slice_cmp};
 ghost use Rattle.std.specs.Cmp.Rules.{comparing};
@@ -30,6 +30,18 @@ impl Item {
         ensures { result ≡ bytes.items }
     {
         Item { bytes }
+    }
+
+    /// Has these bytes from now on, in place of its own. Takes memory where it has no room for them;
+    /// where that is short, nothing is changed.
+    #[inline(always)]
+    pub fn set(&mut self, bytes: &[u8]) -> Result<(), NoMemory>
+        ensures set { OnOk result (self.new ≡ bytes.now) }
+        ensures kept { OnErr result (self.new ≡ self.old) }
+    {
+        self.bytes.reserve(bytes.len())?;
+        fill(&mut self.bytes, bytes);
+        Ok(())
     }
 
     /// Its bytes, lent.
@@ -75,6 +87,16 @@ impl Item {
     {
         order(self.as_bytes(), other.as_bytes())
     }
+}
+
+// These bytes in place of what the buffer has, which has room for them.
+#[inline(always)]
+fn fill(buffer: &mut Vec<u8>, bytes: &[u8])
+    requires { length bytes.now ≤ vec_capacity buffer.old }
+    ensures { buffer.new.items ≡ bytes.now }
+{
+    buffer.clear();
+    let _filled = buffer.extend_from_slice(bytes);
 }
 
 impl PartialEq for Item {

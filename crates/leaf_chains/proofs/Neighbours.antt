@@ -1,6 +1,7 @@
 -- The nearest key above or below a bound, by the order of the slots.
 use Rattle.std.proofs.Common.{◌≡◌, ℕ, zero, suc, ◌+◌, ◌-◌, ◌<◌, ◌≤◌, true, false, List, [], ◌∷◌, length, length-drop, get_or, drop, Option, Some, None, refl, sym, ap, subst, ◌∙◌, inl, inr, arith}
 use Rattle.std.specs.List.{HoldsAt}
+use Rattle.std.specs.List.Sorted.{IsPartitionPoint}
 use Rattle.std.specs.Ordering.{nat_cmp, is_lt, ordering_index, ordering_reverse}
 use Rattle.std.specs.Cmp.Lexicographic.{slice_cmp}
 use Rattle.std.specs.declared.cmp.Ordering.{Ordering}
@@ -9,6 +10,7 @@ use Rattle.std.proofs.lemmas.Bool.{cases_lt, both_ways}
 use Rattle.std.proofs.lemmas.Cmp.{nat_list_cmp_total, tied_itself}
 use Rattle.std.proofs.lemmas.List.{get_or-drop}
 use Rattle.std.proofs.lemmas.List.Elements.{at_from_Contains}
+use Rattle.std.proofs.lemmas.Map.Lookups.{exact_bytes}
 use Rattle.kv_model.specs.Rows.{Way, Up, Down, is_past, comes_after}
 use Rattle.ordered_groups.specs.Groups.{entries}
 use Rattle.ordered_groups.specs.Places.{Rises, PartsAt, IsPlace, rank}
@@ -19,17 +21,7 @@ use Rattle.leaf_chains.specs.Nearest.{IsNearest, IsWayUp, NonePast}
 use Rattle.leaf_chains.specs.Order.{IsIndex, key_order, not_above, not_below}
 use Rattle.leaf_chains.proofs.Index.{rises, place_within}
 
--- ---- how a search for a gap asks
-
-pub never_tied_above : (o : Ordering) → not_above o ≡ Equal → ⊥
-never_tied_above Less e = absurd cc
-never_tied_above Equal e = absurd cc
-never_tied_above Greater e = absurd cc
-
-pub never_tied_below : (o : Ordering) → not_below o ≡ Equal → ⊥
-never_tied_below Less e = absurd cc
-never_tied_below Equal e = absurd cc
-never_tied_below Greater e = absurd cc
+-- ---- how keys compare with a bound
 
 above_rises : (o p : Ordering) → ordering_index o ≤ ordering_index p → ordering_index (not_above o) ≤ ordering_index (not_above p)
 above_rises Less p h = omega arith
@@ -82,6 +74,50 @@ not_past_down key k h = by (slice_cmp nat_cmp k key) refl h where
   by Less e g = absurd cc
   by Equal e g = ap is_lt e
   by Greater e g = ap is_lt e
+
+-- ---- by where a key stands, or would
+
+at_most_tied : (o : Ordering) → ordering_index o ≤ 1 → not_above o ≡ Less
+at_most_tied Less h = refl
+at_most_tied Equal h = refl
+at_most_tied Greater h = absurd (omega (arith, h))
+
+at_least_tied : (o : Ordering) → 1 ≤ ordering_index o → not_below o ≡ Greater
+at_least_tied Less h = absurd (omega (arith, h))
+at_least_tied Equal h = refl
+at_least_tied Greater h = refl
+
+-- the gap behind the key
+pub parts_behind_key : (slots : List KeyChain) (order : List ℕ) (key : List ℕ) (r : ℕ) → IsIndex slots order → r < length order → HoldsAt (λ y. key_order slots key y ≡ Equal) order r → PartsAt (λ i. not_above (key_order slots key i)) order (r + 1)
+parts_behind_key slots order key r ix lt here rising = (
+  λ k d from to.
+      let up = rises slots order key ix k r d (omega (arith, to)) lt in
+      let tied = ap ordering_index (here d) in
+      at_most_tied (key_order slots key (get_or order k d)) (omega (arith, up, tied)),
+  λ k d from to.
+      let same = exact_bytes (key_at slots (get_or order r d)) key (here d) in
+      let less = subst (λ (x : List ℕ). slice_cmp nat_cmp x (key_at slots (get_or order k d)) ≡ Less) same (ix.ascends r k d (omega (arith, from)) to) in
+      ap not_above (nat_list_cmp_total.antisymm (key_at slots (get_or order k d)) key ∙ ap ordering_reverse less),
+)
+
+-- the gap before the key
+pub parts_before_key : (slots : List KeyChain) (order : List ℕ) (key : List ℕ) (r : ℕ) → IsIndex slots order → r < length order → HoldsAt (λ y. key_order slots key y ≡ Equal) order r → PartsAt (λ i. not_below (key_order slots key i)) order r
+parts_before_key slots order key r ix lt here rising = (
+  λ k d from to.
+      let same = exact_bytes (key_at slots (get_or order r d)) key (here d) in
+      ap not_below (subst (λ (x : List ℕ). slice_cmp nat_cmp (key_at slots (get_or order k d)) x ≡ Less) same (ix.ascends k r d to lt)),
+  λ k d from to.
+      let up = rises slots order key ix r k d from to in
+      let tied = ap ordering_index (here d) in
+      at_least_tied (key_order slots key (get_or order k d)) (omega (arith, up, tied)),
+)
+
+-- the gap where the key would go
+pub parts_above_gap : (slots : List KeyChain) (order : List ℕ) (key : List ℕ) (n : ℕ) → IsPartitionPoint (λ y. key_order slots key y ≡ Less) (λ y. key_order slots key y ≡ Greater) order n → PartsAt (λ i. not_above (key_order slots key i)) order n
+parts_above_gap slots order key n parts rising = (λ k d from to. ap not_above (parts.0 k d from to), λ k d from to. ap not_above (parts.1 k d from to))
+
+pub parts_below_gap : (slots : List KeyChain) (order : List ℕ) (key : List ℕ) (n : ℕ) → IsPartitionPoint (λ y. key_order slots key y ≡ Less) (λ y. key_order slots key y ≡ Greater) order n → PartsAt (λ i. not_below (key_order slots key i)) order n
+parts_below_gap slots order key n parts rising = (λ k d from to. ap not_below (parts.0 k d from to), λ k d from to. ap not_below (parts.1 k d from to))
 
 -- ---- the nearest
 

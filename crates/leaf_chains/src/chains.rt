@@ -97,6 +97,7 @@ impl LeafChains {
     }
 
     /// The key and the chain in a slot, none where there is no such slot. `O(1)`.
+    #[inline(always)]
     pub fn slot(&self, slot: u32) -> Option<&KeyChain>
         ensures there { option_copied result ≡ slice_get self.now slot }
         ensures own { IfSome result (λ s. slot_of s.now.key self.now ≡ Some slot) }
@@ -249,7 +250,7 @@ impl LeafChains {
     pub fn next_above(&self, bound: Option<&[u8]>) -> Option<u32>
         ensures { let from = option_map (λ k. k.now) bound.entry in MatchOption result (NonePast Up from self.now) (λ i. NextAbove from self.now i) }
     {
-        slot_above(self.slots.as_slice(), &self.order, bound)
+        slot_above(self.slots.as_slice(), &self.order, &self.heads, bound)
     }
 
     /// The slot of the greatest key below the bound, or of the greatest of all; none exactly where
@@ -257,7 +258,7 @@ impl LeafChains {
     pub fn next_below(&self, bound: Option<&[u8]>) -> Option<u32>
         ensures { let from = option_map (λ k. k.now) bound.entry in MatchOption result (NonePast Down from self.now) (λ i. NextBelow from self.now i) }
     {
-        slot_below(self.slots.as_slice(), &self.order, bound)
+        slot_below(self.slots.as_slice(), &self.order, &self.heads, bound)
     }
 
     /// The slots whose keys are above the bound, or all, in the order of their keys. `O(log n)`
@@ -265,7 +266,23 @@ impl LeafChains {
     pub fn walk_above(&self, bound: Option<&[u8]>) -> Walk<'_, u32>
         ensures { IsWayUp (option_map (λ k. k.now) bound.entry) self.now result }
     {
-        walk_above(self.slots.as_slice(), &self.order, bound)
+        self.walk_above_near(bound, Place::nowhere())
+    }
+
+    /// As `walk_above`, but looks first where the hint says that the bound stands: two comparisons at
+    /// most where it does. Any hint is answered alike.
+    #[inline(always)]
+    pub fn walk_above_near(&self, bound: Option<&[u8]>, hint: Place) -> Walk<'_, u32>
+        ensures { IsWayUp (option_map (λ k. k.now) bound.entry) self.now result }
+    {
+        walk_above(self.slots.as_slice(), &self.order, &self.heads, bound, hint)
+    }
+
+    /// Where the slot stands that a walk gave last: a hint for `walk_above_near`, of which nothing is
+    /// promised. `O(1)`.
+    #[inline(always)]
+    pub fn hint_of(&self, walk: &Walk<'_, u32>) -> Place {
+        self.order.hint_of(walk)
     }
 
     // The chain of a key that has a slot.
@@ -277,6 +294,7 @@ impl LeafChains {
     }
 }
 
+#[inline(always)]
 fn slot_in(slots: &[KeyChain], slot: u32) -> Option<&KeyChain>
     ensures { option_copied result ≡ slice_get slots.now slot }
 {

@@ -26,5 +26,5 @@ pub use laws::{
     changes_change, changes_keep, changes_keep_slots, installs_change, installs_keep,
     installs_keep_slots, slots_hold,
 };
-pub use ordered_groups::Walk;
+pub use ordered_groups::{Place, Walk};
 pub use slot::KeyChain;

@@ -32,28 +32,6 @@ fn compare(slots: &[KeyChain], slot: u32, key: &[u8]) -> Ordering
     byte_order::order(key_in(slots, slot), key)
 }
 
-#[inline(always)]
-fn not_above(order: Ordering) -> Ordering
-    ensures { result ≡ not_above order }
-{
-    match order {
-        Ordering::Less => Ordering::Less,
-        Ordering::Equal => Ordering::Less,
-        Ordering::Greater => Ordering::Greater,
-    }
-}
-
-#[inline(always)]
-fn not_below(order: Ordering) -> Ordering
-    ensures { result ≡ not_below order }
-{
-    match order {
-        Ordering::Less => Ordering::Less,
-        Ordering::Equal => Ordering::Greater,
-        Ordering::Greater => Ordering::Greater,
-    }
-}
-
 // Not inlined, so that a comparison of heads alone is.
 #[inline(never)]
 fn compare_whole(slots: &[KeyChain], slot: u32, key: &[u8]) -> Ordering
@@ -84,6 +62,7 @@ fn compare_heads(slots: &[KeyChain], heads: &Heads, slot: u32, key: &[u8], head:
 }
 
 // Where the slot of a key is named, or would be.
+#[inline(always)]
 fn place_of(
     slots: &[KeyChain],
     order: &OrderedGroups<u32>,
@@ -146,23 +125,68 @@ pub(crate) fn slot_with(
     }
 }
 
+// As `place_of`, but looks first where the hint says.
+#[inline(always)]
+fn place_near(
+    slots: &[KeyChain],
+    order: &OrderedGroups<u32>,
+    heads: &Heads,
+    key: &[u8],
+    hint: Place,
+) -> Result<Place, Place>
+    requires { AreHeads heads.now.front.items heads.now.words.items slots.now }
+    ensures place { MatchResult result (IsPlace order.now) (IsGap order.now) }
+    ensures found { Finds (key_order slots.now key.now) order.now result }
+{
+    match order.look_near(hint, |slot: u32| compare(slots, slot, key)) {
+        Some(found) => found,
+        None => place_afar(slots, order, heads, key),
+    }
+}
+
+// As `place_of`. Not inlined, so that a look at the hint alone is.
+#[inline(never)]
+fn place_afar(
+    slots: &[KeyChain],
+    order: &OrderedGroups<u32>,
+    heads: &Heads,
+    key: &[u8],
+) -> Result<Place, Place>
+    requires { AreHeads heads.now.front.items heads.now.words.items slots.now }
+    ensures place { MatchResult result (IsPlace order.now) (IsGap order.now) }
+    ensures found { Finds (key_order slots.now key.now) order.now result }
+{
+    place_of(slots, order, heads, key)
+}
+
 // The gap behind the slots whose keys are not above this one.
-fn gap_above(slots: &[KeyChain], order: &OrderedGroups<u32>, key: &[u8]) -> Place
+#[inline(always)]
+fn gap_above(
+    slots: &[KeyChain],
+    order: &OrderedGroups<u32>,
+    heads: &Heads,
+    key: &[u8],
+    hint: Place,
+) -> Place
+    requires index { IsIndex slots.now (entries order.now) }
+    requires heads { AreHeads heads.now.front.items heads.now.words.items slots.now }
     ensures gap { IsGap order.now result }
     ensures parts { PartsAt (λ i. not_above (key_order slots.now key.now i)) (entries order.now) (rank order.now result) }
 {
-    match order.find(|slot: u32| not_above(compare(slots, slot, key))) {
-        Ok(place) => place,
+    match place_near(slots, order, heads, key, hint) {
+        Ok(place) => order.gap_behind(place),
         Err(gap) => gap,
     }
 }
 
 // The gap behind the slots whose keys are below this one.
-fn gap_below(slots: &[KeyChain], order: &OrderedGroups<u32>, key: &[u8]) -> Place
+fn gap_below(slots: &[KeyChain], order: &OrderedGroups<u32>, heads: &Heads, key: &[u8]) -> Place
+    requires index { IsIndex slots.now (entries order.now) }
+    requires heads { AreHeads heads.now.front.items heads.now.words.items slots.now }
     ensures gap { IsGap order.now result }
     ensures parts { PartsAt (λ i. not_below (key_order slots.now key.now i)) (entries order.now) (rank order.now result) }
 {
-    match order.find(|slot: u32| not_below(compare(slots, slot, key))) {
+    match place_of(slots, order, heads, key) {
         Ok(place) => place,
         Err(gap) => gap,
     }
@@ -172,15 +196,17 @@ fn gap_below(slots: &[KeyChain], order: &OrderedGroups<u32>, key: &[u8]) -> Plac
 pub(crate) fn slot_above(
     slots: &[KeyChain],
     order: &OrderedGroups<u32>,
+    heads: &Heads,
     bound: Option<&[u8]>,
 ) -> Option<u32>
-    requires { IsIndex slots.now (entries order.now) }
+    requires index { IsIndex slots.now (entries order.now) }
+    requires heads { AreHeads heads.now.front.items heads.now.words.items slots.now }
     ensures { let from = option_map (λ k. k.now) bound.entry in MatchOption result (NonePast Up from slots.now) (λ i. NextAbove from slots.now i) }
 {
     match bound {
         None => Some(order.get(order.first()?)),
         Some(key) => {
-            let gap = gap_above(slots, order, key);
+            let gap = gap_above(slots, order, heads, key, Place::nowhere());
             Some(order.get(order.behind_gap(gap)?))
         }
     }
@@ -197,18 +223,23 @@ fn start_of(order: &OrderedGroups<u32>) -> Place
     }
 }
 
-// The slots in the order of their keys, from the least key above the bound on, or all.
+// The slots in the order of their keys, from the least key above the bound on, or all. The hint says
+// where the bound may stand.
+#[inline(always)]
 pub(crate) fn walk_above<'a>(
     slots: &[KeyChain],
     order: &'a OrderedGroups<u32>,
+    heads: &Heads,
     bound: Option<&[u8]>,
+    hint: Place,
 ) -> Walk<'a, u32>
-    requires { IsIndex slots.now (entries order.now) }
+    requires index { IsIndex slots.now (entries order.now) }
+    requires heads { AreHeads heads.now.front.items heads.now.words.items slots.now }
     ensures { IsWayUp (option_map (λ k. k.now) bound.entry) slots.now result }
 {
     match bound {
         None => order.walk(start_of(order)),
-        Some(key) => order.walk(gap_above(slots, order, key)),
+        Some(key) => order.walk(gap_above(slots, order, heads, key, hint)),
     }
 }
 
@@ -216,15 +247,17 @@ pub(crate) fn walk_above<'a>(
 pub(crate) fn slot_below(
     slots: &[KeyChain],
     order: &OrderedGroups<u32>,
+    heads: &Heads,
     bound: Option<&[u8]>,
 ) -> Option<u32>
-    requires { IsIndex slots.now (entries order.now) }
+    requires index { IsIndex slots.now (entries order.now) }
+    requires heads { AreHeads heads.now.front.items heads.now.words.items slots.now }
     ensures { let from = option_map (λ k. k.now) bound.entry in MatchOption result (NonePast Down from slots.now) (λ i. NextBelow from slots.now i) }
 {
     match bound {
         None => Some(order.get(order.last()?)),
         Some(key) => {
-            let gap = gap_below(slots, order, key);
+            let gap = gap_below(slots, order, heads, key);
             Some(order.get(order.before_gap(gap)?))
         }
     }

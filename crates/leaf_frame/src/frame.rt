@@ -25,7 +25,7 @@ use crate::look::FrameRead;
 use crate::near::HeldRow;
 use crate::page::{durable_on, judge_page, page_of, read_page, row_with};
 use crate::updates::{has_updates, least_unseen};
-use crate::walk::LeafWalk;
+use crate::walk::{LeafPlace, LeafWalk};
 use crate::way::Way;
 use failure::NoMemory;
 use leaf_chains::{Added, KeyChain, LeafChains};
@@ -224,14 +224,31 @@ impl LeafFrame {
     pub fn walk_up<'a>(&'a self, bound: Option<&'a [u8]>) -> LeafWalk<'a>
         ensures { result ≡ walk_on Up (option_map (λ k. k.now) bound.entry) self.now }
     {
-        LeafWalk::over(page_of(&self.page), &self.chains, Way::Up, bound)
+        self.walk_up_near(bound, LeafPlace::nowhere())
+    }
+
+    /// As `walk_up`, but looks first where the hint says that the bound stands: `O(1)` where it does.
+    /// Any hint is answered alike.
+    #[inline(always)]
+    pub fn walk_up_near<'a>(&'a self, bound: Option<&'a [u8]>, hint: LeafPlace) -> LeafWalk<'a>
+        ensures { result ≡ walk_on Up (option_map (λ k. k.now) bound.entry) self.now }
+    {
+        LeafWalk::over(page_of(&self.page), &self.chains, Way::Up, bound, hint)
     }
 
     /// The way to smaller keys, from below the bound on, or from the greatest, as `walk_up`.
     pub fn walk_down<'a>(&'a self, bound: Option<&'a [u8]>) -> LeafWalk<'a>
         ensures { result ≡ walk_on Down (option_map (λ k. k.now) bound.entry) self.now }
     {
-        LeafWalk::over(page_of(&self.page), &self.chains, Way::Down, bound)
+        self.walk_down_near(bound, LeafPlace::nowhere())
+    }
+
+    /// As `walk_down`, but looks first at the row that the hint names. Any hint is answered alike.
+    #[inline(always)]
+    pub fn walk_down_near<'a>(&'a self, bound: Option<&'a [u8]>, hint: LeafPlace) -> LeafWalk<'a>
+        ensures { result ≡ walk_on Down (option_map (λ k. k.now) bound.entry) self.now }
+    {
+        LeafWalk::over(page_of(&self.page), &self.chains, Way::Down, bound, hint)
     }
 
     /// The least key above the bound, or of all, of which the leaf holds something and that does not

@@ -29,4 +29,4 @@ pub use laws::{
 };
 pub use look::{FrameRead, judge_row};
 pub use near::HeldRow;
-pub use walk::LeafWalk;
+pub use walk::{LeafPlace, LeafWalk};

@@ -46,6 +46,7 @@ pub(crate) enum First<'a> {
 }
 
 // What is given of a key, unless it is passed.
+#[inline(always)]
 pub(crate) fn row_of<'a>(near: Near<'a>, view: &View<'_>) -> Option<HeldRow<'a>>
     requires { IsSight (sight_of view.now) }
     ensures { let chain = chain_in near.entry.there in let row = option_map version_seen near.entry.cell in MatchOption result (PassedBy view.now chain row) (StaysBy view.now near.entry.key.now chain row) }
@@ -61,12 +62,14 @@ pub(crate) fn row_of<'a>(near: Near<'a>, view: &View<'_>) -> Option<HeldRow<'a>>
 }
 
 // Whether neither chain nor row has anything of the key.
+#[inline(always)]
 fn is_bare(near: &Near<'_>) -> bool
     ensures { IsTrue result ↔ (held_of (chain_in near.now.there) (option_map version_seen near.now.cell) ≡ []) }
 {
     near.cell.is_none() && is_empty(near.there)
 }
 
+#[inline(always)]
 fn is_empty(there: Option<&KeyChain>) -> bool
     ensures { IsTrue result ↔ (chain_in there.entry ≡ []) }
 {
@@ -77,6 +80,7 @@ fn is_empty(there: Option<&KeyChain>) -> bool
 }
 
 // What a read of the key answers.
+#[inline(always)]
 fn read_near<'a>(near: Near<'a>, view: &View<'_>) -> FrameRead<'a>
     requires { IsSight (sight_of view.now) }
     ensures { reply_in result ≡ read_held view.now (chain_in near.entry.there) (option_map version_seen near.entry.cell) }
@@ -88,6 +92,7 @@ fn read_near<'a>(near: Near<'a>, view: &View<'_>) -> FrameRead<'a>
 }
 
 // What a read answers by the chain of a slot.
+#[inline(always)]
 fn read_chain<'a>(there: Option<&'a KeyChain>, view: &View<'_>) -> FrameRead<'a>
     requires { IsSight (sight_of view.now) }
     ensures { reply_in result ≡ read_of view.now (chain_in there.entry) }
@@ -104,6 +109,7 @@ fn read_chain<'a>(there: Option<&'a KeyChain>, view: &View<'_>) -> FrameRead<'a>
 }
 
 // What a read answers by a row, where there is one.
+#[inline(always)]
 fn read_cell<'a>(cell: Option<Cell<'a>>, view: &View<'_>) -> FrameRead<'a>
     requires { IsSight (sight_of view.now) }
     ensures { reply_in result ≡ reply_by_row view.now (option_map version_seen cell.entry) }
@@ -114,6 +120,7 @@ fn read_cell<'a>(cell: Option<Cell<'a>>, view: &View<'_>) -> FrameRead<'a>
     }
 }
 
+#[inline(always)]
 pub(crate) fn of_row<'a>(cell: Cell<'a>) -> Near<'a>
     ensures { IsOfRow result cell.entry }
 {
@@ -124,6 +131,7 @@ pub(crate) fn of_row<'a>(cell: Cell<'a>) -> Near<'a>
     }
 }
 
+#[inline(always)]
 pub(crate) fn of_slot<'a>(there: &'a KeyChain) -> Near<'a>
     ensures { IsOfSlot result there.now }
 {
@@ -134,6 +142,7 @@ pub(crate) fn of_slot<'a>(there: &'a KeyChain) -> Near<'a>
     }
 }
 
+#[inline(always)]
 pub(crate) fn of_both<'a>(there: &'a KeyChain, cell: Cell<'a>) -> Near<'a>
     requires { there.now.key ≡ cell.key.now }
     ensures { IsOfBoth result there.now cell.entry }
@@ -146,6 +155,7 @@ pub(crate) fn of_both<'a>(there: &'a KeyChain, cell: Cell<'a>) -> Near<'a>
 }
 
 // The one that comes first on the way, or both where they are of one key.
+#[inline(always)]
 pub(crate) fn first_of<'a>(
     there: Option<&'a KeyChain>,
     row: Option<RowAt<'a>>,
@@ -186,6 +196,7 @@ fn towards(way: Way, order: Ordering) -> Ordering
 }
 
 // The slot of the nearest key past the bound, or of the first on the way. `O(log n)`.
+#[inline(never)]
 pub(crate) fn near_slot<'a>(
     chains: &'a LeafChains,
     way: Way,

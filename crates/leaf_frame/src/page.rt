@@ -1,7 +1,7 @@
 //! Rows of a page, where there is one.
 
-ghost use Rattle.std.specs.Prelude.{◌≡◌, ◌≤◌, ℕ, suc, [], Some, MatchOption, length, option_map, slice_get};
-ghost use Rattle.row_page.specs.Views.{row_seen};
+ghost use Rattle.std.specs.Prelude.{◌≡◌, ◌≤◌, ℕ, suc, [], Some, IsTrue, MatchOption, MatchResult, length, option_map, slice_get};
+ghost use Rattle.row_page.specs.Views.{row_seen, HasKeyAt, Splits};
 ghost use Rattle.snapshot.specs.Sight.{IsSight, sight_of};
 ghost use Rattle.leaf_rows.specs.Rows.{AreFit};
 ghost use Rattle.rows_shown.specs.Shows.{shown_at};
@@ -16,10 +16,13 @@ ghost use Rattle.leaf_frame.specs.Ways.{way_in};
 
 use crate::look::{FrameRead, judge_row, read_row};
 use crate::way::Way;
+use byte_order::order;
 use row_page::{Cell, Leaf};
 use stamp::View;
+use std::cmp::Ordering;
 use update_chain::Judgement;
 
+#[inline(always)]
 pub(crate) fn page_of(page: &Option<Leaf>) -> Option<&Leaf>
     ensures { page_rows result ≡ rows_of page.now }
 {
@@ -83,19 +86,22 @@ pub(crate) struct RowAt<'a> {
     pub cell: Cell<'a>,
 }
 
-// The row of the nearest key past the bound, or of the first on the way. `O(log rows)`.
+// The row of the nearest key past the bound, or of the first on the way. `O(log rows)`, and one
+// comparison where the row at the hint has the key of the bound.
+#[inline(always)]
 pub(crate) fn near_row<'a>(
     page: Option<&'a Leaf>,
     way: Way,
     bound: Option<&[u8]>,
+    hint: usize,
 ) -> Option<RowAt<'a>>
     requires { AreFit (page_rows page) }
     ensures { let from = option_map (λ k. k.now) bound.entry in MatchOption result (NoRowPast (way_in way) from (page_rows page.entry)) (IsRowAt (way_in way) from (page_rows page.entry)) }
 {
     let leaf = page?;
     match way {
-        Way::Up => row_at(leaf, place_above(leaf, bound)),
-        Way::Down => row_before(leaf, place_below(leaf, bound)),
+        Way::Up => row_at(leaf, place_above(leaf, bound, hint)),
+        Way::Down => row_before(leaf, place_below(leaf, bound, hint)),
     }
 }
 
@@ -115,6 +121,7 @@ pub(crate) fn row_behind<'a>(page: Option<&'a Leaf>, way: Way, here: RowAt<'_>) 
 }
 
 // The row at a place; none behind the last.
+#[inline(always)]
 fn row_at<'a>(leaf: &'a Leaf, index: usize) -> Option<RowAt<'a>>
     ensures { MatchOption result (length leaf.now ≤ index) (λ r. (r.index ≡ index) × (slice_get leaf.now index ≡ Some (row_seen r.cell))) }
 {
@@ -129,6 +136,7 @@ fn row_at<'a>(leaf: &'a Leaf, index: usize) -> Option<RowAt<'a>>
 }
 
 // The row before a place; none before the first.
+#[inline(always)]
 fn row_before<'a>(leaf: &'a Leaf, end: usize) -> Option<RowAt<'a>>
     requires { end ≤ length leaf.now }
     ensures { MatchOption result (end ≡ 0) (λ r. (end ≡ suc r.index) × (slice_get leaf.now r.index ≡ Some (row_seen r.cell))) }
@@ -145,13 +153,13 @@ fn row_before<'a>(leaf: &'a Leaf, end: usize) -> Option<RowAt<'a>>
 }
 
 // How many rows, from the first on, have keys that are not above the bound.
-fn place_above(leaf: &Leaf, bound: Option<&[u8]>) -> usize
+fn place_above(leaf: &Leaf, bound: Option<&[u8]>, hint: usize) -> usize
     requires { AreFit leaf.now }
     ensures { IsPlaceAbove (option_map (λ k. k.now) bound.entry) leaf.now result }
 {
     match bound {
         None => 0,
-        Some(key) => match leaf.find(key) {
+        Some(key) => match find_near(leaf, key, hint) {
             Ok(i) => {
                 let rows = leaf.len();
                 prove!(i < rows);
@@ -163,15 +171,65 @@ fn place_above(leaf: &Leaf, bound: Option<&[u8]>) -> usize
 }
 
 // How many rows, from the first on, have keys below the bound.
-fn place_below(leaf: &Leaf, bound: Option<&[u8]>) -> usize
+fn place_below(leaf: &Leaf, bound: Option<&[u8]>, hint: usize) -> usize
     requires { AreFit leaf.now }
     ensures { IsPlaceBelow (option_map (λ k. k.now) bound.entry) leaf.now result }
 {
     match bound {
         None => leaf.len(),
-        Some(key) => match leaf.find(key) {
+        Some(key) => match find_near(leaf, key, hint) {
             Ok(i) => i,
             Err(i) => i,
+        },
+    }
+}
+
+// The place of the key, or that of the first row above it. Looks first at the row that the hint names.
+#[inline(always)]
+fn find_near(leaf: &Leaf, key: &[u8], hint: usize) -> Result<usize, usize>
+    ensures { MatchResult result (HasKeyAt leaf.now key.now) (Splits leaf.now key.now) }
+{
+    if has_key_at(leaf, key, hint) {
+        return Ok(hint);
+    }
+    leaf.find(key)
+}
+
+// Whether there is a row with this key at this place.
+#[inline(always)]
+fn has_key_at(leaf: &Leaf, key: &[u8], place: usize) -> bool
+    ensures { IsTrue result → HasKeyAt leaf.now key.now place }
+{
+    if place >= leaf.len() {
+        return false;
+    }
+    match order(leaf.key(place), key) {
+        Ordering::Equal => true,
+        _ => false,
+    }
+}
+
+// The place of the row that lies before the nearest one on the way: a hint for `near_row`, of which
+// nothing is promised.
+#[inline(always)]
+pub(crate) fn hint_before(page: Option<&Leaf>, way: Way, row: Option<RowAt<'_>>) -> usize {
+    match way {
+        Way::Up => end_of(page, row).wrapping_sub(1),
+        Way::Down => match row {
+            None => 0,
+            Some(row) => row.index.wrapping_add(1),
+        },
+    }
+}
+
+// The place of the row, or the end of the page.
+#[inline(always)]
+fn end_of(page: Option<&Leaf>, row: Option<RowAt<'_>>) -> usize {
+    match row {
+        Some(row) => row.index,
+        None => match page {
+            None => 0,
+            Some(leaf) => leaf.len(),
         },
     }
 }

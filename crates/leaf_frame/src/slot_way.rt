@@ -6,7 +6,7 @@ ghost use Rattle.leaf_frame.specs.Ways.{way_in};
 
 use crate::near::near_slot;
 use crate::way::Way;
-use leaf_chains::{KeyChain, LeafChains};
+use leaf_chains::{KeyChain, LeafChains, Place};
 use ordered_groups::Walk;
 
 // The slots that are left on a way.
@@ -18,21 +18,25 @@ pub(crate) enum SlotsAhead<'a> {
     Down,
 }
 
-// Those past the bound, or all. `O(log n)` comparisons.
+// Those past the bound, or all. `O(log n)` comparisons, and two at most where the bound stands where
+// the hint says.
+#[inline(always)]
 pub(crate) fn slots_ahead<'a>(
     chains: &'a LeafChains,
     way: Way,
     from: Option<&[u8]>,
+    hint: Place,
 ) -> SlotsAhead<'a>
     ensures way { way_along result ≡ way_in way }
     ensures from { SlotsFrom result (option_map (λ k. k.now) from.entry) chains.now None }
 {
     match way {
-        Way::Up => SlotsAhead::Up(chains.walk_above(from)),
+        Way::Up => SlotsAhead::Up(chains.walk_above_near(from, hint)),
         Way::Down => SlotsAhead::Down,
     }
 }
 
+#[inline(always)]
 pub(crate) fn way_of(slots: &SlotsAhead<'_>) -> Way
     ensures { way_in result ≡ way_along slots.now }
 {
@@ -43,7 +47,17 @@ pub(crate) fn way_of(slots: &SlotsAhead<'_>) -> Way
 }
 
 impl<'a> SlotsAhead<'a> {
+    // Where the last slot stands that was come to: a hint for `slots_ahead`, of which nothing is promised.
+    #[inline(always)]
+    pub(crate) fn hint(&self, chains: &LeafChains) -> Place {
+        match self {
+            SlotsAhead::Up(walk) => chains.hint_of(walk),
+            SlotsAhead::Down => Place::nowhere(),
+        }
+    }
+
     // The nearest slot: this one, or where it was not sought, the next.
+    #[inline(always)]
     pub(crate) fn nearest(
         &mut self,
         chains: &'a LeafChains,
@@ -62,6 +76,7 @@ impl<'a> SlotsAhead<'a> {
     }
 
     // The next slot; behind it the others are left. `O(1)` on the way up, else `O(log n)` comparisons.
+    #[inline(always)]
     fn next(&mut self, chains: &'a LeafChains, from: Option<&[u8]>) -> Option<&'a KeyChain>
         requires { SlotsFrom self.old (option_map (λ k. k.now) from) chains.now None }
         ensures way { way_along self.new ≡ way_along self.old }

@@ -11,13 +11,34 @@ ghost use Rattle.leaf_frame.specs.Walks.{onward, walk_on};
 ghost use Rattle.leaf_frame.specs.Ways.{way_in};
 
 use crate::near::{First, HeldRow, Near, first_of, of_both, of_row, of_slot, row_of};
-use crate::page::{RowAt, near_row, row_behind};
+use crate::page::{RowAt, hint_before, near_row, row_behind};
 use crate::slot_way::{SlotsAhead, slots_ahead, way_of};
 use crate::way::Way;
-use leaf_chains::{KeyChain, LeafChains};
+use leaf_chains::{KeyChain, LeafChains, Place};
 use row_page::Leaf;
 use stamp::View;
 use std::marker::Model;
+
+/// Where a key may stand in a leaf: a hint, which is looked at before it is believed, so that any is
+/// answered alike.
+#[derive(Clone, Copy, Debug, Drop)]
+pub struct LeafPlace {
+    // In the order of the chains.
+    pub(crate) slot: Place,
+    // On the page.
+    pub(crate) row: usize,
+}
+
+impl LeafPlace {
+    /// Where no key stands: a hint that says nothing.
+    #[inline(always)]
+    pub fn nowhere() -> LeafPlace {
+        LeafPlace {
+            slot: Place::nowhere(),
+            row: usize::MAX,
+        }
+    }
+}
 
 /// A way over the keys of a leaf, past a bound or from its end on, which keeps its place on the page
 /// and in the chains.
@@ -48,11 +69,13 @@ impl<'a> Model for LeafWalk<'a> {
 
 impl<'a> LeafWalk<'a> {
     // A way that begins past the bound, or at the end. `O(log n)` comparisons in keys and rows.
+    #[inline(always)]
     pub(crate) fn over(
         page: Option<&'a Leaf>,
         chains: &'a LeafChains,
         way: Way,
         from: Option<&'a [u8]>,
+        hint: LeafPlace,
     ) -> LeafWalk<'a>
         requires { AreFit (page_rows page) }
         ensures { result ≡ walk_on (way_in way) (option_map (λ k. k.now) from.entry) (leaf_of (page_rows page.entry) chains.now) }
@@ -62,8 +85,18 @@ impl<'a> LeafWalk<'a> {
             chains,
             from,
             there: None,
-            slots: slots_ahead(chains, way, from),
-            row: near_row(page, way, from),
+            slots: slots_ahead(chains, way, from, hint.slot),
+            row: near_row(page, way, from, hint.row),
+        }
+    }
+
+    /// Where it stands in its leaf: a hint for another walk that begins past the key that this one gave
+    /// last. Nothing is promised of it. `O(1)`.
+    #[inline(always)]
+    pub fn place(&self) -> LeafPlace {
+        LeafPlace {
+            slot: self.slots.hint(self.chains),
+            row: hint_before(self.page, way_of(&self.slots), self.row),
         }
     }
 
@@ -72,6 +105,7 @@ impl<'a> LeafWalk<'a> {
     /// which nothing is admitted counts: older versions of it may stand elsewhere. Takes no memory.
     /// `O(1)` for each key that is given or passed, but `O(log n)` comparisons for a key of a chain on
     /// the way to smaller ones.
+    #[inline(always)]
     pub fn next_held(&mut self, view: &View<'_>) -> Option<HeldRow<'a>>
         requires { IsSight (sight_of view.now) }
         ensures held { MatchOption result (NoneHeld self.old.way self.old.from view.now self.old.leaf) (IsNextHeld self.old.way self.old.from view.now self.old.leaf) }
@@ -88,6 +122,7 @@ impl<'a> LeafWalk<'a> {
     }
 
     // The nearest key; the way goes on behind it.
+    #[inline(always)]
     fn pass(&mut self) -> Option<Near<'a>>
         ensures { MatchOption result (NonePast self.old.way self.old.from self.old.leaf × (self.new ≡ self.old)) (λ n. IsNear self.old.way self.old.from self.old.leaf n × (self.new ≡ onward n.key.now self.old)) }
     {

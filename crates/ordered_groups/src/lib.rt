@@ -10,12 +10,13 @@
 //! A change of a full group splits it, which moves 24 bytes for each group behind.
 #![tactic(auto)]
 
-ghost use Rattle.std.specs.Prelude.{◌≡◌, ◌+◌, ◌<◌, ◌≤◌, [], length, drop, MatchOption, MatchResult, IfOk, OnErr, slice_set};
-ghost use Rattle.std.specs.List.{remove};
+ghost use Rattle.std.specs.Prelude.{◌≡◌, ◌+◌, ◌<◌, ◌≤◌, [], length, drop, MatchOption, MatchResult, IfOk, IfSome, IsTrue, ◌↔◌, OnErr, slice_set};
+ghost use Rattle.std.specs.List.{HoldsAt, remove};
 ghost use Rattle.ordered_groups.specs.Groups.{entries, group_at, before, AreSound};
 ghost use Rattle.ordered_groups.specs.Places.{rank, IsPlace, IsGap, IsAt, IsEntryAt, Answers, BelowAlong, NotBelowAt, EndsNotBelow, Finds, IsPut, IsReplaced};
 ghost use Rattle.ordered_groups.specs.declared.Place.{Place};
 ghost use Rattle.std.specs.declared.cmp.Ordering.{Ordering};
+ghost use Rattle.std.specs.declared.cmp.Ordering.TheVariants.{Less, Greater};
 
 mod edit;
 mod put;
@@ -41,6 +42,17 @@ pub const NEWS_MAX: usize = 128;
 pub struct Place {
     pub(crate) group: usize,
     pub(crate) at: usize,
+}
+
+impl Place {
+    /// Where no entry lies: a hint that says nothing.
+    #[inline(always)]
+    pub fn nowhere() -> Place {
+        Place {
+            group: usize::MAX,
+            at: 0,
+        }
+    }
 }
 
 /// A sequence of small entries, in groups.
@@ -243,6 +255,118 @@ impl<T: Copy + Drop> OrderedGroups<T> {
         }
     }
 
+    /// What a look at an entry that a hint names, and at the one beside it, finds: an entry that `order`
+    /// finds equal, or the gap between two, one below what is looked for and one above it, or behind the
+    /// last or before the first. None where neither is so. Any place is a hint, one of another sequence
+    /// too. At most two comparisons.
+    #[inline(always)]
+    pub fn look_near<F: Fn(T) -> Ordering>(
+        &self,
+        hint: Place,
+        order: F,
+    ) -> Option<Result<Place, Place>>
+        requires { F.IsAlwaysCallable order }
+        ensures place { IfSome result (λ r. MatchResult r (IsPlace self.now) (IsGap self.now)) }
+        ensures found { (ord : T → Ordering) → Answers F.Fn order ord → IfSome result (Finds ord self.now) }
+    {
+        if !self.has(hint) {
+            return None;
+        }
+        let entry = self.get(hint);
+        match order(entry) {
+            Ordering::Equal => Some(Ok(hint)),
+            Ordering::Less => self.look_behind(hint, &order),
+            Ordering::Greater => self.look_before(hint, &order),
+        }
+    }
+
+    // Whether an entry lies there.
+    #[inline(always)]
+    fn has(&self, place: Place) -> bool
+        ensures { IsTrue result ↔ IsPlace self.now place }
+    {
+        match self.groups.get(place.group) {
+            None => false,
+            Some(group) => place.at < group.len(),
+        }
+    }
+
+    // The same at the entry behind one that is below what is looked for.
+    #[inline(always)]
+    fn look_behind<F: Fn(T) -> Ordering>(
+        &self,
+        below: Place,
+        order: &F,
+    ) -> Option<Result<Place, Place>>
+        requires callable { F.IsAlwaysCallable order.now }
+        requires place { IsPlace self.now below }
+        ensures place { IfSome result (λ r. MatchResult r (IsPlace self.now) (IsGap self.now)) }
+        ensures found { (ord : T → Ordering) → Answers F.Fn order.now ord → HoldsAt (λ y. ord y ≡ Less) (entries self.now) (rank self.now below) → IfSome result (Finds ord self.now) }
+    {
+        let Some(next) = self.next(below) else {
+            return Some(Err(self.end()));
+        };
+        let entry = self.get(next);
+        match order(entry) {
+            Ordering::Equal => Some(Ok(next)),
+            Ordering::Greater => Some(Err(next)),
+            Ordering::Less => None,
+        }
+    }
+
+    // The same at the entry before one that is above what is looked for.
+    #[inline(always)]
+    fn look_before<F: Fn(T) -> Ordering>(
+        &self,
+        above: Place,
+        order: &F,
+    ) -> Option<Result<Place, Place>>
+        requires callable { F.IsAlwaysCallable order.now }
+        requires place { IsPlace self.now above }
+        ensures place { IfSome result (λ r. MatchResult r (IsPlace self.now) (IsGap self.now)) }
+        ensures found { (ord : T → Ordering) → Answers F.Fn order.now ord → HoldsAt (λ y. ord y ≡ Greater) (entries self.now) (rank self.now above) → IfSome result (Finds ord self.now) }
+    {
+        let Some(before) = self.prev(above) else {
+            return Some(Err(above));
+        };
+        let entry = self.get(before);
+        match order(entry) {
+            Ordering::Equal => Some(Ok(before)),
+            Ordering::Less => Some(Err(above)),
+            Ordering::Greater => None,
+        }
+    }
+
+    /// The gap behind an entry. `O(1)`.
+    #[inline(always)]
+    pub fn gap_behind(&self, place: Place) -> Place
+        requires { IsPlace self.now place }
+        ensures gap { IsGap self.now result }
+        ensures rank { rank self.now result ≡ rank self.now place + 1 }
+    {
+        let len = self.group_len(place.group);
+        prove!(place.at < len);
+        Place {
+            group: place.group,
+            at: place.at + 1,
+        }
+    }
+
+    /// Where the entry lies that a walk over this sequence gave last: a hint for `look_near`, of which
+    /// nothing is promised. `O(1)`.
+    #[inline(always)]
+    pub fn hint_of(&self, walk: &Walk<'_, T>) -> Place {
+        let (here, behind) = walk.left();
+        let group = self.groups.len().wrapping_sub(behind).wrapping_sub(1);
+        match self.groups.get(group) {
+            None => Place::nowhere(),
+            Some(entries) => Place {
+                group,
+                at: entries.len().wrapping_sub(here).wrapping_sub(1),
+            },
+        }
+    }
+
     // The first group whose last entry is not below what is looked for.
     #[inline(always)]
     fn group_for<F: Fn(T) -> Ordering>(&self, order: &F) -> usize
@@ -337,6 +461,7 @@ impl<T: Copy + Drop> OrderedGroups<T> {
     }
 
     /// The entries from a place on. `O(1)`, and each step too.
+    #[inline(always)]
     pub fn walk(&self, place: Place) -> Walk<'_, T>
         requires { IsGap self.now place }
         ensures { result ≡ drop (rank self.now place) (entries self.now) }

@@ -24,11 +24,18 @@ impl<'a, T> Model for Walk<'a, T> {
 }
 
 impl<'a, T: Copy + Drop> Walk<'a, T> {
+    #[inline(always)]
     pub(crate) fn over(here: &'a [T], behind: &'a [Vec<T>]) -> Walk<'a, T>
         requires { AreSound 256 (lists behind.now) }
         ensures { result ≡ here.now ++ entries (lists behind.now) }
     {
         Walk { here, behind }
+    }
+
+    // How many entries are left in the group that it is in, and how many groups behind that.
+    #[inline(always)]
+    pub(crate) fn left(&self) -> (usize, usize) {
+        (self.here.len(), self.behind.len())
     }
 
     /// The next entry, if one is left.

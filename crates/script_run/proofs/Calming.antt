@@ -26,7 +26,7 @@ use Rattle.engine.specs.Whole.{with_session_more}
 use Rattle.ckpt_step.specs.Calm.{IsCalm, IsUnstampedCall, IsUnstampedStep, AnswersCalm, KeptCalm, KeptOutCalm, OpensCalm, StepsCalm}
 use Rattle.engine_store.specs.Calls.{EndsBy, EndsIn, MayAnswerOn, MayStepOn}
 use Rattle.script_run.specs.Runs.{IsOfActor}
-use Rattle.script_run.specs.Scripts.{Answers, Begins, CauseOn, Ends, Goes, IsLaterCall, Opens, Refuses, Replies, Script, actor_in, call_stamps, caller, gives_stamp, missing, opened_more}
+use Rattle.script_run.specs.Scripts.{ActorReplies, Answers, Begins, CauseOn, Ends, Goes, IsUnbuilt, Opens, Refuses, Script, actor_in, call_stamps, caller, gives_stamp, missing, opened_more}
 
 -- the laws of steps and calls without a stamp
 pub record CalmLaws : Type 0 where
@@ -36,7 +36,7 @@ pub record CalmLaws : Type 0 where
   pub kept_out : KeptOutCalm
   pub opens : OpensCalm
 
-unstamped : (formats : Formats) (made : Call) → call_stamps made ≡ false → (IsLaterCall made → ⊥) → IsUnstampedCall (stored_call formats made)
+unstamped : (formats : Formats) (made : Call) → call_stamps made ≡ false → (IsUnbuilt made → ⊥) → IsUnstampedCall (stored_call formats made)
 unstamped formats (call.Session session (session_call.Commit None None)) is now = tt
 unstamped formats (call.Session session (session_call.Commit None (Some durable))) is now = absurd (false≢true (sym is))
 unstamped formats (call.Session session (session_call.Commit (Some commit) durable)) is now = absurd (false≢true (sym is))
@@ -53,8 +53,8 @@ unstamped formats (call.System number (system.Create table its)) is now = tt
 unstamped formats (call.System number (system.SetStamps oldest stable)) is now = tt
 unstamped formats (call.System number _) is now = absurd (now (λ none. none))
 
--- one that evicts is none that may be started
-later_stored : (formats : Formats) (made : Call) (number : ℕ) (table key : List ℕ) → stored_call formats made ≡ call.System number (system.Evict table key) → IsLaterCall made
+-- one that evicts is made by no event
+later_stored : (formats : Formats) (made : Call) (number : ℕ) (table key : List ℕ) → stored_call formats made ≡ call.System number (system.Evict table key) → IsUnbuilt made
 later_stored formats (call.Session session made) number table key is = absurd cc
 later_stored formats (call.System n (system.Create name its)) number table key is = absurd cc
 later_stored formats (call.System n (system.SetStamps oldest stable)) number table key is = absurd cc
@@ -101,22 +101,23 @@ module _ (laws : CalmLaws) where
     refused_calm : (r : Refusal) (w : World) → IsCalm w → Refuses r s w reply later → IsCalm later.world
     refused_calm r w calm refuses = by_leaves later (record s { world = w }) refuses.1 calm
 
-    whole_calm : (made : Call) (w : World) → call_stamps made ≡ false → (IsLaterCall made → ⊥) → IsCalm w → Answers made s formats reply later w ⊎ Refuses NoMemory s w reply later → IsCalm later.world
+    whole_calm : (made : Call) (w : World) → call_stamps made ≡ false → (IsUnbuilt made → ⊥) → IsCalm w → Answers made s formats reply later w ⊎ Refuses NoMemory s w reply later → IsCalm later.world
     whole_calm made w is now calm (inl a) =
         by_leaves later (record s { world = a.next; device = a.device }) a.leaves (answer_calm (CauseOn s a.device w) w a.next (stored_call formats made) a.answer calm (unstamped formats made is now) a.answered)
     whole_calm made w is now calm (inr refuses) = refused_calm NoMemory w calm refuses
 
-    start_calm : (made : Call) (w : World) → call_stamps made ≡ false → (IsLaterCall made → ⊥) → IsCalm w → Begins made s formats reply later w ⊎ Refuses NoMemory s w reply later → IsCalm later.world
+    start_calm : (made : Call) (w : World) → call_stamps made ≡ false → (IsUnbuilt made → ⊥) → IsCalm w → Begins made s formats reply later w ⊎ Refuses NoMemory s w reply later → IsCalm later.world
     start_calm made w is now calm (inl b) =
         subst (λ (x : Script). IsCalm x.world) (sym b.leaves) (laws.steps w b.next (step.Start (stored_call formats made)) b.t calm (unstamped formats made is now) b.stepped)
     start_calm made w is now calm (inr refuses) = refused_calm NoMemory w calm refuses
 
-    pub line_calm : (asked : Line) → gives_stamp asked ≡ false → IsOfActor asked → IsCalm s.world → Replies asked s formats reply later → IsCalm later.world
+    pub line_calm : (asked : Line) → gives_stamp asked ≡ false → IsOfActor asked → IsCalm s.world → ActorReplies asked s formats reply later → IsCalm later.world
     line_calm (Whole made) is now calm (inr x) = absurd (now (later_stored formats made x.number x.table x.key x.is))
     line_calm (Whole made) is now calm (inl replies) =
         opens_calm (caller made) s.world later.world (λ w. Answers made s formats reply later w ⊎ Refuses NoMemory s w reply later) (λ r w. Refuses r s w reply later) calm
         (λ v c there. whole_calm made v is now c there) (λ r v c refuses. refused_calm r v c refuses) replies
-    line_calm (Start made) is now calm replies =
+    line_calm (Start made) is now calm (inr x) = absurd (now (later_stored formats made x.number x.table x.key x.is))
+    line_calm (Start made) is now calm (inl replies) =
         opens_calm (caller made) s.world later.world (λ w. Begins made s formats reply later w ⊎ Refuses NoMemory s w reply later) (λ r w. Refuses r s w reply later) calm
         (λ v c there. start_calm made v is now c there) (λ r v c refuses. refused_calm r v c refuses) replies
     line_calm (Step who) is now calm replies =

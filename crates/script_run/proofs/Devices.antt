@@ -1,14 +1,13 @@
 -- What lines that are asked of the device reply and leave.
-use Rattle.std.specs.Prelude.{◌≡◌, ◌||◌, ℕ, Bool, true, false, IsTrue, MatchBool, List, [], ◌∷◌, length, map, replicate, Option, Some, None, Result, Ok, Err, IfErr, OnErr, OnOk, slice_index_or}
+use Rattle.std.specs.Prelude.{◌≡◌, ◌||◌, ℕ, Bool, true, false, IsTrue, MatchBool, List, [], ◌∷◌, length, map, Option, Some, None, Result, Ok, Err, IfErr, OnErr, OnOk, slice_index_or}
 use Rattle.std.proofs.Common.{inl, inr, refl, sym, ap, subst, ◌∙◌, arith}
 use Rattle.std.proofs.lemmas.Bool.{false≢true}
-use Rattle.limits.specs.declared.TheConstants.{SESSIONS_MAX}
 use Rattle.disk_model.specs.declared.disk.Disk.{Ghosts}
 use Rattle.disk_model.specs.Crash.{SameDisk}
-use Rattle.item.specs.declared.formats.Formats.{Formats}
 use Rattle.wt_code.specs.declared.answers.Answer.TheVariants.{Done, Refused}
 use Rattle.wt_code.specs.declared.refusals.Refusal.{Refusal}
-use Rattle.wt_code.specs.declared.refusals.Refusal.TheVariants.{Invalid}
+use Rattle.wt_code.specs.declared.refusals.Refusal.TheVariants.{Busy, Invalid}
+use Rattle.wt_code.specs.declared.refusals.Busy.TheVariants.{Evicting as EvictingFrame}
 use Rattle.wt_code.specs.declared.refusals.Invalid.TheVariants.{InCall}
 use Rattle.kv_model.specs.Calls.{Call, rolled_back}
 use Rattle.kv_model.specs.Content.{Content, start}
@@ -22,6 +21,9 @@ use Rattle.script_text.specs.declared.replies.Reply.{Reply}
 use Rattle.script_text.specs.declared.replies.Reply.TheVariants.{Answered}
 use Rattle.wt_calls.specs.declared.system_call.SystemCall.{SystemCall}
 use Rattle.row_page.specs.Rows.{Row}
+use Rattle.call_steps.specs.declared.stage.Target.{Target}
+use Rattle.engine.specs.declared.turning.Evicting.{Evicting}
+use Rattle.engine.specs.Turning.{evicting_by, found_in, found_on}
 use Rattle.engine_world.specs.Stands.{Engine}
 use Rattle.engine_world.specs.Systems.{first_world}
 use Rattle.engine_world.specs.Worlds.{World}
@@ -35,9 +37,10 @@ use Rattle.engine_store.specs.Answers.{CheckpointTakes, CloseTakes, IsLeft, Refu
 use Rattle.engine_store.specs.Devices.{Device, IsLater, device_of}
 use Rattle.engine_store.specs.Held as held
 use Rattle.engine_store.specs.Held.{IsHeld}
+use Rattle.script_run.specs.declared.kept.Kept.{Kept}
 use Rattle.script_run.specs.declared.told.Told.{Told}
 use Rattle.script_run.specs.Runs.{IsAt, IsStopped, IsTold, RepliedAs}
-use Rattle.script_run.specs.Scripts.{BySystem, Checkpoints, Closes, NotReopened, Reopens, RunsLine, Script, gives_stamp, on_device, opened_world, plain}
+use Rattle.script_run.specs.Scripts.{BySystem, Checkpoints, Closes, ClosesBusy, NotReopened, Reopens, RunsLine, Script, gives_stamp, is_busy, nothing_kept, on_device, opened_world, plain}
 
 -- ---- what goes on
 
@@ -53,15 +56,20 @@ pub at_any : {D : Type 0} (g : Ghosts D) (first : D) (stamped : Bool) (store : S
 at_any g first stamped store disk s at = record { held = at.held; device = at.device; frames = at.frames; calm = λ is. absurd (false≢true (sym is)) }
 
 -- a line of `sys`, by whether it has a call that is not finished
-by_busy : (s : Script) (reply : Reply) (later : Script) (Goes : Type 0) → is_there (slice_index_or s.world.systems 0 None) ≡ true → reply ≡ Answered (Refused (Invalid InCall)) → later ≡ s → BySystem s reply later Goes
+by_busy : (s : Script) (reply : Reply) (later : Script) (Goes : Type 0) → is_busy s ≡ true → reply ≡ Answered (Refused (Invalid InCall)) → later ≡ s → BySystem s reply later Goes
 by_busy s reply later Goes busy told same = subst (λ (b : Bool). MatchBool b ((reply ≡ Answered (Refused (Invalid InCall))) × (later ≡ s)) Goes) (sym busy) (told, same)
 
-by_idle : (s : Script) (reply : Reply) (later : Script) (Goes : Type 0) → is_there (slice_index_or s.world.systems 0 None) ≡ false → Goes → BySystem s reply later Goes
+by_idle : (s : Script) (reply : Reply) (later : Script) (Goes : Type 0) → is_busy s ≡ false → Goes → BySystem s reply later Goes
 by_idle s reply later Goes idle goes = subst (λ (b : Bool). MatchBool b ((reply ≡ Answered (Refused (Invalid InCall))) × (later ≡ s)) Goes) (sym idle) goes
 
-not_there : (o : Option Call) → is_there o ≡ false → o ≡ None
-not_there None is = refl
-not_there (Some c) is = absurd (false≢true (sym is))
+-- whether it has, where the evictions are these
+pub busy_by : (s : Script) (evicting : List (Option Evicting)) (b : Bool) → s.kept.evicting ≡ evicting → b ≡ (is_there (slice_index_or s.world.systems 0 None) || is_there (evicting_by evicting 0)) → is_busy s ≡ b
+busy_by s evicting b same is = ap (λ (l : List (Option Evicting)). is_there (slice_index_or s.world.systems 0 None) || is_there (evicting_by l 0)) same ∙ sym is
+
+-- an eviction that has found its leaf
+found_one : (o : Option Evicting) (target : Target) → found_on o ≡ Some target → (x : Evicting) × (o ≡ Some x) × (found_in x.stage ≡ Some target)
+found_one None target is = absurd cc
+found_one (Some x) target is = (x, refl, is)
 
 -- ---- a checkpoint, and a close
 
@@ -111,22 +119,22 @@ module _ {D : Type 0} (g : Ghosts D) (first : D) (s : Script) (store store' : St
     close_at = record { held = x.held; device = refl; frames = frames ∙ at.frames; calm = λ is. calm_on s.world x.next s.world.shelf calm x.plain }
 
 module _ {D : Type 0} (g : Ghosts D) (first : D) (s : Script) (store : Store) (disk : D) (told : Told) where
-  pub checkpoint_busy : IsAt g first false store disk s → is_there (slice_index_or s.world.systems 0 None) ≡ true → told.reply ≡ Answered (Refused (Invalid InCall)) → told.formats ≡ plain
-      → IsTold g first false (OfAll Checkpoint) s store disk s.formats told
+  pub checkpoint_busy : IsAt g first false store disk s → is_busy s ≡ true → told.reply ≡ Answered (Refused (Invalid InCall)) → told.formats ≡ plain
+      → IsTold g first false (OfAll Checkpoint) s store disk s.kept told
   checkpoint_busy at busy reply formats = record { later = s; replies = (s, (formats, by_busy s told.reply s _ busy reply refl), refl); at = at; start = refl; kept_is = refl }
 
-  pub close_busy : (kept : List Formats) → IsAt g first false store disk s → s.formats ≡ kept → is_there (slice_index_or s.world.systems 0 None) ≡ true → told.reply ≡ Answered (Refused (Invalid InCall)) → told.formats ≡ plain
+  pub close_busy : (kept : Kept) → IsAt g first false store disk s → s.kept ≡ kept → is_busy s ≡ true → told.reply ≡ Answered (Refused (Invalid InCall)) → told.formats ≡ plain
       → IsTold g first false (OfAll Close) s store disk kept told
   close_busy kept at same busy reply formats = record { later = s; replies = (s, (formats, by_busy s told.reply s _ busy reply refl), refl); at = at; start = refl; kept_is = same }
 
-module _ {D : Type 0} (g : Ghosts D) (first : D) (s : Script) (store store' : Store) (disk disk' : D) (at : IsAt g first false store disk s) (idle : is_there (slice_index_or s.world.systems 0 None) ≡ false) (frames : store'.frames ≡ store.frames) (x : held.Shuts g first s.world s.first s.made store store' disk disk' (Ok tt)) where
+module _ {D : Type 0} (g : Ghosts D) (first : D) (s : Script) (store store' : Store) (disk disk' : D) (at : IsAt g first false store disk s) (idle : is_busy s ≡ false) (frames : store'.frames ≡ store.frames) (x : held.Shuts g first s.world s.first s.made store store' disk disk' (Ok tt)) where
   abbrev between : Script
   between = close_later g first s store store' disk disk' (Ok tt) at frames x
 
   closes : Closes s Done between
   closes = close_is g first s store store' disk disk' (Ok tt) at frames x
 
-  close_then : (last : Store) (now : D) (kept : List Formats) (result : Result Told Refusal) → RepliedAs g first false (OfAll Crash) between last now kept result → RepliedAs g first false (OfAll Close) s last now kept result
+  close_then : (last : Store) (now : D) (kept : Kept) (result : Result Told Refusal) → RepliedAs g first false (OfAll Crash) between last now kept result → RepliedAs g first false (OfAll Close) s last now kept result
   close_then last now kept (Ok told) r = record {
     later = r.later;
     replies = by r.replies;
@@ -136,12 +144,12 @@ module _ {D : Type 0} (g : Ghosts D) (first : D) (s : Script) (store store' : St
   }
     where
       by : RunsLine (OfAll Crash) between told.formats told.reply r.later → RunsLine (OfAll Close) s told.formats told.reply r.later
-      by (middle, (formats, (reopens, reply)), same) = (middle, (formats, by_idle s told.reply middle _ idle (inr (between, closes, reopens, reply))), same)
-  close_then last now kept (Err e) r = record { later = r.later; stops = (not_there (slice_index_or s.world.systems 0 None) idle, (between, closes, r.stops)); at = r.at; start = r.start }
+      by (middle, (formats, (reopens, reply)), same) = (middle, (formats, by_idle s told.reply middle _ idle (inr (inr (between, closes, reopens, reply)))), same)
+  close_then last now kept (Err e) r = record { later = r.later; stops = (idle, (between, closes, r.stops)); at = r.at; start = r.start }
 
-module _ {D : Type 0} (g : Ghosts D) (first : D) (s : Script) (store : Store) (disk : D) (at : IsAt g first false store disk s) (idle : is_there (slice_index_or s.world.systems 0 None) ≡ false) (store' : Store) (disk' : D) (frames : store'.frames ≡ store.frames) where
+module _ {D : Type 0} (g : Ghosts D) (first : D) (s : Script) (store : Store) (disk : D) (at : IsAt g first false store disk s) (idle : is_busy s ≡ false) (store' : Store) (disk' : D) (frames : store'.frames ≡ store.frames) where
   pub checkpoint_told : (result : Result (Unit {0}) Refusal) (told : Told) → held.Checkpoints g first s.world s.first s.made store store' disk disk' result → told.reply ≡ Answered (answer_of result) → told.formats ≡ plain
-      → IsTold g first false (OfAll Checkpoint) s store' disk' s.formats told
+      → IsTold g first false (OfAll Checkpoint) s store' disk' s.kept told
   checkpoint_told result told x reply formats =
       let later = checkpoint_later g first s store store' disk disk' result at frames x.0 x.1 in
       record {
@@ -152,21 +160,38 @@ module _ {D : Type 0} (g : Ghosts D) (first : D) (s : Script) (store : Store) (d
         kept_is = refl;
       }
 
+  -- an eviction has found its leaf
+  pub close_evicting : (frame : ℕ) (kept : Kept) (told : Told) → s.kept ≡ kept → store.engine.hub.fault ≡ None → (number : ℕ) × (target : Target) × (found_on (evicting_by kept.evicting number) ≡ Some target) × (target.frame ≡ frame)
+      → told.reply ≡ Answered (Refused (Busy (EvictingFrame frame))) → told.formats ≡ plain → IsTold g first false (OfAll Close) s store disk kept told
+  close_evicting frame kept told same up (number, target, found, its) reply formats =
+      let one = found_one (evicting_by s.kept.evicting number) target (ap (λ (k : Kept). found_on (evicting_by k.evicting number)) same ∙ found) in
+      let busy : ClosesBusy s told.reply s = record {
+        number = number;
+        evicting = one.0;
+        there = one.1;
+        target = target;
+        found = one.2;
+        up = sym at.held.stands.fault ∙ up;
+        told = reply ∙ ap (λ (n : ℕ). Answered (Refused (Busy (EvictingFrame n)))) (sym its);
+        same = refl;
+      } in
+      record { later = s; replies = (s, (formats, by_idle s told.reply s _ idle (inl busy)), refl); at = at; start = refl; kept_is = same }
+
   -- a close that is refused
-  pub close_refused : (r : Refusal) (kept : List Formats) (told : Told) → held.Shuts g first s.world s.first s.made store store' disk disk' (Err r) → s.formats ≡ kept → told.reply ≡ Answered (Refused r) → told.formats ≡ plain
+  pub close_refused : (r : Refusal) (kept : Kept) (told : Told) → held.Shuts g first s.world s.first s.made store store' disk disk' (Err r) → s.kept ≡ kept → told.reply ≡ Answered (Refused r) → told.formats ≡ plain
       → IsTold g first false (OfAll Close) s store' disk' kept told
   close_refused r kept told x same reply formats =
       let later = close_later g first s store store' disk disk' (Err r) at frames x in
       record {
         later = later;
-        replies = (later, (formats, by_idle s told.reply later _ idle (inl (r, close_is g first s store store' disk disk' (Err r) at frames x, reply))), refl);
+        replies = (later, (formats, by_idle s told.reply later _ idle (inr (inl (r, close_is g first s store store' disk disk' (Err r) at frames x, reply)))), refl);
         at = close_at g first s store store' disk disk' (Err r) at frames x;
         start = refl;
         kept_is = same;
       }
 
   -- one that is done, behind which the device is opened anew or not
-  pub close_done : (x : held.Shuts g first s.world s.first s.made store store' disk disk' (Ok tt)) (last : Store) (now : D) (kept : List Formats) (result : Result Told Refusal)
+  pub close_done : (x : held.Shuts g first s.world s.first s.made store store' disk disk' (Ok tt)) (last : Store) (now : D) (kept : Kept) (result : Result Told Refusal)
       → (((stamped : Bool) (t : Script) → IsAt g first stamped store' disk' t → RepliedAs g first stamped (OfAll Crash) t last now kept result)) → RepliedAs g first false (OfAll Close) s last now kept result
   close_done x last now kept result reopens = close_then g first s store store' disk disk' at idle frames x last now kept result (reopens false (close_later g first s store store' disk disk' (Ok tt) at frames x) (close_at g first s store store' disk disk' (Ok tt) at frames x))
 
@@ -185,11 +210,11 @@ opened_is content shelf e is = let Systems : Type 0 = List (Option Call) in
     ap (λ (l : Systems). let w : World = record { machine = start content; sessions = []; systems = l; shelf = shelf; records = λ id key. []; again = λ session. false } in w) (four e.systems is)
 
 module _ {D : Type 0} (g : Ghosts D) (first : D) (stamped : Bool) (s : Script) (store store' : Store) (disk disk' : D) (at : IsAt g first stamped store disk s) where
-  pub reopened : (law : StartsCalm) (told : Told) (kept : List Formats) (count : ℕ) → store'.frames ≡ Firm count → length store'.engine.systems ≡ 4 → held.Reopens g first s.world s.first s.made store store' disk disk' → told.reply ≡ Answered Done → told.formats ≡ plain → kept ≡ replicate SESSIONS_MAX plain
+  pub reopened : (law : StartsCalm) (told : Told) (kept : Kept) (count : ℕ) → store'.frames ≡ Firm count → length store'.engine.systems ≡ 4 → held.Reopens g first s.world s.first s.made store store' disk disk' → told.reply ≡ Answered Done → told.formats ≡ plain → kept ≡ nothing_kept
       → IsTold g first stamped (OfAll (Frames count)) s store' disk' kept told
   reopened law told kept count firm actors x reply formats new =
       let same = opened_is x.content x.shelf store'.engine actors in
-      let later : Script = record s { world = opened_world (start x.content) x.shelf; device = device_of g disk'; formats = replicate SESSIONS_MAX plain; frames = count } in
+      let later : Script = record s { world = opened_world (start x.content) x.shelf; device = device_of g disk'; kept = nothing_kept; frames = count } in
       let reopens : Reopens count s later = record {
         content = x.content;
         reads = subst (λ (d : Device). Reads d.seen x.content) (sym at.device) x.reads;
@@ -239,7 +264,7 @@ or_none true is = is
 or_none false is = refl
 
 -- a line of the device gives no stamp
-pub gives_none : {D : Type 0} (g : Ghosts D) (first : D) (stamped : Bool) (asked : Control) (s : Script) (store : Store) (disk : D) (kept : List Formats) (result : Result Told Refusal)
+pub gives_none : {D : Type 0} (g : Ghosts D) (first : D) (stamped : Bool) (asked : Control) (s : Script) (store : Store) (disk : D) (kept : Kept) (result : Result Told Refusal)
     → RepliedAs g first stamped (OfAll asked) s store disk kept result → RepliedAs g first (stamped || gives_stamp (OfAll asked)) (OfAll asked) s store disk kept result
 gives_none g first stamped asked s store disk kept (Ok told) r = record {
   later = r.later;
@@ -252,18 +277,18 @@ gives_none g first stamped asked s store disk kept (Err e) r = r
 
 -- a checkpoint and a close come while no line gave a stamp
 module _ {D : Type 0} (g : Ghosts D) (first : D) (s : Script) (store : Store) (disk : D) where
-  pub checkpoint_plain : (stamped : Bool) → (IsTrue stamped → ⊥) → IsAt g first stamped store disk s → (store' : Store) (disk' : D) (kept : List Formats) (told : Told) → s.formats ≡ kept
-      → (IsAt g first false store disk s → IsTold g first false (OfAll Checkpoint) s store' disk' s.formats told) → IsTold g first stamped (OfAll Checkpoint) s store' disk' kept told
-  checkpoint_plain false other at store' disk' kept told same replied = subst (λ (l : List Formats). IsTold g first false (OfAll Checkpoint) s store' disk' l told) same (replied at)
+  pub checkpoint_plain : (stamped : Bool) → (IsTrue stamped → ⊥) → IsAt g first stamped store disk s → (store' : Store) (disk' : D) (kept : Kept) (told : Told) → s.kept ≡ kept
+      → (IsAt g first false store disk s → IsTold g first false (OfAll Checkpoint) s store' disk' s.kept told) → IsTold g first stamped (OfAll Checkpoint) s store' disk' kept told
+  checkpoint_plain false other at store' disk' kept told same replied = subst (λ (l : Kept). IsTold g first false (OfAll Checkpoint) s store' disk' l told) same (replied at)
   checkpoint_plain true other at store' disk' kept told same replied = absurd (other refl)
 
-  pub close_plain : (stamped : Bool) → (IsTrue stamped → ⊥) → IsAt g first stamped store disk s → (store' : Store) (disk' : D) (kept : List Formats) (result : Result Told Refusal)
+  pub close_plain : (stamped : Bool) → (IsTrue stamped → ⊥) → IsAt g first stamped store disk s → (store' : Store) (disk' : D) (kept : Kept) (result : Result Told Refusal)
       → (IsAt g first false store disk s → RepliedAs g first false (OfAll Close) s store' disk' kept result) → RepliedAs g first stamped (OfAll Close) s store' disk' kept result
   close_plain false other at store' disk' kept result replied = replied at
   close_plain true other at store' disk' kept result replied = absurd (other refl)
 
 -- an opening with as many frames as there were is told as one after a crash
-pub crash_told : {D : Type 0} (g : Ghosts D) (first : D) (stamped : Bool) (s : Script) (store : Store) (disk : D) (kept : List Formats) (count : ℕ) (result : Result Told Refusal) → count ≡ s.frames → RepliedAs g first stamped (OfAll (Frames count)) s store disk kept result → RepliedAs g first stamped (OfAll Crash) s store disk kept result
+pub crash_told : {D : Type 0} (g : Ghosts D) (first : D) (stamped : Bool) (s : Script) (store : Store) (disk : D) (kept : Kept) (count : ℕ) (result : Result Told Refusal) → count ≡ s.frames → RepliedAs g first stamped (OfAll (Frames count)) s store disk kept result → RepliedAs g first stamped (OfAll Crash) s store disk kept result
 crash_told g first stamped s store disk kept count (Ok told) same x = record { later = x.later; replies = by x.replies; at = x.at; start = x.start; kept_is = x.kept_is }
   where
     by : RunsLine (OfAll (Frames count)) s told.formats told.reply x.later → RunsLine (OfAll Crash) s told.formats told.reply x.later

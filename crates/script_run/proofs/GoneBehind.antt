@@ -1,11 +1,14 @@
 -- What goes behind the line of an actor.
-use Rattle.std.specs.Prelude.{◌≡◌, ℕ, Bool, List}
+use Rattle.std.specs.Prelude.{◌≡◌, ℕ, Bool, List, Option, None}
 use Rattle.std.proofs.Common.{inl, inr, refl, sym, ap, subst, ◌∙◌}
 use Rattle.failure.specs.Counts.{Rose}
 use Rattle.disk_model.specs.declared.disk.Disk.{Ghosts}
 use Rattle.kv_model.specs.Machine.{GoDown, Machine, after as after_event}
 use Rattle.script_text.specs.declared.line.Line.{Line}
 use Rattle.script_text.specs.declared.line.Line.TheVariants.{Whole, Start, Step, Finish, Control}
+use Rattle.script_text.specs.declared.replies.Reply.{Reply}
+use Rattle.item.specs.declared.formats.Formats.{Formats}
+use Rattle.engine.specs.declared.turning.Evicting.{Evicting}
 use Rattle.row_page.specs.Rows.{Row}
 use Rattle.engine_world.specs.Worlds.{World}
 use Rattle.ckpt_step.specs.Calm.{IsCalm}
@@ -16,7 +19,7 @@ use Rattle.engine_store.specs.Held.{IsHeld}
 use Rattle.engine_store.specs.Room.{RoomMade, RoomOf}
 use Rattle.engine_store.proofs.WritingOut.{plain_down}
 use Rattle.script_run.specs.Runs.{IsOfActor}
-use Rattle.script_run.specs.Scripts.{Behind, GoneBehind, LeavesGone, Script}
+use Rattle.script_run.specs.Scripts.{ActorReplies, Behind, GoneBehind, LeavesGone, Replies, RepliesBy, Script, actor_of, eviction_of}
 
 -- ---- calm worlds
 
@@ -33,6 +36,14 @@ behind_actor (Step who) s later now gone = gone
 behind_actor (Finish who) s later now gone = gone
 behind_actor (Control asked) s later now gone = absurd now
 
+-- its actor has no eviction
+pub replies_free : (asked : Line) (s : Script) (formats : Formats) (reply : Reply) (later : Script) → IsOfActor asked → eviction_of (actor_of asked) s.kept.evicting ≡ None → ActorReplies asked s formats reply later → Replies asked s formats reply later
+replies_free (Whole made) s formats reply later now none is = subst (λ (o : Option Evicting). RepliesBy o (Whole made) s formats reply later) (sym none) is
+replies_free (Start made) s formats reply later now none is = subst (λ (o : Option Evicting). RepliesBy o (Start made) s formats reply later) (sym none) is
+replies_free (Step who) s formats reply later now none is = subst (λ (o : Option Evicting). RepliesBy o (Step who) s formats reply later) (sym none) is
+replies_free (Finish who) s formats reply later now none is = subst (λ (o : Option Evicting). RepliesBy o (Finish who) s formats reply later) (sym none) is
+replies_free (Control asked) s formats reply later now none is = absurd now
+
 module _ {D : Type 0} (g : Ghosts D) (first : D) (s : Script) (store store' : Store) (disk disk' : D) (there : s.device ≡ device_of g disk) where
   -- the store and its disk stand for what it leaves
   pub record IsBehind : Type 0 where
@@ -41,7 +52,7 @@ module _ {D : Type 0} (g : Ghosts D) (first : D) (s : Script) (store store' : St
     pub held : IsHeld g first store' disk' later.world later.first later.made
     pub device : later.device ≡ device_of g disk'
     pub start : later.first ≡ s.first
-    pub kept : later.formats ≡ s.formats
+    pub kept : later.kept ≡ s.kept
     pub frames : later.frames ≡ s.frames
     pub calm : IsCalm s.world → IsCalm later.world
 

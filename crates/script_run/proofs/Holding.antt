@@ -5,7 +5,6 @@ use Rattle.std.proofs.lemmas.Bool.{false≢true}
 use Rattle.disk_model.specs.declared.disk.Disk.{Ghosts}
 use Rattle.disk_model.proofs.Crash.{looked_then}
 use Rattle.tree_open.proofs.Steps.{looked_none}
-use Rattle.item.specs.declared.formats.Formats.{Formats}
 use Rattle.wt_code.specs.declared.answers.Answer.TheVariants.{Refused}
 use Rattle.wt_code.specs.declared.refusals.Refusal.{Refusal}
 use Rattle.wt_code.specs.declared.refusals.Refusal.TheVariants.{DiskFault}
@@ -21,16 +20,17 @@ use Rattle.engine_store.specs.declared.frames.Frames.TheVariants.{Firm}
 use Rattle.engine_store.specs.declared.store.Store.{Store}
 use Rattle.engine_store.specs.Calls.{CallKeeps}
 use Rattle.engine_store.specs.Room.{RoomOf}
+use Rattle.script_run.specs.declared.kept.Kept.{Kept}
 use Rattle.script_run.specs.declared.told.Told.{Told as LineTold}
 use Rattle.script_run.specs.declared.one_line.Printed.{Printed}
 use Rattle.script_run.specs.declared.one_line.Stop.{Stop}
 use Rattle.script_run.specs.declared.one_line.Stop.TheVariants as stop
 use Rattle.engine_store.specs.Opened.{IsReady}
-use Rattle.script_run.specs.Runs.{IsAt, IsOfActor, IsReplied, IsTold, LineMade}
-use Rattle.script_run.specs.Scripts.{IsLater, Script, gives_stamp, listed, refusals_in}
+use Rattle.script_run.specs.Runs.{IsAt, IsCallLine, IsOfActor, IsReplied, IsTold, LineMade}
+use Rattle.script_run.specs.Scripts.{IsLater, Script, actor_of, eviction_of, gives_stamp, listed, refusals_in}
 use Rattle.script_run.proofs.Calming.{CalmLaws, line_calm}
 use Rattle.engine_store.proofs.OtherRecords.{kept_more}
-use Rattle.script_run.proofs.GoneBehind.{behind_actor, gone_behind}
+use Rattle.script_run.proofs.GoneBehind.{behind_actor, gone_behind, replies_free}
 
 -- ---- a store that keeps what it is held to
 
@@ -52,7 +52,7 @@ module _ {D : Type 0} (g : Ghosts D) where
 
 -- ---- a line of an actor
 
-or_first : (a b : Bool) → a || b ≡ false → a ≡ false
+pub or_first : (a b : Bool) → a || b ≡ false → a ≡ false
 or_first false b is = refl
 or_first true b is = is
 
@@ -60,22 +60,30 @@ or_second : (a b : Bool) → a || b ≡ false → b ≡ false
 or_second false b is = is
 or_second true b is = absurd (false≢true (sym is))
 
--- a line that is none of the device, and no whole call
-pub of_actor : (asked : Line) (stamped : Bool) → (IsLater stamped asked → ⊥) → ((x : ControlAsked) → asked ≡ Control x → ⊥) → ((x : Call) → asked ≡ Whole x → ⊥) → IsOfActor asked
-of_actor (Whole made) stamped now other whole = absurd (whole made refl)
-of_actor (Start made) stamped now other whole = now
-of_actor (Step who) stamped now other whole = tt
-of_actor (Finish who) stamped now other whole = tt
-of_actor (Control asked) stamped now other whole = absurd (other asked refl)
+-- a line that is asked of no device
+pub call_line : (asked : Line) (stamped : Bool) → (IsLater stamped asked → ⊥) → ((x : ControlAsked) → asked ≡ Control x → ⊥) → IsCallLine asked
+call_line (Whole made) stamped now other = now
+call_line (Start made) stamped now other = now
+call_line (Step who) stamped now other = tt
+call_line (Finish who) stamped now other = tt
+call_line (Control asked) stamped now other = absurd (other asked refl)
+
+-- one that is no call
+pub of_actor : (asked : Line) → IsCallLine asked → ((x : Call) → asked ≡ Whole x → ⊥) → ((x : Call) → asked ≡ Start x → ⊥) → IsOfActor asked
+of_actor (Whole made) now whole start = absurd (whole made refl)
+of_actor (Start made) now whole start = absurd (start made refl)
+of_actor (Step who) now whole start = tt
+of_actor (Finish who) now whole start = tt
+of_actor (Control asked) now whole start = absurd now
 
 -- behind the line leaves may have left their frames
-pub actor_told : {D : Type 0} (g : Ghosts D) (first : D) (store middle store' : Store) (disk between disk' : D) (asked : Line) (laws : CalmLaws) (stamped : Bool) (s : Script) (told : LineTold) (kept : List Formats) → IsOfActor asked → IsAt g first stamped store disk s
+pub actor_told : {D : Type 0} (g : Ghosts D) (first : D) (store middle store' : Store) (disk between disk' : D) (asked : Line) (laws : CalmLaws) (stamped : Bool) (s : Script) (told : LineTold) (kept : Kept) → IsOfActor asked → eviction_of (actor_of asked) s.kept.evicting ≡ None → IsAt g first stamped store disk s
     → (r : IsReplied g first s middle between asked kept told) → store'.frames ≡ middle.frames → RoomOf g first r.later.world r.later.first r.later.made middle store' between disk' → IsTold g first (stamped || gives_stamp asked) asked s store' disk' kept told
-actor_told g first store middle store' disk between disk' asked laws stamped s told kept now at r frames room =
+actor_told g first store middle store' disk between disk' asked laws stamped s told kept now none at r frames room =
     let behind = gone_behind g first r.later middle store' between disk' r.device room in
     record {
       later = behind.later;
-      replies = (r.later, r.is, behind_actor asked r.later behind.later now behind.gone);
+      replies = (r.later, replies_free asked s told.formats told.reply r.later now none r.is, behind_actor asked r.later behind.later now behind.gone);
       at = record {
         held = behind.held;
         device = behind.device;
@@ -97,7 +105,7 @@ printed_fault None reply is fault = absurd cc
 printed_fault (Some r) (Answered (Refused other)) is fault = cc
 printed_fault (Some r) _ is fault = absurd cc
 
-pub printed_made : {D : Type 0} (g : Ghosts D) (first : D) (text : List ℕ) (stamped : Bool) (s : Script) (store : Store) (disk : D) (kept : List Formats) (asked : Line) (told : LineTold) (stamps : Bool) (result : Result Printed Stop)
+pub printed_made : {D : Type 0} (g : Ghosts D) (first : D) (text : List ℕ) (stamped : Bool) (s : Script) (store : Store) (disk : D) (kept : Kept) (asked : Line) (told : LineTold) (stamps : Bool) (result : Result Printed Stop)
     → IsLine text asked → (IsLater stamped asked → ⊥) → IsTold g first (stamped || gives_stamp asked) asked s store disk kept told → stamps ≡ gives_stamp asked
     → IfOk result (λ p. p.line.items ≡ line_of_reply told.formats told.reply ++ 10 ∷ []) → IfOk result (λ p. listed p.refusal ≡ refusals_in told.reply) → IfOk result (λ p. p.stamps ≡ stamps) → IfErr result (λ e. e ≡ stop.NoMemory)
     → LineMade g first text stamped s store disk kept result

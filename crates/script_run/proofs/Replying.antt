@@ -1,6 +1,6 @@
 -- What the actor of a line is given, and one that could not be opened.
 use Rattle.std.proofs.Common.{◌≡◌, ◌<◌, ℕ, List, length, refl, sym, subst, inl, inr}
-use Rattle.std.specs.Prelude.{◌⊎◌, Some, Err}
+use Rattle.std.specs.Prelude.{◌⊎◌, Option, Err}
 use Rattle.failure.specs.Counts.{Rose}
 use Rattle.disk_model.specs.declared.disk.Disk.{Ghosts}
 use Rattle.disk_model.specs.Crash.{Looked}
@@ -25,14 +25,17 @@ use Rattle.engine.specs.declared.step.Actor.{Actor}
 use Rattle.engine.specs.declared.step.Actor.TheVariants as by
 use Rattle.engine.specs.declared.step.Step.{Step}
 use Rattle.engine.specs.declared.step.Step.TheVariants.{Go, Start}
+use Rattle.engine.specs.declared.turning.Evicting.{Evicting}
 use Rattle.engine.specs.Runs.{IsBuilt, MayStep, StepFits}
 use Rattle.engine_store.specs.declared.frames.Frames.{Frames}
 use Rattle.engine_store.specs.declared.store.Store.{Store}
-use Rattle.engine_store.specs.Calls.{Called, EndsBy, Finished, Made, MayStepOn, Stepped}
+use Rattle.engine_store.specs.Beside.{CalledBeside, FinishedBeside, IsCauseBeside, SteppedBeside}
+use Rattle.engine_store.specs.Calls.{EndsBy, Made, MayStepOn}
 use Rattle.engine_store.specs.Devices.{Device, IsRead, device_of}
 use Rattle.engine_store.specs.Full.{MayBeFull}
-use Rattle.engine_store.specs.Loads.{IsCause, IsCaused}
-use Rattle.script_run.specs.Scripts.{CauseOn, IsLaterCall, Opens, Refuses, Script, opened_more, caller}
+use Rattle.engine_store.specs.Loads.{IsCaused}
+use Rattle.script_run.specs.declared.kept.Kept.{Kept}
+use Rattle.script_run.specs.Scripts.{CauseOn, IsUnbuilt, Opens, Refuses, Script, opened_more, caller}
 use Rattle.script_run.specs.Runs.{IsAnswerTo, IsLeftSo, IsTaken, IsThere, OpensAs, StandsAt}
 
 -- ---- the call that is stored is one that the store takes
@@ -47,11 +50,11 @@ built_stored formats system.StepCheckpoint now = now (λ x. x)
 built_stored formats system.FinishCheckpoint now = now (λ x. x)
 built_stored formats system.Close now = now (λ x. x)
 
-pub call-taken : (e : Engine) (formats : Formats) (made : Call) → (IsLaterCall made → ⊥) → IsThere (caller made) e → IsTaken (stored_call formats made) e
+pub call-taken : (e : Engine) (formats : Formats) (made : Call) → (IsUnbuilt made → ⊥) → IsThere (caller made) e → IsTaken (stored_call formats made) e
 call-taken e formats (Session session made) now there = there
 call-taken e formats (System number made) now there = (there, built_stored formats made now)
 
-pub call-fits : (e : Engine) (formats : Formats) (made : Call) → (IsLaterCall made → ⊥) → IsThere (caller made) e → length e.systems ≡ 4 → StepFits e (Start (stored_call formats made))
+pub call-fits : (e : Engine) (formats : Formats) (made : Call) → (IsUnbuilt made → ⊥) → IsThere (caller made) e → length e.systems ≡ 4 → StepFits e (Start (stored_call formats made))
 call-fits e formats (Session session made) now there four = there
 call-fits e formats (System number made) now there four = (subst (λ (n : ℕ). number < n) (sym four) there, built_stored formats made now)
 
@@ -68,19 +71,20 @@ module _ {D : Type 0} (g : Ghosts D) (first : D) (s : Script) (w : World) (store
       subst (λ (d : Device). IsRead d (device_of g disk')) (sym at.device) (record { later = record { faults = looked.count; moment = looked.later }; seen = looked.content; capacity = looked.capacity })
 
   -- what is so by the causes that the disk gives is so by those of the script's device
-  caused : (IsSo : (World → Refusal → Type 0) → Type 0) → IsSo (λ now r. IsCause (Rose (g.faults disk) (g.faults disk')) (MayBeFull store.frames now) w.machine.fault r) → IsSo (CauseOn s (device_of g disk') w)
-  caused IsSo is =
-      subst (λ (f : Frames). IsSo (λ now r. IsCause (Rose s.device.faults (g.faults disk')) (MayBeFull f now) w.machine.fault r)) at.frames
-      (subst (λ (d : Device). IsSo (λ now r. IsCause (Rose d.faults (g.faults disk')) (MayBeFull store.frames now) w.machine.fault r)) (sym at.device) is)
+  caused : (evicting : List (Option Evicting)) → s.kept.evicting ≡ evicting → (IsSo : (World → Refusal → Type 0) → Type 0) → IsSo (λ now r. IsCauseBeside evicting (Rose (g.faults disk) (g.faults disk')) (MayBeFull store.frames now) w.machine.fault r) → IsSo (CauseOn s (device_of g disk') w)
+  caused evicting same IsSo is =
+      subst (λ (f : Frames). IsSo (λ now r. IsCauseBeside s.kept.evicting (Rose s.device.faults (g.faults disk')) (MayBeFull f now) w.machine.fault r)) at.frames
+      (subst (λ (d : Device). IsSo (λ now r. IsCauseBeside s.kept.evicting (Rose d.faults (g.faults disk')) (MayBeFull store.frames now) w.machine.fault r)) (sym at.device)
+      (subst (λ (l : List (Option Evicting)). IsSo (λ now r. IsCauseBeside l (Rose (g.faults disk) (g.faults disk')) (MayBeFull store.frames now) w.machine.fault r)) (sym same) is))
 
-  pub session-answered : (session : ℕ) (made : SessionCall) (answer : Answer (List ℕ)) → Called g first w s.first s.made store store' disk disk' session (session_call_in made) answer → IsAnswerTo g first s store' disk' (Session session made) w answer
-  session-answered session made answer x = record { next = x.later; answered = (x.kept, caused (λ C. IsCaused C w session (session_call_in made) x.kept) x.caused, x.called); held = x.held }
+  pub session-answered : (evicting : List (Option Evicting)) → s.kept.evicting ≡ evicting → (session : ℕ) (made : SessionCall) (answer : Answer (List ℕ)) → CalledBeside g first w s.first s.made store store' disk disk' evicting session (session_call_in made) answer → IsAnswerTo g first s store' disk' (Session session made) w answer
+  session-answered evicting same session made answer x = record { next = x.later; answered = (x.kept, caused evicting same (λ C. IsCaused C w session (session_call_in made) x.kept) x.caused, x.called); held = x.held }
 
-  pub stepped : (made : Step) (told : Told) (x : Stepped g first w s.first s.made store store' disk disk' made told) → MayStepOn (CauseOn s (device_of g disk') w) w made told x.later
-  stepped made told x = caused (λ C. MayStepOn C w made told x.later) x.stepped
+  pub stepped : (evicting : List (Option Evicting)) → s.kept.evicting ≡ evicting → (made : Step) (told : Told) (x : SteppedBeside g first w s.first s.made store store' disk disk' evicting made told) → MayStepOn (CauseOn s (device_of g disk') w) w made told x.later
+  stepped evicting same made told x = caused evicting same (λ C. MayStepOn C w made told x.later) x.stepped
 
-  pub finished : (who : Actor) (answer : Answer (List ℕ)) (x : Finished g first w s.first s.made store store' disk disk' who answer) → EndsBy (CauseOn s (device_of g disk') w) w who answer x.later
-  finished who answer x = caused (λ C. EndsBy C w who answer x.later) x.ended
+  pub finished : (evicting : List (Option Evicting)) → s.kept.evicting ≡ evicting → (who : Actor) (answer : Answer (List ℕ)) (x : FinishedBeside g first w s.first s.made store store' disk disk' evicting who answer) → EndsBy (CauseOn s (device_of g disk') w) w who answer x.later
+  finished evicting same who answer x = caused evicting same (λ C. EndsBy C w who answer x.later) x.ended
 
   pub system-answered : (number : ℕ) (made : SystemCall) (answer : Answer (List ℕ)) → Made g first w s.first s.made store store' disk disk' (System number made) answer → IsAnswerTo g first s store' disk' (System number made) w answer
   system-answered number made answer x = record { next = x.later; answered = x.answered; held = x.held }
@@ -94,15 +98,15 @@ started Caused w made told next (inr (session, r, go, more, caused, out)) = absu
 
 module _ {D : Type 0} (g : Ghosts D) (first : D) (s : Script) (store : Store) (disk : D) where
   -- what is so of what it leaves may be more
-  pub left-more : (kept : List Formats) (IsSo IsMore : Script → Type 0) → ((later : Script) → IsSo later → IsMore later) → IsLeftSo g first s store disk kept IsSo → IsLeftSo g first s store disk kept IsMore
+  pub left-more : (kept : Kept) (IsSo IsMore : Script → Type 0) → ((later : Script) → IsSo later → IsMore later) → IsLeftSo g first s store disk kept IsSo → IsLeftSo g first s store disk kept IsMore
   left-more kept IsSo IsMore more x = record { later = x.later; is = more x.later x.is; held = x.held; device = x.device; frames = x.frames; start = x.start; kept_is = x.kept_is }
 
   -- the actor could not be opened
   pub turned-away : (GoesSo : Script → World → Type 0) (who : Actor) (r : Refusal) (reply : Reply) → reply ≡ Answered (Refused r) → OpensAs who s.world (Err r) (λ v. StandsAt g first store disk s v)
-      → IsLeftSo g first s store disk s.formats (λ later. Opens who s.world (GoesSo later) (λ but v. Refuses but s v reply later))
+      → IsLeftSo g first s store disk s.kept (λ later. Opens who s.world (GoesSo later) (λ but v. Refuses but s v reply later))
   turned-away GoesSo who r reply told (n, less, why, at) =
       record { later = record s { world = opened_more n s.world }; is = inr (n, r, less, why, (told, refl)); held = at.held; device = at.device; frames = at.frames; start = refl; kept_is = refl }
 
   -- memory was short for the call of an actor that is there
-  pub short : (GoesSo : Script → Type 0) (w : World) (reply : Reply) → reply ≡ Answered (Refused NoMemory) → StandsAt g first store disk s w → IsLeftSo g first s store disk s.formats (λ later. GoesSo later ⊎ Refuses NoMemory s w reply later)
+  pub short : (GoesSo : Script → Type 0) (w : World) (reply : Reply) → reply ≡ Answered (Refused NoMemory) → StandsAt g first store disk s w → IsLeftSo g first s store disk s.kept (λ later. GoesSo later ⊎ Refuses NoMemory s w reply later)
   short GoesSo w reply told at = record { later = record s { world = w }; is = inr (told, refl); held = at.held; device = at.device; frames = at.frames; start = refl; kept_is = refl }

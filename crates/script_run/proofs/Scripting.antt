@@ -1,6 +1,6 @@
 -- Lines that were run one after the other, and the run that they are the front of.
 use Rattle.std.proofs.Common.{◌≡◌, ◌∙◌, ◌++◌, ◌+◌, ◌≤◌, ℕ, List, [], ◌∷◌, length, refl, sym, ap, subst, inl, inr, append_assoc, arith}
-use Rattle.std.specs.Prelude.{◌⊎◌, ◌||◌, Bool, true, false, IsTrue, Option, Some, None, filter, cond, replicate}
+use Rattle.std.specs.Prelude.{◌⊎◌, ◌||◌, Bool, true, false, IsTrue, Option, Some, None, filter, cond}
 use Rattle.std.proofs.lemmas.List.{append-nil}
 use Rattle.failure.specs.Counts.{Rose}
 use Rattle.wt_code.specs.declared.refusals.Refusal.{Refusal}
@@ -11,7 +11,6 @@ use Rattle.wt_io.specs.declared.streams.Source.{Ghosts as SourceGhosts}
 use Rattle.wt_io.specs.declared.streams.Sink.{Ghosts as SinkGhosts}
 use Rattle.script_text.specs.declared.replies.Reply.{Reply}
 use Rattle.script_text.specs.Replies.{line_of_reply}
-use Rattle.limits.specs.declared.TheConstants.{SESSIONS_MAX}
 use Rattle.disk_model.specs.declared.disk.Disk.{Ghosts}
 use Rattle.kv_model.specs.Machine.{Completed}
 use Rattle.engine_world.specs.Worlds.{World}
@@ -25,7 +24,7 @@ use Rattle.script_run.specs.declared.script.End.TheVariants.{Stopped}
 use Rattle.script_run.specs.declared.script.Place.{Place}
 use Rattle.script_run.specs.declared.script.ScriptRun.{ScriptRun}
 use Rattle.script_run.specs.Lines.{AreLines, Held, IsCut}
-use Rattle.script_run.specs.Scripts.{Outside, Ran, RunsLines, Script, counts, ends, first_of, fresh, gives_stamp, listed, outside, plain, prints, refusals_in}
+use Rattle.script_run.specs.Scripts.{Outside, Ran, RunsLines, Script, counts, ends, first_of, fresh, gives_stamp, listed, outside, nothing_kept, prints, refusals_in}
 use Rattle.script_run.specs.Runs.{IsAt, IsRun, MetFault}
 use Rattle.script_run.specs.Turns.{LineDone, TurnEnds, TurnGoesOn, met_with}
 use Rattle.script_run.proofs.Cutting.{gave_more, gave_none}
@@ -226,14 +225,14 @@ module _ {D : Type 0} (g : Ghosts D) (disk : D) (w : World) (frames : ℕ) where
     pub met : place.met ≡ first_of (filter counts refusals)
     pub at : IsAt g disk place.stamped store now script
     pub start : script.first ≡ w.machine.completed
-    pub kept : script.formats ≡ place.formats
+    pub kept : script.kept ≡ place.kept
 
   -- before the first line
   pub first-at : (store : Store) → store.frames ≡ Firm frames → IsHeld g disk store disk w w.machine.completed [] → IsCalm w → (stamped : Bool) → IsAt g disk stamped store disk (fresh w (device_of g disk) frames)
   first-at store firm held calm stamped = record { held = held; device = refl; frames = firm; calm = λ none. calm }
 
   pub none-done : {S K : Type 0} (source : SourceGhosts S) (sink : SinkGhosts K) (input : S) (out : K) (held : Held) (place : Place) (store : Store) → store.frames ≡ Firm frames
-      → held.behind ≡ [] → place.line ≡ 1 → place.used ≡ 0 → place.stamped ≡ false → place.formats ≡ replicate SESSIONS_MAX plain → place.met ≡ None → IsHeld g disk store disk w w.machine.completed [] → IsCalm w
+      → held.behind ≡ [] → place.line ≡ 1 → place.used ≡ 0 → place.stamped ≡ false → place.kept ≡ nothing_kept → place.met ≡ None → IsHeld g disk store disk w w.machine.completed [] → IsCalm w
       → IsDone source sink input input out out held place store disk
   none-done source sink input out held place store firm empty line used stamped formats met holds calm = record {
     given = [];

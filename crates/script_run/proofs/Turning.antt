@@ -1,7 +1,6 @@
 -- What a turn comes to, by the line that it read and what was made of it.
 use Rattle.std.proofs.Common.{◌≡◌, ◌∙◌, ◌++◌, ◌+◌, ◌≤◌, ◌<◌, ℕ, List, [], ◌∷◌, length, take, refl, sym, ap, subst, inl, inr}
 use Rattle.std.specs.Prelude.{◌||◌, Bool, IfSome, IsTrue, Ok, Err, Option, Some, None}
-use Rattle.item.specs.declared.formats.Formats.{Formats}
 use Rattle.wt_code.specs.declared.refusals.Refusal.{Refusal}
 use Rattle.wt_code.specs.declared.refusals.Refusal.TheVariants.{Invalid, NoMemory}
 use Rattle.wt_code.specs.declared.refusals.Invalid.TheVariants.{Text}
@@ -12,6 +11,7 @@ use Rattle.wt_io.specs.declared.streams.Sink.{Ghosts as SinkGhosts}
 use Rattle.script_text.specs.Replies.{line_of_reply}
 use Rattle.disk_model.specs.declared.disk.Disk.{Ghosts}
 use Rattle.engine_store.specs.declared.store.Store.{Store}
+use Rattle.script_run.specs.declared.kept.Kept.{Kept}
 use Rattle.script_run.specs.declared.one_line.Printed.{Printed}
 use Rattle.script_run.specs.declared.one_line.Stop.TheVariants as stop
 use Rattle.script_run.specs.declared.script.End.{End}
@@ -47,8 +47,8 @@ module _ {D K : Type 0} (g : Ghosts D) (disk : D) (sink : SinkGhosts K) (text : 
   }
 
   -- it is none
-  pub line-none : (out : K) (place : Place) (kept : List Formats) → LineMade g disk text place.stamped s store now kept (Err stop.NoLine)
-      → RunEnds g disk store now (of_output sink out out) sink out out (text ∷ []) s place (record place { formats = kept }) (Stopped (Invalid (Text place.line)))
+  pub line-none : (out : K) (place : Place) (kept : Kept) → LineMade g disk text place.stamped s store now kept (Err stop.NoLine)
+      → RunEnds g disk store now (of_output sink out out) sink out out (text ∷ []) s place (record place { kept = kept }) (Stopped (Invalid (Text place.line)))
   line-none out place kept made = record {
     ran = ends (Stopped (Invalid (Text place.line))) s;
     runs = inl (inl made.0, refl, refl);
@@ -61,8 +61,8 @@ module _ {D K : Type 0} (g : Ghosts D) (disk : D) (sink : SinkGhosts K) (text : 
   }
 
   -- memory is wanted
-  pub line-stops : (out : K) (place : Place) (kept : List Formats) → place.used + length text ≤ INPUT_MAX → LineMade g disk text place.stamped s store now kept (Err stop.NoMemory)
-      → RunEnds g disk store now (of_output sink out out) sink out out (text ∷ []) s place (record place { formats = kept }) (Stopped NoMemory)
+  pub line-stops : (out : K) (place : Place) (kept : Kept) → place.used + length text ≤ INPUT_MAX → LineMade g disk text place.stamped s store now kept (Err stop.NoMemory)
+      → RunEnds g disk store now (of_output sink out out) sink out out (text ∷ []) s place (record place { kept = kept }) (Stopped NoMemory)
   line-stops out place kept room (inl at) = record {
     ran = ends (Stopped NoMemory) s;
     runs = inr (inl (refl, refl));
@@ -85,8 +85,8 @@ module _ {D K : Type 0} (g : Ghosts D) (disk : D) (sink : SinkGhosts K) (text : 
   }
 
   -- the device was not opened
-  pub line-shut : (out : K) (place : Place) (kept : List Formats) (r : Refusal) → place.used + length text ≤ INPUT_MAX → LineMade g disk text place.stamped s store now kept (Err (stop.Opening r))
-      → RunEnds g disk store now (of_output sink out out) sink out out (text ∷ []) s place (record place { formats = kept }) (Stopped r)
+  pub line-shut : (out : K) (place : Place) (kept : Kept) (r : Refusal) → place.used + length text ≤ INPUT_MAX → LineMade g disk text place.stamped s store now kept (Err (stop.Opening r))
+      → RunEnds g disk store now (of_output sink out out) sink out out (text ∷ []) s place (record place { kept = kept }) (Stopped r)
   line-shut out place kept r room (asked, spelled, fits, x) = record {
     ran = ends (Stopped r) x.later;
     runs = inr (inr (room, asked, spelled, fits, inl (r, x.later, x.stops, refl, refl)));
@@ -99,8 +99,8 @@ module _ {D K : Type 0} (g : Ghosts D) (disk : D) (sink : SinkGhosts K) (text : 
   }
 
   -- it was run, and printed whole or not
-  pub line-told : (out out' : K) (place next : Place) (kept : List Formats) (printed : Printed) (end : Option End)
-      → place.used + length text ≤ INPUT_MAX → LineMade g disk text place.stamped s store now kept (Ok printed) → PrintTurn sink out out' printed (length text) (record place { formats = kept }) next end → LineTurn g disk store now sink out out' text s place next end
+  pub line-told : (out out' : K) (place next : Place) (kept : Kept) (printed : Printed) (end : Option End)
+      → place.used + length text ≤ INPUT_MAX → LineMade g disk text place.stamped s store now kept (Ok printed) → PrintTurn sink out out' printed (length text) (record place { kept = kept }) next end → LineTurn g disk store now sink out out' text s place next end
   line-told out out' place next kept printed None room (asked, formats, reply, run, is) p =
       let stamped : next.stamped ≡ (place.stamped || gives_stamp asked) = p.behind.stamped ∙ ap (λ (b : Bool). place.stamped || b) is.stamps in
       record {
@@ -122,7 +122,7 @@ module _ {D K : Type 0} (g : Ghosts D) (disk : D) (sink : SinkGhosts K) (text : 
         took = p.took;
         at = subst (λ (b : Bool). IsAt g disk b store now run.later) (sym stamped) run.at;
         start = run.start;
-        kept = run.kept_is ∙ sym p.formats;
+        kept = run.kept_is ∙ sym p.kept;
         line = p.behind.line;
         used = p.behind.used;
         met = p.behind.met;

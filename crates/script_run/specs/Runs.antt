@@ -30,6 +30,7 @@ use Rattle.engine.specs.declared.step.Actor.TheVariants as by
 use Rattle.script_run.specs.declared.one_line.Printed.{Printed}
 use Rattle.script_run.specs.declared.one_line.Stop.{Stop}
 use Rattle.script_run.specs.declared.one_line.Stop.TheVariants as stop
+use Rattle.script_run.specs.declared.kept.Kept.{Kept}
 use Rattle.script_run.specs.declared.told.Told.{Told}
 use Rattle.script_run.specs.declared.script.End.TheVariants.{Through, Stopped}
 use Rattle.script_run.specs.declared.script.ScriptRun.{ScriptRun}
@@ -37,7 +38,7 @@ use Rattle.script_run.specs.Faults.{RepliesFault, TellsFaults}
 use Rattle.script_run.specs.Lines.{AreLines}
 use Rattle.wt_io.specs.declared.streams.Source.{Ghosts as SourceGhosts}
 use Rattle.wt_io.specs.declared.streams.Sink.{Ghosts as SinkGhosts}
-use Rattle.script_run.specs.Scripts.{outside, Answers, Begins, CauseOn, Ends, Goes, Outside, Ran, Refuses, Replies, RunsLine, RunsLines, Script, IsLater, IsLaterCall, NoSession, StopsBy, actor_in, caller, counts, first_of, fresh, gives_stamp, listed, missing, opened_more, refusals_in}
+use Rattle.script_run.specs.Scripts.{outside, ActorReplies, Answers, Begins, CauseOn, Ends, Goes, Outside, Ran, Refuses, RunsLine, RunsLines, Script, IsLater, IsLaterCall, IsUnbuilt, NoSession, StopsBy, actor_in, caller, counts, first_of, fresh, gives_stamp, listed, missing, opened_more, refusals_in}
 
 -- one of the four actors of the system, or any session
 abbrev pub IsKnown : Actor → Type 0
@@ -72,11 +73,19 @@ OpensAs who w (Err r) Holds = (n : ℕ) × (n < missing who w) × NoSession r (o
 
 -- a line of an actor
 abbrev pub IsOfActor : Line → Type 0
-IsOfActor (Whole made) = IsLaterCall made → ⊥
-IsOfActor (Start made) = IsLaterCall made → ⊥
+IsOfActor (Whole made) = IsUnbuilt made → ⊥
+IsOfActor (Start made) = IsUnbuilt made → ⊥
 IsOfActor (Step who) = Unit {0}
 IsOfActor (Finish who) = Unit {0}
 IsOfActor (OfAll asked) = ⊥
+
+-- a line that is asked of no device, of this stage
+abbrev pub IsCallLine : Line → Type 0
+IsCallLine (Whole made) = IsLaterCall made → ⊥
+IsCallLine (Start made) = IsLaterCall made → ⊥
+IsCallLine (Step who) = Unit {0}
+IsCallLine (Finish who) = Unit {0}
+IsCallLine (OfAll asked) = ⊥
 
 -- ---- on a device
 
@@ -91,18 +100,18 @@ pub record IsAt {D : Type 0} (g : Ghosts D) (first : D) (stamped : Bool) (store 
 
 module _ {D : Type 0} (g : Ghosts D) (first : D) (s : Script) (store : Store) (disk : D) where
   -- The store and its disk stand for what a line left, of which this is so.
-  pub record IsLeftSo (kept : List Formats) (IsSo : Script → Type 0) : Type 0 where
+  pub record IsLeftSo (kept : Kept) (IsSo : Script → Type 0) : Type 0 where
     pub later : Script
     pub is : IsSo later
     pub held : IsHeld g first store disk later.world later.first later.made
     pub device : later.device ≡ device_of g disk
     pub frames : store.frames ≡ Firm later.frames
     pub start : later.first ≡ s.first
-    pub kept_is : later.formats ≡ kept
+    pub kept_is : later.kept ≡ kept
 
   -- a reply was told so
-  abbrev pub IsReplied : Line → List Formats → Told → Type 0
-  IsReplied asked kept told = IsLeftSo kept (λ later. Replies asked s told.formats told.reply later)
+  abbrev pub IsReplied : Line → Kept → Told → Type 0
+  IsReplied asked kept told = IsLeftSo kept (λ later. ActorReplies asked s told.formats told.reply later)
 
   -- a whole call was answered so
   pub record IsAnswerTo (made : Call) (w : World) (answer : Answer (List ℕ)) : Type 0 where
@@ -112,16 +121,16 @@ module _ {D : Type 0} (g : Ghosts D) (first : D) (s : Script) (store : Store) (d
 
   -- where the actor is there: the call was made, started, stepped or finished, and told so
   abbrev pub IsAnswered : Call → World → Told → Type 0
-  IsAnswered made w told = IsLeftSo s.formats (λ later. Answers made s told.formats told.reply later w ⊎ Refuses NoMemory s w told.reply later)
+  IsAnswered made w told = IsLeftSo s.kept (λ later. Answers made s told.formats told.reply later w ⊎ Refuses NoMemory s w told.reply later)
 
-  abbrev pub IsBegun : Call → World → List Formats → Told → Type 0
+  abbrev pub IsBegun : Call → World → Kept → Told → Type 0
   IsBegun made w kept told = IsLeftSo kept (λ later. Begins made s told.formats told.reply later w ⊎ Refuses NoMemory s w told.reply later)
 
   abbrev pub IsGone : Actor → World → Told → Type 0
-  IsGone who w told = IsLeftSo s.formats (λ later. Goes who s told.formats told.reply later w)
+  IsGone who w told = IsLeftSo s.kept (λ later. Goes who s told.formats told.reply later w)
 
   abbrev pub IsEnded : Actor → World → Told → Type 0
-  IsEnded who w told = IsLeftSo s.formats (λ later. Ends who s told.formats told.reply later w)
+  IsEnded who w told = IsLeftSo s.kept (λ later. Ends who s told.formats told.reply later w)
 
 -- the store and its disk, which is that of s, stand for a world
 pub record StandsAt {D : Type 0} (g : Ghosts D) (first : D) (store : Store) (disk : D) (s : Script) (w : World) : Type 0 where
@@ -153,12 +162,12 @@ pub record IsPrintedOf (asked : Line) (formats : Formats) (reply : Reply) (print
 
 module _ {D : Type 0} (g : Ghosts D) (first : D) where
   -- a line was replied to, and left the store and its disk so
-  pub record IsTold (stamped : Bool) (asked : Line) (s : Script) (store : Store) (disk : D) (kept : List Formats) (told : Told) : Type 0 where
+  pub record IsTold (stamped : Bool) (asked : Line) (s : Script) (store : Store) (disk : D) (kept : Kept) (told : Told) : Type 0 where
     pub later : Script
     pub replies : RunsLine asked s told.formats told.reply later
     pub at : IsAt g first stamped store disk later
     pub start : later.first ≡ s.first
-    pub kept_is : later.formats ≡ kept
+    pub kept_is : later.kept ≡ kept
 
   -- the device was not opened
   pub record IsStopped (asked : Line) (s : Script) (store : Store) (disk : D) (r : Refusal) : Type 0 where
@@ -167,22 +176,22 @@ module _ {D : Type 0} (g : Ghosts D) (first : D) where
     pub at : IsAt g first true store disk later
     pub start : later.first ≡ s.first
 
-  abbrev pub RepliedAs : Bool → Line → Script → Store → D → List Formats → Result Told Refusal → Type 0
+  abbrev pub RepliedAs : Bool → Line → Script → Store → D → Kept → Result Told Refusal → Type 0
   RepliedAs stamped asked s store disk kept (Ok told) = IsTold stamped asked s store disk kept told
   RepliedAs stamped asked s store disk kept (Err r) = IsStopped asked s store disk r
 
   -- a line was run, and told so
-  pub record IsLineRun (text : List ℕ) (stamped : Bool) (s : Script) (store : Store) (disk : D) (kept : List Formats) (asked : Line) (formats : Formats) (reply : Reply) : Type 0 where
+  pub record IsLineRun (text : List ℕ) (stamped : Bool) (s : Script) (store : Store) (disk : D) (kept : Kept) (asked : Line) (formats : Formats) (reply : Reply) : Type 0 where
     pub line : IsLine text asked
     pub now : IsLater stamped asked → ⊥
     pub later : Script
     pub replies : RunsLine asked s formats reply later
     pub at : IsAt g first (stamped || gives_stamp asked) store disk later
     pub start : later.first ≡ s.first
-    pub kept_is : later.formats ≡ kept
+    pub kept_is : later.kept ≡ kept
 
   -- what was made of a line: this is printed of it; or it is none; or for want of memory nothing was made of it, or its reply is not printed; or the device was not opened
-  abbrev pub LineMade : List ℕ → Bool → Script → Store → D → List Formats → Result Printed Stop → Type 0
+  abbrev pub LineMade : List ℕ → Bool → Script → Store → D → Kept → Result Printed Stop → Type 0
   LineMade text stamped s store disk kept (Ok printed) =
       (asked : Line) × (formats : Formats) × (reply : Reply) × IsLineRun text stamped s store disk kept asked formats reply × IsPrintedOf asked formats reply printed
   LineMade text stamped s store disk kept (Err stop.NoLine) = ((asked : Line) → IsLine text asked → IsLater stamped asked) × IsAt g first stamped store disk s

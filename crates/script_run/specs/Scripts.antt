@@ -9,6 +9,7 @@ use Rattle.wt_code.specs.declared.answers.Answer.{Answer}
 use Rattle.wt_code.specs.declared.answers.Answer.TheVariants as answers
 use Rattle.wt_code.specs.declared.refusals.Refusal.{Refusal}
 use Rattle.wt_code.specs.declared.refusals.Refusal.TheVariants as refusal
+use Rattle.wt_code.specs.declared.refusals.Busy.TheVariants.{Evicting as EvictingFrame}
 use Rattle.wt_code.specs.declared.refusals.Limit.TheVariants.{Sessions}
 use Rattle.wt_code.specs.declared.refusals.Invalid.TheVariants.{InCall, Text}
 use Rattle.wt_io.specs.Streams.{AtEnd}
@@ -16,7 +17,7 @@ use Rattle.wt_io.specs.declared.streams.Source.{Ghosts as SourceGhosts}
 use Rattle.wt_io.specs.declared.streams.Sink.{Ghosts as SinkGhosts}
 use Rattle.kv_model.specs.History.{named, tables}
 use Rattle.kv_model.specs.Machine.{GoDown, Machine, Completed, after as after_event, of_some}
-use Rattle.kv_model.specs.Calls.{rolled_back}
+use Rattle.kv_model.specs.Calls.{Call as Asked, rolled_back}
 use Rattle.kv_model.specs.Content.{Content, OpensAs, start}
 use Rattle.kv_model.specs.Decisions.{is_there}
 use Rattle.kv_model.specs.Holds.{Member}
@@ -26,6 +27,7 @@ use Rattle.wt_calls.specs.declared.call.Call.TheVariants as call
 use Rattle.wt_calls.specs.declared.session_call.SessionCall.TheVariants as session_call
 use Rattle.wt_calls.specs.declared.system_call.SystemCall.{SystemCall}
 use Rattle.wt_calls.specs.declared.system_call.SystemCall.TheVariants as system
+use Rattle.call_steps.specs.declared.stage.Target.{Target}
 use Rattle.call_steps.specs.declared.reply.Reply.{Reply as Told}
 use Rattle.call_steps.specs.declared.reply.Reply.TheVariants as told
 use Rattle.script_text.specs.declared.line.Actor.{Actor}
@@ -46,15 +48,21 @@ use Rattle.engine_world.specs.Systems.{checkpointed}
 use Rattle.engine.specs.declared.step.Actor.{Actor as EngineActor}
 use Rattle.engine.specs.declared.step.Actor.TheVariants as by
 use Rattle.engine.specs.declared.step.Step.TheVariants as step
+use Rattle.engine.specs.declared.turning.Evicting.{Evicting}
+use Rattle.engine.specs.declared.turning.EvictStage.{EvictStage}
+use Rattle.engine.specs.declared.turning.EvictStage.TheVariants.{Find}
+use Rattle.engine.specs.Turning.{evicting_by, found_in, staged}
 use Rattle.engine.specs.Runs.{MayStep, IsBuilt}
 use Rattle.engine.specs.Whole.{with_session_more}
 use Rattle.ckpt_step.specs.declared.lives.Lone.{Lone}
 use Rattle.engine_store.specs.Answers.{CheckpointTakes, CloseTakes, Installs, IsLeft, RefusesReopening}
 use Rattle.engine_store.specs.Calls.{EndsBy, MayAnswerOn, MayStepOn}
 use Rattle.engine_store.specs.Devices.{Device, Installed, IsLater as IsLaterDevice, IsRead, KeepsCheckpoint, may_open_to}
-use Rattle.engine_store.specs.EvictCalls.{EvictAnswers, evict_around}
+use Rattle.engine_store.specs.Beside.{IsCauseBeside}
+use Rattle.engine_store.specs.EvictCalls.{EvictAnswers}
+use Rattle.engine_store.specs.EvictSteps.{GoesTo, LeadsTo, TakesMemory, around_beside}
 use Rattle.engine_store.specs.Full.{IsFullAt}
-use Rattle.engine_store.specs.Loads.{IsCause}
+use Rattle.script_run.specs.declared.kept.Kept.{Kept}
 use Rattle.script_run.specs.declared.script.End.{End}
 use Rattle.script_run.specs.declared.script.End.TheVariants.{Through, Stopped, InputFailed, OutputFailed}
 use Rattle.script_run.specs.declared.script.TheConstants.{INPUT_MAX}
@@ -67,33 +75,38 @@ pub record Script : Type 0 where
   pub first : Completed
   -- those that lines installed since, or were installing
   pub made : List Installed
-  -- by session: those of the call that it has started
-  pub formats : List Formats
+  -- what is kept of calls that are started
+  pub kept : Kept
   -- how many frames there are for leaves
   pub frames : ℕ
 
 abbrev pub plain : Formats
 plain = record { key = U; value = U }
 
+-- nothing is started
+abbrev pub nothing_kept : Kept
+nothing_kept = record { formats = replicate SESSIONS_MAX plain; evicting = None ∷ None ∷ None ∷ None ∷ [] }
+
 -- the formats of the items of a call; plain where its table is not there
 abbrev pub formats_in : Machine → Call → Formats
 formats_in m made = of_some plain (λ name. of_some plain (λ t. t.formats) (named name (tables m.history))) (table_of_items made)
 
--- a call that is started, of a later stage
-abbrev pub IsLaterCall : Call → Type 0
-IsLaterCall (call.Session session made) = ⊥
-IsLaterCall (call.System number made) = IsBuilt made → ⊥
+-- a call that no event of the engine makes
+abbrev pub IsUnbuilt : Call → Type 0
+IsUnbuilt (call.Session session made) = ⊥
+IsUnbuilt (call.System number made) = IsBuilt made → ⊥
 
--- a whole call of the system that is made: those that may be started, and an eviction
+-- a call of the system that is made: by an event, or an eviction
 abbrev pub IsMade : SystemCall → Type 0
 IsMade (system.Create table formats) = Unit {0}
 IsMade (system.SetStamps oldest stable) = Unit {0}
 IsMade (system.Evict table key) = Unit {0}
 IsMade _ = ⊥
 
-abbrev pub IsLaterWhole : Call → Type 0
-IsLaterWhole (call.Session session made) = ⊥
-IsLaterWhole (call.System number made) = IsMade made → ⊥
+-- one of a later stage
+abbrev pub IsLaterCall : Call → Type 0
+IsLaterCall (call.Session session made) = ⊥
+IsLaterCall (call.System number made) = IsMade made → ⊥
 
 -- a checkpoint and a close are once the text has committed with a stamp
 abbrev pub IsLaterControl : Bool → Control → Type 0
@@ -103,7 +116,7 @@ IsLaterControl stamped Crash = ⊥
 IsLaterControl stamped (Frames count) = ⊥
 
 abbrev pub IsLater : Bool → Line → Type 0
-IsLater stamped (Whole made) = IsLaterWhole made
+IsLater stamped (Whole made) = IsLaterCall made
 IsLater stamped (Start made) = IsLaterCall made
 IsLater stamped (Step who) = ⊥
 IsLater stamped (Finish who) = ⊥
@@ -150,12 +163,12 @@ Opens who w Goes Ends =
     ⊎ ((n : ℕ) × (r : Refusal) × (n < missing who w) × NoSession r (opened_more n w) × Ends r (opened_more n w))
 
 -- the formats that are kept of the call that an actor has started
-abbrev pub kept_formats : EngineActor → List Formats → Formats
-kept_formats (by.Session session) kept = slice_index_or kept session plain
+abbrev pub kept_formats : EngineActor → Kept → Formats
+kept_formats (by.Session session) kept = slice_index_or kept.formats session plain
 kept_formats (by.System number) kept = plain
 
-abbrev pub kept_more : EngineActor → Formats → List Formats → List Formats
-kept_more (by.Session session) formats kept = slice_set kept session formats
+abbrev pub kept_more : EngineActor → Formats → Kept → Kept
+kept_more (by.Session session) formats kept = record kept { formats = slice_set kept.formats session formats }
 kept_more (by.System number) formats kept = kept
 
 -- ---- replies
@@ -169,9 +182,9 @@ in_script (told.Answer answer) = Answered answer
 abbrev pub Refuses : Refusal → Script → World → Reply → Script → Type 0
 Refuses r s w reply later = (reply ≡ Answered (answers.Refused r)) × (later ≡ record s { world = w })
 
--- why a leaf is kept from a call, which leaves the device so: memory was short, a read of it failed, the engine is down, or in the world that the call has reached each frame has a leaf that may not go
+-- why a leaf is kept from a call, which leaves the device so: memory was short, a read of it failed, the engine is down, in the world that the call has reached each frame has a leaf that may not go, or an eviction has its frame locked
 abbrev pub CauseOn : Script → Device → World → World → Refusal → Type 0
-CauseOn s device w now r = IsCause (Rose s.device.faults device.faults) (IsFullAt s.frames now) w.machine.fault r
+CauseOn s device w now r = IsCauseBeside s.kept.evicting (Rose s.device.faults device.faults) (IsFullAt s.frames now) w.machine.fault r
 
 -- the whole call is made, and the device read for it
 pub record Answers (made : Call) (s : Script) (formats : Formats) (reply : Reply) (later : Script) (w : World) : Type 0 where
@@ -185,7 +198,7 @@ pub record Answers (made : Call) (s : Script) (formats : Formats) (reply : Reply
   pub leaves : later ≡ record s { world = next; device = device }
 
 -- what is kept after a call was to start
-abbrev pub kept_after : Told → EngineActor → Formats → List Formats → List Formats
+abbrev pub kept_after : Told → EngineActor → Formats → Kept → Kept
 kept_after told.Started who formats kept = kept_more who formats kept
 kept_after _ who formats kept = kept
 
@@ -198,11 +211,11 @@ pub record Begins (made : Call) (s : Script) (formats : Formats) (reply : Reply)
   pub read : IsRead s.device device
   pub stepped : MayStep w (step.Start (stored_call formats made)) t next
   pub told : reply ≡ in_script t
-  pub leaves : later ≡ record s { world = next; device = device; formats = kept_after t (caller made) formats s.formats }
+  pub leaves : later ≡ record s { world = next; device = device; kept = kept_after t (caller made) formats s.kept }
 
 -- one step is made: a leaf that its call waits for is read first, or kept from it
 pub record Goes (who : EngineActor) (s : Script) (formats : Formats) (reply : Reply) (later : Script) (w : World) : Type 0 where
-  pub formats_are : formats ≡ kept_formats who s.formats
+  pub formats_are : formats ≡ kept_formats who s.kept
   pub t : Told
   pub next : World
   pub device : Device
@@ -213,7 +226,7 @@ pub record Goes (who : EngineActor) (s : Script) (formats : Formats) (reply : Re
 
 -- the steps that are left are made
 pub record Ends (who : EngineActor) (s : Script) (formats : Formats) (reply : Reply) (later : Script) (w : World) : Type 0 where
-  pub formats_are : formats ≡ kept_formats who s.formats
+  pub formats_are : formats ≡ kept_formats who s.kept
   pub answer : Answer (List ℕ)
   pub next : World
   pub device : Device
@@ -233,7 +246,13 @@ pub record LeavesGone (s : Script) (next : Machine) (device : Device) (later : S
   pub capacity : device.capacity ≡ s.device.capacity
   pub leaves : later ≡ record s { world = record s.world { machine = next; shelf = shelf; again = again }; device = device }
 
--- The leaf of a key is evicted, in a whole call. engine: one that stands for the world with some history, by which it is told what keeps a leaf; lives: the leaves that were written since the last checkpoint. While the engine is up the device has the checkpoint that it had.
+-- an engine that stands for the world with some history, by which it is told what keeps a leaf
+pub record Seen (s : Script) : Type 0 where
+  pub engine : Engine
+  pub records : Records
+  pub stands : Stands engine (record s.world { records = records })
+
+-- The leaf of a key is evicted, in a whole call. lives: the leaves that were written since the last checkpoint. While the engine is up the device has the checkpoint that it had.
 pub record Evicts (made : Call) (s : Script) (formats : Formats) (reply : Reply) (later : Script) : Type 0 where
   pub number : ℕ
   pub table : List ℕ
@@ -244,14 +263,68 @@ pub record Evicts (made : Call) (s : Script) (formats : Formats) (reply : Reply)
   pub answer : Answer (List ℕ)
   pub next : Machine
   pub device : Device
-  pub engine : Engine
-  pub records : Records
-  pub stands : Stands engine (record s.world { records = records })
+  pub seen : Seen s
   pub lives : List Lone
-  pub answered : EvictAnswers (slice_index_or s.world.systems number None) (evict_around engine lives s.device device s.world.machine table key) s.world.machine table key answer next
+  pub answered : EvictAnswers (slice_index_or s.world.systems number None) (around_beside s.kept.evicting number None seen.engine lives s.device device s.world.machine table key) s.world.machine table key answer next
   pub keeps : next.fault ≡ None → KeepsCheckpoint s.device device
   pub told : reply ≡ Answered answer
   pub gone : LeavesGone s next device later
+
+-- ---- evictions by steps
+
+abbrev pub with_evicting : Script → List (Option Evicting) → Script
+with_evicting s evicting = record s { kept = record s.kept { evicting = evicting } }
+
+-- nothing was made of the line: its actor has a call that is not finished
+abbrev pub RefusesInCall : Script → Reply → Script → Type 0
+RefusesInCall s reply later = (reply ≡ Answered (answers.Refused (refusal.Invalid InCall))) × (later ≡ s)
+
+-- it begins, unless its actor has another call
+abbrev pub StartsEvicting : Option Asked → Script → ℕ → List ℕ → List ℕ → Reply → Script → Type 0
+StartsEvicting None s number table key reply later = (reply ≡ Started) × (later ≡ with_evicting s (slice_set s.kept.evicting number (Some (record { table = table; key = key; stage = Find }))))
+StartsEvicting (Some other) s number table key reply later = RefusesInCall s reply later
+
+pub record BeginsEvicting (made : Call) (s : Script) (formats : Formats) (reply : Reply) (later : Script) : Type 0 where
+  pub number : ℕ
+  pub table : List ℕ
+  pub key : List ℕ
+  pub formats_are : formats ≡ formats_in s.world.machine made
+  -- with its key as the table stores it
+  pub is : stored_call formats made ≡ call.System number (system.Evict table key)
+  pub starts : StartsEvicting (slice_index_or s.world.systems number None) s number table key reply later
+
+-- a step behind which it goes on: nothing else is changed
+pub record EvictionGoes (e : Engine) (number : ℕ) (x : Evicting) (s : Script) (reply : Reply) (later : Script) : Type 0 where
+  pub next : EvictStage
+  pub goes : GoesTo e s.world.machine s.kept.evicting number x.table x.key x.stage next
+  pub told : reply ≡ More
+  pub leaves : later ≡ with_evicting s (staged s.kept.evicting number next)
+
+-- The step that ends it. While the engine is up the device has the checkpoint that it had. Memory is short only where the leaf is judged or written.
+pub record EvictionEnds (e : Engine) (number : ℕ) (x : Evicting) (s : Script) (reply : Reply) (later : Script) : Type 0 where
+  pub answer : Answer (List ℕ)
+  pub next : Machine
+  pub device : Device
+  pub lives : List Lone
+  pub answered : EvictAnswers (slice_index_or s.world.systems number None) (around_beside s.kept.evicting number (Some x.stage) e lives s.device device s.world.machine x.table x.key) s.world.machine x.table x.key answer next
+  pub keeps : next.fault ≡ None → KeepsCheckpoint s.device device
+  pub short : answer ≡ answers.Refused refusal.NoMemory → TakesMemory x.stage
+  pub told : reply ≡ Answered answer
+  pub gone : LeavesGone (with_evicting s (slice_set s.kept.evicting number None)) next device later
+
+-- one step of the eviction of an actor
+abbrev pub EvictionTurns : ℕ → Evicting → Script → Reply → Script → Type 0
+EvictionTurns number x s reply later = (v : Seen s) × (EvictionGoes v.engine number x s reply later ⊎ EvictionEnds v.engine number x s reply later)
+
+-- all that are left
+pub record EvictionRests (number : ℕ) (s : Script) (reply : Reply) (later : Script) : Type 0 where
+  pub seen : Seen s
+  pub count : ℕ
+  pub evicting : List (Option Evicting)
+  pub leads : LeadsTo count seen.engine s.world.machine number s.kept.evicting evicting
+  pub last : Evicting
+  pub there : evicting_by evicting number ≡ Some last
+  pub ends : EvictionEnds seen.engine number last (with_evicting s evicting) reply later
 
 -- ---- lines that are asked of the device
 
@@ -259,9 +332,13 @@ pub record Evicts (made : Call) (s : Script) (formats : Formats) (reply : Reply)
 abbrev pub opened_world : Machine → (ℕ → List Row) → World
 opened_world m shelf = record { machine = m; sessions = []; systems = None ∷ None ∷ None ∷ None ∷ []; shelf = shelf; records = λ id key. []; again = λ session. false }
 
--- a line of `sys` that is no call: refused where `sys` has a call that is not finished
+-- `sys` has a call that is not finished
+abbrev pub is_busy : Script → Bool
+is_busy s = is_there (slice_index_or s.world.systems 0 None) || is_there (evicting_by s.kept.evicting 0)
+
+-- a line of `sys` that is no call: refused where `sys` has such a call
 abbrev pub BySystem : Script → Reply → Script → Type 0 → Type 0
-BySystem s reply later Goes = MatchBool (is_there (slice_index_or s.world.systems 0 None)) ((reply ≡ Answered (answers.Refused (refusal.Invalid InCall))) × (later ≡ s)) Goes
+BySystem s reply later Goes = MatchBool (is_busy s) ((reply ≡ Answered (answers.Refused (refusal.Invalid InCall))) × (later ≡ s)) Goes
 
 abbrev pub on_device : Script → Machine → Device → List Installed → Script
 on_device s m device made = record s { world = record s.world { machine = m }; device = device; made = made }
@@ -291,6 +368,17 @@ pub record Closes (s : Script) (answer : Answer (List ℕ)) (later : Script) : T
   pub installs : Installs answer (checkpointed (rolled_back s.world.machine)).completed device next s.made made
   pub leaves : later ≡ on_device s next device made
 
+-- an eviction has found its leaf, and is not finished; an engine that is down tells another refusal first
+pub record ClosesBusy (s : Script) (reply : Reply) (later : Script) : Type 0 where
+  pub number : ℕ
+  pub evicting : Evicting
+  pub there : evicting_by s.kept.evicting number ≡ Some evicting
+  pub target : Target
+  pub found : found_in evicting.stage ≡ Some target
+  pub up : s.world.machine.fault ≡ None
+  pub told : reply ≡ Answered (answers.Refused (refusal.Busy (EvictingFrame target.frame)))
+  pub same : later ≡ s
+
 -- Memory is forgotten and the device opened: to one of the checkpoints to which it may open, with so many frames and no session.
 pub record Reopens (frames : ℕ) (s later : Script) : Type 0 where
   pub content : Content
@@ -301,7 +389,7 @@ pub record Reopens (frames : ℕ) (s later : Script) : Type 0 where
   pub seen : device.seen ≡ s.device.seen
   pub capacity : device.capacity ≡ s.device.capacity
   pub shelf : ℕ → List Row
-  pub leaves : later ≡ record s { world = opened_world (start content) shelf; device = device; formats = replicate SESSIONS_MAX plain; frames = frames }
+  pub leaves : later ≡ record s { world = opened_world (start content) shelf; device = device; kept = nothing_kept; frames = frames }
 
 -- it is not opened, and the engine before it is the last
 pub record NotReopened (s : Script) (r : Refusal) (later : Script) : Type 0 where
@@ -316,28 +404,76 @@ abbrev pub ControlReplies : Control → Script → Reply → Script → Type 0
 ControlReplies Checkpoint s reply later = BySystem s reply later (Checkpoints s reply later)
 ControlReplies Close s reply later =
     BySystem s reply later
-    (((r : Refusal) × Closes s (answers.Refused r) later × (reply ≡ Answered (answers.Refused r)))
-    ⊎ ((middle : Script) × Closes s answers.Done middle × Reopens middle.frames middle later × (reply ≡ Answered answers.Done)))
+    (ClosesBusy s reply later
+    ⊎ (((r : Refusal) × Closes s (answers.Refused r) later × (reply ≡ Answered (answers.Refused r)))
+    ⊎ ((middle : Script) × Closes s answers.Done middle × Reopens middle.frames middle later × (reply ≡ Answered answers.Done))))
 ControlReplies Crash s reply later = Reopens s.frames s later × (reply ≡ Answered answers.Done)
 ControlReplies (Frames count) s reply later = Reopens count s later × (reply ≡ Answered answers.Done)
 
 -- An opening that is refused ends the script.
 abbrev pub StopsBy : Line → Script → Refusal → Script → Type 0
-StopsBy (OfAll Close) s r later = (slice_index_or s.world.systems 0 None ≡ None) × ((middle : Script) × Closes s answers.Done middle × NotReopened middle r later)
+StopsBy (OfAll Close) s r later = (is_busy s ≡ false) × ((middle : Script) × Closes s answers.Done middle × NotReopened middle r later)
 StopsBy (OfAll Crash) s r later = NotReopened s r later
 StopsBy (OfAll (Frames count)) s r later = NotReopened s r later
 StopsBy _ s r later = ⊥
 
 -- ---- the reply to a line, in these formats, and what it leaves
-abbrev pub Replies : Line → Script → Formats → Reply → Script → Type 0
-Replies (Whole made) s formats reply later =
+
+-- of an actor that has no eviction
+abbrev pub ActorReplies : Line → Script → Formats → Reply → Script → Type 0
+ActorReplies (Whole made) s formats reply later =
     Opens (caller made) s.world (λ w. Answers made s formats reply later w ⊎ Refuses refusal.NoMemory s w reply later) (λ r w. Refuses r s w reply later)
     ⊎ Evicts made s formats reply later
-Replies (Start made) s formats reply later =
+ActorReplies (Start made) s formats reply later =
     Opens (caller made) s.world (λ w. Begins made s formats reply later w ⊎ Refuses refusal.NoMemory s w reply later) (λ r w. Refuses r s w reply later)
-Replies (Step who) s formats reply later = Opens (actor_in who) s.world (λ w. Goes (actor_in who) s formats reply later w) (λ r w. Refuses r s w reply later)
-Replies (Finish who) s formats reply later = Opens (actor_in who) s.world (λ w. Ends (actor_in who) s formats reply later w) (λ r w. Refuses r s w reply later)
+    ⊎ BeginsEvicting made s formats reply later
+ActorReplies (Step who) s formats reply later = Opens (actor_in who) s.world (λ w. Goes (actor_in who) s formats reply later w) (λ r w. Refuses r s w reply later)
+ActorReplies (Finish who) s formats reply later = Opens (actor_in who) s.world (λ w. Ends (actor_in who) s formats reply later w) (λ r w. Refuses r s w reply later)
+ActorReplies (OfAll asked) s formats reply later = ⊥
+
+-- of one that has this one
+abbrev pub EvictionReplies : Line → ℕ → Evicting → Script → Reply → Script → Type 0
+EvictionReplies (Whole made) number x s reply later = RefusesInCall s reply later
+EvictionReplies (Start made) number x s reply later = RefusesInCall s reply later
+EvictionReplies (Step who) number x s reply later = EvictionTurns number x s reply later
+EvictionReplies (Finish who) number x s reply later = EvictionRests number s reply later
+EvictionReplies (OfAll asked) number x s reply later = ⊥
+
+-- whose line it is; one that is asked of the device is of `sys`
+abbrev pub actor_of : Line → EngineActor
+actor_of (Whole made) = caller made
+actor_of (Start made) = caller made
+actor_of (Step who) = actor_in who
+actor_of (Finish who) = actor_in who
+actor_of (OfAll asked) = by.System 0
+
+-- its number, where it is of the system
+abbrev pub system_in : EngineActor → Option ℕ
+system_in (by.Session session) = None
+system_in (by.System number) = Some number
+
+-- the eviction of an actor of the system; a session has none
+abbrev pub eviction_of : EngineActor → List (Option Evicting) → Option Evicting
+eviction_of (by.Session session) evicting = None
+eviction_of (by.System number) evicting = evicting_by evicting number
+
+abbrev pub number_of : EngineActor → ℕ
+number_of (by.Session session) = 0
+number_of (by.System number) = number
+
+abbrev pub RepliesBy : Option Evicting → Line → Script → Formats → Reply → Script → Type 0
+RepliesBy None asked s formats reply later = ActorReplies asked s formats reply later
+RepliesBy (Some x) asked s formats reply later = EvictionReplies asked (number_of (actor_of asked)) x s reply later
+
+abbrev pub RepliesTo : Line → Script → Formats → Reply → Script → Type 0
+RepliesTo asked s formats reply later = RepliesBy (eviction_of (actor_of asked) s.kept.evicting) asked s formats reply later
+
+abbrev pub Replies : Line → Script → Formats → Reply → Script → Type 0
 Replies (OfAll asked) s formats reply later = (formats ≡ plain) × ControlReplies asked s reply later
+Replies (Whole made) s formats reply later = RepliesTo (Whole made) s formats reply later
+Replies (Start made) s formats reply later = RepliesTo (Start made) s formats reply later
+Replies (Step who) s formats reply later = RepliesTo (Step who) s formats reply later
+Replies (Finish who) s formats reply later = RepliesTo (Finish who) s formats reply later
 
 -- ---- what goes behind a line
 
@@ -408,7 +544,7 @@ pub record Ran : Type 0 where
 
 -- before the first line
 abbrev pub fresh : World → Device → (frames : ℕ) → Script
-fresh w device frames = record { world = w; device = device; first = w.machine.completed; made = []; formats = replicate SESSIONS_MAX plain; frames = frames }
+fresh w device frames = record { world = w; device = device; first = w.machine.completed; made = []; kept = nothing_kept; frames = frames }
 
 abbrev pub ends : End → Script → Ran
 ends end s = record { text = []; replies = []; last = s; end = end }

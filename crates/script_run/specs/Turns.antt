@@ -54,7 +54,7 @@ of_output sink out out' = record { input_failed = ⊥; input_ended = ⊥; output
 -- a line of so many bytes was printed whole, or the output failed
 pub record IsPrinted {K : Type 0} (sink : SinkGhosts K) (out out' : K) (printed : Printed) (size : ℕ) (place next : Place) : Type 0 where
   pub took : Took (sink.written out) (sink.written out') printed.line.items
-  pub formats : next.formats ≡ place.formats
+  pub kept : next.kept ≡ place.kept
   pub behind : IsBehind size printed.refusal printed.stamps place next
 
 pub record IsCutOff {K : Type 0} (sink : SinkGhosts K) (out out' : K) (printed : Printed) (place next : Place) (end : End) : Type 0 where
@@ -78,7 +78,7 @@ module _ {D : Type 0} (g : Ghosts D) (disk : D) (store : Store) (now : D) where
     pub took : Took (sink.written out) (sink.written out') printed
     pub at : IsAt g disk next.stamped store now later
     pub start : later.first ≡ s.first
-    pub kept : later.formats ≡ next.formats
+    pub kept : later.kept ≡ next.kept
     pub line : next.line ≡ place.line + 1
     pub used : next.used ≡ place.used + (length text + 1)
     pub met : next.met ≡ met_with place.met refusal

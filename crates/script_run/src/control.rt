@@ -1,5 +1,10 @@
 // Lines that are asked of the device: a checkpoint, a close, and an opening anew.
-ghost use Rattle.std.specs.Prelude.{◌≡◌, ℕ, Bool, false, Ok, IfErr, OnErr, OnOk, IsTrue};
+ghost use Rattle.std.specs.Prelude.{◌≡◌, ◌||◌, ℕ, Bool, None, Some, false, slice_index_or, Ok, IfErr, IfSome, OnErr, OnOk, IsTrue};
+ghost use Rattle.kv_model.specs.Decisions.{is_there};
+ghost use Rattle.call_steps.specs.declared.stage.Target.{Target as ATarget};
+ghost use Rattle.engine_world.specs.Stands.{Stands};
+ghost use Rattle.engine_world.specs.Worlds.{World};
+ghost use Rattle.engine.specs.Turning.{evicting_by, found_on};
 ghost use Rattle.disk_model.specs.Crash.{SameDisk};
 ghost use Rattle.engine_store.specs.Full.{count_of};
 ghost use Rattle.engine_store.specs.Opened.{IsAtFault, IsReady};
@@ -10,28 +15,28 @@ ghost use Rattle.script_run.specs.Faults.{RepliesFault, TellsFaults};
 ghost use Rattle.script_run.specs.Runs.{IsAt, IsTold, RepliedAs, frames_after};
 ghost use Rattle.script_run.specs.Scripts.{Script, IsLaterControl};
 
-use crate::told::{PLAIN, Told, done, refused};
+use crate::kept::Kept;
+use crate::told::{Told, done, refused};
 use ckpt_step::calm_stays;
 use disk_model::Disk;
+use engine::{Evicting, first_found, is_evicting};
 use engine_store::{Frames, Store};
-use item::Formats;
-use limits::SESSIONS_MAX;
 use script_text::Control;
 use std::alloc::Global;
-use wt_code::{Invalid, Refusal};
+use wt_code::{Busy, Invalid, Refusal};
 
 // The error is why the device was not opened.
 pub(crate) fn control<D: Disk>(
     alloc: Global,
     store: &mut Store,
     disk: &mut D,
-    formats: &mut [Formats; SESSIONS_MAX],
+    kept: &mut Kept,
     asked: Control,
 ) -> Result<Told, Refusal>
     requires now { IsLaterControl false asked → ⊥ }
     requires ready { IsReady store.old }
-    ensures replies { IsTrue (D.honest disk.old) → (first_disk : D) → (stamped : Bool) → (s : Script) → (IsLaterControl stamped asked → ⊥) → IsAt D.Disk first_disk stamped store.old disk.old s → s.formats ≡ formats.old
-        → RepliedAs D.Disk first_disk stamped (ControlLine asked) s store.new disk.new formats.new result }
+    ensures replies { IsTrue (D.honest disk.old) → (first_disk : D) → (stamped : Bool) → (s : Script) → (IsLaterControl stamped asked → ⊥) → IsAt D.Disk first_disk stamped store.old disk.old s → s.kept ≡ kept.old
+        → RepliedAs D.Disk first_disk stamped (ControlLine asked) s store.new disk.new kept.new result }
     ensures told { TellsFaults D.Disk store.old store.new disk.old disk.new (λ rose. RepliesFault result → rose) }
     ensures damage { IfErr result (λ r. (at want found : ℕ) → r ≡ Corrupt at want found → IsTrue (D.honest disk.old) → IsAtFault (D.seen disk.new) at want found) }
     ensures frames { count_of store.new.frames ≡ frames_after asked result (count_of store.old.frames) }
@@ -39,22 +44,27 @@ pub(crate) fn control<D: Disk>(
     ensures disk { SameDisk D.Disk disk.old disk.new }
 {
     match asked {
-        Control::Checkpoint => Ok(checkpoint(alloc, store, disk)),
-        Control::Close => close(alloc, store, disk, formats),
-        Control::Crash => reopen_as_it_was(alloc, store, disk, formats),
-        Control::Frames(frames) => reopen(alloc, store, disk, formats, frames),
+        Control::Checkpoint => Ok(checkpoint(alloc, store, disk, &kept.evicting)),
+        Control::Close => close(alloc, store, disk, kept),
+        Control::Crash => reopen_as_it_was(alloc, store, disk, kept),
+        Control::Frames(frames) => reopen(alloc, store, disk, kept, frames),
     }
 }
 
-fn checkpoint<D: Disk>(alloc: Global, store: &mut Store, disk: &mut D) -> Told
+fn checkpoint<D: Disk>(
+    alloc: Global,
+    store: &mut Store,
+    disk: &mut D,
+    evicting: &[Option<Evicting>],
+) -> Told
     requires ready { IsReady store.old }
-    ensures replies { IsTrue (D.honest disk.old) → (first_disk : D) → (s : Script) → IsAt D.Disk first_disk false store.old disk.old s → IsTold D.Disk first_disk false (ControlLine CheckpointLine) s store.new disk.new s.formats result }
+    ensures replies { IsTrue (D.honest disk.old) → (first_disk : D) → (s : Script) → IsAt D.Disk first_disk false store.old disk.old s → s.kept.evicting ≡ evicting.now → IsTold D.Disk first_disk false (ControlLine CheckpointLine) s store.new disk.new s.kept result }
     ensures told { TellsFaults D.Disk store.old store.new disk.old disk.new (λ rose. RepliesFault (Ok result) → rose) }
     ensures frames { store.new.frames ≡ store.old.frames }
     ensures ready { IsReady store.new }
     ensures disk { SameDisk D.Disk disk.old disk.new }
 {
-    if store.engine.has_started(0) {
+    if is_busy(store, evicting) {
         return refused(Refusal::Invalid(Invalid::InCall));
     }
     match store.checkpoint(alloc, disk) {
@@ -63,27 +73,48 @@ fn checkpoint<D: Disk>(alloc: Global, store: &mut Store, disk: &mut D) -> Told
     }
 }
 
-// After a close the device is opened anew.
+// Whether `sys` has a call that is not finished.
+fn is_busy(store: &Store, evicting: &[Option<Evicting>]) -> bool
+    ensures { (w : World) → Stands store.now.engine w → result ≡ (is_there (slice_index_or w.systems 0 None) || is_there (evicting_by evicting.now 0)) }
+{
+    store.engine.has_started(0) || is_evicting(evicting, 0)
+}
+
+// The frame of an eviction that has found its leaf, while the engine is up.
+fn busy_evicting(store: &Store, evicting: &[Option<Evicting>]) -> Option<u32>
+    ensures some { IfSome result (λ frame. (store.now.engine.hub.fault ≡ None) × ((number : ℕ) × (target : ATarget) × (found_on (evicting_by evicting.now number) ≡ Some target) × (target.frame ≡ frame))) }
+    ensures none { result ≡ None → store.now.engine.hub.fault ≡ None → (number : ℕ) → found_on (evicting_by evicting.now number) ≡ None }
+{
+    match store.engine.fault() {
+        Some(_) => None,
+        None => first_found(evicting),
+    }
+}
+
+// After a close the device is opened anew. None comes while an eviction has found its leaf.
 fn close<D: Disk>(
     alloc: Global,
     store: &mut Store,
     disk: &mut D,
-    formats: &mut [Formats; SESSIONS_MAX],
+    kept: &mut Kept,
 ) -> Result<Told, Refusal>
     requires ready { IsReady store.old }
-    ensures replies { IsTrue (D.honest disk.old) → (first_disk : D) → (s : Script) → IsAt D.Disk first_disk false store.old disk.old s → s.formats ≡ formats.old
-        → RepliedAs D.Disk first_disk false (ControlLine CloseLine) s store.new disk.new formats.new result }
+    ensures replies { IsTrue (D.honest disk.old) → (first_disk : D) → (s : Script) → IsAt D.Disk first_disk false store.old disk.old s → s.kept ≡ kept.old
+        → RepliedAs D.Disk first_disk false (ControlLine CloseLine) s store.new disk.new kept.new result }
     ensures told { TellsFaults D.Disk store.old store.new disk.old disk.new (λ rose. RepliesFault result → rose) }
     ensures damage { IfErr result (λ r. (at want found : ℕ) → r ≡ Corrupt at want found → IsTrue (D.honest disk.old) → IsAtFault (D.seen disk.new) at want found) }
     ensures frames { count_of store.new.frames ≡ count_of store.old.frames }
     ensures ready { IsReady store.new }
     ensures disk { SameDisk D.Disk disk.old disk.new }
 {
-    if store.engine.has_started(0) {
+    if is_busy(store, &kept.evicting) {
         return Ok(refused(Refusal::Invalid(Invalid::InCall)));
     }
+    if let Some(frame) = busy_evicting(store, &kept.evicting) {
+        return Ok(refused(Refusal::Busy(Busy::Evicting(frame))));
+    }
     match store.close(alloc, disk) {
-        Ok(()) => reopen_as_it_was(alloc, store, disk, formats),
+        Ok(()) => reopen_as_it_was(alloc, store, disk, kept),
         Err(refusal) => Ok(refused(refusal)),
     }
 }
@@ -94,10 +125,10 @@ fn reopen_as_it_was<D: Disk>(
     alloc: Global,
     store: &mut Store,
     disk: &mut D,
-    formats: &mut [Formats; SESSIONS_MAX],
+    kept: &mut Kept,
 ) -> Result<Told, Refusal>
     requires ready { IsReady store.old }
-    ensures replies { IsTrue (D.honest disk.old) → (first_disk : D) → (stamped : Bool) → (s : Script) → IsAt D.Disk first_disk stamped store.old disk.old s → RepliedAs D.Disk first_disk stamped (ControlLine CrashLine) s store.new disk.new formats.new result }
+    ensures replies { IsTrue (D.honest disk.old) → (first_disk : D) → (stamped : Bool) → (s : Script) → IsAt D.Disk first_disk stamped store.old disk.old s → RepliedAs D.Disk first_disk stamped (ControlLine CrashLine) s store.new disk.new kept.new result }
     ensures frames { count_of store.new.frames ≡ count_of store.old.frames }
     ensures told { TellsFaults D.Disk store.old store.new disk.old disk.new (λ rose. RepliesFault result → rose) }
     ensures damage { IfErr result (λ r. (at want found : ℕ) → r ≡ Corrupt at want found → IsTrue (D.honest disk.old) → IsAtFault (D.seen disk.new) at want found) }
@@ -105,7 +136,7 @@ fn reopen_as_it_was<D: Disk>(
     ensures disk { SameDisk D.Disk disk.old disk.new }
 {
     let frames = store.frames.count();
-    reopen(alloc, store, disk, formats, frames)
+    reopen(alloc, store, disk, kept, frames)
 }
 
 // Memory is forgotten, and the device opened anew with so many firm frames, without a session.
@@ -113,11 +144,11 @@ fn reopen<D: Disk>(
     alloc: Global,
     store: &mut Store,
     disk: &mut D,
-    formats: &mut [Formats; SESSIONS_MAX],
+    kept: &mut Kept,
     frames: u32,
 ) -> Result<Told, Refusal>
     requires ready { IsReady store.old }
-    ensures replies { IsTrue (D.honest disk.old) → (first_disk : D) → (stamped : Bool) → (s : Script) → IsAt D.Disk first_disk stamped store.old disk.old s → RepliedAs D.Disk first_disk stamped (ControlLine (FramesLine frames)) s store.new disk.new formats.new result }
+    ensures replies { IsTrue (D.honest disk.old) → (first_disk : D) → (stamped : Bool) → (s : Script) → IsAt D.Disk first_disk stamped store.old disk.old s → RepliedAs D.Disk first_disk stamped (ControlLine (FramesLine frames)) s store.new disk.new kept.new result }
     ensures frames { OnOk result (store.new.frames ≡ Frames.Firm frames) }
     ensures kept { OnErr result (store.new.frames ≡ store.old.frames) }
     ensures told { TellsFaults D.Disk store.old store.new disk.old disk.new (λ rose. RepliesFault result → rose) }
@@ -130,7 +161,7 @@ fn reopen<D: Disk>(
         Ok(()) => {
             calm_stays();
             store.engine.actors();
-            *formats = [PLAIN; SESSIONS_MAX];
+            *kept = Kept::none();
             Ok(done())
         }
     }

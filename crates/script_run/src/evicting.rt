@@ -1,37 +1,53 @@
-// Lines that evict the leaf of a key.
-ghost use Rattle.std.specs.Prelude.{◌≡◌, ℕ, Bool, List, None, Ok, IfSome, IsTrue};
+// Lines that evict the leaf of a key, whole or by steps.
+ghost use Rattle.std.specs.Prelude.{◌≡◌, ◌||◌, ℕ, Bool, List, None, Some, Ok, true, IfSome, IsTrue, slice_index_or};
 ghost use Rattle.failure.specs.Counts.{Rose};
 ghost use Rattle.disk_model.specs.Crash.{SameDisk};
 ghost use Rattle.wt_calls.specs.declared.call.Call.TheVariants.{System as SystemOf};
 ghost use Rattle.wt_calls.specs.declared.system_call.SystemCall.TheVariants.{Evict as EvictOf};
+ghost use Rattle.kv_model.specs.Decisions.{is_there};
 ghost use Rattle.kv_model.specs.Machine.{Completed};
+ghost use Rattle.engine_world.specs.Stands.{Stands};
 ghost use Rattle.engine_world.specs.Worlds.{World};
+ghost use Rattle.engine.specs.Turning.{evicting_by};
+ghost use Rattle.engine.specs.declared.step.Actor.TheVariants as by;
+ghost use Rattle.engine_store.specs.Answers.{answer_of};
 ghost use Rattle.engine_store.specs.Calls.{StaysTold};
 ghost use Rattle.engine_store.specs.Devices.{Installed};
-ghost use Rattle.engine_store.specs.EvictCalls.{EvictsTo};
+ghost use Rattle.engine_store.specs.EvictSteps.{EvictsBeside};
 ghost use Rattle.engine_store.specs.Held.{IsHeld};
 ghost use Rattle.engine_store.specs.Opened.{IsReady};
-ghost use Rattle.script_text.specs.declared.line.Line.TheVariants.{Whole as WholeLine};
+ghost use Rattle.script_text.specs.declared.line.Actor.{Actor as AnActor};
+ghost use Rattle.script_text.specs.declared.line.Line.TheVariants.{Whole as WholeLine, Start as StartLine, Step as StepLine, Finish as FinishLine};
+ghost use Rattle.script_text.specs.declared.replies.Reply.TheVariants.{Answered};
 ghost use Rattle.script_run.specs.Faults.{RepliesFault, TellsFaults};
-ghost use Rattle.script_run.specs.Runs.{IsAt, IsTold};
-ghost use Rattle.script_run.specs.Scripts.{IsLaterCall, IsLaterWhole, Script};
+ghost use Rattle.script_run.specs.Runs.{IsAt, IsCallLine, IsTold};
+ghost use Rattle.script_run.specs.Scripts.{IsLaterCall, IsUnbuilt, Script, StartsEvicting, actor_in, actor_of, caller, eviction_of, gives_stamp, plain, system_in, with_evicting};
 
+use crate::kept::Kept;
 use crate::one_line::formats_in;
-use crate::told::{Told, refused};
+use crate::told::{PLAIN, Told, done, refused};
 use disk_model::Disk;
-use engine_store::Store;
+use engine::{EvictStage, Evicting, put_evicting, put_stage};
+use engine_store::{EvictTurn, Store};
 use item::Item;
-use script_text::{Reply, as_stored};
+use script_text::{Line, Reply, as_stored};
 use std::alloc::Global;
 use wt_calls::{Call, SystemCall};
-use wt_code::{Answer, Refusal};
+use wt_code::{Answer, Invalid, Refusal};
 
-// The whole call that evicts the leaf of a key.
-pub(crate) fn evict<D: Disk>(alloc: Global, store: &mut Store, disk: &mut D, call: Call) -> Told
-    requires now { IsLaterWhole call → ⊥ }
-    requires evicts { IsLaterCall call }
+// The whole call that evicts the leaf of a key, of an actor that has no eviction.
+pub(crate) fn evict<D: Disk>(
+    alloc: Global,
+    store: &mut Store,
+    disk: &mut D,
+    kept: &Kept,
+    call: Call,
+) -> Told
+    requires now { IsLaterCall call → ⊥ }
+    requires evicts { IsUnbuilt call }
     requires ready { IsReady store.old }
-    ensures replies { IsTrue (D.honest disk.old) → (first_disk : D) → (stamped : Bool) → (s : Script) → IsAt D.Disk first_disk stamped store.old disk.old s → IsTold D.Disk first_disk stamped (WholeLine call) s store.new disk.new s.formats result }
+    ensures replies { IsTrue (D.honest disk.old) → (first_disk : D) → (stamped : Bool) → (s : Script) → IsAt D.Disk first_disk stamped store.old disk.old s → s.kept ≡ kept.now → eviction_of (caller call) s.kept.evicting ≡ None
+        → IsTold D.Disk first_disk stamped (WholeLine call) s store.new disk.new s.kept result }
     ensures told { TellsFaults D.Disk store.old store.new disk.old disk.new (λ rose. RepliesFault (Ok result) → rose) }
     ensures ready { IsReady store.new }
     ensures disk { SameDisk D.Disk disk.old disk.new }
@@ -50,6 +66,7 @@ pub(crate) fn evict<D: Disk>(alloc: Global, store: &mut Store, disk: &mut D, cal
                     asked.number,
                     &asked.table,
                     &asked.key,
+                    &kept.evicting,
                 )),
                 formats,
             },
@@ -86,17 +103,161 @@ fn answer_to<D: Disk>(
     number: u32,
     table: &Item,
     key: &Item,
+    evicting: &[Option<Evicting>],
 ) -> Answer<Item>
     ensures evicts { IsTrue (D.honest disk.old) → (start : D) (w : World) (first : Completed) (made : List Installed) → IsHeld D.Disk start store.old disk.old w first made
-        → EvictsTo D.Disk start w first made store.old store.new disk.old disk.new number table.now key.now result }
+        → EvictsBeside D.Disk start w first made store.old store.new disk.old disk.new evicting.now number table.now key.now None result }
     ensures fault { result ≡ Answer.Refused Refusal.DiskFault → Rose (D.faults disk.old) (D.faults disk.new) }
     ensures frames { store.new.frames ≡ store.old.frames }
     ensures ready { IsReady store.old → IsReady store.new }
     ensures told { StaysTold D.Disk store.old store.new disk.old disk.new }
     ensures disk { SameDisk D.Disk disk.old disk.new }
 {
-    match store.evict(alloc, disk, number, table, key) {
+    match store.evict_beside(alloc, disk, number, table, key, evicting) {
         Ok(()) => Answer::Done,
         Err(refusal) => Answer::Refused(refusal),
+    }
+}
+
+// ---- By steps.
+
+// An eviction begins, of an actor that has none. The store and its disk are as they were.
+pub(crate) fn start_evicting<D: Disk>(
+    alloc: Global,
+    store: &mut Store,
+    disk: &mut D,
+    kept: &mut Kept,
+    call: Call,
+) -> Told
+    requires now { IsLaterCall call → ⊥ }
+    requires evicts { IsUnbuilt call }
+    requires ready { IsReady store.old }
+    ensures replies { IsTrue (D.honest disk.old) → (first_disk : D) → (stamped : Bool) → (s : Script) → IsAt D.Disk first_disk stamped store.old disk.old s → s.kept ≡ kept.old → eviction_of (caller call) s.kept.evicting ≡ None
+        → IsTold D.Disk first_disk stamped (StartLine call) s store.new disk.new kept.new result }
+    ensures told { TellsFaults D.Disk store.old store.new disk.old disk.new (λ rose. RepliesFault (Ok result) → rose) }
+    ensures ready { IsReady store.new }
+    ensures disk { SameDisk D.Disk disk.old disk.new }
+{
+    let formats = formats_in(&store.engine, &call);
+    match as_stored(alloc, call, formats) {
+        Err(_) => refused(Refusal::NoMemory),
+        Ok(call) => match eviction_in(call) {
+            // It is one.
+            None => refused(Refusal::NoMemory),
+            Some(asked) => Told {
+                reply: begin_evicting(store, kept, asked),
+                formats,
+            },
+        },
+    }
+}
+
+// It begins, unless its actor has another call that is not finished.
+fn begin_evicting(store: &Store, kept: &mut Kept, asked: Eviction) -> Reply
+    ensures starts { (w : World) → Stands store.now.engine w → (s : Script) → s.world.systems ≡ w.systems → s.kept ≡ kept.old
+        → (later : Script) × StartsEvicting (slice_index_or w.systems asked.number None) s asked.number asked.table asked.key result later × (later ≡ with_evicting s later.kept.evicting) × (later.kept ≡ kept.new) }
+    ensures fault { result ≡ Answered (Answer.Refused Refusal.DiskFault) → ⊥ }
+{
+    if store.engine.has_started(asked.number) {
+        return Reply::Answered(Answer::Refused(Refusal::Invalid(Invalid::InCall)));
+    }
+    let one = Evicting {
+        table: asked.table,
+        key: asked.key,
+        stage: EvictStage::Find,
+    };
+    put_evicting(&mut kept.evicting, asked.number, Some(one));
+    Reply::Started
+}
+
+// A line of an actor that has an eviction.
+pub(crate) fn turn_evicting<D: Disk>(
+    alloc: Global,
+    store: &mut Store,
+    disk: &mut D,
+    kept: &mut Kept,
+    number: u32,
+    line: Line,
+) -> Told
+    requires now { IsCallLine line }
+    requires ready { IsReady store.old }
+    ensures replies { IsTrue (D.honest disk.old) → (first_disk : D) → (stamped : Bool) → (s : Script) → IsAt D.Disk first_disk stamped store.old disk.old s → s.kept ≡ kept.old → system_in (actor_of line) ≡ Some number → is_there (evicting_by s.kept.evicting number) ≡ true
+        → IsTold D.Disk first_disk (stamped || gives_stamp line) line s store.new disk.new kept.new result }
+    ensures told { TellsFaults D.Disk store.old store.new disk.old disk.new (λ rose. RepliesFault (Ok result) → rose) }
+    ensures ready { IsReady store.new }
+    ensures disk { SameDisk D.Disk disk.old disk.new }
+{
+    match line {
+        Line::Step(_) => step_evicting(alloc, store, disk, kept, number),
+        Line::Finish(_) => finish_evicting(alloc, store, disk, kept, number),
+        _other => refused(Refusal::Invalid(Invalid::InCall)),
+    }
+}
+
+// One step of it.
+fn step_evicting<D: Disk>(
+    alloc: Global,
+    store: &mut Store,
+    disk: &mut D,
+    kept: &mut Kept,
+    number: u32,
+) -> Told
+    requires ready { IsReady store.old }
+    ensures replies { IsTrue (D.honest disk.old) → (first_disk : D) → (stamped : Bool) → (s : Script) → IsAt D.Disk first_disk stamped store.old disk.old s → s.kept ≡ kept.old → (who : AnActor) → actor_in who ≡ by.System number → is_there (evicting_by s.kept.evicting number) ≡ true
+        → IsTold D.Disk first_disk stamped (StepLine who) s store.new disk.new kept.new result }
+    ensures told { TellsFaults D.Disk store.old store.new disk.old disk.new (λ rose. RepliesFault (Ok result) → rose) }
+    ensures ready { IsReady store.new }
+    ensures disk { SameDisk D.Disk disk.old disk.new }
+{
+    match store.evict_step(alloc, disk, number, &kept.evicting) {
+        EvictTurn::On(stage) => {
+            put_stage(&mut kept.evicting, number, stage);
+            more()
+        }
+        EvictTurn::Ended(result) => {
+            put_evicting(&mut kept.evicting, number, None);
+            told_of(result)
+        }
+    }
+}
+
+// All its steps that are left.
+fn finish_evicting<D: Disk>(
+    alloc: Global,
+    store: &mut Store,
+    disk: &mut D,
+    kept: &mut Kept,
+    number: u32,
+) -> Told
+    requires ready { IsReady store.old }
+    ensures replies { IsTrue (D.honest disk.old) → (first_disk : D) → (stamped : Bool) → (s : Script) → IsAt D.Disk first_disk stamped store.old disk.old s → s.kept ≡ kept.old → (who : AnActor) → actor_in who ≡ by.System number → is_there (evicting_by s.kept.evicting number) ≡ true
+        → IsTold D.Disk first_disk stamped (FinishLine who) s store.new disk.new kept.new result }
+    ensures told { TellsFaults D.Disk store.old store.new disk.old disk.new (λ rose. RepliesFault (Ok result) → rose) }
+    ensures ready { IsReady store.new }
+    ensures disk { SameDisk D.Disk disk.old disk.new }
+{
+    let result = store.evict_rest(alloc, disk, number, &mut kept.evicting);
+    put_evicting(&mut kept.evicting, number, None);
+    told_of(result)
+}
+
+fn more() -> Told
+    ensures reply { result.reply ≡ Reply.More }
+    ensures formats { result.formats ≡ plain }
+{
+    Told {
+        reply: Reply::More,
+        formats: PLAIN,
+    }
+}
+
+// What is told of the end of an eviction.
+fn told_of(ended: Result<(), Refusal>) -> Told
+    ensures reply { result.reply ≡ Answered (answer_of ended) }
+    ensures formats { result.formats ≡ plain }
+{
+    match ended {
+        Ok(()) => done(),
+        Err(refusal) => refused(refusal),
     }
 }

@@ -6,8 +6,10 @@
 //! `run_script` runs the lines of its input in order, each as it says, and prints of each what
 //! tells its reply; that a call whose leaf is read from the device and cannot be had is refused,
 //! and tells a fault of the disk only where one rose; that a whole call which evicts the leaf of a
-//! key writes to the device, and tells who keeps it; that behind any other line of an actor leaves
-//! may leave memory, which no reply tells, but that the engine is down where a write failed then;
+//! key writes to the device, and tells who keeps it; that an eviction which goes by steps changes
+//! nothing before its last one, and that a call which comes to its leaf meanwhile is told so; that
+//! behind any other line of an actor leaves may leave memory, which no reply tells, but that the
+//! engine is down where a write failed then;
 //! that a refusal which a line replies does not end the script, and that bytes which are no line,
 //! or one of a later stage, change nothing and stop it with the number of their line; and that it
 //! ends else only where the device is not opened anew, for want of memory, at a stream that fails,
@@ -18,11 +20,13 @@
 
 mod control;
 mod evicting;
+mod kept;
 mod lines;
 mod one_line;
 mod script;
 mod told;
 
+pub use kept::Kept;
 pub use lines::{Lines, NoLine};
 pub use one_line::{Printed, Stop, run_line};
 pub use script::{End, INPUT_MAX, ScriptRun, run_script};

@@ -1,5 +1,5 @@
 // One line of a script: what it asks for is made, and the line that tells its reply.
-ghost use Rattle.std.specs.Prelude.{◌≡◌, ◌⊎◌, ◌↔◌, ◌<◌, ◌||◌, ◌++◌, ◌∷◌, [], ℕ, Bool, List, Ok, false, length, IsTrue, IfOk, IfErr, OnErr};
+ghost use Rattle.std.specs.Prelude.{◌≡◌, ◌⊎◌, ◌↔◌, ◌<◌, ◌||◌, ◌++◌, ◌∷◌, [], ℕ, Bool, List, None, Some, Ok, false, true, length, IsTrue, IfOk, IfErr, IfSome, OnErr};
 ghost use Rattle.disk_model.specs.Crash.{SameDisk};
 ghost use Rattle.engine_store.specs.Opened.{IsAtFault, IsReady};
 ghost use Rattle.wt_code.specs.declared.refusals.Refusal.TheVariants.{Corrupt};
@@ -7,22 +7,24 @@ ghost use Rattle.script_text.specs.declared.line.Line.TheVariants.{Whole as Whol
 ghost use Rattle.script_text.specs.Replies.{line_of_reply};
 ghost use Rattle.engine_world.specs.Stands.{Stands};
 ghost use Rattle.engine_world.specs.Worlds.{World};
+ghost use Rattle.kv_model.specs.Decisions.{is_there};
 ghost use Rattle.engine.specs.Runs.{IsBuilt};
+ghost use Rattle.engine.specs.Turning.{evicting_by};
 ghost use Rattle.engine_store.specs.Calls.{CallKeeps, MayAnswerSo, StaysTold, TellsSo};
 ghost use Rattle.script_run.specs.Faults.{RepliesFault, TellsFaults};
-ghost use Rattle.script_run.specs.Runs.{IsAnswerTo, IsAnswered, IsAt, IsBegun, IsEnded, IsGone, IsKnown, IsNoSession, IsOfActor, IsOfKnown, IsReplied, IsTaken, IsThere, IsTold, LineMade, OpensAs, PrintsFault, RepliedAs, RepliesSo, Standing, StandingIn, StandsAt, StopsDamaged};
-ghost use Rattle.script_run.specs.Scripts.{Script, IsLater, IsLaterCall, IsLaterControl, IsLaterWhole, IsMade, actor_in, call_stamps, caller, formats_in, gives_stamp, in_script, kept_after, kept_formats, kept_more, listed, refusals_in};
+ghost use Rattle.script_run.specs.Runs.{IsAnswerTo, IsAnswered, IsAt, IsBegun, IsCallLine, IsEnded, IsGone, IsKnown, IsNoSession, IsOfActor, IsOfKnown, IsReplied, IsTaken, IsThere, IsTold, LineMade, OpensAs, PrintsFault, RepliedAs, RepliesSo, Standing, StandingIn, StandsAt, StopsDamaged};
+ghost use Rattle.script_run.specs.Scripts.{Script, IsLater, IsUnbuilt, IsLaterControl, IsLaterCall, IsMade, actor_in, actor_of, call_stamps, caller, eviction_of, formats_in, gives_stamp, in_script, kept_after, kept_formats, kept_more, listed, refusals_in, system_in};
 
 use crate::control::control;
-use crate::evicting::evict;
+use crate::evicting::{evict, start_evicting, turn_evicting};
+use crate::kept::Kept;
 use crate::told::{PLAIN, Told, refused};
 use ckpt_step::calm_stays;
 use disk_model::Disk;
-use engine::{Actor, Local, Step};
+use engine::{Actor, Evicting, Local, Step, is_evicting};
 use engine_store::Store;
 use failure::NoMemory;
 use item::{Formats, Item};
-use limits::SESSIONS_MAX;
 use script_text::{
     Actor as LineActor, Control, Line, Reply, as_stored, line_of_answer, parse_line, table_of_items,
 };
@@ -54,17 +56,17 @@ pub enum Stop {
 
 /// Runs a line, and gives what is printed of it. A checkpoint and a close are of a later stage where
 /// a line before committed with a stamp (`stamped`).
-/// By session, `formats` has those of the call that it has started: at first `PLAIN` for each.
+/// `kept` has what is kept of what lines before started: at first nothing (`Kept::none`).
 pub fn run_line<D: Disk>(
     alloc: Global,
     store: &mut Store,
     disk: &mut D,
-    formats: &mut [Formats; SESSIONS_MAX],
+    kept: &mut Kept,
     stamped: bool,
     text: &[u8],
 ) -> Result<Printed, Stop>
     requires ready { IsReady store.old }
-    ensures made { IsTrue (D.honest disk.old) → (first_disk : D) → (s : Script) → IsAt D.Disk first_disk stamped store.old disk.old s → s.formats ≡ formats.old → LineMade D.Disk first_disk text.now stamped s store.new disk.new formats.new result }
+    ensures made { IsTrue (D.honest disk.old) → (first_disk : D) → (s : Script) → IsAt D.Disk first_disk stamped store.old disk.old s → s.kept ≡ kept.old → LineMade D.Disk first_disk text.now stamped s store.new disk.new kept.new result }
     ensures told { TellsFaults D.Disk store.old store.new disk.old disk.new (λ rose. PrintsFault result → rose) }
     ensures damage { IsTrue (D.honest disk.old) → (at want found : ℕ) → StopsDamaged at want found result → IsAtFault (D.seen disk.new) at want found }
     ensures ready { IsReady store.new }
@@ -79,7 +81,7 @@ pub fn run_line<D: Disk>(
         return Err(Stop::NoLine);
     }
     let stamps = gives_stamp(&line);
-    match reply_to(alloc, store, disk, formats, line) {
+    match reply_to(alloc, store, disk, kept, line) {
         Err(refusal) => Err(Stop::Opening(refusal)),
         Ok(told) => print_of(alloc, &told, stamps),
     }
@@ -141,8 +143,8 @@ fn is_made(call: &SystemCall) -> bool
     }
 }
 
-fn is_later_whole(call: &Call) -> bool
-    ensures { IsTrue result ↔ IsLaterWhole call.now }
+fn is_later_call(call: &Call) -> bool
+    ensures { IsTrue result ↔ IsLaterCall call.now }
 {
     match call {
         Call::Session(_, _) => false,
@@ -150,8 +152,8 @@ fn is_later_whole(call: &Call) -> bool
     }
 }
 
-fn is_later_call(call: &Call) -> bool
-    ensures { IsTrue result ↔ IsLaterCall call.now }
+fn is_unbuilt(call: &Call) -> bool
+    ensures { IsTrue result ↔ IsUnbuilt call.now }
 {
     match call {
         Call::Session(_, _) => false,
@@ -173,7 +175,7 @@ fn is_later(line: &Line, stamped: bool) -> bool
     ensures { IsTrue result ↔ IsLater stamped line.now }
 {
     match line {
-        Line::Whole(call) => is_later_whole(call),
+        Line::Whole(call) => is_later_call(call),
         Line::Start(call) => is_later_call(call),
         Line::Step(_) => false,
         Line::Finish(_) => false,
@@ -208,70 +210,171 @@ fn reply_to<D: Disk>(
     alloc: Global,
     store: &mut Store,
     disk: &mut D,
-    formats: &mut [Formats; SESSIONS_MAX],
+    kept: &mut Kept,
     line: Line,
 ) -> Result<Told, Refusal>
     requires now { IsLater false line → ⊥ }
     requires actor { IsOfKnown line }
     requires ready { IsReady store.old }
-    ensures replies { IsTrue (D.honest disk.old) → (first_disk : D) → (stamped : Bool) → (s : Script) → (IsLater stamped line → ⊥) → IsAt D.Disk first_disk stamped store.old disk.old s → s.formats ≡ formats.old
-        → RepliedAs D.Disk first_disk (stamped || gives_stamp line) line s store.new disk.new formats.new result }
+    ensures replies { IsTrue (D.honest disk.old) → (first_disk : D) → (stamped : Bool) → (s : Script) → (IsLater stamped line → ⊥) → IsAt D.Disk first_disk stamped store.old disk.old s → s.kept ≡ kept.old
+        → RepliedAs D.Disk first_disk (stamped || gives_stamp line) line s store.new disk.new kept.new result }
     ensures told { TellsFaults D.Disk store.old store.new disk.old disk.new (λ rose. RepliesFault result → rose) }
     ensures damage { IfErr result (λ r. (at want found : ℕ) → r ≡ Corrupt at want found → IsTrue (D.honest disk.old) → IsAtFault (D.seen disk.new) at want found) }
     ensures ready { IsReady store.new }
     ensures disk { SameDisk D.Disk disk.old disk.new }
 {
     match line {
-        Line::Control(asked) => control(alloc, store, disk, formats, asked),
-        Line::Whole(call) => Ok(reply_to_whole(alloc, store, disk, formats, call)),
-        line => Ok(reply_to_actor(alloc, store, disk, formats, line)),
+        Line::Control(asked) => control(alloc, store, disk, kept, asked),
+        line => Ok(reply_to_call(alloc, store, disk, kept, line)),
     }
 }
 
-// The reply to a whole call. An eviction writes to the device, and no leaf leaves memory behind it.
-fn reply_to_whole<D: Disk>(
+// The reply to a line that is no call of the device: by an eviction of its actor, where that has one.
+fn reply_to_call<D: Disk>(
     alloc: Global,
     store: &mut Store,
     disk: &mut D,
-    formats: &mut [Formats; SESSIONS_MAX],
-    call: Call,
+    kept: &mut Kept,
+    line: Line,
 ) -> Told
-    requires now { IsLaterWhole call → ⊥ }
-    requires actor { IsKnown (caller call) }
+    requires now { IsCallLine line }
+    requires actor { IsOfKnown line }
     requires ready { IsReady store.old }
-    ensures replies { IsTrue (D.honest disk.old) → (first_disk : D) → (stamped : Bool) → (s : Script) → IsAt D.Disk first_disk stamped store.old disk.old s → s.formats ≡ formats.old
-        → IsTold D.Disk first_disk (stamped || call_stamps call) (WholeLine call) s store.new disk.new formats.new result }
+    ensures replies { IsTrue (D.honest disk.old) → (first_disk : D) → (stamped : Bool) → (s : Script) → IsAt D.Disk first_disk stamped store.old disk.old s → s.kept ≡ kept.old
+        → IsTold D.Disk first_disk (stamped || gives_stamp line) line s store.new disk.new kept.new result }
     ensures told { TellsFaults D.Disk store.old store.new disk.old disk.new (λ rose. RepliesFault (Ok result) → rose) }
     ensures ready { IsReady store.new }
     ensures disk { SameDisk D.Disk disk.old disk.new }
 {
-    if is_later_call(&call) {
-        evict(alloc, store, disk, call)
-    } else {
-        reply_to_actor(alloc, store, disk, formats, Line::Whole(call))
+    match has_eviction(&line, &kept.evicting) {
+        None => reply_to_free(alloc, store, disk, kept, line),
+        Some(number) => turn_evicting(alloc, store, disk, kept, number, line),
     }
 }
 
-// The reply to a line of an actor, behind which leaves may leave memory.
+// The actor of the system whose line it is, where that has an eviction.
+fn has_eviction(line: &Line, evicting: &[Option<Evicting>]) -> Option<u32>
+    ensures some { IfSome result (λ number. (system_in (actor_of line.now) ≡ Some number) × (is_there (evicting_by evicting.now number) ≡ true)) }
+    ensures none { result ≡ None → eviction_of (actor_of line.now) evicting.now ≡ None }
+{
+    match actor_of(line) {
+        Actor::Session(_) => None,
+        Actor::System(number) => {
+            if is_evicting(evicting, number) {
+                Some(number)
+            } else {
+                None
+            }
+        }
+    }
+}
+
+// Whose line it is; one that is asked of the device is of `sys`.
+fn actor_of(line: &Line) -> Actor
+    ensures { result ≡ actor_of line.now }
+{
+    match line {
+        Line::Whole(call) => caller(call),
+        Line::Start(call) => caller(call),
+        Line::Step(who) => actor_in(*who),
+        Line::Finish(who) => actor_in(*who),
+        Line::Control(_) => Actor::System(0),
+    }
+}
+
+// The reply to a line of an actor that has no eviction. One that evicts writes to the device, and no leaf
+// leaves memory behind it.
+fn reply_to_free<D: Disk>(
+    alloc: Global,
+    store: &mut Store,
+    disk: &mut D,
+    kept: &mut Kept,
+    line: Line,
+) -> Told
+    requires now { IsCallLine line }
+    requires actor { IsOfKnown line }
+    requires ready { IsReady store.old }
+    ensures replies { IsTrue (D.honest disk.old) → (first_disk : D) → (stamped : Bool) → (s : Script) → IsAt D.Disk first_disk stamped store.old disk.old s → s.kept ≡ kept.old → eviction_of (actor_of line) s.kept.evicting ≡ None
+        → IsTold D.Disk first_disk (stamped || gives_stamp line) line s store.new disk.new kept.new result }
+    ensures told { TellsFaults D.Disk store.old store.new disk.old disk.new (λ rose. RepliesFault (Ok result) → rose) }
+    ensures ready { IsReady store.new }
+    ensures disk { SameDisk D.Disk disk.old disk.new }
+{
+    match line {
+        Line::Whole(call) => reply_to_whole(alloc, store, disk, kept, call),
+        Line::Start(call) => reply_to_start(alloc, store, disk, kept, call),
+        line => reply_to_actor(alloc, store, disk, kept, line),
+    }
+}
+
+// The reply to a whole call.
+fn reply_to_whole<D: Disk>(
+    alloc: Global,
+    store: &mut Store,
+    disk: &mut D,
+    kept: &mut Kept,
+    call: Call,
+) -> Told
+    requires now { IsLaterCall call → ⊥ }
+    requires actor { IsKnown (caller call) }
+    requires ready { IsReady store.old }
+    ensures replies { IsTrue (D.honest disk.old) → (first_disk : D) → (stamped : Bool) → (s : Script) → IsAt D.Disk first_disk stamped store.old disk.old s → s.kept ≡ kept.old → eviction_of (caller call) s.kept.evicting ≡ None
+        → IsTold D.Disk first_disk (stamped || call_stamps call) (WholeLine call) s store.new disk.new kept.new result }
+    ensures told { TellsFaults D.Disk store.old store.new disk.old disk.new (λ rose. RepliesFault (Ok result) → rose) }
+    ensures ready { IsReady store.new }
+    ensures disk { SameDisk D.Disk disk.old disk.new }
+{
+    if is_unbuilt(&call) {
+        evict(alloc, store, disk, kept, call)
+    } else {
+        reply_to_actor(alloc, store, disk, kept, Line::Whole(call))
+    }
+}
+
+// The reply to the start of a call.
+fn reply_to_start<D: Disk>(
+    alloc: Global,
+    store: &mut Store,
+    disk: &mut D,
+    kept: &mut Kept,
+    call: Call,
+) -> Told
+    requires now { IsLaterCall call → ⊥ }
+    requires actor { IsKnown (caller call) }
+    requires ready { IsReady store.old }
+    ensures replies { IsTrue (D.honest disk.old) → (first_disk : D) → (stamped : Bool) → (s : Script) → IsAt D.Disk first_disk stamped store.old disk.old s → s.kept ≡ kept.old → eviction_of (caller call) s.kept.evicting ≡ None
+        → IsTold D.Disk first_disk (stamped || call_stamps call) (StartLine call) s store.new disk.new kept.new result }
+    ensures told { TellsFaults D.Disk store.old store.new disk.old disk.new (λ rose. RepliesFault (Ok result) → rose) }
+    ensures ready { IsReady store.new }
+    ensures disk { SameDisk D.Disk disk.old disk.new }
+{
+    if is_unbuilt(&call) {
+        start_evicting(alloc, store, disk, kept, call)
+    } else {
+        reply_to_actor(alloc, store, disk, kept, Line::Start(call))
+    }
+}
+
+// The reply to a line of an actor, behind which leaves may leave memory where there is no eviction.
 fn reply_to_actor<D: Disk>(
     alloc: Global,
     store: &mut Store,
     disk: &mut D,
-    formats: &mut [Formats; SESSIONS_MAX],
+    kept: &mut Kept,
     line: Line,
 ) -> Told
     requires now { IsOfActor line }
     requires actor { IsOfKnown line }
     requires ready { IsReady store.old }
-    ensures replies { IsTrue (D.honest disk.old) → (first_disk : D) → (stamped : Bool) → (s : Script) → IsAt D.Disk first_disk stamped store.old disk.old s → s.formats ≡ formats.old
-        → IsTold D.Disk first_disk (stamped || gives_stamp line) line s store.new disk.new formats.new result }
+    ensures replies { IsTrue (D.honest disk.old) → (first_disk : D) → (stamped : Bool) → (s : Script) → IsAt D.Disk first_disk stamped store.old disk.old s → s.kept ≡ kept.old → eviction_of (actor_of line) s.kept.evicting ≡ None
+        → IsTold D.Disk first_disk (stamped || gives_stamp line) line s store.new disk.new kept.new result }
     ensures told { TellsFaults D.Disk store.old store.new disk.old disk.new (λ rose. RepliesFault (Ok result) → rose) }
     ensures ready { IsReady store.new }
     ensures disk { SameDisk D.Disk disk.old disk.new }
 {
     calm_stays();
-    let told = reply_of(alloc, store, disk, formats.as_mut_slice(), line);
-    store.make_room(alloc, disk);
+    let told = reply_of(alloc, store, disk, kept, line);
+    store.make_room_beside(alloc, disk, &kept.evicting);
     told
 }
 
@@ -280,20 +383,20 @@ fn reply_of<D: Disk>(
     alloc: Global,
     store: &mut Store,
     disk: &mut D,
-    formats: &mut [Formats],
+    kept: &mut Kept,
     line: Line,
 ) -> Told
     requires now { IsOfActor line }
     requires actor { IsOfKnown line }
-    ensures replied { Standing D.Disk store.old disk.old (λ first_disk s. s.formats ≡ formats.old → IsReplied D.Disk first_disk s store.new disk.new line formats.new result) }
+    ensures replied { Standing D.Disk store.old disk.old (λ first_disk s. s.kept ≡ kept.old → IsReplied D.Disk first_disk s store.new disk.new line kept.new result) }
     ensures told { RepliesSo D.Disk store.old store.new disk.old disk.new result }
     ensures keeps { CallKeeps D.Disk store.old store.new disk.old disk.new }
 {
     match line {
-        Line::Whole(call) => whole(alloc, store, disk, call),
-        Line::Start(call) => start(alloc, store, disk, formats, call),
-        Line::Step(who) => step(alloc, store, disk, formats, who),
-        Line::Finish(who) => finish(alloc, store, disk, formats, who),
+        Line::Whole(call) => whole(alloc, store, disk, &kept.evicting, call),
+        Line::Start(call) => start(alloc, store, disk, kept, call),
+        Line::Step(who) => step(alloc, store, disk, kept, who),
+        Line::Finish(who) => finish(alloc, store, disk, kept, who),
         Line::Control(_) => refused(Refusal::NoMemory),
     }
 }
@@ -361,47 +464,59 @@ pub(crate) fn formats_in(local: &Local, call: &Call) -> Formats
 }
 
 // The formats that are kept of the call that an actor has started.
-fn formats_of(formats: &[Formats], who: Actor) -> Formats
-    ensures { result ≡ kept_formats who formats.now }
+fn formats_of(kept: &Kept, who: Actor) -> Formats
+    ensures { result ≡ kept_formats who kept.now }
 {
     match who {
         Actor::System(_) => PLAIN,
-        Actor::Session(session) => match formats.get(session as usize) {
+        Actor::Session(session) => match kept.formats.get(session as usize) {
             None => PLAIN,
             Some(kept) => *kept,
         },
     }
 }
 
-fn keep_formats(formats: &mut [Formats], who: Actor, those: Formats)
-    ensures { formats.new ≡ kept_more who those formats.old }
+fn keep_formats(kept: &mut Kept, who: Actor, those: Formats)
+    ensures { kept.new ≡ kept_more who those kept.old }
 {
     if let Actor::Session(session) = who {
         let at = session as usize;
-        if at < formats.len() {
-            formats[at] = those;
+        if at < kept.formats.len() {
+            kept.formats[at] = those;
         }
     }
 }
 
-fn whole<D: Disk>(alloc: Global, store: &mut Store, disk: &mut D, call: Call) -> Told
-    requires built { IsLaterCall call → ⊥ }
+fn whole<D: Disk>(
+    alloc: Global,
+    store: &mut Store,
+    disk: &mut D,
+    evicting: &[Option<Evicting>],
+    call: Call,
+) -> Told
+    requires built { IsUnbuilt call → ⊥ }
     requires actor { IsKnown (caller call) }
-    ensures replied { Standing D.Disk store.old disk.old (λ first_disk s. IsReplied D.Disk first_disk s store.new disk.new (WholeLine call) s.formats result) }
+    ensures replied { Standing D.Disk store.old disk.old (λ first_disk s. s.kept.evicting ≡ evicting.now → IsReplied D.Disk first_disk s store.new disk.new (WholeLine call) s.kept result) }
     ensures told { RepliesSo D.Disk store.old store.new disk.old disk.new result }
     ensures keeps { CallKeeps D.Disk store.old store.new disk.old disk.new }
 {
     match open::<D>(alloc, store, caller(&call)) {
         Err(refusal) => refused(refusal),
-        Ok(()) => answer(alloc, store, disk, call),
+        Ok(()) => answer(alloc, store, disk, evicting, call),
     }
 }
 
 // The whole call, of an actor that is there.
-fn answer<D: Disk>(alloc: Global, store: &mut Store, disk: &mut D, call: Call) -> Told
-    requires built { IsLaterCall call → ⊥ }
+fn answer<D: Disk>(
+    alloc: Global,
+    store: &mut Store,
+    disk: &mut D,
+    evicting: &[Option<Evicting>],
+    call: Call,
+) -> Told
+    requires built { IsUnbuilt call → ⊥ }
     requires there { IsThere (caller call) store.old.engine }
-    ensures replied { StandingIn D.Disk store.old disk.old (λ first_disk s w. IsAnswered D.Disk first_disk s store.new disk.new call w result) }
+    ensures replied { StandingIn D.Disk store.old disk.old (λ first_disk s w. s.kept.evicting ≡ evicting.now → IsAnswered D.Disk first_disk s store.new disk.new call w result) }
     ensures told { RepliesSo D.Disk store.old store.new disk.old disk.new result }
     ensures keeps { CallKeeps D.Disk store.old store.new disk.old disk.new }
 {
@@ -409,20 +524,26 @@ fn answer<D: Disk>(alloc: Global, store: &mut Store, disk: &mut D, call: Call) -
     match as_stored(alloc, call, formats) {
         Err(_) => refused(Refusal::NoMemory),
         Ok(call) => Told {
-            reply: Reply::Answered(answer_to(alloc, store, disk, call)),
+            reply: Reply::Answered(answer_to(alloc, store, disk, evicting, call)),
             formats,
         },
     }
 }
 
-fn answer_to<D: Disk>(alloc: Global, store: &mut Store, disk: &mut D, call: Call) -> Answer<Item>
+fn answer_to<D: Disk>(
+    alloc: Global,
+    store: &mut Store,
+    disk: &mut D,
+    evicting: &[Option<Evicting>],
+    call: Call,
+) -> Answer<Item>
     requires { IsTaken call store.old.engine }
-    ensures replied { StandingIn D.Disk store.old disk.old (λ first_disk s w. IsAnswerTo D.Disk first_disk s store.new disk.new call w result) }
+    ensures replied { StandingIn D.Disk store.old disk.old (λ first_disk s w. s.kept.evicting ≡ evicting.now → IsAnswerTo D.Disk first_disk s store.new disk.new call w result) }
     ensures told { TellsSo D.Disk store.old store.new disk.old disk.new (λ basis start. MayAnswerSo D.Disk basis start disk.new result) }
     ensures keeps { CallKeeps D.Disk store.old store.new disk.old disk.new }
 {
     match call {
-        Call::Session(session, call) => store.call(alloc, disk, session, call),
+        Call::Session(session, call) => store.call_beside(alloc, disk, session, call, evicting),
         Call::System(number, call) => store.call_system::<D>(alloc, number, call),
     }
 }
@@ -431,12 +552,12 @@ fn start<D: Disk>(
     alloc: Global,
     store: &mut Store,
     disk: &mut D,
-    kept: &mut [Formats],
+    kept: &mut Kept,
     call: Call,
 ) -> Told
-    requires built { IsLaterCall call → ⊥ }
+    requires built { IsUnbuilt call → ⊥ }
     requires actor { IsKnown (caller call) }
-    ensures replied { Standing D.Disk store.old disk.old (λ first_disk s. s.formats ≡ kept.old → IsReplied D.Disk first_disk s store.new disk.new (StartLine call) kept.new result) }
+    ensures replied { Standing D.Disk store.old disk.old (λ first_disk s. s.kept ≡ kept.old → IsReplied D.Disk first_disk s store.new disk.new (StartLine call) kept.new result) }
     ensures told { RepliesSo D.Disk store.old store.new disk.old disk.new result }
     ensures keeps { CallKeeps D.Disk store.old store.new disk.old disk.new }
 {
@@ -451,12 +572,12 @@ fn begin<D: Disk>(
     alloc: Global,
     store: &mut Store,
     disk: &mut D,
-    kept: &mut [Formats],
+    kept: &mut Kept,
     call: Call,
 ) -> Told
-    requires built { IsLaterCall call → ⊥ }
+    requires built { IsUnbuilt call → ⊥ }
     requires there { IsThere (caller call) store.old.engine }
-    ensures replied { StandingIn D.Disk store.old disk.old (λ first_disk s w. s.formats ≡ kept.old → IsBegun D.Disk first_disk s store.new disk.new call w kept.new result) }
+    ensures replied { StandingIn D.Disk store.old disk.old (λ first_disk s w. s.kept ≡ kept.old → IsBegun D.Disk first_disk s store.new disk.new call w kept.new result) }
     ensures told { RepliesSo D.Disk store.old store.new disk.old disk.new result }
     ensures keeps { CallKeeps D.Disk store.old store.new disk.old disk.new }
 {
@@ -466,7 +587,7 @@ fn begin<D: Disk>(
     match as_stored(alloc, call, formats) {
         Err(_) => refused(Refusal::NoMemory),
         Ok(call) => {
-            let reply = store.step(alloc, disk, Step::Start(call));
+            let reply = store.step_beside(alloc, disk, Step::Start(call), &kept.evicting);
             keep_after(&reply, kept, who, formats);
             Told {
                 reply: in_script(reply),
@@ -477,7 +598,7 @@ fn begin<D: Disk>(
 }
 
 // The formats of a call that has started are kept.
-fn keep_after(reply: &call_steps::Reply, kept: &mut [Formats], who: Actor, those: Formats)
+fn keep_after(reply: &call_steps::Reply, kept: &mut Kept, who: Actor, those: Formats)
     ensures { kept.new ≡ kept_after reply.now who those kept.old }
 {
     match reply {
@@ -491,11 +612,11 @@ fn step<D: Disk>(
     alloc: Global,
     store: &mut Store,
     disk: &mut D,
-    kept: &[Formats],
+    kept: &Kept,
     who: LineActor,
 ) -> Told
     requires actor { IsKnown (actor_in who) }
-    ensures replied { Standing D.Disk store.old disk.old (λ first_disk s. s.formats ≡ kept.now → IsReplied D.Disk first_disk s store.new disk.new (StepLine who) kept.now result) }
+    ensures replied { Standing D.Disk store.old disk.old (λ first_disk s. s.kept ≡ kept.now → IsReplied D.Disk first_disk s store.new disk.new (StepLine who) kept.now result) }
     ensures told { RepliesSo D.Disk store.old store.new disk.old disk.new result }
     ensures keeps { CallKeeps D.Disk store.old store.new disk.old disk.new }
 {
@@ -507,16 +628,16 @@ fn step<D: Disk>(
 }
 
 // A step of an actor that is there.
-fn go<D: Disk>(alloc: Global, store: &mut Store, disk: &mut D, kept: &[Formats], who: Actor) -> Told
+fn go<D: Disk>(alloc: Global, store: &mut Store, disk: &mut D, kept: &Kept, who: Actor) -> Told
     requires { IsThere who store.old.engine }
-    ensures replied { StandingIn D.Disk store.old disk.old (λ first_disk s w. s.formats ≡ kept.now → IsGone D.Disk first_disk s store.new disk.new who w result) }
+    ensures replied { StandingIn D.Disk store.old disk.old (λ first_disk s w. s.kept ≡ kept.now → IsGone D.Disk first_disk s store.new disk.new who w result) }
     ensures told { RepliesSo D.Disk store.old store.new disk.old disk.new result }
     ensures keeps { CallKeeps D.Disk store.old store.new disk.old disk.new }
 {
     store.engine.actors();
     let formats = formats_of(kept, who);
     Told {
-        reply: in_script(store.step(alloc, disk, Step::Go(who))),
+        reply: in_script(store.step_beside(alloc, disk, Step::Go(who), &kept.evicting)),
         formats,
     }
 }
@@ -525,11 +646,11 @@ fn finish<D: Disk>(
     alloc: Global,
     store: &mut Store,
     disk: &mut D,
-    kept: &[Formats],
+    kept: &Kept,
     who: LineActor,
 ) -> Told
     requires actor { IsKnown (actor_in who) }
-    ensures replied { Standing D.Disk store.old disk.old (λ first_disk s. s.formats ≡ kept.now → IsReplied D.Disk first_disk s store.new disk.new (FinishLine who) kept.now result) }
+    ensures replied { Standing D.Disk store.old disk.old (λ first_disk s. s.kept ≡ kept.now → IsReplied D.Disk first_disk s store.new disk.new (FinishLine who) kept.now result) }
     ensures told { RepliesSo D.Disk store.old store.new disk.old disk.new result }
     ensures keeps { CallKeeps D.Disk store.old store.new disk.old disk.new }
 {
@@ -541,22 +662,16 @@ fn finish<D: Disk>(
 }
 
 // The steps that are left, of an actor that is there.
-fn end<D: Disk>(
-    alloc: Global,
-    store: &mut Store,
-    disk: &mut D,
-    kept: &[Formats],
-    who: Actor,
-) -> Told
+fn end<D: Disk>(alloc: Global, store: &mut Store, disk: &mut D, kept: &Kept, who: Actor) -> Told
     requires { IsThere who store.old.engine }
-    ensures replied { StandingIn D.Disk store.old disk.old (λ first_disk s w. s.formats ≡ kept.now → IsEnded D.Disk first_disk s store.new disk.new who w result) }
+    ensures replied { StandingIn D.Disk store.old disk.old (λ first_disk s w. s.kept ≡ kept.now → IsEnded D.Disk first_disk s store.new disk.new who w result) }
     ensures told { RepliesSo D.Disk store.old store.new disk.old disk.new result }
     ensures keeps { CallKeeps D.Disk store.old store.new disk.old disk.new }
 {
     store.engine.actors();
     let formats = formats_of(kept, who);
     Told {
-        reply: Reply::Answered(store.finish(alloc, disk, who)),
+        reply: Reply::Answered(store.finish_beside(alloc, disk, who, &kept.evicting)),
         formats,
     }
 }

@@ -1,5 +1,5 @@
 // Whole scripts: the lines of an input, one after the other.
-ghost use Rattle.std.specs.Prelude.{◌≡◌, ◌≤◌, ◌+◌, ◌||◌, [], ℕ, Bool, false, length, filter, replicate, IsTrue, IfNone, IfSome};
+ghost use Rattle.std.specs.Prelude.{◌≡◌, ◌≤◌, ◌+◌, ◌||◌, [], ℕ, Bool, false, length, filter, IsTrue, IfNone, IfSome};
 ghost use Rattle.failure.specs.Counts.{Rose};
 ghost use Rattle.disk_model.specs.Crash.{SameDisk};
 ghost use Rattle.engine_store.specs.Full.{count_of};
@@ -11,17 +11,15 @@ ghost use Rattle.ckpt_step.specs.Calm.{IsCalm};
 ghost use Rattle.engine_store.specs.Held.{IsHeld};
 ghost use Rattle.script_run.specs.Faults.{TellsFaults};
 ghost use Rattle.script_run.specs.Runs.{IsAt, IsRunOver, MetFault};
-ghost use Rattle.script_run.specs.Scripts.{Script, counts, first_of, listed, plain};
+ghost use Rattle.script_run.specs.Scripts.{Script, counts, first_of, listed, nothing_kept};
 ghost use Rattle.script_run.specs.Turns.{HasMoved, IsBehind, LineTurn, MeetsFault, PrintTurn, TurnMade, met_with};
 ghost use Rattle.script_run.specs.declared.script.End.TheVariants.{InputFailed as InputFails, OutputFailed as OutputFails, Stopped as Stops};
 
+use crate::kept::Kept;
 use crate::lines::{Lines, NoLine};
 use crate::one_line::{Printed, Stop, run_line};
-use crate::told::PLAIN;
 use disk_model::Disk;
 use engine_store::{Frames, Store};
-use item::Formats;
-use limits::SESSIONS_MAX;
 use std::alloc::Global;
 use wt_code::{Invalid, Refusal};
 use wt_io::{Sink, Source, write_all};
@@ -62,7 +60,8 @@ pub const INPUT_MAX: u64 = 1 << 30;
 /// whose leaf finds each frame of the store with one that may not go is refused as `CacheFull`.
 ///
 /// A line has 65,536 bytes at most without its newline, an input `INPUT_MAX`, and there are 64
-/// sessions at most, opened at their first use. `O(bytes)` beside the calls.
+/// sessions at most, opened at their first use. An eviction that is not finished at the end is
+/// given up. `O(bytes)` beside the calls.
 pub fn run_script<D: Disk, S: Source, K: Sink>(
     alloc: Global,
     store: &mut Store,
@@ -108,8 +107,8 @@ struct Place {
     used: u64,
     // Whether the text of a line before it commits with a stamp.
     stamped: bool,
-    // By session, those of the call that it has started.
-    formats: [Formats; SESSIONS_MAX],
+    // What is kept of what is started.
+    kept: Kept,
     // The first fault of the disk or want of memory that a line replied.
     met: Option<Refusal>,
 }
@@ -119,14 +118,14 @@ impl Place {
         ensures line { result.line ≡ 1 }
         ensures used { result.used ≡ 0 }
         ensures stamped { result.stamped ≡ false }
-        ensures formats { result.formats ≡ replicate SESSIONS_MAX plain }
+        ensures kept { result.kept ≡ nothing_kept }
         ensures met { result.met ≡ None }
     {
         Place {
             line: 1,
             used: 0,
             stamped: false,
-            formats: [PLAIN; SESSIONS_MAX],
+            kept: Kept::none(),
             met: None,
         }
     }
@@ -136,7 +135,7 @@ impl Place {
         requires line { self.old.line ≤ self.old.used + 1 }
         requires room { self.old.used + size ≤ INPUT_MAX }
         ensures behind { IsBehind size printed.now.refusal printed.now.stamps self.old self.new }
-        ensures formats { self.new.formats ≡ self.old.formats }
+        ensures kept { self.new.kept ≡ self.old.kept }
     {
         self.line += 1;
         self.used += size as u64 + 1;
@@ -179,7 +178,7 @@ fn turn<D: Disk, S: Source, K: Sink>(
     requires line { place.old.line ≤ place.old.used + 1 }
     requires used { place.old.used ≤ INPUT_MAX + 1 }
     requires ready { IsReady store.old }
-    ensures made { IsTrue (D.honest disk.old) → (first_disk : D) → (s : Script) → IsAt D.Disk first_disk place.old.stamped store.old disk.old s → s.formats ≡ place.old.formats
+    ensures made { IsTrue (D.honest disk.old) → (first_disk : D) → (s : Script) → IsAt D.Disk first_disk place.old.stamped store.old disk.old s → s.kept ≡ place.old.kept
         → TurnMade D.Disk first_disk store.new disk.new S.Source K.Sink input.old input.new out.old out.new lines.old lines.new place.old place.new s result }
     ensures moved { IfNone result (HasMoved place.old place.new) }
     ensures end { IfNone result (IsTrue lines.new.ended → AtEnd (S.left input.new)) }
@@ -213,7 +212,7 @@ fn run_and_print<D: Disk, K: Sink>(
     requires line { place.old.line ≤ place.old.used + 1 }
     requires used { place.old.used ≤ INPUT_MAX + 1 }
     requires ready { IsReady store.old }
-    ensures made { IsTrue (D.honest disk.old) → (first_disk : D) → (s : Script) → IsAt D.Disk first_disk place.old.stamped store.old disk.old s → s.formats ≡ place.old.formats
+    ensures made { IsTrue (D.honest disk.old) → (first_disk : D) → (s : Script) → IsAt D.Disk first_disk place.old.stamped store.old disk.old s → s.kept ≡ place.old.kept
         → LineTurn D.Disk first_disk store.new disk.new K.Sink out.old out.new text.now s place.old place.new result }
     ensures moved { IfNone result (HasMoved place.old place.new) }
     ensures early { IfSome result (λ end. (end ≡ End.Through → ⊥) × (end ≡ InputFails → ⊥)) }
@@ -228,7 +227,7 @@ fn run_and_print<D: Disk, K: Sink>(
     if place.used + text.len() as u64 > INPUT_MAX {
         return Some(none);
     }
-    match run_line(alloc, store, disk, &mut place.formats, place.stamped, text) {
+    match run_line(alloc, store, disk, &mut place.kept, place.stamped, text) {
         Err(Stop::NoLine) => Some(none),
         Err(Stop::NoMemory) => Some(End::Stopped(Refusal::NoMemory)),
         Err(Stop::Opening(refusal)) => Some(End::Stopped(refusal)),

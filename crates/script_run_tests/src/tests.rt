@@ -4,6 +4,7 @@ ghost use Rattle.engine_store.specs.Opened.{IsReady};
 mod bad_lines;
 mod devices;
 mod evictions;
+mod evictions_by_steps;
 mod full;
 mod rooms;
 mod steps;
@@ -14,6 +15,7 @@ use devices::{DEVICES, FAILING, Failing, STAMPED};
 use disk_model::MemDisk;
 use engine_store::{FRAMES, Frames, Store, open_on};
 use evictions::EVICTIONS;
+use evictions_by_steps::BY_STEPS;
 use plain_disk::PlainDisk;
 use script_run::{Lines, NoLine, ScriptRun, run_script};
 use std::alloc::Global;
@@ -170,6 +172,7 @@ fn stories_come_out_as_written(rt: HostRuntime) {
     check_stories(&rt, alloc, ROLLBACKS);
     check_stories(&rt, alloc, DEVICES);
     check_stories(&rt, alloc, EVICTIONS);
+    check_stories(&rt, alloc, BY_STEPS);
 }
 
 // A line that puts a value of so many letters, behind two other lines.

@@ -1,6 +1,6 @@
 // What `clap` is told of the commands.
 ghost use Rattle.std.specs.Prelude.{◌≡◌, IfOk, false};
-ghost use Rattle.clap.specs.Words.{app_of, rule_of};
+ghost use Rattle.clap.specs.Words.{app_of, rule_of, with_subcommand};
 ghost use Rattle.clap.specs.declared.builder.command.Command.TheViews.{out-Command};
 ghost use Rattle.wt_line.specs.App.{create_app, dump_app, list_app, load_app, read_app, script_app, top_app, verify_app, write_app, wt_app, items_rule, one_uri_rule, uri_rule};
 
@@ -11,21 +11,43 @@ use std::alloc::{AllocError, Global};
 pub(crate) fn app<'a>(alloc: Global) -> Result<Command<'a>, AllocError>
     ensures { IfOk result (λ c. app_of c ≡ wt_app) }
 {
-    let create = create(alloc)?;
-    let write = write(alloc)?;
-    let read = read(alloc)?;
-    let verify = verify(alloc)?;
-    let dump = dump(alloc)?;
-    let load = load(alloc)?;
-    top(alloc)
-        .subcommand(create)?
-        .subcommand(write)?
-        .subcommand(read)?
-        .subcommand(list(alloc))?
-        .subcommand(verify)?
-        .subcommand(script(alloc))?
-        .subcommand(dump)?
-        .subcommand(load)
+    let program = with_rows(alloc, top(alloc))?;
+    let program = with_looks(alloc, program)?;
+    with_dumps(alloc, program)
+}
+
+// With the commands that make a table, and put and get rows of it.
+fn with_rows<'a>(alloc: Global, program: Command<'a>) -> Result<Command<'a>, AllocError>
+    ensures { IfOk result (λ c. app_of c ≡ with_subcommand (with_subcommand (with_subcommand (app_of program.entry) create_app.top) write_app.top) read_app.top) }
+{
+    let program = with_command(program, create(alloc)?)?;
+    let program = with_command(program, write(alloc)?)?;
+    with_command(program, read(alloc)?)
+}
+
+// With those that look at the whole device, and the one that runs a script.
+fn with_looks<'a>(alloc: Global, program: Command<'a>) -> Result<Command<'a>, AllocError>
+    ensures { IfOk result (λ c. app_of c ≡ with_subcommand (with_subcommand (with_subcommand (app_of program.entry) list_app.top) verify_app.top) script_app.top) }
+{
+    let program = with_command(program, list(alloc))?;
+    let program = with_command(program, verify(alloc)?)?;
+    with_command(program, script(alloc))
+}
+
+// With those that write and read a table as a text.
+fn with_dumps<'a>(alloc: Global, program: Command<'a>) -> Result<Command<'a>, AllocError>
+    ensures { IfOk result (λ c. app_of c ≡ with_subcommand (with_subcommand (app_of program.entry) dump_app.top) load_app.top) }
+{
+    let program = with_command(program, dump(alloc)?)?;
+    with_command(program, load(alloc)?)
+}
+
+// With one more.
+fn with_command<'a>(program: Command<'a>, command: Command<'a>) -> Result<Command<'a>, AllocError>
+    requires { (out-Command command).has_globals ≡ false }
+    ensures { IfOk result (λ c. app_of c ≡ with_subcommand (app_of program.entry) (app_of command.entry).top) }
+{
+    program.subcommand(command)
 }
 
 fn top<'a>(alloc: Global) -> Command<'a>

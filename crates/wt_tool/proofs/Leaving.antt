@@ -15,6 +15,7 @@ use Rattle.tree_open.specs.declared.place.TreePlace.{TreePlace}
 use Rattle.engine_world.specs.Stands.{Stands}
 use Rattle.engine_world.specs.Systems.{first_world}
 use Rattle.engine_world.specs.Worlds.{World}
+use Rattle.evict_step.specs.Kept.{Lists, records_in}
 use Rattle.ckpt_step.specs.Floors.{Follows}
 use Rattle.ckpt_step.specs.declared.lives.Lone.{Lone}
 use Rattle.ckpt_step.specs.Grounds.{AreRoots}
@@ -24,7 +25,6 @@ use Rattle.engine_store.specs.declared.eviction.TheConstants.{FRAMES}
 use Rattle.engine_store.specs.declared.frames.Frames.TheVariants.{Soft}
 use Rattle.engine_store.specs.declared.store.Store.{Store}
 use Rattle.engine_store.specs.Held.{IsHeld}
-use Rattle.ckpt_step.specs.Kept.{Lists, records_in}
 use Rattle.engine_store.specs.Images.{EachReads}
 use Rattle.engine_store.specs.Opened.{IsOpened}
 use Rattle.engine_store.proofs.NoLives.{none_on}

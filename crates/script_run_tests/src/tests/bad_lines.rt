@@ -42,8 +42,6 @@ pub(super) const NO_LINES: &[&str] = &[
     "s1 close",
     "sys! crash",
     "sys rts",
-    "sys! evict t a",
-    "sys3! evict t a",
     "sys ckpt-start",
     "sys! ckpt-step",
 ];

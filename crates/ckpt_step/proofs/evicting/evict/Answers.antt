@@ -3,10 +3,10 @@ use Rattle.evict_step.specs.declared.cut.CutOut.{CutOut}
 use Rattle.evict_step.specs.Cuts.{AreCut, IsCutOut}
 use Rattle.reconcile.specs.declared.image.Image.{Image}
 use Rattle.reconcile.specs.declared.image.Moved.{Moved}
+use Rattle.evict_step.specs.Kept.{KeepsThese, Lists}
 use Rattle.ckpt_step.proofs.LedEmpty.{left_empty, stayed_same}
 use Rattle.ckpt_step.proofs.LedEnds.{down_led, stayed_led}
 use Rattle.ckpt_step.proofs.OutCuts.{is_none, not_none}
-use Rattle.ckpt_step.specs.Kept.{KeepsThese, Lists}
 use Rattle.ckpt_step.proofs.KeptLists.{still_so}
 use Rattle.ckpt_step.proofs.evicting.evict.Goals as goal
 

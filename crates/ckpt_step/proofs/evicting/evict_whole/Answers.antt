@@ -2,7 +2,7 @@ use Rattle.std.proofs.Common.{◌∙◌, [], List, ap, inl, inr, length, refl, s
 use Rattle.std.specs.Prelude.{◌==◌, if◌then◌else◌}
 use Rattle.evict_step.specs.Cuts.{AreCut}
 use Rattle.reconcile.specs.declared.image.Image.{Image}
-use Rattle.ckpt_step.specs.Kept.{KeepsThese, Lists, list_of}
+use Rattle.evict_step.specs.Kept.{KeepsThese, Lists, list_of}
 use Rattle.ckpt_step.proofs.KeptGround.{left_kept, refuses_kept, stands_kept}
 use Rattle.ckpt_step.proofs.KeptLists.{kept_back}
 use Rattle.ckpt_step.proofs.LedEnds.{stayed_led}

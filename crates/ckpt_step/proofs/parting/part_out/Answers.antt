@@ -2,7 +2,7 @@ use Rattle.std.proofs.Common.{◌≡◌, ◌≤◌, ◌+◌, ◌∙◌, ap, arit
 use Rattle.std.specs.Prelude.{vec_capacity}
 use Rattle.tree_dir.specs.declared.leaf.Leaf.{Leaf}
 use Rattle.tree_dir.specs.Leaves.{Directory}
-use Rattle.ckpt_step.specs.Kept.{KeepsMore, KeepsThese, Lists, lying_in}
+use Rattle.evict_step.specs.Kept.{KeepsMore, KeepsThese, Lists, lying_in}
 use Rattle.ckpt_step.proofs.KeptGround.{parts_kept}
 use Rattle.ckpt_step.proofs.KeptLists.{still_so}
 use Rattle.ckpt_step.proofs.LedEnds.{stayed_led}

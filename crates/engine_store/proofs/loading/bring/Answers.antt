@@ -4,7 +4,7 @@ use Rattle.tree_dir.specs.Leaves.{Directory}
 use Rattle.engine_world.specs.Coming.{ComesFrom}
 use Rattle.engine_world.specs.Stands.{Stands}
 use Rattle.evict_step.specs.Backs.{AreNewestFirst}
-use Rattle.ckpt_step.specs.Kept.{list_of, records_in}
+use Rattle.evict_step.specs.Kept.{list_of, records_in}
 use Rattle.engine_store.specs.Keeping.{with_kept}
 use Rattle.engine_store.specs.Loads.{ShelfIsOn}
 use Rattle.engine_store.proofs.OtherRecords.{kept_then, newest_first}

@@ -8,7 +8,7 @@ pub returns-in_err-before_gap-in-Some : goal.returns-in_err-before_gap-in-Some
 returns-in_err-before_gap-in-Some c =
     let slots = c.args.slots.now in
     let is = ap (option_map (λ (k : Bor (List ℕ)). k.now)) c.in-Some.is in
-    let none = below_none slots c.args.order.now c.in-Some.key.now c.gap_below-gap.result c.requires c.gap_below-gap.ensures.parts c.in_err-before_gap-in-Some.ensures in
+    let none = below_none slots c.args.order.now c.in-Some.key.now c.gap_below-gap.result c.requires.index c.gap_below-gap.ensures.parts c.in_err-before_gap-in-Some.ensures in
     rw c.from_residual-in_err-before_gap-in-Some.ensures (subst (λ (from : Option (List ℕ)). NonePast Down from slots) (sym is) none)
 
 pub returns-in_ok-last-in-None : goal.returns-in_ok-last-in-None
@@ -17,7 +17,7 @@ returns-in_ok-last-in-None c =
     let is = ap (option_map (λ (k : Bor (List ℕ)). k.now)) c.in-None.is in
     let p = c.in_ok-last-in-None.field-0 in
     subst (λ (from : Option (List ℕ)). IsNearest Down from slots c.get.result) (sym is)
-    (greatest_found slots c.args.order.now p c.get.result c.requires c.in_ok-last-in-None.ensures.0 c.in_ok-last-in-None.ensures.1 c.get.ensures)
+    (greatest_found slots c.args.order.now p c.get.result c.requires.index c.in_ok-last-in-None.ensures.0 c.in_ok-last-in-None.ensures.1 c.get.ensures)
 
 pub returns-in_ok-before_gap-in-Some : goal.returns-in_ok-before_gap-in-Some
 returns-in_ok-before_gap-in-Some c =
@@ -25,4 +25,4 @@ returns-in_ok-before_gap-in-Some c =
     let is = ap (option_map (λ (k : Bor (List ℕ)). k.now)) c.in-Some.is in
     let p = c.in_ok-before_gap-in-Some.field-0 in
     subst (λ (from : Option (List ℕ)). IsNearest Down from slots c.get-in-Some.result) (sym is)
-    (below_found slots c.args.order.now c.in-Some.key.now c.gap_below-gap.result p c.get-in-Some.result c.requires c.gap_below-gap.ensures.parts c.in_ok-before_gap-in-Some.ensures.0 c.in_ok-before_gap-in-Some.ensures.1 c.get-in-Some.ensures)
+    (below_found slots c.args.order.now c.in-Some.key.now c.gap_below-gap.result p c.get-in-Some.result c.requires.index c.gap_below-gap.ensures.parts c.in_ok-before_gap-in-Some.ensures.0 c.in_ok-before_gap-in-Some.ensures.1 c.get-in-Some.ensures)

@@ -1,25 +1,25 @@
-use Rattle.std.proofs.Common.{◌∙◌, refl, sym}
+use Rattle.std.proofs.Common.{◌∙◌, refl}
 use Rattle.std.specs.Prelude.{Ok, Err}
-use Rattle.script_run.proofs.Devices.{checkpoint_busy, checkpoint_told}
+use Rattle.script_run.proofs.Devices.{busy_by, checkpoint_busy, checkpoint_told}
 use Rattle.script_run.proofs.Telling.{done_faults, refused_faults, same_told}
 use Rattle.script_run.proofs.control.checkpoint.Goals as goal
 
 pub returns-in-Ok-clause-replies : goal.returns-in-Ok-clause-replies
-returns-in-Ok-clause-replies g c = λ honest first s at.
-    checkpoint_told g.D.Disk first s c.args.store.now c.args.disk.now at (sym (c.has_started.ensures _ at.held.stands) ∙ c.if-has_started.false) c.checkpoint.new.self c.checkpoint.new.disk c.checkpoint.ensures.frames (Ok tt) c.done.result
+returns-in-Ok-clause-replies g c = λ honest first s at same.
+    checkpoint_told g.D.Disk first s c.args.store.now c.args.disk.now at (busy_by s c.args.evicting.now c.is_busy.result same (c.is_busy.ensures _ at.held.stands) ∙ c.if-is_busy.false) c.checkpoint.new.self c.checkpoint.new.disk c.checkpoint.ensures.frames (Ok tt) c.done.result
     (c.in-Ok.ensures.takes honest first s.world s.first s.made at.held (at.calm refl).plain) c.done.ensures.reply c.done.ensures.formats
 
 pub returns-in-Err-clause-replies : goal.returns-in-Err-clause-replies
-returns-in-Err-clause-replies g c = λ honest first s at.
-    checkpoint_told g.D.Disk first s c.args.store.now c.args.disk.now at (sym (c.has_started.ensures _ at.held.stands) ∙ c.if-has_started.false) c.checkpoint.new.self c.checkpoint.new.disk c.checkpoint.ensures.frames (Err c.in-Err.refusal) c.refused-in-Err.result
+returns-in-Err-clause-replies g c = λ honest first s at same.
+    checkpoint_told g.D.Disk first s c.args.store.now c.args.disk.now at (busy_by s c.args.evicting.now c.is_busy.result same (c.is_busy.ensures _ at.held.stands) ∙ c.if-is_busy.false) c.checkpoint.new.self c.checkpoint.new.disk c.checkpoint.ensures.frames (Err c.in-Err.refusal) c.refused-in-Err.result
     (c.in-Err.ensures.takes honest first s.world s.first s.made at.held (at.calm refl).plain) c.refused-in-Err.ensures.reply c.refused-in-Err.ensures.formats
 
-pub returns-then-has_started-clause-replies : goal.returns-then-has_started-clause-replies
-returns-then-has_started-clause-replies g c = λ honest first s at.
-    checkpoint_busy g.D.Disk first s c.args.store.now c.args.disk.now c.refused.result at (sym (c.has_started.ensures _ at.held.stands) ∙ c.if-has_started.true) c.refused.ensures.reply c.refused.ensures.formats
+pub returns-then-is_busy-clause-replies : goal.returns-then-is_busy-clause-replies
+returns-then-is_busy-clause-replies g c = λ honest first s at same.
+    checkpoint_busy g.D.Disk first s c.args.store.now c.args.disk.now c.refused.result at (busy_by s c.args.evicting.now c.is_busy.result same (c.is_busy.ensures _ at.held.stands) ∙ c.if-is_busy.true) c.refused.ensures.reply c.refused.ensures.formats
 
-pub returns-then-has_started-clause-told : goal.returns-then-has_started-clause-told
-returns-then-has_started-clause-told g c =
+pub returns-then-is_busy-clause-told : goal.returns-then-is_busy-clause-told
+returns-then-is_busy-clause-told g c =
     let store = c.args.store.now in
     let disk = c.args.disk.now in
     refused_faults g.D.Disk store store disk disk _ c.refused.result c.refused.ensures.reply (λ fault. absurd cc) (same_told g.D.Disk store disk)

@@ -1,4 +1,5 @@
-use Rattle.std.proofs.Common.{subst, sym}
+use Rattle.std.proofs.Common.{ap, subst, sym}
+use Rattle.script_run.specs.declared.kept.Kept.{Kept}
 use Rattle.script_text.specs.declared.line.Control.{Control}
 use Rattle.script_run.specs.Runs.{IsTold, RepliedAs}
 use Rattle.script_run.specs.Scripts.{IsLaterControl}
@@ -8,22 +9,22 @@ use Rattle.script_run.proofs.control.control.Goals as goal
 
 pub returns-in-Checkpoint-clause-replies : goal.returns-in-Checkpoint-clause-replies
 returns-in-Checkpoint-clause-replies g c = λ honest first stamped s now at same.
-    subst (λ (a : Control). IsTold g.D.Disk first stamped (OfAll a) s c.checkpoint.new.store c.checkpoint.new.disk c.args.formats.now c.checkpoint.result) (sym c.in-Checkpoint.is)
-    (checkpoint_plain g.D.Disk first s c.args.store.now c.args.disk.now stamped (λ is. subst (λ (a : Control). IsLaterControl stamped a → ⊥) c.in-Checkpoint.is now is) at c.checkpoint.new.store c.checkpoint.new.disk c.args.formats.now c.checkpoint.result same
-    (c.checkpoint.ensures.replies honest first s))
+    subst (λ (a : Control). IsTold g.D.Disk first stamped (OfAll a) s c.checkpoint.new.store c.checkpoint.new.disk c.args.kept.now c.checkpoint.result) (sym c.in-Checkpoint.is)
+    (checkpoint_plain g.D.Disk first s c.args.store.now c.args.disk.now stamped (λ is. subst (λ (a : Control). IsLaterControl stamped a → ⊥) c.in-Checkpoint.is now is) at c.checkpoint.new.store c.checkpoint.new.disk c.args.kept.now c.checkpoint.result same
+    (λ there. c.checkpoint.ensures.replies honest first s there (ap (λ (k : Kept). k.evicting) same)))
 
 pub returns-in-Close-clause-replies : goal.returns-in-Close-clause-replies
 returns-in-Close-clause-replies g c = λ honest first stamped s now at same.
-    subst (λ (a : Control). RepliedAs g.D.Disk first stamped (OfAll a) s c.close.new.store c.close.new.disk c.close.new.formats c.close.result) (sym c.in-Close.is)
-    (close_plain g.D.Disk first s c.args.store.now c.args.disk.now stamped (λ is. subst (λ (a : Control). IsLaterControl stamped a → ⊥) c.in-Close.is now is) at c.close.new.store c.close.new.disk c.close.new.formats c.close.result
+    subst (λ (a : Control). RepliedAs g.D.Disk first stamped (OfAll a) s c.close.new.store c.close.new.disk c.close.new.kept c.close.result) (sym c.in-Close.is)
+    (close_plain g.D.Disk first s c.args.store.now c.args.disk.now stamped (λ is. subst (λ (a : Control). IsLaterControl stamped a → ⊥) c.in-Close.is now is) at c.close.new.store c.close.new.disk c.close.new.kept c.close.result
     (λ there. c.close.ensures.replies honest first s there same))
 
 pub returns-in-Crash-clause-replies : goal.returns-in-Crash-clause-replies
 returns-in-Crash-clause-replies g c = λ honest first stamped s now at same.
-    subst (λ (a : Control). RepliedAs g.D.Disk first stamped (OfAll a) s c.reopen_as_it_was.new.store c.reopen_as_it_was.new.disk c.reopen_as_it_was.new.formats c.reopen_as_it_was.result) (sym c.in-Crash.is)
+    subst (λ (a : Control). RepliedAs g.D.Disk first stamped (OfAll a) s c.reopen_as_it_was.new.store c.reopen_as_it_was.new.disk c.reopen_as_it_was.new.kept c.reopen_as_it_was.result) (sym c.in-Crash.is)
     (c.reopen_as_it_was.ensures.replies honest first stamped s at)
 
 pub returns-in-Frames-clause-replies : goal.returns-in-Frames-clause-replies
 returns-in-Frames-clause-replies g c = λ honest first stamped s now at same.
-    subst (λ (a : Control). RepliedAs g.D.Disk first stamped (OfAll a) s c.reopen.new.store c.reopen.new.disk c.reopen.new.formats c.reopen.result) (sym c.in-Frames.is)
+    subst (λ (a : Control). RepliedAs g.D.Disk first stamped (OfAll a) s c.reopen.new.store c.reopen.new.disk c.reopen.new.kept c.reopen.result) (sym c.in-Frames.is)
     (c.reopen.ensures.replies honest first stamped s at)

@@ -1,4 +1,4 @@
-use Rattle.std.proofs.Common.{ap, refl}
+use Rattle.std.proofs.Common.{ap}
 use Rattle.engine_store.specs.declared.store.Store.{Store}
 use Rattle.script_run.proofs.Devices.{not_reopened, reopened}
 use Rattle.script_run.proofs.Telling.{done_faults, stays_faults}
@@ -10,7 +10,7 @@ returns-in-Err-clause-replies g c = λ honest first stamped s at.
 
 pub returns-in-Ok-clause-replies : goal.returns-in-Ok-clause-replies
 returns-in-Ok-clause-replies g c = λ honest first stamped s at.
-    reopened g.D.Disk first stamped s c.args.store.now c.reopen.new.self c.args.disk.now c.reopen.new.disk at c.calm_stays.ensures.starts c.done.result _ c.args.frames c.in-Ok.ensures.frames c.actors.ensures.systems (c.in-Ok.ensures.opens honest first s.world s.first s.made at.held) c.done.ensures.reply c.done.ensures.formats refl
+    reopened g.D.Disk first stamped s c.args.store.now c.reopen.new.self c.args.disk.now c.reopen.new.disk at c.calm_stays.ensures.starts c.done.result c.none.result c.args.frames c.in-Ok.ensures.frames c.actors.ensures.systems (c.in-Ok.ensures.opens honest first s.world s.first s.made at.held) c.done.ensures.reply c.done.ensures.formats c.none.ensures
 
 pub returns-in-Err-clause-told : goal.returns-in-Err-clause-told
 returns-in-Err-clause-told g c = stays_faults g.D.Disk c.args.store.now c.reopen.new.self c.args.disk.now c.reopen.new.disk _ c.reopen.ensures.told c.in-Err.ensures.fault

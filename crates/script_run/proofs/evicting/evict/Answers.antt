@@ -1,21 +1,19 @@
 use Rattle.std.proofs.Common.{◌∙◌, ap, refl, subst, sym}
-use Rattle.wt_calls.specs.declared.call.Call.{Call}
 use Rattle.wt_code.specs.declared.refusals.Refusal.TheVariants.{NoMemory}
-use Rattle.script_text.specs.declared.line.Line.TheVariants.{Whole}
+use Rattle.std.specs.Prelude.{None}
 use Rattle.script_text.specs.declared.replies.Reply.TheVariants.{Answered}
 use Rattle.script_text.specs.Stored.{stored_call}
 use Rattle.engine_store.specs.Keeping.{with_kept}
-use Rattle.script_run.specs.Runs.{IsTold}
+use Rattle.engine_store.specs.EvictSteps.{EvictsBeside}
+use Rattle.script_run.specs.declared.kept.Kept.{Kept}
 use Rattle.script_run.specs.declared.told.Told.{Told}
 use Rattle.script_run.proofs.EvictingLines.{evict_faults, evict_short, evict_told, the_eviction}
 use Rattle.script_run.proofs.Telling.{refused_faults, same_told}
 use Rattle.script_run.proofs.evicting.evict.Goals as goal
 
 pub returns-in-Err-clause-replies : goal.returns-in-Err-clause-replies
-returns-in-Err-clause-replies g c = λ honest first stamped s at.
-    let e = the_eviction c.args.call c.requires.evicts c.requires.now in
-    subst (λ (made : Call). IsTold g.D.Disk first stamped (Whole made) s c.args.store.now c.args.disk.now s.formats c.refused.result) (sym e.is)
-    (evict_short g.D.Disk first stamped s c.args.store.now c.args.disk.now at c.refused.result e.number e.table e.key c.refused.ensures.reply)
+returns-in-Err-clause-replies g c = λ honest first stamped s at same none.
+    evict_short g.D.Disk first stamped s c.args.store.now c.args.disk.now at c.refused.result c.args.call (the_eviction c.args.call c.requires.evicts c.requires.now) none c.refused.ensures.reply
 
 pub returns-in-Err-clause-told : goal.returns-in-Err-clause-told
 returns-in-Err-clause-told g c =
@@ -31,11 +29,13 @@ returns-in-None-clause-told g c =
     refused_faults g.D.Disk c.args.store.now c.args.store.now c.args.disk.now c.args.disk.now NoMemory c.refused-in-None.result c.refused-in-None.ensures.reply (λ fault. absurd cc) (same_told g.D.Disk c.args.store.now c.args.disk.now)
 
 pub returns-in-Some-clause-replies : goal.returns-in-Some-clause-replies
-returns-in-Some-clause-replies g c = λ honest first stamped s at.
+returns-in-Some-clause-replies g c = λ honest first stamped s at same none.
     let formats = c.formats_in-formats.result in
     let told : Told = record { reply = Answered c.answer_to.result; formats = formats } in
     evict_told g.D.Disk first stamped s c.args.store.now c.answer_to.new.store c.args.disk.now c.answer_to.new.disk at told c.answer_to.ensures.frames c.args.call c.in-Some.asked.number c.in-Some.asked.table c.in-Some.asked.key
-    (c.formats_in-formats.ensures (with_kept c.args.store.now.ground.kept s.world) at.held.stands) (sym c.in-Ok.ensures ∙ c.in-Some.ensures.some) c.answer_to.result refl (c.answer_to.ensures.evicts honest first s.world s.first s.made at.held)
+    (c.formats_in-formats.ensures (with_kept c.args.store.now.ground.kept s.world) at.held.stands) (sym c.in-Ok.ensures ∙ c.in-Some.ensures.some) c.answer_to.result refl none
+    (subst (λ (k : Kept). EvictsBeside g.D.Disk first s.world s.first s.made c.args.store.now c.answer_to.new.store c.args.disk.now c.answer_to.new.disk k.evicting c.in-Some.asked.number c.in-Some.asked.table c.in-Some.asked.key None c.answer_to.result) (sym same)
+    (c.answer_to.ensures.evicts honest first s.world s.first s.made at.held))
 
 pub returns-in-Some-clause-told : goal.returns-in-Some-clause-told
 returns-in-Some-clause-told g c =

@@ -19,7 +19,7 @@ returns-in-Err g c =
     let store = c.args.store.now in
     let disk = c.args.disk.now in
     record {
-      replied = λ honest first s w at. short g.D.Disk first s store disk (λ later. Answers c.args.call s c.refused.result.formats c.refused.result.reply later w) w c.refused.result.reply c.refused.ensures.reply at;
+      replied = λ honest first s w at same. short g.D.Disk first s store disk (λ later. Answers c.args.call s c.refused.result.formats c.refused.result.reply later w) w c.refused.result.reply c.refused.ensures.reply at;
       told = refused_replies g.D.Disk store store disk disk _ c.refused.result (inl refl) c.refused.ensures.reply (same_told g.D.Disk store disk);
       keeps = keeps_none g.D.Disk store disk;
     }
@@ -32,8 +32,8 @@ returns-in-Ok g c =
     let disk' = c.answer_to.new.disk in
     let told : Told = record { reply = Answered c.answer_to.result; formats = c.formats_in-formats.result } in
     record {
-      replied = λ honest first s w at.
-          let x = c.answer_to.ensures.replied honest first s w at in
+      replied = λ honest first s w at same.
+          let x = c.answer_to.ensures.replied honest first s w at same in
           record {
             later = record s { world = x.next; device = device_of g.D.Disk disk' };
             is = inl (record {

@@ -27,7 +27,7 @@ returns-in-Err-reply_to-clause-damage g c = λ honest at want found is. c.in-Err
 
 pub returns-in-Ok-clause-made : goal.returns-in-Ok-clause-made
 returns-in-Ok-clause-made g c = λ honest first s at same. let now = not_later c.is_later.result (IsLater c.args.stamped c.in-Ok-Some.line) c.if-is_later.false c.is_later.ensures.1 in
-    printed_made g.D.Disk first c.args.text.now c.args.stamped s c.reply_to.new.store c.reply_to.new.disk c.reply_to.new.formats c.in-Ok-Some.line c.in-Ok.told c.gives_stamp-stamps.result c.print_of.result
+    printed_made g.D.Disk first c.args.text.now c.args.stamped s c.reply_to.new.store c.reply_to.new.disk c.reply_to.new.kept c.in-Ok-Some.line c.in-Ok.told c.gives_stamp-stamps.result c.print_of.result
     ((c.in-Ok-Some.ensures c.in-Ok-Some.line).0 c.in-Ok-Some.field-0-is) now (c.in-Ok.ensures.replies honest first c.args.stamped s now at same) c.gives_stamp-stamps.ensures
     c.print_of.ensures.line c.print_of.ensures.refusal c.print_of.ensures.stamps c.print_of.ensures.short
 

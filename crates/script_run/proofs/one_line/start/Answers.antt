@@ -1,11 +1,11 @@
-use Rattle.std.proofs.Common.{List, subst, inl}
+use Rattle.std.proofs.Common.{subst, inl}
 use Rattle.std.specs.Prelude.{◌⊎◌, Err}
-use Rattle.item.specs.declared.formats.Formats.{Formats}
 use Rattle.wt_code.specs.declared.refusals.Refusal.TheVariants.{NoMemory}
 use Rattle.engine.specs.declared.step.Actor.{Actor}
 use Rattle.script_text.specs.declared.line.Line.TheVariants.{Start as StartLine}
+use Rattle.script_run.specs.declared.kept.Kept.{Kept}
 use Rattle.script_run.specs.Runs.{IsReplied, OpensAs, StandsAt}
-use Rattle.script_run.specs.Scripts.{Begins, Refuses, Replies, caller, missing, opened_more}
+use Rattle.script_run.specs.Scripts.{ActorReplies, Begins, Opens, Refuses, caller, missing, opened_more}
 use Rattle.script_run.proofs.Holding.{keeps_then}
 use Rattle.script_run.proofs.Replying.{left-more, turned-away}
 use Rattle.script_run.proofs.Telling.{opened_replies, refused_replies}
@@ -19,9 +19,11 @@ returns-in-Err g c =
     let r = c.in-Err.refusal in
     record {
       replied = λ honest first s at same.
-          subst (λ (l : List Formats). IsReplied g.D.Disk first s store disk (StartLine c.args.call) l told) same
+          subst (λ (l : Kept). IsReplied g.D.Disk first s store disk (StartLine c.args.call) l told) same
+          (left-more g.D.Disk first s store disk s.kept (λ later. Opens (caller c.args.call) s.world (λ v. Begins c.args.call s told.formats told.reply later v ⊎ Refuses NoMemory s v told.reply later) (λ but v. Refuses but s v told.reply later))
+          (λ later. ActorReplies (StartLine c.args.call) s told.formats told.reply later) (λ later is. inl is)
           (turned-away g.D.Disk first s store disk (λ later v. Begins c.args.call s told.formats told.reply later v ⊎ Refuses NoMemory s v told.reply later) (caller c.args.call) r told.reply c.refused.ensures.reply
-          (subst (λ (a : Actor). OpensAs a s.world (Err r) (λ v. StandsAt g.D.Disk first store disk s v)) c.caller.ensures (c.in-Err.ensures.opens disk honest first s s.world at)));
+          (subst (λ (a : Actor). OpensAs a s.world (Err r) (λ v. StandsAt g.D.Disk first store disk s v)) c.caller.ensures (c.in-Err.ensures.opens disk honest first s s.world at))));
       told = refused_replies g.D.Disk c.args.store.now store disk disk r told c.in-Err.ensures.refused c.refused.ensures.reply (c.in-Err.ensures.told disk);
       keeps = c.in-Err.ensures.keeps disk;
     }
@@ -37,7 +39,7 @@ returns-in-Ok g c =
       replied = λ honest first s at same.
           let opened = subst (λ (a : Actor). StandsAt g.D.Disk first store disk s (opened_more (missing a s.world) s.world)) c.caller.ensures (c.in-Ok.ensures.opens disk honest first s s.world at) in
           let v = opened_more (missing (caller c.args.call) s.world) s.world in
-          left-more g.D.Disk first s store' disk' c.begin.new.kept (λ later. Begins c.args.call s told.formats told.reply later v ⊎ Refuses NoMemory s v told.reply later) (λ later. Replies (StartLine c.args.call) s told.formats told.reply later) (λ later is. inl is) (c.begin.ensures.replied honest first s v opened same);
+          left-more g.D.Disk first s store' disk' c.begin.new.kept (λ later. Begins c.args.call s told.formats told.reply later v ⊎ Refuses NoMemory s v told.reply later) (λ later. ActorReplies (StartLine c.args.call) s told.formats told.reply later) (λ later is. inl (inl is)) (c.begin.ensures.replied honest first s v opened same);
       told = opened_replies g.D.Disk c.args.store.now store store' disk disk' told (c.in-Ok.ensures.told disk) c.begin.ensures.told;
       keeps = keeps_then g.D.Disk c.args.store.now store store' disk disk disk' (c.in-Ok.ensures.keeps disk) c.begin.ensures.keeps;
     }

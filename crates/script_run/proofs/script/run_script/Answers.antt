@@ -41,7 +41,7 @@ lines-init g c =
       told = λ none. told_none g.D.Disk c.args.store.now.engine c.args.disk.now none;
       met = λ none met. absurd (none-met DiskFault (sym place.met ∙ met));
       done = λ honest w held calm.
-          none-done g.D.Disk c.args.disk.now w (count_of c.args.store.now.frames) g.S.Source g.K.Sink c.args.input.now c.args.out.now c.in-Ok.lines c.first-place.result (record c.args.store.now { frames = Firm c.count.result }) (ap Firm c.count.ensures) (ap (λ (h : Held). h.behind) c.in-Ok.ensures) place.line place.used place.stamped place.formats place.met
+          none-done g.D.Disk c.args.disk.now w (count_of c.args.store.now.frames) g.S.Source g.K.Sink c.args.input.now c.args.out.now c.in-Ok.lines c.first-place.result (record c.args.store.now { frames = Firm c.count.result }) (ap Firm c.count.ensures) (ap (λ (h : Held). h.behind) c.in-Ok.ensures) place.line place.used place.stamped place.kept place.met
           (frames-held g.D.Disk c.args.disk.now c.args.disk.now c.args.store.now (Firm c.count.result) w w.machine.completed [] held) calm;
     }
 

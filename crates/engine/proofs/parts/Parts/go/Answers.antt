@@ -4,4 +4,4 @@ use Rattle.engine.proofs.Soundness.{keeps-same}
 use Rattle.engine.proofs.parts.Parts.go.Goals as goal
 
 pub returns-in-Nothing : goal.returns-in-Nothing
-returns-in-Nothing c = record { step = c.rest.ensures.step; kept = keeps-same c.args.self.now; tells = tells-always (answer_in c.args.self.now c.args.session) c.rest.result c.rest.ensures.tells }
+returns-in-Nothing c = record { step = c.rest.ensures.step; fewer = c.rest.ensures.fewer; kept = keeps-same c.args.self.now; tells = tells-always (answer_in c.args.self.now c.args.session) c.rest.result c.rest.ensures.tells }

@@ -15,12 +15,12 @@ returns-then-take_over-clause-alike g c =
 pub returns-then-count_call-clause-room : goal.returns-then-count_call-clause-room
 returns-then-count_call-clause-room g c =
     let disk = c.args.disk.now in
-    makes_more g.D.Disk c.args.self.now _ c.evict_some.new.self disk disk c.evict_some.new.disk refl (still_room g.D.Disk c.args.self.now _ refl refl refl disk) c.evict_some.ensures.room
+    makes_more g.D.Disk c.args.self.now _ c.evict_many.new.self disk disk c.evict_many.new.disk refl (still_room g.D.Disk c.args.self.now _ refl refl refl disk) c.evict_many.ensures.room
 
 pub returns-then-count_call-clause-alike : goal.returns-then-count_call-clause-alike
 returns-then-count_call-clause-alike g c =
     let disk = c.args.disk.now in
-    alike_more g.D.Disk c.args.self.now _ c.evict_some.new.self disk disk c.evict_some.new.disk (still_alike g.D.Disk c.args.self.now _ refl refl refl disk) c.evict_some.ensures.alike
+    alike_more g.D.Disk c.args.self.now _ c.evict_many.new.self disk disk c.evict_many.new.disk (still_alike g.D.Disk c.args.self.now _ refl refl refl disk) c.evict_many.ensures.alike
 
 pub returns-else-count_call-clause-room : goal.returns-else-count_call-clause-room
 returns-else-count_call-clause-room g c = still_room g.D.Disk c.args.self.now _ refl refl refl c.args.disk.now

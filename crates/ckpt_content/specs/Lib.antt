@@ -1,0 +1,4 @@
+pub mod Older
+pub mod Checkpoints
+pub mod Opened
+pub mod Laws

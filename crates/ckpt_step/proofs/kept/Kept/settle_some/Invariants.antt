@@ -1,6 +1,0 @@
-use Rattle.std.proofs.Common.{◌≡◌, ℕ}
-use Rattle.ckpt_step.specs.Kept.{list_of}
-use Rattle.ckpt_step.proofs.kept.Kept.settle_some.Given as goal
-
-abbrev pub invariant-loop : goal.invariant-loop
-invariant-loop l = (leaf : ℕ) → list_of l.self leaf ≡ list_of l.fn.self leaf

@@ -1,6 +1,0 @@
-use Rattle.std.proofs.Common.{◌≡◌, ◌++◌, take}
-use Rattle.ckpt_step.specs.Kept.{fresh_of}
-use Rattle.ckpt_step.proofs.kept.copy_fresh.Given as goal
-
-abbrev pub invariant-loop-f : goal.invariant-loop-f
-invariant-loop-f l = l.copies.items ≡ l.fn.copies.items ++ fresh_of (take l.f-index l.fresh) l.leaf

@@ -1,0 +1,143 @@
+-- What is gathered of all leaves is what a checkpoint wants.
+use Rattle.std.specs.Prelude.{◌≡◌, ℕ, ◌<◌, List, [], ◌++◌, length, Option, Some, None, option_and_then, option_map, reverse, slice_get, refl}
+use Rattle.std.specs.List.{Contains}
+use Rattle.std.specs.Option.{option_to_list}
+use Rattle.std.proofs.Common.{inl, inr, sym, ◌∙◌, ap, subst}
+use Rattle.std.proofs.lemmas.Option.{same_Some}
+use Rattle.item.specs.declared.Change.{Change}
+use Rattle.stamp.specs.declared.Version.{Version}
+use Rattle.kv_model.specs.AgreementLaws.{head_of}
+use Rattle.kv_model.specs.Captures.{CapturedIn}
+use Rattle.kv_model.specs.Holds.{Member}
+use Rattle.kv_model.specs.History.{Table, line}
+use Rattle.kv_model.specs.Machine.{Machine}
+use Rattle.kv_model.specs.StoreLaws.{Held}
+use Rattle.kv_model.specs.SweepLaws.{Added}
+use Rattle.rows_shown.specs.Shows.{shown_at}
+use Rattle.snapshot.specs.Matters.{NoneResolves}
+use Rattle.update_chain.specs.declared.update.Update.{Update}
+use Rattle.leaf_chains.specs.Slots.{chain_at}
+use Rattle.reconcile.specs.Held.{held_at, is_past, moved_of, versions}
+use Rattle.leaf_frame.specs.Leaf.{HeldLeaf}
+use Rattle.tree_dir.specs.declared.leaf.Framed.{Framed}
+use Rattle.tree_dir.specs.declared.leaf.Leaf.{Leaf}
+use Rattle.tree_dir.specs.Leaves.{Directory, leaf_under}
+use Rattle.tree_dir.proofs.Parting.{has-under, keys-have}
+use Rattle.call_steps.specs.declared.frame.Frame.{Frame}
+use Rattle.engine_world.specs.Leaves.{LeafInFrame, LeafOnDevice, frame_in}
+use Rattle.engine_world.specs.Stands.{Engine, Stands}
+use Rattle.engine_world.specs.Worlds.{World}
+use Rattle.engine_world.proofs.Homes.{LiesIn, lies-or-not}
+use Rattle.evict_step.specs.Kept.{KeepsThese}
+use Rattle.hist_store.specs.declared.key_history.KeyHistory.{KeyHistory}
+use Rattle.hist_store.specs.Versions.{versions_of}
+use Rattle.ckpt_content.specs.Older.{HaveOlder, checkpoint_now}
+use Rattle.hist_gather.specs.declared.source.Source.{Source}
+use Rattle.hist_gather.specs.Added.{HasMore}
+use Rattle.hist_gather.specs.Sources.{IsTaken, OfPlaces, held_by, moved_at, older_at, older_in, sees}
+use Rattle.hist_gather.proofs.KeyGathered.{Laws, device-held, frame-held, set-held}
+use Rattle.hist_gather.proofs.Members.{in_front, in_table, member_at, table_in, turned_member}
+
+module _ (laws : Laws) (from : Source) (w : World) (st : Stands from.engine.now w) (keeps : KeepsThese w from.kept.now) (none : w.machine.checkpoint ≡ None) (resolves : NoneResolves w.machine) (taken : IsTaken w.machine from.snapshot.now.sight from.horizon) where
+  abbrev e : Engine
+  e = from.engine.now
+
+  abbrev m : Machine
+  m = w.machine
+
+  abbrev d : Directory
+  d = e.hub.dir
+
+  -- what is gathered of a key is captured with its newest version
+  abbrev IsCaptured : ℕ → List ℕ → List (Version Change) → Type 0
+  IsCaptured table key older = CapturedIn m (checkpoint_now m) table key (head_of (line m.history table key)) (Held older)
+
+  -- ---- a leaf in a frame
+
+  module _ (l : Leaf) (f : LeafInFrame m w.shelf w.records d.leaves e.pieces e.states l) where
+    abbrev held : HeldLeaf
+    held = f.laid.frame.leaf
+
+    there : held_by e l ≡ Some held
+    there = ap (option_and_then (λ (framed : Framed). option_map (λ (g : Frame). g.leaf) (frame_in e.pieces framed.frame))) f.laid.placed ∙ ap (option_map (λ (g : Frame). g.leaf)) f.laid.there
+
+    older-framed : (key : List ℕ) → older_at from l key ≡ moved_at from held key
+    older-framed key = ap (λ (o : Option HeldLeaf). older_in from l.id o key) there
+
+    framed-own : (key : List ℕ) → LiesIn d.leaves l key → IsCaptured l.table key (older_at from l key ++ [])
+    framed-own key lies = subst (λ (older : List (Version Change)). IsCaptured l.table key (older ++ [])) (sym (older-framed key))
+        (frame-held laws m st.valid none resolves l.table key (chain_at key held.chains) (shown_at key held.page) (f.keys key lies) from.snapshot.now.sight taken.committed taken.living
+        from.horizon.pin from.horizon.floor (taken.past l.table key))
+
+    framed-other : (key : List ℕ) → (LiesIn d.leaves l key → ⊥) → older_at from l key ≡ []
+    framed-other key outside =
+        let bare = f.bare key outside in
+        let empty : held_at key held.page held.chains ≡ [] = ap (λ (c : List Update). versions c ++ option_to_list (shown_at key held.page)) bare.0 ∙ ap (λ (o : Option (Version Change)). [] ++ option_to_list o) bare.1 in
+        older-framed key ∙ ap (moved_of (sees from.snapshot.now.sight) (is_past from.horizon.pin from.horizon.floor)) empty
+
+  -- ---- a leaf in none
+
+  module _ (l : Leaf) (f : LeafOnDevice m w.shelf w.records d.leaves l) where
+    older-kept : (key : List ℕ) → older_at from l key ≡ w.records l.id key
+    older-kept key = ap (λ (o : Option HeldLeaf). older_in from l.id o key) (ap (option_and_then (λ (framed : Framed). option_map (λ (g : Frame). g.leaf) (frame_in e.pieces framed.frame))) f.none) ∙ sym (keeps l.id key)
+
+    kept-own : (key : List ℕ) → LiesIn d.leaves l key → IsCaptured l.table key (older_at from l key ++ [])
+    kept-own key lies = subst (λ (older : List (Version Change)). IsCaptured l.table key (older ++ [])) (sym (older-kept key))
+        (device-held laws m st.valid none resolves l.table key (shown_at key (w.shelf l.id)) (w.records l.id key) (f.keys key lies))
+
+    kept-other : (key : List ℕ) → (LiesIn d.leaves l key → ⊥) → older_at from l key ≡ []
+    kept-other key outside = older-kept key ∙ (f.bare key outside).1
+
+  -- ---- a leaf
+
+  own : (l : Leaf) → Contains d.leaves l → (key : List ℕ) → LiesIn d.leaves l key → IsCaptured l.table key (older_at from l key ++ [])
+  own l there key lies = elim (st.leaves l there) [ inl f ↦ framed-own l f key lies | inr f ↦ kept-own l f key lies ]
+
+  -- of a key that lies elsewhere it has nothing
+  other : (l : Leaf) → Contains d.leaves l → (key : List ℕ) → (LiesIn d.leaves l key → ⊥) → older_at from l key ≡ []
+  other l there key outside = elim (st.leaves l there) [ inl f ↦ framed-other l f key outside | inr f ↦ kept-other l f key outside ]
+
+  -- so a key of which it has something lies in it
+  lies : (l : Leaf) → Contains d.leaves l → (key : List ℕ) (v : Version Change) → Member v (older_at from l key) → LiesIn d.leaves l key
+  lies l there key v has = elim (lies-or-not d l key st.dir there) [
+    | inl is ↦ is
+    | inr outside ↦ absurd (subst (λ (older : List (Version Change)). Member v older) (other l there key outside) has)
+  ]
+
+  -- ---- all leaves
+
+  module _ (slots : List KeyHistory) (more : HasMore (OfPlaces from (length e.hub.tables.tables)) [] slots) where
+    added : (t : Table) (place : ℕ) → place < length e.hub.tables.tables → slice_get e.hub.tables.tables place ≡ Some t → (key : List ℕ) (l : Leaf) → Contains d.leaves l → l.table ≡ t.number → LiesIn d.leaves l key
+        → Added [] (older_at from l key) (versions_of t.number key slots)
+    added t place within at key l there number home = record {
+      fewer = λ v has. in_front (older_at from l key) [] v (elim (more.from t.number key v has) [
+        | inl none ↦ absurd none
+        | inr of ↦ only v of
+      ]);
+      old = λ v has. absurd has;
+      new = λ v has. more.into t.number key v (place, within, (t, at, (refl, l, table_in t.number d.leaves l there number, has)));
+    } where
+      only : (v : Version Change) → OfPlaces from (length e.hub.tables.tables) t.number key v → Member v (older_at from l key)
+      only v of =
+          let n : Leaf = of.2.2.1 in
+          let its = in_table of.2.0.number d.leaves n of.2.2.2 in
+          let in_its : LiesIn d.leaves n key = lies n its.0 key v of.2.2.3 in
+          let one : leaf_under t.number key d.leaves ≡ Some n = ap (λ (k : ℕ). leaf_under k key d.leaves) (of.2.2.0 ∙ sym its.1) ∙ in_its in
+          let same : n ≡ l = same_Some n l (sym one ∙ (ap (λ (k : ℕ). leaf_under k key d.leaves) (sym number) ∙ home)) in
+          subst (λ (x : Leaf). Member v (older_at from x key)) same of.2.2.3
+
+    of-table : (t : Table) (place : ℕ) → place < length e.hub.tables.tables → slice_get e.hub.tables.tables place ≡ Some t → (key : List ℕ) → IsCaptured t.number key (versions_of t.number key slots)
+    of-table t place within at key =
+        let first = st.begun place t at in
+        let home = keys-have d st.dir first.0 first.1 key in
+        let l : Leaf = home.0 in
+        let number : l.table ≡ t.number = home.1.table ∙ first.2 in
+        let in_it : LiesIn d.leaves l key = ap (λ (k : ℕ). leaf_under k key d.leaves) home.1.table ∙ has-under d st.dir first.0.table key l home.1 in
+        let captured : IsCaptured t.number key (older_at from l key ++ []) = subst (λ (n : ℕ). IsCaptured n key (older_at from l key ++ [])) number (own l home.1.there key in_it) in
+        set-held laws m st.valid none resolves t.number key (older_at from l key) (versions_of t.number key slots) (added t place within at key l home.1.there number in_it) captured
+
+    pub gathers : HaveOlder m (λ table key. versions_of table key slots)
+    gathers t there key =
+        let turned : Member t (reverse e.hub.tables.tables) = subst (λ (known : List Table). Member t known) (sym st.made) there in
+        let at = member_at t e.hub.tables.tables (turned_member t e.hub.tables.tables turned) in
+        of-table t at.0 at.1 at.2 key
